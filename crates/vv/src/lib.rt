@@ -1,0 +1,112 @@
+// Version vectors, after loom's rt/vv.rs. Each promise is an equation with the definition in rules.
+ghost use mathlib.Core.Path.{_≡_};
+ghost use Rattle.rules.specs.Vector.{atMost, equal, less, joined, ahead, oneMore, raised, zeros};
+ghost use Rattle.vv.specs.Whom.{whom};
+
+pub const MAX_THREADS: usize = 5;
+
+// The largest number that a part can be; a mark of this number is unseen, so no version passes it.
+pub const LARGEST: u16 = 65535;
+
+pub struct VersionVec {
+    pub versions: [u16; 5],
+}
+
+// The thread that is ahead, or none.
+pub enum Ahead {
+    Nobody,
+    Thread(usize),
+}
+
+// One more; the largest stays, so that a later version is never taken for an earlier one.
+pub fn one_more(n: u16) -> u16
+    ensures { λ r. ⌜ r ≡ oneMore n ⌝ }
+{
+    if n < LARGEST { n + 1 } else { n }
+}
+
+impl VersionVec {
+    // The vector of a thread that has seen nothing.
+    pub fn new() -> Self
+        ensures { λ r. ⌜ r .versions ≡ zeros 5 ⌝ }
+    {
+        VersionVec { versions: [0; 5] }
+    }
+
+    // The greater of each part.
+    pub fn join(mut self, other: VersionVec) -> VersionVec
+        ensures { λ r. ⌜ r .versions ≡ joined (self .versions) (other .versions) ⌝ }
+    {
+        let mut i = 0;
+        while i < MAX_THREADS {
+            if self.versions[i] < other.versions[i] {
+                self.versions[i] = other.versions[i];
+            }
+            i += 1;
+        }
+        self
+    }
+
+    // The thread's own part raised by one. A thread that is none changes nothing.
+    pub fn raise(mut self, thread: usize) -> VersionVec
+        ensures { λ r. ⌜ r .versions ≡ raised (self .versions) thread ⌝ }
+    {
+        if thread < MAX_THREADS {
+            self.versions[thread] = one_more(self.versions[thread]);
+        }
+        self
+    }
+
+    // Whether each part is at most the other's.
+    pub fn at_most(self, other: VersionVec) -> bool
+        ensures { λ r. ⌜ r ≡ atMost (self .versions) (other .versions) ⌝ }
+    {
+        let mut i = 0;
+        while i < MAX_THREADS {
+            if other.versions[i] < self.versions[i] {
+                return false;
+            }
+            i += 1;
+        }
+        true
+    }
+
+    // Whether all parts are equal.
+    pub fn equal(self, other: VersionVec) -> bool
+        ensures { λ r. ⌜ r ≡ equal (self .versions) (other .versions) ⌝ }
+    {
+        let mut i = 0;
+        while i < MAX_THREADS {
+            if self.versions[i] != other.versions[i] {
+                return false;
+            }
+            i += 1;
+        }
+        true
+    }
+
+    // Whether each part is at most the other's and not all are equal.
+    pub fn less(self, other: VersionVec) -> bool
+        ensures { λ r. ⌜ r ≡ less (self .versions) (other .versions) ⌝ }
+    {
+        if self.at_most(other) {
+            !self.equal(other)
+        } else {
+            false
+        }
+    }
+
+    // The lowest thread whose part in the other vector is greater.
+    pub fn ahead(self, other: VersionVec) -> Ahead
+        ensures { λ r. ⌜ whom r ≡ ahead (self .versions) (other .versions) ⌝ }
+    {
+        let mut i = 0;
+        while i < MAX_THREADS {
+            if self.versions[i] < other.versions[i] {
+                return Ahead::Thread(i);
+            }
+            i += 1;
+        }
+        Ahead::Nobody
+    }
+}

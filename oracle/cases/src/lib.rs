@@ -1,0 +1,20 @@
+//! Cases for the explorers: a seeded generator, hand-built ones, their text, and the comparison of
+//! answers. The binary `cases` makes commands of them; FORMAT.md describes the text.
+
+pub mod compare;
+mod damage;
+mod draw;
+mod edit;
+pub mod format;
+mod generate;
+pub mod hand;
+pub mod lines;
+pub mod list;
+mod random;
+mod recipes;
+pub mod run;
+mod spread;
+pub mod table;
+pub mod tally;
+
+pub use generate::case;

@@ -1,0 +1,183 @@
+//! Commands over cases. See `USAGE`.
+
+use cases::format::{read_answered, read_case};
+use cases::lines::{Lines, Refused};
+use cases::run::by_oracle;
+use cases::{compare, list, tally};
+use std::fs::File;
+use std::io::{self, BufRead, BufReader, BufWriter, ErrorKind, Write};
+use std::process::ExitCode;
+
+const USAGE: &str = "\
+usage: cases make SEED COUNT      print COUNT generated cases
+       cases answer [FILE]        print the cases of FILE, or of standard input, with answers
+       cases check FILE           run the answered cases of FILE again and compare
+       cases tally SEED COUNT     count what COUNT generated cases bring up
+       cases compare SEED COUNT   compare oracle and plain implementation over COUNT cases
+       cases list                 print the fixed list of answers
+exit status: 0 well, 1 answers that are not as they should be, 2 unusable input, 3 a fault of an
+explorer (which is never an answer)
+";
+
+/// How many differences are shown.
+const SHOWN: usize = 5;
+
+/// Why a command stops early.
+enum Stop {
+    /// Bad arguments or input.
+    Input(String),
+    /// An explorer panicked or broke its word.
+    Explorer(String),
+    Output(io::Error),
+}
+
+impl From<io::Error> for Stop {
+    fn from(error: io::Error) -> Stop {
+        Stop::Output(error)
+    }
+}
+
+impl From<Refused> for Stop {
+    fn from(refused: Refused) -> Stop {
+        Stop::Input(refused.to_string())
+    }
+}
+
+/// True where everything was as it should be.
+type Outcome = Result<bool, Stop>;
+
+fn main() -> ExitCode {
+    // An argument that is no text is no command or number either, and is refused as such.
+    let arguments = std::env::args_os().skip(1);
+    let arguments: Vec<String> = arguments.map(|a| a.to_string_lossy().into_owned()).collect();
+    let mut out = BufWriter::new(io::stdout().lock());
+    let outcome = run(&arguments, &mut out).and_then(|well| {
+        out.flush()?;
+        Ok(well)
+    });
+    match outcome {
+        Ok(true) => ExitCode::SUCCESS,
+        Ok(false) => ExitCode::from(1),
+        // Whoever read our output has had enough.
+        Err(Stop::Output(error)) if error.kind() == ErrorKind::BrokenPipe => ExitCode::SUCCESS,
+        Err(Stop::Output(error)) => fail(2, &format!("standard output: {error}")),
+        Err(Stop::Input(what)) => fail(2, &what),
+        Err(Stop::Explorer(what)) => fail(3, &what),
+    }
+}
+
+fn fail(status: u8, what: &str) -> ExitCode {
+    eprintln!("cases: {what}");
+    ExitCode::from(status)
+}
+
+fn run(arguments: &[String], out: &mut impl Write) -> Outcome {
+    let words: Vec<&str> = arguments.iter().map(String::as_str).collect();
+    if let ["help" | "--help" | "-h"] = words[..] {
+        out.write_all(USAGE.as_bytes())?;
+        return Ok(true);
+    }
+    if let Some(word) = words.iter().find(|word| word.starts_with('-')) {
+        return Err(Stop::Input(format!("unknown option '{word}'")));
+    }
+    match words[..] {
+        ["make", seed, count] => make(number(seed)?, number(count)?, out),
+        ["answer"] => answer("standard input", io::stdin().lock(), out),
+        ["answer", file] => answer(file, open(file)?, out),
+        ["check", file] => check(file, out),
+        ["tally", seed, count] => tally_over(number(seed)?, number(count)?, out),
+        ["compare", seed, count] => compare_over(number(seed)?, number(count)?, out),
+        ["list"] => match list::write(out)? {
+            Ok(()) => Ok(true),
+            Err(fault) => Err(Stop::Explorer(fault)),
+        },
+        [] => Err(Stop::Input("no command; try 'cases help'".to_string())),
+        [command, ..] => Err(Stop::Input(wrong(command))),
+    }
+}
+
+/// What to say of a command that was not understood: its usage, if there is such a command.
+fn wrong(command: &str) -> String {
+    let known = USAGE
+        .lines()
+        .filter_map(|line| line.split_once("cases "))
+        .map(|(_, rest)| rest.split("  ").next().unwrap_or(rest))
+        .find(|rest| rest.split(' ').next() == Some(command));
+    match known {
+        Some(usage) => format!("usage: cases {usage}"),
+        None => format!("unknown command '{command}'; try 'cases help'"),
+    }
+}
+
+fn number(text: &str) -> Result<u64, Stop> {
+    let digits = text.bytes().all(|b| b.is_ascii_digit());
+    match text.parse() {
+        Ok(number) if digits => Ok(number),
+        _ => Err(Stop::Input(format!("'{text}' is not a number from 0 to 2^64-1"))),
+    }
+}
+
+fn open(file: &str) -> Result<BufReader<File>, Stop> {
+    match File::open(file) {
+        Ok(opened) => Ok(BufReader::new(opened)),
+        Err(error) => Err(Refused::file(file, error).into()),
+    }
+}
+
+fn make(seed: u64, count: u64, out: &mut impl Write) -> Outcome {
+    for index in 0..count {
+        writeln!(out, "{}", cases::case(seed, index))?;
+    }
+    Ok(true)
+}
+
+fn answer(file: &str, reader: impl BufRead, out: &mut impl Write) -> Outcome {
+    for case in Lines::new(file, reader, read_case) {
+        let case = case?;
+        let answer = by_oracle(&case).map_err(Stop::Explorer)?;
+        writeln!(out, "{case} {answer}")?;
+    }
+    Ok(true)
+}
+
+fn check(file: &str, out: &mut impl Write) -> Outcome {
+    let (mut agreed, mut differing) = (0, 0);
+    for line in Lines::new(file, open(file)?, read_answered) {
+        let (case, given) = line?;
+        let now = by_oracle(&case).map_err(Stop::Explorer)?;
+        let differences = compare::differences(["file", "oracle"], [&given, &now]);
+        if differences.is_empty() {
+            agreed += 1;
+            continue;
+        }
+        differing += 1;
+        for difference in differences {
+            writeln!(out, "{}: {difference}", case.name)?;
+        }
+    }
+    writeln!(out, "{agreed} cases agree, {differing} differ")?;
+    Ok(differing == 0)
+}
+
+fn tally_over(seed: u64, count: u64, out: &mut impl Write) -> Outcome {
+    let tally = tally::tally(seed, count).map_err(Stop::Explorer)?;
+    write!(out, "{tally}")?;
+    let missing = tally.missing();
+    for answer in &missing {
+        writeln!(out, "too seldom: answer {answer}")?;
+    }
+    Ok(missing.is_empty())
+}
+
+fn compare_over(seed: u64, count: u64, out: &mut impl Write) -> Outcome {
+    let outcome = compare::compare(seed, count).map_err(Stop::Explorer)?;
+    for (_, case, differences) in outcome.differing.iter().take(SHOWN) {
+        writeln!(out, "{case}")?;
+        for difference in differences {
+            writeln!(out, "  {difference}")?;
+        }
+    }
+    let differing = outcome.differing.len();
+    writeln!(out, "{} cases agree, {differing} differ", outcome.agreed)?;
+    Ok(differing == 0)
+}

@@ -1,0 +1,319 @@
+//! Answers 2 to 5: their order, their report, and that nothing is touched.
+
+mod common;
+use common::*;
+use terms::{Report, Settings, Summary};
+
+const MARK: Summary = Summary {
+    state: 9,
+    rows: 8,
+    yields: 7,
+    version: 6,
+};
+
+/// Runs with buffers of these lengths and sees that all of them stay as they are.
+fn refused(table: &[u8], settings: &Settings, lengths: (usize, usize, Option<usize>)) -> Report {
+    let mut path = vec![PATTERN; lengths.0];
+    let mut trace = vec![PATTERN; lengths.1];
+    let mut list = lengths.2.map(|length| vec![MARK; length]);
+    let mut told = |_: &[u8], _: &[u8]| panic!("no execution is begun");
+    let report = oracle::explore(
+        table,
+        settings,
+        &mut path,
+        &mut trace,
+        list.as_deref_mut(),
+        &mut told,
+    );
+    assert!((2..=5).contains(&report.answer), "{report:?}");
+    assert!(path.iter().chain(&trace).all(|&byte| byte == PATTERN));
+    assert!(list.is_none_or(|list| list.iter().all(|record| *record == MARK)));
+    report
+}
+
+fn good() -> Vec<u8> {
+    table(&[7], &[&[load(0, RELAXED, 0)]])
+}
+
+/// Buffers as the settings ask for.
+fn fitting(settings: &Settings) -> (usize, usize, Option<usize>) {
+    let path = 16 * settings.branches as usize;
+    (path, 16 * settings.operations as usize, Some(5))
+}
+
+#[test]
+fn settings_out_of_range() {
+    let refusal = Report::refusal(2, 255, 255);
+    let wrong = [
+        settings(0, 1, 1),
+        settings(1025, 1, 1),
+        settings(1, 0, 1),
+        settings(1, 4097, 1),
+        settings(1, 1, 0),
+        settings(1, 1, 65536),
+    ];
+    for settings in wrong {
+        let report = refused(&good(), &settings, fitting(&settings));
+        assert_eq!(report, refusal, "{settings:?}");
+        // Every later check would fail as well.
+        assert_eq!(refused(&[], &settings, (3, 3, Some(3))), refusal);
+    }
+    for huge in [1 << 60, 1 << 63, u64::MAX] {
+        for settings in [
+            settings(huge, 1, 1),
+            settings(1, huge, 1),
+            settings(1, 1, huge),
+        ] {
+            assert_eq!(refused(&good(), &settings, (16, 16, Some(5))), refusal);
+        }
+    }
+}
+
+#[test]
+fn buffer_lengths() {
+    let settings = settings(3, 2, 1);
+    let answer = |lengths| refused(&good(), &settings, lengths);
+    for path in [0, 47, 49, 64] {
+        assert_eq!(
+            answer((path, 32, Some(5))),
+            Report::refusal(3, 255, 255),
+            "{path}"
+        );
+    }
+    // 3 comes before 4.
+    assert_eq!(answer((47, 31, Some(4))).answer, 3);
+    for trace in [0, 31, 33, 48] {
+        assert_eq!(
+            answer((48, trace, Some(5))),
+            Report::refusal(4, 255, 255),
+            "{trace}"
+        );
+        assert_eq!(answer((48, trace, None)).answer, 4);
+    }
+    for list in [0, 4, 6] {
+        assert_eq!(
+            answer((48, 32, Some(list))),
+            Report::refusal(4, 255, 255),
+            "{list}"
+        );
+    }
+    // 4 comes before 5.
+    assert_eq!(refused(&[], &settings, (48, 31, Some(5))).answer, 4);
+    assert_eq!(refused(&[], &settings, (48, 32, Some(6))).answer, 4);
+}
+
+/// Without a list there is none to judge; what the run leaves is the same.
+#[test]
+fn no_list_given() {
+    let settings = settings(3, 1, 1);
+    let (mut path, mut trace) = ([1; 48], [1; 16]);
+    let (report, digest) = oracle::explore_digest(&good(), &settings, &mut path, &mut trace, None);
+    let ran = run(&good(), &settings);
+    assert_eq!(report, ran.report);
+    assert_eq!(path, ran.last_path());
+    let mut expected = terms::Digest::default();
+    expected.execution(&path, &trace);
+    assert_eq!(digest, expected.value());
+}
+
+fn judged(table: &[u8]) -> Report {
+    let settings = settings(16, 16, 1);
+    refused(table, &settings, fitting(&settings))
+}
+
+/// Refused for its header or length.
+fn bad_header(table: &[u8]) {
+    assert_eq!(judged(table), Report::refusal(5, 255, 255), "{table:?}");
+}
+
+#[test]
+fn header_and_length() {
+    let good = table(&[7, 8], &[&[load(0, RELAXED, 0)], &[yields()]]);
+    for length in 0..good.len() {
+        bad_header(&good[..length]);
+    }
+    bad_header(&[good.clone(), vec![0]].concat());
+    bad_header(&[good.clone(), vec![0; 24]].concat());
+    // Byte 4 is the count of thread 2, which is absent.
+    let edits = [(0, 0), (0, 6), (0, 255), (1, 0), (1, 5), (4, 1), (6, 1)];
+    for (at, value) in edits.into_iter().chain([(7, 1), (7, 255), (2, 33)]) {
+        let mut bad = good.clone();
+        bad[at] = value;
+        bad_header(&bad);
+    }
+    // 33 rows, with the bytes for them.
+    bad_header(&table(&[0], &[&[yields(); 33]]));
+    // An absent thread with rows, with the bytes for them.
+    let mut absent = table(&[0], &[&[yields()], &[yields()]]);
+    absent[0] = 1;
+    bad_header(&absent);
+    // A header is judged before any row.
+    let mut both = table(
+        &[0],
+        &[&[Row {
+            opcode: 17,
+            ..yields()
+        }]],
+    );
+    assert_eq!(judged(&both), Report::refusal(5, 0, 0));
+    both[7] = 1;
+    bad_header(&both);
+}
+
+#[test]
+fn the_first_bad_row_is_named() {
+    let bad = Row {
+        opcode: 255,
+        ..yields()
+    };
+    let ok = yields();
+    let rows: [&[Row]; 4] = [&[ok, ok], &[], &[ok, ok, bad, bad], &[bad]];
+    assert_eq!(judged(&table(&[0], &rows)), Report::refusal(5, 2, 2));
+    let late: [&[Row]; 2] = [&[ok; 32], &[bad]];
+    assert_eq!(judged(&table(&[0], &late)), Report::refusal(5, 1, 0));
+}
+
+/// A table of two threads and two cells; the row stands second of three in thread 1.
+fn accepted(row: Row) -> bool {
+    let table = table(&[0, 0], &[&[], &[check(0, 0), row, check(0, 0)]]);
+    let settings = settings(64, 64, 1);
+    let mut path = vec![0; 16 * 64];
+    let mut trace = path.clone();
+    let report = oracle::explore(
+        &table,
+        &settings,
+        &mut path,
+        &mut trace,
+        None,
+        &mut |_, _| {},
+    );
+    if report.answer == 5 {
+        assert_eq!(report, Report::refusal(5, 1, 1));
+    } else {
+        assert_eq!(report.executions + report.open, 1 + report.opened);
+    }
+    report.answer != 5
+}
+
+/// A row of each opcode, with zero in every field that may be zero.
+fn plain(opcode: u8) -> Row {
+    Row {
+        opcode,
+        order: u8::from(opcode == 4),
+        ..Row::default()
+    }
+}
+
+#[test]
+fn opcodes() {
+    for opcode in 0..=255 {
+        assert_eq!(accepted(plain(opcode)), opcode <= 16, "{opcode}");
+    }
+}
+
+#[test]
+fn orders() {
+    let allowed: [&[u8]; 5] = [
+        &[0, 2, 4],
+        &[0, 1, 4],
+        &[0, 1, 4],
+        &[0, 1, 2, 3, 4],
+        &[1, 2, 3, 4],
+    ];
+    for opcode in 0..=16 {
+        for order in 0..=255 {
+            let row = Row {
+                order,
+                ..plain(opcode)
+            };
+            let unused: &[u8] = &[0];
+            let list = allowed.get(usize::from(opcode)).unwrap_or(&unused);
+            assert_eq!(accepted(row), list.contains(&order), "{row:?}");
+        }
+    }
+}
+
+#[test]
+fn failure_orders() {
+    for (opcode, change) in [(3, 10), (3, 11), (3, 12), (6, 11), (6, 12), (0, 0)] {
+        for failure in 0..=255 {
+            let row = Row {
+                failure,
+                change,
+                ..plain(opcode)
+            };
+            let used = opcode == 3 && change >= 11;
+            let fits = failure == 0 || used && (failure == 2 || failure == 4);
+            assert_eq!(accepted(row), fits, "{row:?}");
+        }
+    }
+    // Not compared with the success order.
+    assert!(accepted(compare(0, (RELAXED, SEQCST), 0, 1, 2)));
+}
+
+#[test]
+fn changes_and_registers() {
+    for opcode in 0..=16 {
+        for value in 0..=255 {
+            let change = Row {
+                change: value,
+                ..plain(opcode)
+            };
+            let changes = if matches!(opcode, 3 | 6) { 12 } else { 0 };
+            assert_eq!(accepted(change), value <= changes, "{change:?}");
+            let register = Row {
+                register: value,
+                ..plain(opcode)
+            };
+            let used = [0, 2, 3, 5, 6, 10, 11, 12, 16].contains(&opcode);
+            let registers = if used { 3 } else { 0 };
+            assert_eq!(accepted(register), value <= registers, "{register:?}");
+        }
+    }
+}
+
+#[test]
+fn places_and_targets() {
+    for opcode in 0..=16 {
+        for value in 0..=255 {
+            let place = Row {
+                place: value,
+                ..plain(opcode)
+            };
+            // Two cells, two threads; a join may name its own thread.
+            let used = [0, 1, 2, 3, 5, 6, 8].contains(&opcode);
+            assert_eq!(accepted(place), value <= u8::from(used), "{place:?}");
+        }
+        for target in [0, 1, 3, 4, 255, 256, 65535] {
+            let row = Row {
+                target,
+                ..plain(opcode)
+            };
+            let targets = if matches!(opcode, 9..=11) { 3 } else { 0 };
+            assert_eq!(accepted(row), target <= targets, "{row:?}");
+        }
+    }
+}
+
+#[test]
+fn operands() {
+    for opcode in 0..=16 {
+        for change in 0..=12 {
+            let changes = matches!(opcode, 3 | 6);
+            if change > 0 && !changes {
+                continue;
+            }
+            for operand in [1, 1 << 63] {
+                let base = Row {
+                    change,
+                    ..plain(opcode)
+                };
+                let a = Row { a: operand, ..base };
+                let uses_a = [1, 10, 11, 12].contains(&opcode) || changes && change <= 11;
+                assert_eq!(accepted(a), uses_a, "{a:?}");
+                let b = Row { b: operand, ..base };
+                assert_eq!(accepted(b), changes && change == 11, "{b:?}");
+            }
+        }
+    }
+}
