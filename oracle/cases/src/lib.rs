@@ -10,7 +10,7 @@ mod generate;
 pub mod hand;
 pub mod lines;
 pub mod list;
-mod random;
+pub mod random;
 mod recipes;
 pub mod run;
 mod spread;

@@ -20,7 +20,7 @@ const FIRST: usize = 12;
 const REFUSALS: usize = 30;
 
 const HEADER: &str = "\
-# Answers of the oracle, made by: cargo run --release -p cases -- list > answers.txt
+# Answers of the oracle, made by: cargo run --release -p cases -- list > ../crates/replay/stdin
 # (in the directory of the Rust workspace). cases/FORMAT.md describes the format; in brief:
 # one case a line, fields separated by one space:
 # NAME B L N BOUND EXPLORING PATH TRACE LIST TABLE, then the answer: 29 numbers (answer, executions

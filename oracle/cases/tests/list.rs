@@ -5,8 +5,8 @@ use std::collections::{HashMap, HashSet};
 use std::fs;
 
 fn file() -> Vec<u8> {
-    let path = concat!(env!("CARGO_MANIFEST_DIR"), "/../answers.txt");
-    fs::read(path).expect("answers.txt stands beside this package")
+    let path = concat!(env!("CARGO_MANIFEST_DIR"), "/../../crates/replay/stdin");
+    fs::read(path).expect("the list stands with the program that replays it")
 }
 
 #[test]
@@ -14,7 +14,7 @@ fn the_file_is_what_the_command_prints() {
     let mut now = Vec::new();
     cases::list::write(&mut now).expect("memory takes all").expect("answers");
     // Not assert_eq: the whole list twice would be no message.
-    assert!(now == file(), "answers.txt is not what 'cases list' prints now");
+    assert!(now == file(), "the list is not what 'cases list' prints now");
 }
 
 #[test]

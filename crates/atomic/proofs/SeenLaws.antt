@@ -1,0 +1,192 @@
+-- The laws of first sight, for the functions that answer it. Over every length. Assumes nothing.
+--     seen-on-.., seen-ends       a mark that lets the walk along a store's marks go on, and one that ends it
+--     slots-on, slots-all         the stores below i are answered, what is left is still to be
+--     touch-.., yield-..          by the tests that a function without a loop makes
+-- and what the definitions say:
+--     seen-made, seen-found       seen is that some thread's mark is known
+--     touched-..                  only the thread's own mark changes, and only where unseen
+--     seenSlots-.., touchedAt-..  of each slot of a cell
+use Prim.Native.Nat.{ℕ, zero, suc, _+_, _≤_, _<_}
+use mathlib.Core.List.{List, [], _∷_, _++_, append-nil}
+use mathlib.Core.Bool.{Bool, true, false, not, _&&_, false≢true, and-eq-true-iff}
+use mathlib.Core.Path.{_≡_, refl, sym, _∙_}
+use mathlib.Core.Logic.{_≢_, _⊎_, inl, inr, ⊎-elim}
+use native.Mathlib.Omega.{arith}
+use native.Mathlib.Numerals.{add-one}
+use lib.Dec.{leb, eqb}
+use lib.ListN.{length, getD, set, take, drop, drop-of-length-le, length-set, length-map, List·getD-eq-default, List·getD-map}
+use lib.Seq.{drop-cons, take-suc-set, set-out, take-all, append-snoc, getD-set-same, getD-set-other}
+use borrow.Author.Tests.{le-leb, lt-leb, eq-eqb, ne-eqb, leb-true, eqb-false, not-true}
+use Rattle.rules.specs.Vector.{Whom, nobody, thread, next}
+use Rattle.vv.proofs.Walks.{left-cons}
+use Rattle.atomic.specs.Seen.{unseen, markOf, known, seenThrough, someone, seen, seenBeforeYield, touched, touchedAt, seenSlots}
+
+someone-next : (w : Whom) → someone (next w) ≡ someone w
+someone-next nobody = refl
+someone-next (thread t) = refl
+
+module _ (marks vs : List ℕ) (i : ℕ) (h : i < length marks) (k : i < length vs) where
+  pub seen-on-unseen : getD marks i 0 ≡ unseen → seen (drop (i + 1) marks) (drop (i + 1) vs) ≡ seen (drop i marks) (drop i vs)
+  unfolding seen seenThrough
+  seen-on-unseen e = rw (left-cons seen marks vs i h k, eq-eqb (getD marks i 0) unseen e, someone-next)
+
+  pub seen-on-later : getD marks i 0 ≢ unseen → getD vs i 0 < getD marks i 0 →
+      seen (drop (i + 1) marks) (drop (i + 1) vs) ≡ seen (drop i marks) (drop i vs)
+  unfolding seen seenThrough
+  seen-on-later n l =
+      rw (left-cons seen marks vs i h k, ne-eqb (getD marks i 0) unseen n, lt-leb (getD marks i 0) (getD vs i 0) l, someone-next)
+
+  pub seen-ends : getD marks i 0 ≢ unseen → getD marks i 0 ≤ getD vs i 0 → seen (drop i marks) (drop i vs) ≡ true
+  unfolding seen seenThrough
+  seen-ends n l =
+      rw (left-cons seen marks vs i h k, ne-eqb (getD marks i 0) unseen n, le-leb (getD marks i 0) (getD vs i 0) l)
+
+-- the answers below i, with those for the stores from i on still to be made
+abbrev pub answering : List Bool → List (List ℕ) → List ℕ → ℕ → List Bool
+answering done rows vs i = take i done ++ seenSlots (drop i rows) vs
+
+module _ (done : List Bool) (rows : List (List ℕ)) (vs : List ℕ) (i : ℕ) where
+  pub slots-on : i < length done → i < length rows → (b : Bool) → b ≡ seen (getD rows i []) vs →
+      answering (set done i b) rows vs (i + 1) ≡ answering done rows vs i
+  unfolding seenSlots
+  slots-on h k b e = rw (add-one, drop-cons rows i [], take-suc-set done i b h, append-snoc, e)
+
+  pub slots-all : length done ≤ i → length rows ≤ i → answering done rows vs i ≡ done
+  unfolding seenSlots
+  slots-all h k = rw (take-all i done h, drop-of-length-le rows k, append-nil)
+
+-- within a list it is no matter what would stand past its end
+within : (xs : List ℕ) (i a b : ℕ) → i < length xs → getD xs i a ≡ getD xs i b
+within [] i a b h = absurd (omega arith)
+within (x ∷ xs) zero a b h = refl
+within (x ∷ xs) (suc i) a b h = within xs i a b (omega arith)
+
+never : (b : Bool) → false ≡ b && false
+never true = refl
+never false = refl
+
+module _ (marks : List ℕ) (t : ℕ) (h : t < length marks) where
+  marked : markOf marks t ≡ getD marks t 0
+  marked = within marks t unseen 0 h
+
+  pub touch-first : (v : ℕ) → getD marks t 0 ≡ unseen → set marks t v ≡ touched marks t v
+  unfolding touched
+  touch-first v e = rw (eq-eqb (markOf marks t) unseen (marked ∙ e))
+
+  pub touch-again : (v : ℕ) → getD marks t 0 ≢ unseen → marks ≡ touched marks t v
+  unfolding touched
+  touch-again v n = rw (ne-eqb (markOf marks t) unseen (λ e. n (sym marked ∙ e)))
+
+  pub yield-unseen : (y : ℕ) → getD marks t 0 ≡ unseen → false ≡ seenBeforeYield marks t y
+  unfolding seenBeforeYield
+  yield-unseen y e = rw (eq-eqb (markOf marks t) unseen (marked ∙ e)) (never (not (eqb y unseen)))
+
+  pub yield-seen : (y : ℕ) → y ≢ unseen → getD marks t 0 ≢ unseen → leb (getD marks t 0) y ≡ seenBeforeYield marks t y
+  unfolding seenBeforeYield
+  yield-seen y m n = rw (ne-eqb y unseen m, ne-eqb (markOf marks t) unseen (λ e. n (sym marked ∙ e)), marked)
+
+module _ (marks : List ℕ) (t : ℕ) (h : length marks ≤ t) where
+  pub touch-nobody : (v : ℕ) → marks ≡ touched marks t v
+  unfolding touched
+  touch-nobody v = rw (List·getD-eq-default marks unseen h) (sym (set-out marks t v h))
+
+  pub yield-nobody : (y : ℕ) → false ≡ seenBeforeYield marks t y
+  unfolding seenBeforeYield
+  yield-nobody y = rw (List·getD-eq-default marks unseen h) (never (not (eqb y unseen)))
+
+pub yield-none : (marks : List ℕ) (t y : ℕ) → y ≡ unseen → false ≡ seenBeforeYield marks t y
+unfolding seenBeforeYield
+yield-none marks t y e = rw (eq-eqb y unseen e)
+
+pub touch-at : (rows : List (List ℕ)) (slot t v : ℕ) (row : List ℕ) → row ≡ touched (getD rows slot []) t v → set rows slot row ≡ touchedAt rows slot t v
+unfolding touchedAt
+touch-at rows slot t v row e = rw e
+
+-- What the definitions say of each thread and each slot
+
+flag : (b : Bool) → (b ≡ true) ⊎ (b ≡ false)
+flag true = inl refl
+flag false = inr refl
+
+both : (a b : Bool) → a && b ≡ true → (a ≡ true) × (b ≡ true)
+both a b = and-eq-true-iff a b .0
+
+-- "for some thread, mark ≤ that part"
+pub record Known (marks vs : List ℕ) (t : ℕ) : Type 0 where
+  pub part : t < length vs
+  pub there : markOf marks t ≢ unseen
+  pub reached : markOf marks t ≤ getD vs t 0
+
+later : (m v t : ℕ) (marks vs : List ℕ) → Known (m ∷ marks) (v ∷ vs) (suc t) → Known marks vs t
+later m v t marks vs k = record { part = omega (arith, k .part); there = k .there; reached = k .reached }
+
+seen-next : (m v : ℕ) (marks vs : List ℕ) → known m v ≡ false → seen (m ∷ marks) (v ∷ vs) ≡ seen marks vs
+unfolding seen seenThrough
+seen-next m v marks vs e = rw e (someone-next (seenThrough marks vs))
+
+pub seen-made : (marks vs : List ℕ) (t : ℕ) → Known marks vs t → seen marks vs ≡ true
+unfolding seen seenThrough
+seen-made [] vs t k = absurd (k .there refl)
+seen-made (m ∷ marks) [] t k = absurd (omega (arith, k .part))
+seen-made (m ∷ marks) (v ∷ vs) zero k = rw (ne-eqb m unseen (k .there), le-leb m v (k .reached))
+seen-made (m ∷ marks) (v ∷ vs) (suc t) k =
+    ⊎-elim (λ e. rw e) (λ e. seen-next m v marks vs e ∙ seen-made marks vs t (later m v t marks vs k)) (flag (known m v))
+
+sooner : (m v t : ℕ) (marks vs : List ℕ) → Known marks vs t → Known (m ∷ marks) (v ∷ vs) (suc t)
+sooner m v t marks vs k = record { part = omega (arith, k .part); there = k .there; reached = k .reached }
+
+here : (m v : ℕ) (marks vs : List ℕ) → known m v ≡ true → Known (m ∷ marks) (v ∷ vs) 0
+here m v marks vs e =
+    let h = both (not (eqb m unseen)) (leb m v) e in
+    record { part = omega arith; there = eqb-false m unseen (not-true (eqb m unseen) (h .0)); reached = leb-true m v (h .1) }
+
+pub seen-found : (marks vs : List ℕ) → seen marks vs ≡ true → (t : ℕ) × Known marks vs t
+unfolding seen seenThrough
+seen-found [] vs p = absurd (false≢true p)
+seen-found (m ∷ marks) [] p = absurd (false≢true p)
+seen-found (m ∷ marks) (v ∷ vs) p =
+    ⊎-elim
+    (λ e. (0, here m v marks vs e))
+    (λ e. let k = seen-found marks vs (sym (seen-next m v marks vs e) ∙ p) in (suc (k .0), sooner m v (k .0) marks vs (k .1)))
+    (flag (known m v))
+
+pub length-touched : (marks : List ℕ) (t v : ℕ) → length (touched marks t v) ≡ length marks
+unfolding touched
+length-touched marks t v =
+    ⊎-elim (λ e. rw e (length-set marks t v)) (λ e. rw e) (flag (eqb (markOf marks t) unseen))
+
+-- "only where unseen"
+pub touched-seen : (marks : List ℕ) (t v : ℕ) → markOf marks t ≢ unseen → touched marks t v ≡ marks
+unfolding touched
+touched-seen marks t v n = rw (ne-eqb (markOf marks t) unseen n)
+
+pub touched-own : (marks : List ℕ) (t v : ℕ) → t < length marks → markOf marks t ≡ unseen → markOf (touched marks t v) t ≡ v
+unfolding touched
+touched-own marks t v h e = rw (eq-eqb (markOf marks t) unseen e) (getD-set-same marks t v unseen h)
+
+pub touched-other : (marks : List ℕ) (t k v : ℕ) → k ≢ t → markOf (touched marks t v) k ≡ markOf marks k
+unfolding touched
+touched-other marks t k v n =
+    ⊎-elim (λ e. rw e (getD-set-other marks t k v unseen n)) (λ e. rw e) (flag (eqb (markOf marks t) unseen))
+
+module _ (rows : List (List ℕ)) (vs : List ℕ) where
+  pub length-seenSlots : length (seenSlots rows vs) ≡ length rows
+  unfolding seenSlots
+  length-seenSlots = length-map rows (λ (marks : List ℕ). seen marks vs)
+
+  pub seenSlots-at : (i : ℕ) → getD (seenSlots rows vs) i false ≡ seen (getD rows i []) vs
+  unfolding seenSlots seen seenThrough
+  seenSlots-at i = List·getD-map (λ (marks : List ℕ). seen marks vs) rows i []
+
+module _ (rows : List (List ℕ)) (slot t v : ℕ) where
+  pub length-touchedAt : length (touchedAt rows slot t v) ≡ length rows
+  unfolding touchedAt
+  length-touchedAt = length-set rows slot _
+
+  pub touchedAt-own : slot < length rows → getD (touchedAt rows slot t v) slot [] ≡ touched (getD rows slot []) t v
+  unfolding touchedAt
+  touchedAt-own h = getD-set-same rows slot _ [] h
+
+  pub touchedAt-other : (k : ℕ) → k ≢ slot → getD (touchedAt rows slot t v) k [] ≡ getD rows k []
+  unfolding touchedAt
+  touchedAt-other k n = getD-set-other rows slot k _ [] n

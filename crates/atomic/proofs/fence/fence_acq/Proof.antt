@@ -1,0 +1,61 @@
+use borrow.Author.Needs.{needs}
+use Prim.Native.Nat.{_≤_, _-_}
+use Rattle.atomic.proofs.fence.fence_acq.Statement.{statement}
+use Rattle.atomic.proofs.fence.fence_acq.Tie as tie
+
+abbrev Inv-loop : tie.InvT-loop
+Inv-loop clocks₀ marks small thread cells cell₀ clocks cell = cell ≤ cells
+
+abbrev μ-loop : tie.MeasureT-loop
+μ-loop clocks₀ marks small thread cells cell₀ clocks cell = cells - cell
+
+loop-holds : tie.Need-loop-holds Inv-loop μ-loop
+loop-holds c = search needs
+
+add-count : tie.Need-add-count Inv-loop μ-loop
+add-count c = search needs
+
+mul-count : tie.Need-mul-count Inv-loop μ-loop
+mul-count c = search needs
+
+element-copy-out-count : tie.Need-element-copy-out-count Inv-loop μ-loop
+element-copy-out-count c = search needs
+
+mul-fence-acq-cell : tie.Need-mul-fence-acq-cell Inv-loop μ-loop
+mul-fence-acq-cell c = search needs
+
+element-copy-out-fence-acq-cell : tie.Need-element-copy-out-fence-acq-cell Inv-loop μ-loop
+element-copy-out-fence-acq-cell c = search needs
+
+fence-acq-cell-requires : tie.Need-fence-acq-cell-requires Inv-loop μ-loop
+fence-acq-cell-requires c κs = search needs
+
+add-cell : tie.Need-add-cell Inv-loop μ-loop
+add-cell c = search needs
+
+loop-less : tie.Need-loop-less Inv-loop μ-loop
+loop-less c = search needs
+
+loop-again : tie.Need-loop-again Inv-loop μ-loop
+loop-again c = search needs
+
+returns : tie.Need-returns Inv-loop μ-loop
+returns c = search needs
+
+pub fence-acq-spec : {M : Type 1} → statement M
+fence-acq-spec =
+    tie.close
+    (tie.spec
+    Inv-loop
+    μ-loop
+    loop-holds
+    add-count
+    mul-count
+    element-copy-out-count
+    mul-fence-acq-cell
+    element-copy-out-fence-acq-cell
+    fence-acq-cell-requires
+    add-cell
+    loop-less
+    loop-again
+    returns)

@@ -1,0 +1,77 @@
+use borrow.Author.Needs.{needs}
+use Prim.Native.Nat.{_≤_, _-_}
+use Rattle.atomic.proofs.fence.fence_acq_cell.Statement.{statement}
+use Rattle.atomic.proofs.fence.fence_acq_cell.Tie as tie
+
+abbrev Inv-loop : tie.InvT-loop
+Inv-loop clocks₀ count thread cell marks live k₀ clocks k = k ≤ live
+
+abbrev μ-loop : tie.MeasureT-loop
+μ-loop clocks₀ count thread cell marks live k₀ clocks k = live - k
+
+live-stores-requires : tie.Need-live-stores-requires Inv-loop μ-loop
+live-stores-requires c κs = search needs
+
+loop-holds : tie.Need-loop-holds Inv-loop μ-loop
+loop-holds c = search needs
+
+kth-oldest-requires : tie.Need-kth-oldest-requires Inv-loop μ-loop
+kth-oldest-requires c κs = search needs
+
+mul-row : tie.Need-mul-row Inv-loop μ-loop
+mul-row c = search needs
+
+array-copy-out-row : tie.Need-array-copy-out-row Inv-loop μ-loop
+array-copy-out-row c = search needs
+
+add-causality : tie.Need-add-causality Inv-loop μ-loop
+add-causality c = search needs
+
+mul-causality : tie.Need-mul-causality Inv-loop μ-loop
+mul-causality c = search needs
+
+element-copy-out-causality : tie.Need-element-copy-out-causality Inv-loop μ-loop
+element-copy-out-causality c = search needs
+
+is-seen-by-current-requires : tie.Need-is-seen-by-current-requires Inv-loop μ-loop
+is-seen-by-current-requires c κs = search needs
+
+store-at-requires : tie.Need-store-at-requires Inv-loop μ-loop
+store-at-requires c κs = search needs
+
+sync-load-requires : tie.Need-sync-load-requires Inv-loop μ-loop
+sync-load-requires c κs = search needs
+
+add-k : tie.Need-add-k Inv-loop μ-loop
+add-k c = search needs
+
+loop-less : tie.Need-loop-less Inv-loop μ-loop
+loop-less c = search needs
+
+loop-again : tie.Need-loop-again Inv-loop μ-loop
+loop-again c = search needs
+
+returns : tie.Need-returns Inv-loop μ-loop
+returns c = search needs
+
+pub fence-acq-cell-spec : {M : Type 1} → statement M
+fence-acq-cell-spec =
+    tie.close
+    (tie.spec
+    Inv-loop
+    μ-loop
+    live-stores-requires
+    loop-holds
+    kth-oldest-requires
+    mul-row
+    array-copy-out-row
+    add-causality
+    mul-causality
+    element-copy-out-causality
+    is-seen-by-current-requires
+    store-at-requires
+    sync-load-requires
+    add-k
+    loop-less
+    loop-again
+    returns)

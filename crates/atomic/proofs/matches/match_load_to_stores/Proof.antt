@@ -1,0 +1,127 @@
+use borrow.Author.Needs.{needs}
+use mathlib.Core.Logic.{⊎-elim}
+use Prim.Native.Nat.{_≤_, _-_}
+use Rattle.atomic.proofs.matches.match_load_to_stores.Statement.{statement}
+use Rattle.atomic.proofs.matches.match_load_to_stores.Tie as tie
+
+abbrev Inv-loop : tie.InvT-loop
+Inv-loop clocks small thread cell order dst₀ marks seen last-yield count n₀ i₀ dst n i = (n ≤ i) × (i ≤ 7)
+
+abbrev μ-loop : tie.MeasureT-loop
+μ-loop clocks small thread cell order dst₀ marks seen last-yield count n₀ i₀ dst n i = 7 - i
+
+add-causality : tie.Need-add-causality Inv-loop μ-loop
+add-causality c = search needs
+
+mul-causality : tie.Need-mul-causality Inv-loop μ-loop
+mul-causality c = search needs
+
+element-copy-out-causality : tie.Need-element-copy-out-causality Inv-loop μ-loop
+element-copy-out-causality c = search needs
+
+seen-slots-requires : tie.Need-seen-slots-requires Inv-loop μ-loop
+seen-slots-requires c κs = search needs
+
+add-last-yield : tie.Need-add-last-yield Inv-loop μ-loop
+add-last-yield c = search needs
+
+mul-last-yield : tie.Need-mul-last-yield Inv-loop μ-loop
+mul-last-yield c = search needs
+
+element-copy-out-last-yield : tie.Need-element-copy-out-last-yield Inv-loop μ-loop
+element-copy-out-last-yield c = search needs
+
+add-wide : tie.Need-add-wide Inv-loop μ-loop
+add-wide c = search needs
+
+mul-wide : tie.Need-mul-wide Inv-loop μ-loop
+mul-wide c = search needs
+
+element-copy-out-wide : tie.Need-element-copy-out-wide Inv-loop μ-loop
+element-copy-out-wide c = search needs
+
+wide-requires : tie.Need-wide-requires Inv-loop μ-loop
+wide-requires c κs = search needs
+
+loop-holds : tie.Need-loop-holds Inv-loop μ-loop
+loop-holds c = search needs
+
+mul-row : tie.Need-mul-row Inv-loop μ-loop
+mul-row c = search needs
+
+array-copy-out-row : tie.Need-array-copy-out-row Inv-loop μ-loop
+array-copy-out-row c = search needs
+
+is-seen-before-yield-requires : tie.Need-is-seen-before-yield-requires Inv-loop μ-loop
+is-seen-before-yield-requires c κs = search needs
+
+load-fate-requires : tie.Need-load-fate-requires Inv-loop μ-loop
+load-fate-requires c κs = search needs
+
+enum-told : tie.Need-enum-told Inv-loop μ-loop
+enum-told c = search needs
+
+cast-dst : tie.Need-cast-dst Inv-loop μ-loop
+cast-dst c = search needs
+
+element-write-dst : tie.Need-element-write-dst Inv-loop μ-loop
+element-write-dst c = search needs
+
+add-n : tie.Need-add-n Inv-loop μ-loop
+add-n c = search needs
+
+enum-told-2 : tie.Need-enum-told-2 Inv-loop μ-loop
+enum-told-2 c = search needs
+
+enum-told-3 : tie.Need-enum-told-3 Inv-loop μ-loop
+enum-told-3 c = search needs
+
+returns : tie.Need-returns Inv-loop μ-loop
+returns c = search needs
+
+add-i : tie.Need-add-i Inv-loop μ-loop
+add-i c = search needs
+
+loop-less : tie.Need-loop-less Inv-loop μ-loop
+loop-less c = search needs
+
+loop-again : tie.Need-loop-again Inv-loop μ-loop
+loop-again c =
+    ⊎-elim (λ w. search needs) (λ w. ⊎-elim (λ v. search needs) (λ v. search needs) w) (c .if1 .came)
+
+returns-2 : tie.Need-returns-2 Inv-loop μ-loop
+returns-2 c = search needs
+
+pub match-load-to-stores-spec : {M : Type 1} → statement M
+match-load-to-stores-spec =
+    tie.close
+    (tie.spec
+    Inv-loop
+    μ-loop
+    add-causality
+    mul-causality
+    element-copy-out-causality
+    seen-slots-requires
+    add-last-yield
+    mul-last-yield
+    element-copy-out-last-yield
+    add-wide
+    mul-wide
+    element-copy-out-wide
+    wide-requires
+    loop-holds
+    mul-row
+    array-copy-out-row
+    is-seen-before-yield-requires
+    load-fate-requires
+    enum-told
+    cast-dst
+    element-write-dst
+    add-n
+    enum-told-2
+    enum-told-3
+    returns
+    add-i
+    loop-less
+    loop-again
+    returns-2)

@@ -1,0 +1,89 @@
+// The last dependent access of a cell, for the search for races between schedules: loom's rt/access.rs and Action.
+ghost use Prim.Native.Nat.{_<_};
+use crate::state::ACCESS_BRANCH;
+use crate::state::Clocks;
+use crate::state::LAST_ACCESS;
+use crate::state::LAST_NON_LOAD_ACCESS;
+use crate::state::NON_LOAD_BRANCH;
+use crate::state::NONE;
+use crate::state::SCHEDULE;
+use crate::state::Small;
+use vv::VersionVec;
+
+// The operation that a thread is about to take, as a number: none, load, store, read-modify-write.
+pub const NO_ACTION: u16 = 0;
+
+pub const LOAD: u16 = 1;
+
+pub const STORE: u16 = 2;
+
+pub const RMW: u16 = 3;
+
+// The branch of the access that this operation depends on, or NONE: a load does not depend on loads.
+pub fn last_dependent_branch(small: &Small, action: u16, cell: usize) -> u16
+    requires { ⌜ cell < 4 ⌝ }
+{
+    if action == LOAD {
+        small[NON_LOAD_BRANCH + cell]
+    } else {
+        small[ACCESS_BRANCH + cell]
+    }
+}
+
+// That access's vector.
+pub fn last_dependent_version(clocks: &Clocks, action: u16, cell: usize) -> [u16; 5]
+    requires { ⌜ cell < 4 ⌝ }
+{
+    if action == LOAD {
+        clocks[LAST_NON_LOAD_ACCESS + cell]
+    } else {
+        clocks[LAST_ACCESS + cell]
+    }
+}
+
+// Whether a dependent access is there that did not happen before what the thread has scheduled so far.
+pub fn is_concurrent(
+    clocks: &Clocks,
+    small: &Small,
+    thread: usize,
+    action: u16,
+    cell: usize,
+) -> bool
+    requires { ⌜ (thread < 5) × (cell < 4) ⌝ }
+{
+    if last_dependent_branch(small, action, cell) == NONE {
+        return false;
+    }
+    let version = last_dependent_version(clocks, action, cell);
+    let schedule = clocks[SCHEDULE + thread];
+    let access = VersionVec { versions: version };
+    !access.at_most(VersionVec { versions: schedule })
+}
+
+// The chosen thread's operation becomes the last access, at this branch, after all that it depends on.
+pub fn set_last_access(
+    clocks: &mut Clocks,
+    small: &mut Small,
+    thread: usize,
+    action: u16,
+    cell: usize,
+    branch: u16,
+)
+    requires { ⌜ (thread < 5) × (cell < 4) ⌝ }
+{
+    let row = clocks[SCHEDULE + thread];
+    let mut schedule = VersionVec { versions: row };
+    if last_dependent_branch(small, action, cell) != NONE {
+        let version = last_dependent_version(clocks, action, cell);
+        schedule = schedule.join(VersionVec { versions: version });
+    }
+    let schedule = schedule.raise(thread);
+    let row = schedule.versions;
+    clocks[SCHEDULE + thread] = row;
+    clocks[LAST_ACCESS + cell] = row;
+    small[ACCESS_BRANCH + cell] = branch;
+    if action != LOAD {
+        clocks[LAST_NON_LOAD_ACCESS + cell] = row;
+        small[NON_LOAD_BRANCH + cell] = branch;
+    }
+}

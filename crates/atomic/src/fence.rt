@@ -1,0 +1,109 @@
+// Fences: loom's fence and its four kinds.
+ghost use Prim.Native.Nat.{_<_, _≤_};
+use crate::first_seen::FirstSeen;
+use crate::state;
+use crate::state::CAUSALITY;
+use crate::state::COUNT;
+use crate::state::Clocks;
+use crate::state::Marks;
+use crate::state::RELEASED;
+use crate::state::SEQ_CST_CAUSALITY;
+use crate::state::Small;
+use crate::synchronize::ACQ_REL;
+use crate::synchronize::ACQUIRE;
+use crate::synchronize::RELEASE;
+use crate::synchronize::SEQ_CST;
+use crate::synchronize::join_into;
+use crate::synchronize::sync_load;
+
+// The fence of an order. A relaxed one, which no accepted table has, does nothing.
+pub fn fence(
+    clocks: &mut Clocks,
+    marks: &Marks,
+    small: &Small,
+    thread: usize,
+    cells: usize,
+    order: u8,
+)
+    requires { ⌜ (thread < 5) × (cells ≤ 4) ⌝ }
+{
+    match order {
+        ACQUIRE => fence_acq(clocks, marks, small, thread, cells),
+        RELEASE => fence_rel(clocks, thread),
+        ACQ_REL => fence_acqrel(clocks, marks, small, thread, cells),
+        SEQ_CST => fence_seqcst(clocks, marks, small, thread, cells),
+        _ => {}
+    }
+}
+
+// Acquires from each seen store of each cell, cells in order.
+pub fn fence_acq(clocks: &mut Clocks, marks: &Marks, small: &Small, thread: usize, cells: usize)
+    requires { ⌜ (thread < 5) × (cells ≤ 4) ⌝ }
+{
+    let mut cell = 0;
+    while cell < cells {
+        let count = small[COUNT + cell];
+        fence_acq_cell(clocks, marks[cell], count, thread, cell);
+        cell += 1;
+    }
+}
+
+// A cell's stores are visited oldest first, since what one of them brings may show another to be seen.
+fn fence_acq_cell(clocks: &mut Clocks, marks: [[u16; 5]; 7], count: u16, thread: usize, cell: usize)
+    requires { ⌜ (thread < 5) × (cell < 4) ⌝ }
+{
+    let live = live_stores(count);
+    let mut k = 0;
+    while k < live {
+        let slot = kth_oldest(count, k);
+        let row = marks[slot];
+        let first = FirstSeen { versions: row };
+        let causality = clocks[CAUSALITY + thread];
+        if first.is_seen_by_current(causality) {
+            sync_load(clocks, thread, state::store_at(cell, slot), ACQUIRE);
+        }
+        k += 1;
+    }
+}
+
+// How many of a cell's stores are kept.
+fn live_stores(count: u16) -> usize
+    ensures { λ r. ⌜ r ≤ 7 ⌝ }
+{
+    if count < 7 { count as usize } else { 7 }
+}
+
+// The slot of the k-th store, counted from the oldest that is kept.
+fn kth_oldest(count: u16, k: usize) -> usize
+    requires { ⌜ k < 7 ⌝ }
+    ensures { λ r. ⌜ r < 7 ⌝ }
+{
+    if count < 7 {
+        return k;
+    }
+    ((count % 7) as usize + k) % 7
+}
+
+// Takes a snapshot of the thread's causality as its released vector.
+pub fn fence_rel(clocks: &mut Clocks, thread: usize)
+    requires { ⌜ thread < 5 ⌝ }
+{
+    let causality = clocks[CAUSALITY + thread];
+    clocks[RELEASED + thread] = causality;
+}
+
+pub fn fence_acqrel(clocks: &mut Clocks, marks: &Marks, small: &Small, thread: usize, cells: usize)
+    requires { ⌜ (thread < 5) × (cells ≤ 4) ⌝ }
+{
+    fence_acq(clocks, marks, small, thread, cells);
+    fence_rel(clocks, thread);
+}
+
+// Acquire, release, then the thread and the vector of all SeqCst fences take each other in.
+pub fn fence_seqcst(clocks: &mut Clocks, marks: &Marks, small: &Small, thread: usize, cells: usize)
+    requires { ⌜ (thread < 5) × (cells ≤ 4) ⌝ }
+{
+    fence_acqrel(clocks, marks, small, thread, cells);
+    join_into(clocks, CAUSALITY + thread, SEQ_CST_CAUSALITY);
+    join_into(clocks, SEQ_CST_CAUSALITY, CAUSALITY + thread);
+}

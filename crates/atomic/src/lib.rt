@@ -1,0 +1,270 @@
+// An atomic cell, after loom's rt/atomic.rs: what a store, a load, a read-modify-write, an unsynchronised load and an
+// exclusive change do to the lent state, each once its thread has been chosen.
+ghost use Prim.Native.Nat.{_<_, _≤_};
+use change::Change;
+use change::Changed;
+use state::CAUSALITY;
+use state::COUNT;
+use state::Clocks;
+use state::HAPPENS_BEFORE;
+use state::HISTORY;
+use state::MODIFICATION_ORDER;
+use state::Marks;
+use state::SYNC;
+use state::Small;
+use state::VALUE;
+use state::Values;
+use synchronize::join;
+use synchronize::sync_load;
+use synchronize::sync_store;
+use track::Race;
+use vv::VersionVec;
+
+pub mod access;
+pub mod change;
+pub mod fence;
+pub mod first_seen;
+pub mod matches;
+pub mod state;
+pub mod synchronize;
+pub mod track;
+
+// The value read, or the race that stopped the access.
+pub enum Loaded {
+    Value(u64),
+    Raced { kind: u8, other: usize },
+}
+
+// The value that an exclusive change found and the one it left, or the race that stopped it.
+pub enum Mutated {
+    Values { read: u64, left: u64 },
+    Raced { kind: u8, other: usize },
+}
+
+// The slot that the next store of a cell takes, by how many there were.
+pub fn index(count: u16) -> usize
+    ensures { λ r. ⌜ r < 7 ⌝ }
+{
+    (count % 7) as usize
+}
+
+// The slot of the newest store.
+pub fn newest(count: u16) -> usize
+    ensures { λ r. ⌜ r < 7 ⌝ }
+{
+    ((count % 7 + 6) % 7) as usize
+}
+
+// Loads from a slot: race, coherence, touch, sync, in that order.
+pub fn load(
+    clocks: &mut Clocks,
+    marks: &mut Marks,
+    values: &Values,
+    thread: usize,
+    cell: usize,
+    slot: usize,
+    order: u8,
+) -> Loaded
+    requires { ⌜ (thread < 5) × (cell < 4) × (slot < 7) ⌝ }
+{
+    if let Race::With { kind, other } = track::track_load(clocks, thread, cell) {
+        return Loaded::Raced { kind, other };
+    }
+    apply_load_coherence(clocks, marks[cell], thread, cell, slot);
+    touch(clocks, marks, thread, cell, slot);
+    let store = state::store_at(cell, slot);
+    sync_load(clocks, thread, store, order);
+    Loaded::Value(values[VALUE + store])
+}
+
+// Stores a value. The sync vector is that of a fresh store, or of the store that a read-modify-write read.
+pub fn store(
+    clocks: &mut Clocks,
+    marks: &mut Marks,
+    values: &mut Values,
+    small: &mut Small,
+    thread: usize,
+    cell: usize,
+    sync: [u16; 5],
+    value: u64,
+    order: u8,
+)
+    requires { ⌜ (thread < 5) × (cell < 4) ⌝ }
+{
+    let count = small[COUNT + cell];
+    let slot = index(count);
+    let at = state::store_at(cell, slot);
+    small[COUNT + cell] = vv::one_more(count);
+    let causality = clocks[CAUSALITY + thread];
+    // The slot that is replaced still counts here, so its order is joined before it is overwritten.
+    let modification_order = store_order(clocks, marks[cell], thread, cell);
+    let sync = sync_store(clocks, thread, sync, order);
+    clocks[HAPPENS_BEFORE + at] = causality;
+    clocks[MODIFICATION_ORDER + at] = modification_order;
+    clocks[SYNC + at] = sync;
+    marks[cell] = first_marked(marks[cell], slot, thread, causality[thread]);
+    values[VALUE + at] = value;
+    small[state::SEQ_CST + at] = is_seq_cst(order);
+}
+
+// Reads a slot and, if the change succeeds, stores what it makes of the value.
+pub fn rmw(
+    clocks: &mut Clocks,
+    marks: &mut Marks,
+    values: &mut Values,
+    small: &mut Small,
+    thread: usize,
+    cell: usize,
+    slot: usize,
+    change: Change,
+    success: u8,
+    failure: u8,
+) -> Loaded
+    requires { ⌜ (thread < 5) × (cell < 4) × (slot < 7) ⌝ }
+{
+    if let Race::With { kind, other } = track::track_load(clocks, thread, cell) {
+        return Loaded::Raced { kind, other };
+    }
+    apply_load_coherence(clocks, marks[cell], thread, cell, slot);
+    touch(clocks, marks, thread, cell, slot);
+    let at = state::store_at(cell, slot);
+    let prev = values[VALUE + at];
+    let changed = change::apply(change, prev);
+    let Changed::Success(next) = changed else {
+        sync_load(clocks, thread, at, failure);
+        return Loaded::Value(prev);
+    };
+    if let Race::With { kind, other } = track::track_store(clocks, thread, cell) {
+        return Loaded::Raced { kind, other };
+    }
+    sync_load(clocks, thread, at, success);
+    // The new store starts from the sync of the one read, which makes a release sequence of the two.
+    let sync = clocks[SYNC + at];
+    store(
+        clocks,
+        marks,
+        values,
+        small,
+        thread,
+        cell,
+        sync,
+        next,
+        success,
+    );
+    Loaded::Value(prev)
+}
+
+// Reads the newest store without synchronisation.
+pub fn unsync_load(
+    clocks: &mut Clocks,
+    values: &Values,
+    small: &Small,
+    thread: usize,
+    cell: usize,
+) -> Loaded
+    requires { ⌜ (thread < 5) × (cell < 4) ⌝ }
+{
+    if let Race::With { kind, other } = track::track_unsync_load(clocks, thread, cell) {
+        return Loaded::Raced { kind, other };
+    }
+    let slot = newest(small[COUNT + cell]);
+    Loaded::Value(values[VALUE + state::store_at(cell, slot)])
+}
+
+// Changes the newest store's value in place. A change that fails still counts as a mutation.
+pub fn with_mut(
+    clocks: &mut Clocks,
+    values: &mut Values,
+    small: &Small,
+    thread: usize,
+    cell: usize,
+    change: Change,
+) -> Mutated
+    requires { ⌜ (thread < 5) × (cell < 4) ⌝ }
+{
+    if let Race::With { kind, other } = track::track_unsync_mut(clocks, thread, cell) {
+        return Mutated::Raced { kind, other };
+    }
+    let slot = newest(small[COUNT + cell]);
+    let at = VALUE + state::store_at(cell, slot);
+    let read = values[at];
+    let changed = change::apply(change, read);
+    let Changed::Success(left) = changed else {
+        return Mutated::Values { read, left: read };
+    };
+    values[at] = left;
+    Mutated::Values { read, left }
+}
+
+// The chosen store's order takes in those of the stores that the thread has seen or that happened before it.
+pub fn apply_load_coherence(
+    clocks: &mut Clocks,
+    marks: [[u16; 5]; 7],
+    thread: usize,
+    cell: usize,
+    slot: usize,
+)
+    requires { ⌜ (thread < 5) × (cell < 4) × (slot < 7) ⌝ }
+{
+    let causality = clocks[CAUSALITY + thread];
+    let seen = first_seen::seen_slots(marks, causality);
+    let chosen = MODIFICATION_ORDER + state::store_at(cell, slot);
+    let mut i = 0;
+    while i < HISTORY {
+        if i != slot {
+            let at = state::store_at(cell, i);
+            let before = clocks[HAPPENS_BEFORE + at];
+            if seen[i] || is_before(before, causality) {
+                synchronize::join_into(clocks, chosen, MODIFICATION_ORDER + at);
+            }
+        }
+        i += 1;
+    }
+}
+
+// The thread's mark on a store that it reads.
+pub fn touch(clocks: &Clocks, marks: &mut Marks, thread: usize, cell: usize, slot: usize)
+    requires { ⌜ (thread < 5) × (cell < 4) × (slot < 7) ⌝ }
+{
+    let causality = clocks[CAUSALITY + thread];
+    marks[cell] = first_seen::touched(marks[cell], slot, thread, causality[thread]);
+}
+
+// The marks of a cell with a new store in a slot, seen by its own thread alone.
+fn first_marked(mut marks: [[u16; 5]; 7], slot: usize, thread: usize, version: u16) -> [[u16; 5]; 7]
+    requires { ⌜ slot < 7 ⌝ }
+{
+    let fresh = first_seen::FirstSeen::new();
+    let fresh = fresh.touch(thread, version);
+    let row = fresh.versions;
+    marks[slot] = row;
+    marks
+}
+
+// The place of a new store in modification order: after all that its thread knows, and after each store it has seen.
+fn store_order(clocks: &Clocks, marks: [[u16; 5]; 7], thread: usize, cell: usize) -> [u16; 5]
+    requires { ⌜ (thread < 5) × (cell < 4) ⌝ }
+{
+    let causality = clocks[CAUSALITY + thread];
+    let seen = first_seen::seen_slots(marks, causality);
+    let mut order = causality;
+    let mut i = 0;
+    while i < HISTORY {
+        if seen[i] {
+            let other = clocks[MODIFICATION_ORDER + state::store_at(cell, i)];
+            let both = join(order, other);
+            order = both;
+        }
+        i += 1;
+    }
+    order
+}
+
+fn is_before(a: [u16; 5], b: [u16; 5]) -> bool {
+    let first = VersionVec { versions: a };
+    first.less(VersionVec { versions: b })
+}
+
+fn is_seq_cst(order: u8) -> u16 {
+    if order == synchronize::SEQ_CST { 1 } else { 0 }
+}

@@ -1,0 +1,59 @@
+// How vectors pass between threads and stores: loom's rt/synchronize.rs over the lent clocks.
+ghost use Prim.Native.Nat.{_<_};
+use crate::state::CAUSALITY;
+use crate::state::Clocks;
+use crate::state::RELEASED;
+use crate::state::SYNC;
+use vv::VersionVec;
+
+// The orders, by document 01's numbers.
+pub const RELAXED: u8 = 0;
+
+pub const RELEASE: u8 = 1;
+
+pub const ACQUIRE: u8 = 2;
+
+pub const ACQ_REL: u8 = 3;
+
+pub const SEQ_CST: u8 = 4;
+
+// The greater of each part of two rows.
+pub fn join(a: [u16; 5], b: [u16; 5]) -> [u16; 5] {
+    let first = VersionVec { versions: a };
+    let both = first.join(VersionVec { versions: b });
+    both.versions
+}
+
+// The vector at `at` takes the one at `from` in.
+pub fn join_into(clocks: &mut Clocks, at: usize, from: usize)
+    requires { ⌜ (at < 124) × (from < 124) ⌝ }
+{
+    let own = clocks[at];
+    let other = clocks[from];
+    clocks[at] = join(own, other);
+}
+
+// A load by an order that acquires takes the store's sync vector into the thread.
+pub fn sync_load(clocks: &mut Clocks, thread: usize, store: usize, order: u8)
+    requires { ⌜ (thread < 5) × (store < 28) ⌝ }
+{
+    match order {
+        ACQUIRE | ACQ_REL | SEQ_CST => join_into(clocks, CAUSALITY + thread, SYNC + store),
+        _ => {}
+    }
+}
+
+// What a store leaves for loads that acquire: the released vector too, and by an order that releases the thread's own.
+pub fn sync_store(clocks: &Clocks, thread: usize, sync: [u16; 5], order: u8) -> [u16; 5]
+    requires { ⌜ thread < 5 ⌝ }
+{
+    let released = clocks[RELEASED + thread];
+    let sync = join(sync, released);
+    match order {
+        RELEASE | ACQ_REL | SEQ_CST => {
+            let causality = clocks[CAUSALITY + thread];
+            join(sync, causality)
+        }
+        _ => sync,
+    }
+}

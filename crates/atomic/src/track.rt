@@ -1,0 +1,89 @@
+// Which accesses a cell has had, and whether one more races with them: loom's track_ functions.
+ghost use Prim.Native.Nat.{_<_};
+use crate::state::CAUSALITY;
+use crate::state::Clocks;
+use crate::state::LOADED_AT;
+use crate::state::STORED_AT;
+use crate::state::UNSYNC_LOADED_AT;
+use crate::state::UNSYNC_MUT_AT;
+use crate::synchronize::join_into;
+use vv::Ahead;
+use vv::VersionVec;
+
+// No race, or the kind of race by document 01's number and the lowest thread that is ahead.
+pub enum Race {
+    Nothing,
+    With { kind: u8, other: usize },
+}
+
+// A race of this kind where the accesses recorded at `at` have a thread ahead of the current one.
+pub fn race_with(clocks: &Clocks, thread: usize, at: usize, kind: u8) -> Race
+    requires { ⌜ (thread < 5) × (at < 124) ⌝ }
+{
+    let current = clocks[CAUSALITY + thread];
+    let recorded = clocks[at];
+    let current = VersionVec { versions: current };
+    match current.ahead(VersionVec { versions: recorded }) {
+        Ahead::Thread(other) => Race::With { kind, other },
+        Ahead::Nobody => Race::Nothing,
+    }
+}
+
+// Track an atomic load.
+pub fn track_load(clocks: &mut Clocks, thread: usize, cell: usize) -> Race
+    requires { ⌜ (thread < 5) × (cell < 4) ⌝ }
+{
+    if let Race::With { kind, other } = race_with(clocks, thread, UNSYNC_MUT_AT + cell, 1) {
+        return Race::With { kind, other };
+    }
+    join_into(clocks, LOADED_AT + cell, CAUSALITY + thread);
+    Race::Nothing
+}
+
+// Track an unsynchronised load.
+pub fn track_unsync_load(clocks: &mut Clocks, thread: usize, cell: usize) -> Race
+    requires { ⌜ (thread < 5) × (cell < 4) ⌝ }
+{
+    if let Race::With { kind, other } = race_with(clocks, thread, UNSYNC_MUT_AT + cell, 2) {
+        return Race::With { kind, other };
+    }
+    if let Race::With { kind, other } = race_with(clocks, thread, STORED_AT + cell, 3) {
+        return Race::With { kind, other };
+    }
+    join_into(clocks, UNSYNC_LOADED_AT + cell, CAUSALITY + thread);
+    Race::Nothing
+}
+
+// Track an atomic store.
+pub fn track_store(clocks: &mut Clocks, thread: usize, cell: usize) -> Race
+    requires { ⌜ (thread < 5) × (cell < 4) ⌝ }
+{
+    if let Race::With { kind, other } = race_with(clocks, thread, UNSYNC_MUT_AT + cell, 4) {
+        return Race::With { kind, other };
+    }
+    if let Race::With { kind, other } = race_with(clocks, thread, UNSYNC_LOADED_AT + cell, 5) {
+        return Race::With { kind, other };
+    }
+    join_into(clocks, STORED_AT + cell, CAUSALITY + thread);
+    Race::Nothing
+}
+
+// Track an exclusive change.
+pub fn track_unsync_mut(clocks: &mut Clocks, thread: usize, cell: usize) -> Race
+    requires { ⌜ (thread < 5) × (cell < 4) ⌝ }
+{
+    if let Race::With { kind, other } = race_with(clocks, thread, LOADED_AT + cell, 6) {
+        return Race::With { kind, other };
+    }
+    if let Race::With { kind, other } = race_with(clocks, thread, UNSYNC_LOADED_AT + cell, 7) {
+        return Race::With { kind, other };
+    }
+    if let Race::With { kind, other } = race_with(clocks, thread, STORED_AT + cell, 8) {
+        return Race::With { kind, other };
+    }
+    if let Race::With { kind, other } = race_with(clocks, thread, UNSYNC_MUT_AT + cell, 9) {
+        return Race::With { kind, other };
+    }
+    join_into(clocks, UNSYNC_MUT_AT + cell, CAUSALITY + thread);
+    Race::Nothing
+}

@@ -1,0 +1,53 @@
+use borrow.Author.Needs.{needs}
+use Prim.Native.Nat.{_≤_, _-_}
+use Rattle.execution.proofs.start.clear_small.Statement.{statement}
+use Rattle.execution.proofs.start.clear_small.Tie as tie
+
+abbrev Inv-loop : tie.InvT-loop
+Inv-loop small₀ i₀ small i = i ≤ 90
+
+abbrev μ-loop : tie.MeasureT-loop
+μ-loop small₀ i₀ small i = 90 - i
+
+loop-holds : tie.Need-loop-holds Inv-loop μ-loop
+loop-holds c = search needs
+
+mul-small : tie.Need-mul-small Inv-loop μ-loop
+mul-small c = search needs
+
+element-write-small : tie.Need-element-write-small Inv-loop μ-loop
+element-write-small c = search needs
+
+add-i : tie.Need-add-i Inv-loop μ-loop
+add-i c = search needs
+
+loop-less : tie.Need-loop-less Inv-loop μ-loop
+loop-less c = search needs
+
+loop-again : tie.Need-loop-again Inv-loop μ-loop
+loop-again c = search needs
+
+clear-yields-requires : tie.Need-clear-yields-requires Inv-loop μ-loop
+clear-yields-requires c κs = search needs
+
+clear-branches-requires : tie.Need-clear-branches-requires Inv-loop μ-loop
+clear-branches-requires c κs = search needs
+
+returns : tie.Need-returns Inv-loop μ-loop
+returns c = search needs
+
+pub clear-small-spec : {M : Type 1} → statement M
+clear-small-spec =
+    tie.close
+    (tie.spec
+    Inv-loop
+    μ-loop
+    loop-holds
+    mul-small
+    element-write-small
+    add-i
+    loop-less
+    loop-again
+    clear-yields-requires
+    clear-branches-requires
+    returns)

@@ -1,0 +1,66 @@
+use borrow.Author.Needs.{needs}
+use native.Mathlib.Omega.{arith}
+use Prim.Native.Nat.{_≤_, _-_}
+use Rattle.execution.proofs.start.start_threads.Statement.{statement}
+use Rattle.execution.proofs.start.start_threads.Tie as tie
+
+abbrev Inv-loop : tie.InvT-loop
+Inv-loop clocks₀ small₀ threads t₀ clocks small t = t ≤ threads
+
+abbrev μ-loop : tie.MeasureT-loop
+μ-loop clocks₀ small₀ threads t₀ clocks small t = threads - t
+
+loop-holds : tie.Need-loop-holds Inv-loop μ-loop
+loop-holds c = search needs
+
+first-causality-requires : tie.Need-first-causality-requires Inv-loop μ-loop
+first-causality-requires c κs = search needs
+
+add-t7 : tie.Need-add-t7 Inv-loop μ-loop
+add-t7 c = search needs
+
+mul-t8 : tie.Need-mul-t8 Inv-loop μ-loop
+mul-t8 c = search needs
+
+element-set-from-clocks : tie.Need-element-set-from-clocks Inv-loop μ-loop
+element-set-from-clocks c = search needs
+
+add-small : tie.Need-add-small Inv-loop μ-loop
+add-small c = search needs
+
+mul-small : tie.Need-mul-small Inv-loop μ-loop
+mul-small c = search needs
+
+element-write-small : tie.Need-element-write-small Inv-loop μ-loop
+element-write-small c = search needs
+
+add-t : tie.Need-add-t Inv-loop μ-loop
+add-t c = search needs
+
+loop-less : tie.Need-loop-less Inv-loop μ-loop
+loop-less c = search needs
+
+loop-again : tie.Need-loop-again Inv-loop μ-loop
+loop-again c = search needs
+
+returns : tie.Need-returns Inv-loop μ-loop
+returns c = search needs
+
+pub start-threads-spec : {M : Type 1} → statement M
+start-threads-spec =
+    tie.close
+    (tie.spec
+    Inv-loop
+    μ-loop
+    loop-holds
+    first-causality-requires
+    add-t7
+    mul-t8
+    element-set-from-clocks
+    add-small
+    mul-small
+    element-write-small
+    add-t
+    loop-less
+    loop-again
+    returns)

@@ -1,0 +1,62 @@
+use borrow.Author.Needs.{needs}
+use native.Mathlib.Omega.{arith}
+use Prim.Native.Nat.{_≤_, _-_}
+use Rattle.execution.proofs.threads.reactivate.Statement.{statement}
+use Rattle.execution.proofs.threads.reactivate.Tie as tie
+
+abbrev Inv-loop : tie.InvT-loop
+Inv-loop small₀ t₀ small t = t ≤ 5
+
+abbrev μ-loop : tie.MeasureT-loop
+μ-loop small₀ t₀ small t = 5 - t
+
+loop-holds : tie.Need-loop-holds Inv-loop μ-loop
+loop-holds c = search needs
+
+add-if1 : tie.Need-add-if1 Inv-loop μ-loop
+add-if1 c = search needs
+
+mul-if1 : tie.Need-mul-if1 Inv-loop μ-loop
+mul-if1 c = search needs
+
+element-copy-out-if1 : tie.Need-element-copy-out-if1 Inv-loop μ-loop
+element-copy-out-if1 c = search needs
+
+add-small : tie.Need-add-small Inv-loop μ-loop
+add-small c = search needs
+
+mul-small : tie.Need-mul-small Inv-loop μ-loop
+mul-small c = search needs
+
+element-write-small : tie.Need-element-write-small Inv-loop μ-loop
+element-write-small c = search needs
+
+add-t : tie.Need-add-t Inv-loop μ-loop
+add-t c = search needs
+
+loop-less : tie.Need-loop-less Inv-loop μ-loop
+loop-less c = search needs
+
+loop-again : tie.Need-loop-again Inv-loop μ-loop
+loop-again c = search needs
+
+returns : tie.Need-returns Inv-loop μ-loop
+returns c = search needs
+
+pub reactivate-spec : {M : Type 1} → statement M
+reactivate-spec =
+    tie.close
+    (tie.spec
+    Inv-loop
+    μ-loop
+    loop-holds
+    add-if1
+    mul-if1
+    element-copy-out-if1
+    add-small
+    mul-small
+    element-write-small
+    add-t
+    loop-less
+    loop-again
+    returns)

@@ -1,0 +1,120 @@
+// Document 01's scheduling rules, as loom's Execution::schedule has them, apart from the path: what is to be marked, the
+// seed of the branch, and what the thread that it chooses takes up.
+ghost use Prim.Native.Nat.{_<_, _≤_};
+use crate::threads;
+use crate::threads::RUNNABLE;
+use crate::threads::YIELDED;
+use atomic::access;
+use atomic::access::NO_ACTION;
+use atomic::state;
+use atomic::state::ACTIVE;
+use atomic::state::BRANCHES;
+use atomic::state::Clocks;
+use atomic::state::MAX_CELLS;
+use atomic::state::MAX_THREADS;
+use atomic::state::NONE;
+use atomic::state::OBJECT;
+use atomic::state::OPERATION;
+use atomic::state::STATE;
+use atomic::state::Small;
+use atomic::state::YIELDS;
+
+// The states of a seed that this file makes, by document 01's numbers.
+pub const DISABLED: u8 = 0;
+
+pub const SKIP: u8 = 1;
+
+pub const YIELD: u8 = 2;
+
+pub const CHOSEN: u8 = 4;
+
+// Rule (a): by thread, the branch to backtrack from, or NONE.
+pub fn conflicts(clocks: &Clocks, small: &Small) -> [u16; 5] {
+    let mut points = [NONE; 5];
+    let mut t = 0;
+    while t < MAX_THREADS {
+        points[t] = conflict(clocks, small, t);
+        t += 1;
+    }
+    points
+}
+
+// The branch of the access that the thread's pending operation is concurrent with, or NONE.
+fn conflict(clocks: &Clocks, small: &Small, thread: usize) -> u16
+    requires { ⌜ thread < 5 ⌝ }
+{
+    let action = small[OPERATION + thread];
+    let cell = state::wide(small[OBJECT + thread]);
+    if action == NO_ACTION || MAX_CELLS <= cell {
+        return NONE;
+    }
+    if access::is_concurrent(clocks, small, thread, action, cell) {
+        return access::last_dependent_branch(small, action, cell);
+    }
+    NONE
+}
+
+// Rule (b): the active thread if it is runnable, else the runnable one with fewest yields, the lowest on a tie; 5 if none.
+pub fn initial(small: &Small) -> usize {
+    let active = state::wide(small[ACTIVE]);
+    if active < MAX_THREADS {
+        if small[STATE + active] == RUNNABLE {
+            return active;
+        }
+    }
+    fewest_yields(small)
+}
+
+fn fewest_yields(small: &Small) -> usize {
+    let mut best = MAX_THREADS;
+    let mut fewest = NONE;
+    let mut t = 0;
+    while t < MAX_THREADS {
+        if small[STATE + t] == RUNNABLE {
+            let yields = small[YIELDS + t];
+            if best == MAX_THREADS || yields < fewest {
+                best = t;
+                fewest = yields;
+            }
+        }
+        t += 1;
+    }
+    best
+}
+
+// Rule (c): the states that a new schedule branch starts from.
+pub fn seed(small: &Small) -> [u8; 5] {
+    let first = initial(small);
+    let mut states = [DISABLED; 5];
+    let mut t = 0;
+    while t < MAX_THREADS {
+        states[t] = seed_of(small[STATE + t], t == first);
+        t += 1;
+    }
+    states
+}
+
+fn seed_of(state: u16, first: bool) -> u8 {
+    if first {
+        return CHOSEN;
+    }
+    match state {
+        YIELDED => YIELD,
+        RUNNABLE => SKIP,
+        _ => DISABLED,
+    }
+}
+
+// Rules (d) and (e): the chosen thread is active, its operation becomes its cell's last access at this branch, and every
+// yielded thread is runnable again.
+pub fn choose(clocks: &mut Clocks, small: &mut Small, chosen: usize, branch: u16)
+    requires { ⌜ chosen < 5 ⌝ }
+{
+    small[ACTIVE] = chosen as u16;
+    let action = small[OPERATION + chosen];
+    let cell = state::wide(small[OBJECT + chosen]);
+    if action != NO_ACTION && cell < MAX_CELLS {
+        access::set_last_access(clocks, small, chosen, action, cell, branch);
+    }
+    threads::reactivate(small);
+}

@@ -1,0 +1,102 @@
+// A run: the buffers, the exploration and what is printed of it.
+ghost use Prim.Native.Nat.{_≤_};
+use crate::answer;
+use crate::line;
+use crate::print;
+use explorer::Answer;
+use explorer::MAX_EXECUTIONS;
+use explorer::Report;
+use explorer::Settings;
+use explorer::report;
+use libc::STDERR_FILENO;
+
+// Explores and prints, with as much of the largest buffers as the settings ask for.
+pub fn run(table: &[u8], settings: Settings) {
+    let mut path = [0u8; 16384];
+    let mut trace = [0u8; 65536];
+    let path_size = bytes(settings.branches, 16384);
+    let trace_size = bytes(settings.operations, 65536);
+    run_in(
+        table,
+        settings,
+        &mut path[0..path_size],
+        &mut trace[0..trace_size],
+    );
+}
+
+// The bytes of this many records of 16, or all that there are if those are fewer.
+fn bytes(records: u64, all: usize) -> usize
+    ensures { λ r. ⌜ r ≤ all ⌝ }
+{
+    if records <= (all / 16) as u64 {
+        return 16 * records as usize;
+    }
+    all
+}
+
+// Explores in buffers of the right lengths, and prints.
+fn run_in(table: &[u8], settings: Settings, path: &mut [u8], trace: &mut [u8]) {
+    let report = explore(table, settings, path, trace);
+    print_report(table, settings, report, trace);
+}
+
+// Explores. The library gives no word before its answer, so a long run is made with budgets that double: one that is spent
+// is named on standard error.
+fn explore(table: &[u8], settings: Settings, path: &mut [u8], trace: &mut [u8]) -> Report {
+    let mut budget = 8192;
+    while budget < MAX_EXECUTIONS {
+        if settings.executions <= budget {
+            return explorer::explore(table, settings, path, trace);
+        }
+        let report = explorer::explore(table, with_budget(settings, budget), path, trace);
+        let answer = report.answer;
+        let Answer::Spent = answer else {
+            return report;
+        };
+        say_spent(budget);
+        budget = 2 * budget;
+    }
+    explorer::explore(table, settings, path, trace)
+}
+
+// Says that a budget is spent.
+fn say_spent(budget: u64) {
+    io::print_decimal(STDERR_FILENO, budget);
+    io::write_all(STDERR_FILENO, b" executions, and choices are open\n");
+}
+
+// The settings with another budget.
+fn with_budget(settings: Settings, executions: u64) -> Settings {
+    Settings {
+        branches: settings.branches,
+        operations: settings.operations,
+        executions,
+        bounded: settings.bounded,
+        bound: settings.bound,
+        exploring: settings.exploring,
+    }
+}
+
+// Prints all of a report; where nothing began, only what is wrong.
+fn print_report(table: &[u8], settings: Settings, report: Report, trace: &[u8]) {
+    let answer = report.answer;
+    let number = report::number(answer);
+    answer::print(
+        number,
+        report::race_kind(answer),
+        report::other_thread(answer),
+        report,
+        settings,
+    );
+    if report.begun == 0 {
+        return;
+    }
+    line::write(b"");
+    print::counts(report);
+    line::write(b"");
+    let threads = report.threads;
+    print::threads(threads);
+    line::write(b"");
+    print::execution(table, trace);
+    print::failed(table, report.thread, report.row);
+}

@@ -1,0 +1,45 @@
+use borrow.Author.Needs.{needs}
+use Prim.Native.Nat.{_≤_, _*_, _-_}
+use Rattle.path.proofs.open.Statement.{statement}
+use Rattle.path.proofs.open.Tie as tie
+
+abbrev Inv-loop : tie.InvT-loop
+Inv-loop path len count₀ at₀ count at = (at ≤ len) × (count ≤ 6 * at)
+
+abbrev μ-loop : tie.MeasureT-loop
+μ-loop path len count₀ at₀ count at = len - at
+
+loop-holds : tie.Need-loop-holds Inv-loop μ-loop
+loop-holds c = search needs
+
+open-at-requires : tie.Need-open-at-requires Inv-loop μ-loop
+open-at-requires c κs = search needs
+
+add-count : tie.Need-add-count Inv-loop μ-loop
+add-count c = search needs
+
+add-at : tie.Need-add-at Inv-loop μ-loop
+add-at c = search needs
+
+loop-less : tie.Need-loop-less Inv-loop μ-loop
+loop-less c = search needs
+
+loop-again : tie.Need-loop-again Inv-loop μ-loop
+loop-again c = search needs
+
+returns : tie.Need-returns Inv-loop μ-loop
+returns c = search needs
+
+pub open-spec : {M : Type 1} → statement M
+open-spec =
+    tie.close
+    (tie.spec
+    Inv-loop
+    μ-loop
+    loop-holds
+    open-at-requires
+    add-count
+    add-at
+    loop-less
+    loop-again
+    returns)

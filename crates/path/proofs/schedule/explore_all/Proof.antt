@@ -1,0 +1,51 @@
+use borrow.Author.Needs.{needs}
+use Prim.Native.Nat.{_≤_, _-_}
+use mathlib.Core.Path.{_≡_}
+use lib.ListN.{length}
+use Rattle.path.proofs.schedule.explore_all.Statement.{statement}
+use Rattle.path.proofs.schedule.explore_all.Tie as tie
+
+abbrev Inv-loop : tie.InvT-loop
+Inv-loop path₀ at opened₀ thread₀ path opened thread = (thread ≤ 5) × (opened ≤ thread) × (length path ≡ length path₀)
+
+abbrev μ-loop : tie.MeasureT-loop
+μ-loop path₀ at opened₀ thread₀ path opened thread = 5 - thread
+
+loop-holds : tie.Need-loop-holds Inv-loop μ-loop
+loop-holds c = search needs
+
+explore-requires : tie.Need-explore-requires Inv-loop μ-loop
+explore-requires c κs = search needs
+
+add-opened : tie.Need-add-opened Inv-loop μ-loop
+add-opened c = search needs
+
+add-thread : tie.Need-add-thread Inv-loop μ-loop
+add-thread c = search needs
+
+loop-less : tie.Need-loop-less Inv-loop μ-loop
+loop-less c = search needs
+
+loop-again : tie.Need-loop-again Inv-loop μ-loop
+loop-again c = search needs
+
+same-length : tie.Need-same-length Inv-loop μ-loop
+same-length c = search needs
+
+returns : tie.Need-returns Inv-loop μ-loop
+returns c = search needs
+
+pub explore-all-spec : {M : Type 1} → statement M
+explore-all-spec =
+    tie.close
+    (tie.spec
+    Inv-loop
+    μ-loop
+    loop-holds
+    explore-requires
+    add-opened
+    add-thread
+    loop-less
+    loop-again
+    same-length
+    returns)

@@ -1,0 +1,51 @@
+use borrow.Author.Needs.{needs}
+use native.Mathlib.Omega.{arith}
+use mathlib.Core.Logic.{⊎-elim}
+use Prim.Native.Nat.{_≤_, _-_}
+use Rattle.path.proofs.schedule.pending.Statement.{statement}
+use Rattle.path.proofs.schedule.pending.Tie as tie
+
+abbrev Inv-loop : tie.InvT-loop
+Inv-loop path at count₀ thread₀ count thread = (thread ≤ 5) × (count ≤ thread)
+
+abbrev μ-loop : tie.MeasureT-loop
+μ-loop path at count₀ thread₀ count thread = 5 - thread
+
+loop-holds : tie.Need-loop-holds Inv-loop μ-loop
+loop-holds c = search needs
+
+add-field : tie.Need-add-field Inv-loop μ-loop
+add-field c = search needs
+
+field-requires : tie.Need-field-requires Inv-loop μ-loop
+field-requires c κs = search needs
+
+add-count : tie.Need-add-count Inv-loop μ-loop
+add-count c = search needs
+
+add-thread : tie.Need-add-thread Inv-loop μ-loop
+add-thread c = search needs
+
+loop-less : tie.Need-loop-less Inv-loop μ-loop
+loop-less c = search needs
+
+loop-again : tie.Need-loop-again Inv-loop μ-loop
+loop-again c = ⊎-elim (λ w. omega arith) (λ w. omega arith) (c .if1 .came)
+
+returns : tie.Need-returns Inv-loop μ-loop
+returns c = search needs
+
+pub pending-spec : {M : Type 1} → statement M
+pending-spec =
+    tie.close
+    (tie.spec
+    Inv-loop
+    μ-loop
+    loop-holds
+    add-field
+    field-requires
+    add-count
+    add-thread
+    loop-less
+    loop-again
+    returns)

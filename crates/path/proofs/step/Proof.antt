@@ -1,0 +1,59 @@
+use borrow.Author.Needs.{needs}
+use Prim.Native.Nat.{_≤_}
+use mathlib.Core.Path.{_≡_}
+use lib.ListN.{length}
+use Rattle.path.proofs.step.Statement.{statement}
+use Rattle.path.proofs.step.Tie as tie
+
+abbrev Inv-loop : tie.InvT-loop
+Inv-loop path₀ len left₀ path left = (left ≤ len) × (length path ≡ length path₀)
+
+abbrev μ-loop : tie.MeasureT-loop
+μ-loop path₀ len left₀ path left = left
+
+loop-holds : tie.Need-loop-holds Inv-loop μ-loop
+loop-holds c = search needs
+
+sub-last : tie.Need-sub-last Inv-loop μ-loop
+sub-last c = search needs
+
+step-at-requires : tie.Need-step-at-requires Inv-loop μ-loop
+step-at-requires c κs = search needs
+
+same-length : tie.Need-same-length Inv-loop μ-loop
+same-length c = search needs
+
+returns : tie.Need-returns Inv-loop μ-loop
+returns c = search needs
+
+clear-requires : tie.Need-clear-requires Inv-loop μ-loop
+clear-requires c κs = search needs
+
+loop-less : tie.Need-loop-less Inv-loop μ-loop
+loop-less c = search needs
+
+loop-again : tie.Need-loop-again Inv-loop μ-loop
+loop-again c = search needs
+
+same-length-2 : tie.Need-same-length-2 Inv-loop μ-loop
+same-length-2 c = search needs
+
+returns-2 : tie.Need-returns-2 Inv-loop μ-loop
+returns-2 c = search needs
+
+pub step-spec : {M : Type 1} → statement M
+step-spec =
+    tie.close
+    (tie.spec
+    Inv-loop
+    μ-loop
+    loop-holds
+    sub-last
+    step-at-requires
+    same-length
+    returns
+    clear-requires
+    loop-less
+    loop-again
+    same-length-2
+    returns-2)

@@ -1,0 +1,98 @@
+// A load record, after loom's Load: the slots that a load may read, and which of them it reads
+// now.
+ghost use Prim.Native.Nat.{_+_, _*_, _≤_, _<_};
+ghost use lib.ListN.{length};
+ghost use Rattle.path.specs.Answers.{offeredSlot};
+use crate::Offered;
+use crate::fields;
+use crate::fields::MAX_ATOMIC_HISTORY;
+use crate::fields::field;
+use crate::fields::put;
+use crate::fields::wide;
+
+// Sets the values to the seed's first n, and how many there are.
+pub fn put_values(path: &mut [u8], at: usize, seed: [u8; 7], n: usize)
+    requires { ⌜ (16 * at + 16 ≤ length (now path)) × (n ≤ 7) ⌝ }
+{
+    let mut i = 0;
+    while i < n {
+        put(path, at, fields::VALUES + i, seed[i]);
+        i += 1;
+    }
+    put(path, at, fields::LEN, (n % 256) as u8);
+}
+
+// The value at the record's position, and the mask of all its values. Unexpected where the
+// position is none of theirs or a value is no slot.
+pub fn offered(path: &[u8], at: usize) -> Offered
+    requires { ⌜ 16 * at + 16 ≤ length (now path) ⌝ }
+    ensures { λ r. ⌜ offeredSlot r ⌝ }
+{
+    let pos = wide(field(path, at, fields::POS));
+    let len = wide(field(path, at, fields::LEN));
+    if MAX_ATOMIC_HISTORY < len {
+        return Offered::Unexpected;
+    }
+    if len <= pos {
+        return Offered::Unexpected;
+    }
+    let slot = wide(field(path, at, fields::VALUES + pos));
+    if MAX_ATOMIC_HISTORY <= slot {
+        return Offered::Unexpected;
+    }
+    with_mask(path, at, len, slot)
+}
+
+// The slot, with the mask of the record's first n values: bit i for slot i.
+fn with_mask(path: &[u8], at: usize, n: usize, slot: usize) -> Offered
+    requires { ⌜ (16 * at + 16 ≤ length (now path)) × (n ≤ 7) × (slot < 7) ⌝ }
+    ensures { λ r. ⌜ offeredSlot r ⌝ }
+{
+    let mut mask = 0;
+    let mut i = 0;
+    while i < n {
+        let value = wide(field(path, at, fields::VALUES + i));
+        if MAX_ATOMIC_HISTORY <= value {
+            return Offered::Unexpected;
+        }
+        mask = mask | (1 << value);
+        i += 1;
+    }
+    Offered::Slot { slot, mask }
+}
+
+// How many values follow a position, which are the choices still open.
+pub fn left(pos: usize, len: usize) -> u64
+    ensures { λ r. ⌜ r ≤ 6 ⌝ }
+{
+    if MAX_ATOMIC_HISTORY < len {
+        return 0;
+    }
+    if len <= pos {
+        return 0;
+    }
+    (len - 1 - pos) as u64
+}
+
+// How many of the record's values are still to be read.
+pub fn open(path: &[u8], at: usize) -> u64
+    requires { ⌜ 16 * at + 16 ≤ length (now path) ⌝ }
+    ensures { λ r. ⌜ r ≤ 6 ⌝ }
+{
+    left(
+        wide(field(path, at, fields::POS)),
+        wide(field(path, at, fields::LEN)),
+    )
+}
+
+// Goes on to the next value. Answers whether there was one.
+pub fn step(path: &mut [u8], at: usize) -> bool
+    requires { ⌜ 16 * at + 16 ≤ length (now path) ⌝ }
+{
+    let next = wide(field(path, at, fields::POS)) + 1;
+    if next < wide(field(path, at, fields::LEN)) {
+        put(path, at, fields::POS, (next % 256) as u8);
+        return true;
+    }
+    false
+}

@@ -1,0 +1,232 @@
+// A schedule record, after loom's impl Schedule and impl Thread.
+ghost use Prim.Native.Nat.{_+_, _*_, _≤_, _<_};
+ghost use lib.ListN.{length};
+ghost use Rattle.path.specs.Places.{foundBelow};
+use crate::fields;
+use crate::fields::MAX_THREADS;
+use crate::fields::field;
+use crate::fields::put;
+use crate::fields::wide;
+
+// A schedule record of the path, by its position, or none.
+pub enum Found {
+    At(usize),
+    Nowhere,
+}
+
+// The lowest thread in a state, or MAX_THREADS where there is none.
+pub fn first_in(path: &[u8], at: usize, state: u8) -> usize
+    requires { ⌜ 16 * at + 16 ≤ length (now path) ⌝ }
+    ensures { λ r. ⌜ r ≤ 5 ⌝ }
+{
+    let mut thread = 0;
+    while thread < MAX_THREADS {
+        if field(path, at, fields::THREADS + thread) == state {
+            return thread;
+        }
+        thread += 1;
+    }
+    MAX_THREADS
+}
+
+// The thread that is Active, or MAX_THREADS.
+pub fn active_thread_index(path: &[u8], at: usize) -> usize
+    requires { ⌜ 16 * at + 16 ≤ length (now path) ⌝ }
+    ensures { λ r. ⌜ r ≤ 5 ⌝ }
+{
+    first_in(path, at, fields::ACTIVE)
+}
+
+// A thread as the byte of the initial active field: NOBODY where it is none of the five.
+fn thread_byte(thread: usize) -> u8 {
+    if thread < MAX_THREADS {
+        return (thread % 256) as u8;
+    }
+    fields::NOBODY
+}
+
+// The preemptions up to and with the choice that the record makes now: one more where it turned
+// away from the thread that was active first.
+pub fn preemptions(path: &[u8], at: usize) -> usize
+    requires { ⌜ 16 * at + 16 ≤ length (now path) ⌝ }
+    ensures { λ r. ⌜ r ≤ 256 ⌝ }
+{
+    let before = wide(field(path, at, fields::PREEMPTIONS));
+    let initial = field(path, at, fields::INITIAL_ACTIVE);
+    if initial == fields::NOBODY {
+        return before;
+    }
+    if initial == thread_byte(active_thread_index(path, at)) {
+        return before;
+    }
+    before + 1
+}
+
+// The preemptions before a new branch at a position, by the schedule record before it.
+pub fn preemptions_before(path: &[u8], at: usize, prev: Found) -> usize
+    requires { ⌜ (16 * at ≤ length (now path)) × foundBelow at prev ⌝ }
+    ensures { λ r. ⌜ r ≤ 256 ⌝ }
+{
+    let Found::At(p) = prev else {
+        return 0;
+    };
+    preemptions(path, p)
+}
+
+// The schedule record before this one. One that does not lie below counts as none, so that a walk
+// always ends.
+pub fn prev(path: &[u8], at: usize) -> Found
+    requires { ⌜ 16 * at + 16 ≤ length (now path) ⌝ }
+    ensures { λ r. ⌜ foundBelow at r ⌝ }
+{
+    let low = wide(field(path, at, fields::PREV_LOW));
+    let high = wide(field(path, at, fields::PREV_HIGH));
+    let prev = low + 256 * high;
+    if prev == fields::NO_PREV {
+        return Found::Nowhere;
+    }
+    if at <= prev {
+        return Found::Nowhere;
+    }
+    Found::At(prev)
+}
+
+// Sets the position of the schedule record before this one, or NO_PREV where there is none.
+pub fn put_prev(path: &mut [u8], at: usize, prev: Found)
+    requires { ⌜ 16 * at + 16 ≤ length (now path) ⌝ }
+{
+    let position = position_of(prev);
+    put(path, at, fields::PREV_LOW, (position % 256) as u8);
+    put(path, at, fields::PREV_HIGH, (position / 256 % 256) as u8);
+}
+
+fn position_of(prev: Found) -> usize {
+    let Found::At(p) = prev else {
+        return fields::NO_PREV;
+    };
+    p
+}
+
+// Sets the five thread states to the seed.
+pub fn put_threads(path: &mut [u8], at: usize, seed: [u8; 5])
+    requires { ⌜ 16 * at + 16 ≤ length (now path) ⌝ }
+{
+    let mut thread = 0;
+    while thread < MAX_THREADS {
+        put(path, at, fields::THREADS + thread, seed[thread]);
+        thread += 1;
+    }
+}
+
+// Where no thread is Active, the first that is in Yield becomes Active.
+pub fn toggle_yield(path: &mut [u8], at: usize)
+    requires { ⌜ 16 * at + 16 ≤ length (now path) ⌝ }
+{
+    if active_thread_index(path, at) < MAX_THREADS {
+        return;
+    }
+    let yielded = first_in(path, at, fields::YIELD);
+    if yielded < MAX_THREADS {
+        put(path, at, fields::THREADS + yielded, fields::ACTIVE);
+    }
+}
+
+// Sets the initial active thread: the Active one, unless the schedule before chose another.
+pub fn put_initial_active(path: &mut [u8], at: usize, prev: Found)
+    requires { ⌜ (16 * at + 16 ≤ length (now path)) × foundBelow at prev ⌝ }
+{
+    let active = active_thread_index(path, at);
+    if let Found::At(p) = prev {
+        if active != active_thread_index(path, p) {
+            put(path, at, fields::INITIAL_ACTIVE, fields::NOBODY);
+            return;
+        }
+    }
+    put(path, at, fields::INITIAL_ACTIVE, thread_byte(active));
+}
+
+// Marks a thread to be explored, and answers how many choices that opened. With a bound, a record
+// that has reached it takes no mark.
+pub fn backtrack(path: &mut [u8], at: usize, thread: usize, bounded: bool, bound: u8) -> u64
+    requires { ⌜ 16 * at + 16 ≤ length (now path) ⌝ }
+    ensures { λ r. ⌜ r ≤ 5 ⌝ }
+{
+    if bounded {
+        if field(path, at, fields::PREEMPTIONS) == bound {
+            return 0;
+        }
+    }
+    if MAX_THREADS <= thread {
+        return 0;
+    }
+    if field(path, at, fields::THREADS + thread) == fields::DISABLED {
+        return explore_all(path, at);
+    }
+    explore(path, at, thread)
+}
+
+// Turns Skip into Pending, and answers how many choices that opened. Every other state stays.
+fn explore(path: &mut [u8], at: usize, thread: usize) -> u64
+    requires { ⌜ (16 * at + 16 ≤ length (now path)) × (thread < 5) ⌝ }
+    ensures { λ r. ⌜ r ≤ 1 ⌝ }
+{
+    if field(path, at, fields::THREADS + thread) == fields::SKIP {
+        put(path, at, fields::THREADS + thread, fields::PENDING);
+        return 1;
+    }
+    0
+}
+
+// The same for each thread.
+fn explore_all(path: &mut [u8], at: usize) -> u64
+    requires { ⌜ 16 * at + 16 ≤ length (now path) ⌝ }
+    ensures { λ r. ⌜ r ≤ 5 ⌝ }
+{
+    let mut opened = 0;
+    let mut thread = 0;
+    while thread < MAX_THREADS {
+        opened += explore(path, at, thread);
+        thread += 1;
+    }
+    opened
+}
+
+// How many threads are Pending.
+pub fn pending(path: &[u8], at: usize) -> u64
+    requires { ⌜ 16 * at + 16 ≤ length (now path) ⌝ }
+    ensures { λ r. ⌜ r ≤ 5 ⌝ }
+{
+    let mut count = 0;
+    let mut thread = 0;
+    while thread < MAX_THREADS {
+        if field(path, at, fields::THREADS + thread) == fields::PENDING {
+            count += 1;
+        }
+        thread += 1;
+    }
+    count
+}
+
+// The Active thread becomes Visited and the first Pending one Active. Answers whether there was
+// one.
+pub fn step(path: &mut [u8], at: usize) -> bool
+    requires { ⌜ 16 * at + 16 ≤ length (now path) ⌝ }
+{
+    visit(path, at);
+    let next = first_in(path, at, fields::PENDING);
+    if next < MAX_THREADS {
+        put(path, at, fields::THREADS + next, fields::ACTIVE);
+        return true;
+    }
+    false
+}
+
+// The Active thread becomes Visited.
+fn visit(path: &mut [u8], at: usize)
+    requires { ⌜ 16 * at + 16 ≤ length (now path) ⌝ }
+{
+    let active = active_thread_index(path, at);
+    if active < MAX_THREADS {
+        put(path, at, fields::THREADS + active, fields::VISITED);
+    }
+}

@@ -1,0 +1,4 @@
+pub mod Arms
+pub mod Header
+pub mod Places
+pub mod Walks

@@ -1,0 +1,71 @@
+use Prim.Native.Nat.{_≤_, _-_, _+_}
+use mathlib.Core.Path.{_≡_, sym, _∙_}
+use mathlib.Core.Bool.{true, false}
+use borrow.Author.Tests.{not-true, not-false}
+use Rattle.table.specs.Table.{rowFine, rowAt, firstBad}
+use Rattle.table.proofs.Walks.{badLeft, bad-all, first-on, first-found, first-none}
+use borrow.Author.Needs.{needs}
+use Rattle.table.proofs.first_bad.Statement.{statement}
+use Rattle.table.proofs.first_bad.Tie as tie
+
+abbrev Inv-loop : tie.InvT-loop
+Inv-loop table threads cells first count i₀ i =
+    (i ≤ count) × (badLeft table threads cells first count i ≡ firstBad table threads cells first count)
+
+abbrev μ-loop : tie.MeasureT-loop
+μ-loop table threads cells first count i₀ i = count - i
+
+loop-holds : tie.Need-loop-holds Inv-loop μ-loop
+loop-holds c = (search needs, bad-all _ _ _ _ _)
+
+add-row-at : tie.Need-add-row-at Inv-loop μ-loop
+add-row-at c = search needs
+
+row-at-requires : tie.Need-row-at-requires Inv-loop μ-loop
+row-at-requires c κs = search needs
+
+acceptable-requires : tie.Need-acceptable-requires Inv-loop μ-loop
+acceptable-requires c κs = search needs
+
+returns : tie.Need-returns Inv-loop μ-loop
+returns c =
+    let turn = c .before .before .before in
+    let at = turn .before in
+    let g = at .before .before .args in
+    let e : rowFine (g .threads) (g .cells) (g .count) (rowAt (g .table .now) (g .cells) (g .first + at .loop .i)) ≡ false = cc (not-true (c .before .acceptable .result) (c .if1 .taken)) in
+    sym (first-found _ _ _ (turn .loop-test .taken) e) ∙ at .loop .inv .1
+
+add-i : tie.Need-add-i Inv-loop μ-loop
+add-i c = search needs
+
+loop-less : tie.Need-loop-less Inv-loop μ-loop
+loop-less c = search needs
+
+loop-again : tie.Need-loop-again Inv-loop μ-loop
+loop-again c =
+    let turn = c .before .before .before in
+    let at = turn .before in
+    let g = at .before .before .args in
+    let e : rowFine (g .threads) (g .cells) (g .count) (rowAt (g .table .now) (g .cells) (g .first + at .loop .i)) ≡ true = cc (not-false (c .before .acceptable .result) (c .if1 .left)) in
+    (search needs, first-on _ _ _ (turn .loop-test .taken) e ∙ at .loop .inv .1)
+
+returns-2 : tie.Need-returns-2 Inv-loop μ-loop
+returns-2 c =
+    let at = c .before in
+    sym (first-none _ _ _ (c .loop-test .left) (at .loop .inv .0)) ∙ at .loop .inv .1
+
+pub first-bad-spec : {M : Type 1} → statement M
+first-bad-spec =
+    tie.close
+    (tie.spec
+    Inv-loop
+    μ-loop
+    loop-holds
+    add-row-at
+    row-at-requires
+    acceptable-requires
+    returns
+    add-i
+    loop-less
+    loop-again
+    returns-2)

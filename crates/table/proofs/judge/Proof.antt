@@ -1,0 +1,113 @@
+use native.Mathlib.Omega.{arith}
+use Prim.Native.Nat.{_≤_, _-_, _*_}
+use mathlib.Core.Path.{_≡_, refl, sym, _∙_}
+use mathlib.Core.Bool.{true}
+use lib.ListN.{length, drop}
+use borrow.Author.Tests.{not-true, not-false}
+use Rattle.table.specs.Table.{maxThreads, headerBytes, headerFine, countsOf, rowsJudged, judged}
+use Rattle.table.proofs.Header.{header-long}
+use Rattle.table.proofs.Walks.{threads-on, threads-bad, threads-none, judged-bad, judged-rows}
+use borrow.Author.Needs.{needs}
+use Rattle.table.proofs.judge.Statement.{statement}
+use Rattle.table.proofs.judge.Tie as tie
+
+abbrev Inv-loop : tie.InvT-loop
+Inv-loop table threads cells thread₀ first₀ thread first =
+    (thread ≤ maxThreads) × (first ≤ 255 * thread) × (rowsJudged table threads cells thread first (drop thread (countsOf table)) ≡ rowsJudged table threads cells 0 0 (countsOf table))
+
+abbrev μ-loop : tie.MeasureT-loop
+μ-loop table threads cells thread₀ first₀ thread first = maxThreads - thread
+
+fine : (c : tie.Else1 Inv-loop μ-loop) → headerFine (c .before .before .before .args .table .now) ≡ true
+fine c = sym (c .before .header-fine .ensures) ∙ not-false (c .before .header-fine .result) (c .if1 .left)
+
+long : (c : tie.Else1 Inv-loop μ-loop) → headerBytes ≤ length (c .before .before .before .args .table .now)
+long c = header-long _ (fine c)
+
+-- what the loop began with is what the table is judged by
+whole : (c : tie.After-wide2 Inv-loop μ-loop) →
+    rowsJudged (c .before .before .before .before .before .before .before .args .table .now) (c .before .before .wide .result) (c .wide2 .result) 0 0 (countsOf (c .before .before .before .before .before .before .before .args .table .now)) ≡ judged (c .before .before .before .before .before .before .before .args .table .now)
+whole c = judged-rows _ (fine (c .before .before .before .before)) (c .before .before .wide .ensures .same) (c .wide2 .ensures .same)
+
+header-fine-requires : tie.Need-header-fine-requires Inv-loop μ-loop
+header-fine-requires c κs = search needs
+
+returns : tie.Need-returns Inv-loop μ-loop
+returns c = judged-bad _ (sym (c .before .header-fine .ensures) ∙ not-true (c .before .header-fine .result) (c .if1 .taken))
+
+shared-slice-read-wide : tie.Need-shared-slice-read-wide Inv-loop μ-loop
+shared-slice-read-wide c = omega (arith, long (c .before))
+
+wide-requires : tie.Need-wide-requires Inv-loop μ-loop
+wide-requires c κs = search needs
+
+shared-slice-read-wide-2 : tie.Need-shared-slice-read-wide-2 Inv-loop μ-loop
+shared-slice-read-wide-2 c = omega (arith, long (c .before .before .before))
+
+wide-requires-2 : tie.Need-wide-requires-2 Inv-loop μ-loop
+wide-requires-2 c κs = search needs
+
+loop-holds : tie.Need-loop-holds Inv-loop μ-loop
+loop-holds c = (search needs, search needs, refl)
+
+add-wide : tie.Need-add-wide Inv-loop μ-loop
+add-wide c = search needs
+
+shared-slice-read-wide-3 : tie.Need-shared-slice-read-wide-3 Inv-loop μ-loop
+shared-slice-read-wide-3 c = omega (arith, long (c .before .before .before .before .before .before .before))
+
+wide-requires-3 : tie.Need-wide-requires-3 Inv-loop μ-loop
+wide-requires-3 c κs = search needs
+
+first-bad-requires : tie.Need-first-bad-requires Inv-loop μ-loop
+first-bad-requires c κs = search needs
+
+returns-2 : tie.Need-returns-2 Inv-loop μ-loop
+returns-2 c =
+    let turn = c .before .before .before .before in
+    let at = turn .before in
+    threads-bad _ (long (at .before .before .before .before .before)) _ _ _ _ _ (turn .loop-test .taken) (c .before .before .wide3 .ensures .same) (c .before .first-bad .ensures) (c .if2 .taken) ∙ at .loop .inv .2 ∙ whole (at .before)
+
+add-first : tie.Need-add-first Inv-loop μ-loop
+add-first c = search needs
+
+add-thread : tie.Need-add-thread Inv-loop μ-loop
+add-thread c = search needs
+
+loop-less : tie.Need-loop-less Inv-loop μ-loop
+loop-less c = search needs
+
+loop-again : tie.Need-loop-again Inv-loop μ-loop
+loop-again c =
+    let turn = c .before .before .before .before in
+    let at = turn .before in
+    (search needs, search needs, threads-on _ (long (at .before .before .before .before .before)) _ _ _ _ _ (turn .loop-test .taken) (c .before .before .wide3 .ensures .same) (c .before .first-bad .ensures) (c .if2 .left) ∙ at .loop .inv .2)
+
+returns-3 : tie.Need-returns-3 Inv-loop μ-loop
+returns-3 c =
+    let at = c .before in
+    sym (threads-none _ (long (at .before .before .before .before .before)) _ _ (at .loop .thread) _ (c .loop-test .left)) ∙ at .loop .inv .2 ∙ whole (at .before)
+
+pub judge-spec : {M : Type 1} → statement M
+judge-spec =
+    tie.close
+    (tie.spec
+    Inv-loop
+    μ-loop
+    header-fine-requires
+    returns
+    shared-slice-read-wide
+    wide-requires
+    shared-slice-read-wide-2
+    wide-requires-2
+    loop-holds
+    add-wide
+    shared-slice-read-wide-3
+    wide-requires-3
+    first-bad-requires
+    returns-2
+    add-first
+    add-thread
+    loop-less
+    loop-again
+    returns-3)

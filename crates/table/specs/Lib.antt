@@ -1,0 +1,3 @@
+pub mod Table
+pub mod Verdict
+pub mod Wide

@@ -1,0 +1,225 @@
+// The table: which bytes are one, which row of one is the first bad one, and what stands in a row.
+// Each promise is an equation with the definition in specs/Table.antt.
+ghost use mathlib.Core.Path.{_≡_};
+ghost use Prim.Native.Nat.{_+_, _<_, _≤_, _^_};
+ghost use lib.ListN.{length};
+ghost use Rattle.table.specs.Table.{headerBytes, rowBytes, headerFine, countFine, countsFine, countsOf, firstBad, judged, shapeOf, startValue, rowAt, rowFrom};
+ghost use Rattle.table.specs.Verdict.{verdictOf, rowOf};
+
+pub mod limits;
+pub mod little;
+mod rows;
+
+use limits::ALL_ROWS;
+use limits::HEADER;
+use limits::MAX_CELLS;
+use limits::MAX_ROWS;
+use limits::MAX_THREADS;
+use limits::ROW;
+use limits::VALUE;
+
+// Where the header has its row counts, and its zero.
+const COUNTS: usize = 2;
+
+const ZERO: usize = 7;
+
+// Where a shape has the last thread's row count and first row, whose sum is the number of all rows.
+const LAST_COUNT: usize = 6;
+
+const LAST_FIRST: usize = 11;
+
+// What is wrong with a table, if anything is: the header or the length, or else the first bad row in byte order.
+pub enum Verdict {
+    Accepted,
+    Header,
+    Row { thread: usize, row: usize },
+}
+
+// `object` is the cell or the thread.
+pub struct Row {
+    pub opcode: u8,
+    pub object: u8,
+    pub order: u8,
+    pub failure: u8,
+    pub kind: u8,
+    pub register: u8,
+    pub target: u16,
+    pub a: u64,
+    pub b: u64,
+}
+
+// Whether these bytes are a table, and if not, what is wrong first. The header and the length are judged before any row.
+pub fn judge(table: &[u8]) -> Verdict
+    ensures { λ r. ⌜ verdictOf r ≡ judged (now (table .entry)) ⌝ }
+{
+    if !header_fine(table) {
+        return Verdict::Header;
+    }
+    let threads = little::wide(table[0]);
+    let cells = little::wide(table[1]);
+    let mut thread = 0;
+    let mut first = 0;
+    while thread < MAX_THREADS {
+        let count = little::wide(table[COUNTS + thread]);
+        let row = first_bad(table, threads, cells, first, count);
+        if row < count {
+            return Verdict::Row { thread, row };
+        }
+        first += count;
+        thread += 1;
+    }
+    Verdict::Accepted
+}
+
+// Threads, cells, the five row counts, and the number of each thread's first row among all rows. Zeros where the table is
+// shorter than a header.
+pub fn shape(table: &[u8]) -> [u16; 12]
+    ensures { λ r. ⌜ r ≡ shapeOf (now (table .entry)) ⌝ }
+{
+    if table.len() < HEADER {
+        return [0; 12];
+    }
+    let threads = little::short(table[0]);
+    let cells = little::short(table[1]);
+    let n0 = little::short(table[2]);
+    let n1 = little::short(table[3]);
+    let n2 = little::short(table[4]);
+    let n3 = little::short(table[5]);
+    let n4 = little::short(table[6]);
+    let first2 = n0 + n1;
+    let first3 = first2 + n2;
+    let first4 = first3 + n3;
+    [
+        threads,
+        cells,
+        n0,
+        n1,
+        n2,
+        n3,
+        n4,
+        0,
+        n0,
+        first2,
+        first3,
+        first4,
+    ]
+}
+
+// The cell's start value; 0 where the table has none for it.
+pub fn start_value(table: &[u8], cell: usize) -> u64
+    ensures { λ r. ⌜ r ≡ startValue (now (table .entry)) cell ⌝ }
+{
+    if cell < MAX_CELLS {
+        let at = HEADER + VALUE * cell;
+        if at + VALUE <= table.len() {
+            return little::u64_at(table, at);
+        }
+    }
+    0
+}
+
+// The row of this number among all rows of a table with this many cells. Where the table does not hold it, a row of opcode
+// 255, which is refused.
+pub fn row_at(table: &[u8], cells: usize, index: usize) -> Row
+    ensures { λ r. ⌜ rowOf r ≡ rowAt (now (table .entry)) cells index ⌝ }
+{
+    if cells <= MAX_CELLS {
+        if index < ALL_ROWS {
+            let at = HEADER + VALUE * cells + ROW * index;
+            if at + ROW <= table.len() {
+                return row_from(table, at);
+            }
+        }
+    }
+    Row {
+        opcode: 255,
+        object: 0,
+        order: 0,
+        failure: 0,
+        kind: 0,
+        register: 0,
+        target: 0,
+        a: 0,
+        b: 0,
+    }
+}
+
+// The row whose first byte is this one.
+fn row_from(table: &[u8], at: usize) -> Row
+    requires { ⌜ at + rowBytes ≤ length (now table) ⌝ }
+    ensures { λ r. ⌜ rowOf r ≡ rowFrom (now (table .entry)) at ⌝ }
+{
+    Row {
+        opcode: table[at],
+        object: table[at + 1],
+        order: table[at + 2],
+        failure: table[at + 3],
+        kind: table[at + 4],
+        register: table[at + 5],
+        target: little::u16_at(table, at + 6),
+        a: little::u64_at(table, at + 8),
+        b: little::u64_at(table, at + 16),
+    }
+}
+
+// Whether header and length are those of a table. The tests are of numbers alone, so that none has to wait for another.
+fn header_fine(table: &[u8]) -> bool
+    ensures { λ r. ⌜ r ≡ headerFine (now (table .entry)) ⌝ }
+{
+    if table.len() < HEADER {
+        return false;
+    }
+    let threads = little::wide(table[0]);
+    let cells = little::wide(table[1]);
+    let s = shape(table);
+    let rows = little::wide16(s[LAST_COUNT]) + little::wide16(s[LAST_FIRST]);
+    let size = HEADER + VALUE * cells + ROW * rows;
+    ((1 <= threads) & (threads <= MAX_THREADS))
+        & ((1 <= cells) & (cells <= MAX_CELLS))
+        & counts_fine(table, threads)
+        & (table[ZERO] == 0)
+        & (table.len() == size)
+}
+
+// Whether no thread has too many rows, and none has any past the threads.
+fn counts_fine(table: &[u8], threads: usize) -> bool
+    requires { ⌜ headerBytes ≤ length (now table) ⌝ }
+    ensures { λ r. ⌜ r ≡ countsFine threads 0 (countsOf (now (table .entry))) ⌝ }
+{
+    let mut thread = 0;
+    while thread < MAX_THREADS {
+        let count = little::wide(table[COUNTS + thread]);
+        if !count_fine(thread, threads, count) {
+            return false;
+        }
+        thread += 1;
+    }
+    true
+}
+
+// Whether one thread has not too many rows, and none where it is past the threads.
+fn count_fine(thread: usize, threads: usize, count: usize) -> bool
+    ensures { λ r. ⌜ r ≡ countFine threads thread count ⌝ }
+{
+    if thread < threads {
+        return count <= MAX_ROWS;
+    }
+    count == 0
+}
+
+// The first row of a thread that is bad, or its row count where none is. The thread's first row has the number `first` among
+// all rows.
+fn first_bad(table: &[u8], threads: usize, cells: usize, first: usize, count: usize) -> usize
+    requires { ⌜ first + count < 2 ^ 64 ⌝ }
+    ensures { λ r. ⌜ r ≡ firstBad (now (table .entry)) threads cells first count ⌝ }
+{
+    let mut i = 0;
+    while i < count {
+        let row = row_at(table, cells, first + i);
+        if !rows::acceptable(row, threads, cells, count) {
+            return i;
+        }
+        i += 1;
+    }
+    count
+}

@@ -1,0 +1,18 @@
+// The limits and sizes of a table, here alone.
+pub const MAX_THREADS: usize = 5;
+
+pub const MAX_CELLS: usize = 4;
+
+// The rows of one thread, and of the largest table.
+pub const MAX_ROWS: usize = 32;
+
+pub const ALL_ROWS: usize = MAX_THREADS * MAX_ROWS;
+
+// In bytes: the header, a cell's start value, a row.
+pub const HEADER: usize = 8;
+
+pub const VALUE: usize = 8;
+
+pub const ROW: usize = 24;
+
+pub const REGISTERS: u8 = 4;

@@ -1,0 +1,244 @@
+//! Holds the proved explorer, linked as a static library, against the explorers in Rust. See
+//! `USAGE`.
+
+mod bytes;
+mod fifty;
+mod guarded;
+mod judge;
+mod library;
+mod speed;
+
+use library::Call;
+use speed::Times;
+use std::collections::BTreeMap;
+use std::fmt::Display;
+use std::io::{self, BufWriter, ErrorKind, Write};
+use std::process::ExitCode;
+use std::time::Duration;
+
+const USAGE: &str = "\
+usage: compare cases SEED COUNT   compare library and oracle over COUNT generated cases
+       compare bytes SEED COUNT   call the library COUNT times with bytes and numbers at random
+       compare limits             compare library and oracle over the hand-built cases
+       compare speed [ROUNDS]     time library and plain explorer on the fifty programs
+       compare fifty              print the fifty programs
+exit status: 0 well, 1 differences, 2 unusable arguments, 3 a fault of an explorer in Rust
+";
+
+/// How many differing cases are shown.
+const SHOWN: u64 = 5;
+/// Rounds of a speed measurement, at least and if nothing is said.
+const ROUNDS: u64 = 5;
+
+/// Why a command stops early.
+enum Stop {
+    Arguments(String),
+    /// An explorer in Rust panicked.
+    Explorer(String),
+    Output(io::Error),
+}
+
+impl From<io::Error> for Stop {
+    fn from(error: io::Error) -> Stop {
+        Stop::Output(error)
+    }
+}
+
+/// True where everything was as it should be.
+type Outcome = Result<bool, Stop>;
+
+fn main() -> ExitCode {
+    // An argument that is no text is no command or number either, and is refused as such.
+    let arguments = std::env::args_os().skip(1);
+    let arguments: Vec<String> = arguments.map(|a| a.to_string_lossy().into_owned()).collect();
+    let mut out = BufWriter::new(io::stdout().lock());
+    let outcome = run(&arguments, &mut out).and_then(|well| {
+        out.flush()?;
+        Ok(well)
+    });
+    match outcome {
+        Ok(true) => ExitCode::SUCCESS,
+        Ok(false) => ExitCode::from(1),
+        // Whoever read our output has had enough.
+        Err(Stop::Output(error)) if error.kind() == ErrorKind::BrokenPipe => ExitCode::SUCCESS,
+        Err(Stop::Output(error)) => fail(2, &format!("standard output: {error}")),
+        Err(Stop::Arguments(what)) => fail(2, &what),
+        Err(Stop::Explorer(what)) => fail(3, &what),
+    }
+}
+
+fn fail(status: u8, what: &str) -> ExitCode {
+    eprintln!("compare: {what}");
+    ExitCode::from(status)
+}
+
+fn run(arguments: &[String], out: &mut impl Write) -> Outcome {
+    let words: Vec<&str> = arguments.iter().map(String::as_str).collect();
+    match words[..] {
+        ["help" | "--help" | "-h"] => {
+            out.write_all(USAGE.as_bytes())?;
+            Ok(true)
+        }
+        ["cases", seed, count] => compare_cases(number(seed)?, number(count)?, out),
+        ["bytes", seed, count] => compare_bytes(number(seed)?, number(count)?, out),
+        ["limits"] => compare_limits(out),
+        ["speed"] => compare_speed(ROUNDS, out),
+        ["speed", rounds] => match number(rounds)? {
+            0..ROUNDS => Err(Stop::Arguments(format!("at least {ROUNDS} rounds"))),
+            rounds => compare_speed(rounds, out),
+        },
+        ["fifty"] => print_fifty(out),
+        [] => Err(Stop::Arguments("no command; try 'compare help'".to_string())),
+        [command, ..] => Err(Stop::Arguments(wrong(command))),
+    }
+}
+
+/// What to say of a command that was not understood: its usage, if there is such a command.
+fn wrong(command: &str) -> String {
+    let known = USAGE
+        .lines()
+        .filter_map(|line| line.split_once("compare "))
+        .map(|(_, rest)| rest.split("  ").next().unwrap_or(rest))
+        .find(|rest| rest.split(' ').next() == Some(command));
+    match known {
+        Some(usage) => format!("usage: compare {usage}"),
+        None => format!("unknown command '{command}'; try 'compare help'"),
+    }
+}
+
+fn number(text: &str) -> Result<u64, Stop> {
+    let digits = text.bytes().all(|b| b.is_ascii_digit());
+    match text.parse() {
+        Ok(number) if digits => Ok(number),
+        _ => Err(Stop::Arguments(format!("'{text}' is not a number from 0 to 2^64-1"))),
+    }
+}
+
+/// What has been compared so far.
+#[derive(Default)]
+struct Tally {
+    agreed: u64,
+    differing: u64,
+    /// How often each answer came up, so that one sees what was compared.
+    answers: BTreeMap<u64, u64>,
+}
+
+impl Tally {
+    /// Takes one comparison and shows the first few that differ.
+    fn take(
+        &mut self,
+        case: &dyn Display,
+        answer: u64,
+        differences: &[String],
+        out: &mut impl Write,
+    ) -> io::Result<()> {
+        *self.answers.entry(answer).or_default() += 1;
+        if differences.is_empty() {
+            self.agreed += 1;
+            return Ok(());
+        }
+        self.differing += 1;
+        if self.differing <= SHOWN {
+            writeln!(out, "{case}")?;
+            for difference in differences {
+                writeln!(out, "  {difference}")?;
+            }
+        }
+        Ok(())
+    }
+
+    /// Prints the count; true where nothing differed.
+    fn end(&self, what: &str, out: &mut impl Write) -> Outcome {
+        let answers = self.answers.iter().map(|(answer, count)| format!(" {answer}:{count}"));
+        writeln!(out, "answers{}", answers.collect::<String>())?;
+        writeln!(out, "{} {what} agree, {} differ", self.agreed, self.differing)?;
+        Ok(self.differing == 0)
+    }
+}
+
+/// A different alignment for one case and the next.
+fn shift(index: u64) -> usize {
+    (index % 16) as usize
+}
+
+fn compare_cases(seed: u64, count: u64, out: &mut impl Write) -> Outcome {
+    let mut tally = Tally::default();
+    for index in 0..count {
+        let case = cases::case(seed, index);
+        let expected = judge::by_oracle(&case).map_err(Stop::Explorer)?;
+        let left = Call::of(&case, shift(index)).make();
+        let differences = judge::differences(&expected, &left);
+        tally.take(&case, expected.numbers[0], &differences, out)?;
+    }
+    tally.end("cases", out)
+}
+
+fn compare_bytes(seed: u64, count: u64, out: &mut impl Write) -> Outcome {
+    let mut tally = Tally::default();
+    for index in 0..count {
+        let drawn = bytes::draw(seed, index);
+        let (answer, wrongs) = bytes::wrongs(&drawn, shift(index)).map_err(Stop::Explorer)?;
+        tally.take(&drawn, answer, &wrongs, out)?;
+    }
+    tally.end("calls", out)
+}
+
+/// The hand-built cases have the limits among them: no rows and 32, five threads of 32 rows, B, L and
+/// N at their greatest and used up.
+fn compare_limits(out: &mut impl Write) -> Outcome {
+    let mut tally = Tally::default();
+    for (index, hand) in (0..).zip(cases::hand::all()) {
+        let expected = judge::by_oracle(&hand.case).map_err(Stop::Explorer)?;
+        let left = Call::of(&hand.case, shift(index)).make();
+        let mut differences = judge::differences(&expected, &left);
+        // A list of a wrong length is what such a case is about, and the entry takes none.
+        let about_list = hand.case.list.is_some_and(|length| length != 5);
+        if !about_list && left.returned != hand.answer {
+            differences.push(format!("{} is built for answer {}", hand.shows, hand.answer));
+        }
+        tally.take(&hand.case, expected.numbers[0], &differences, out)?;
+    }
+    tally.end("hand-built cases", out)
+}
+
+fn compare_speed(rounds: u64, out: &mut impl Write) -> Outcome {
+    let fifty = fifty::all();
+    let mut tally = Tally::default();
+    for timed in &fifty {
+        let differences = speed::disagreements(timed).map_err(Stop::Explorer)?;
+        tally.take(&timed.name, 0, &differences, out)?;
+    }
+    if tally.differing > 0 {
+        writeln!(out, "{} programs are answered differently: nothing timed", tally.differing)?;
+        return Ok(false);
+    }
+    let mut times = vec![Times::NONE; fifty.len()];
+    for round in 0..rounds {
+        for (at, timed) in fifty.iter().enumerate() {
+            speed::measure(timed, (round + at as u64).is_multiple_of(2), &mut times[at]);
+        }
+    }
+    writeln!(out, "{:<18} {:>10} {:>10} {:>7}", "program", "plain ms", "library ms", "ratio")?;
+    let mut total = Times { plain: Duration::ZERO, library: Duration::ZERO };
+    for (timed, times) in fifty.iter().zip(times) {
+        print_times(timed.name, times, out)?;
+        total.plain += times.plain;
+        total.library += times.library;
+    }
+    print_times("total", total, out)?;
+    Ok(true)
+}
+
+fn print_times(name: &str, times: Times, out: &mut impl Write) -> io::Result<()> {
+    let [plain, library] = [times.plain, times.library].map(|time| time.as_secs_f64() * 1e3);
+    writeln!(out, "{name:<18} {plain:>10.2} {library:>10.2} {:>7.2}", times.ratio())
+}
+
+fn print_fifty(out: &mut impl Write) -> Outcome {
+    writeln!(out, "| name | threads | cells | rows | B | L | N | runs | what it stresses |")?;
+    writeln!(out, "|---|---|---|---|---|---|---|---|---|")?;
+    for timed in fifty::all() {
+        writeln!(out, "{timed}")?;
+    }
+    Ok(true)
+}
