@@ -1,5 +1,5 @@
-//! The fifty programs that speed is measured on. docs/SPEED.md has the same list, as `compare fifty`
-//! prints it; it was fixed before anything was measured and stays as it is.
+//! The fifty programs that speed is measured on. docs/SPEED.md has the same list, in the lines that
+//! `compare fifty` prints; it was fixed before anything was measured and stays as it is.
 
 mod large;
 mod loops;

@@ -183,8 +183,8 @@ fn compare_bytes(seed: u64, count: u64, out: &mut impl Write) -> Outcome {
     tally.end("calls", out)
 }
 
-/// The hand-built cases have the limits among them: no rows and 32, five threads of 32 rows, B, L and
-/// N at their greatest and used up.
+/// The hand-built cases have the limits among them: no rows and 32, five threads of 32 rows, and the
+/// greatest B, L and N used up.
 fn compare_limits(out: &mut impl Write) -> Outcome {
     let mut tally = Tally::default();
     for (index, hand) in (0..).zip(cases::hand::all()) {
