@@ -183,7 +183,7 @@ fn compare_bytes(seed: u64, count: u64, out: &mut impl Write) -> Outcome {
     tally.end("calls", out)
 }
 
-/// The hand-built cases have the limits among them: no rows and 32, five threads of 32 rows, and the
+/// The hand-built cases have the limits among them: no rows and 32, five threads of 32 rows, the
 /// greatest B, L and N used up.
 fn compare_limits(out: &mut impl Write) -> Outcome {
     let mut tally = Tally::default();
