@@ -1,22 +1,23 @@
 -- The laws of first sight, for the functions that answer it. Over every length. Assumes nothing.
---     seen-on-.., seen-ends       a mark that lets the walk along a store's marks go on, and one that ends it
+--     seen-on                     one mark more of a store is asked, and what was found so far is kept
 --     slots-on, slots-all         the stores below i are answered, what is left is still to be
---     touch-.., yield-..          by the tests that a function without a loop makes
+--     touch-..                    the walk comes to the thread, is elsewhere, is past all
+--     yield-..                    by the tests that a function without a loop makes
 -- and what the definitions say:
 --     seen-made, seen-found       seen is that some thread's mark is known
 --     touched-..                  only the thread's own mark changes, and only where unseen
 --     seenSlots-.., touchedAt-..  of each slot of a cell
 use Prim.Native.Nat.{ℕ, zero, suc, _+_, _≤_, _<_}
 use mathlib.Core.List.{List, [], _∷_, _++_, append-nil}
-use mathlib.Core.Bool.{Bool, true, false, not, _&&_, false≢true, and-eq-true-iff}
-use mathlib.Core.Path.{_≡_, refl, sym, _∙_}
+use mathlib.Core.Bool.{Bool, true, false, cond, not, _&&_, _||_, false≢true, and-eq-true-iff}
+use mathlib.Core.Path.{_≡_, refl, ap, sym, _∙_}
 use mathlib.Core.Logic.{_≢_, _⊎_, inl, inr, ⊎-elim}
 use native.Mathlib.Omega.{arith}
 use native.Mathlib.Numerals.{add-one}
-use lib.Dec.{leb, eqb}
+use lib.Dec.{ltb, leb, eqb}
 use lib.ListN.{length, getD, set, take, drop, drop-of-length-le, length-set, length-map, List·getD-eq-default, List·getD-map}
 use lib.Seq.{drop-cons, take-suc-set, set-out, take-all, append-snoc, getD-set-same, getD-set-other}
-use borrow.Author.Tests.{le-leb, lt-leb, eq-eqb, ne-eqb, leb-true, eqb-false, not-true}
+use borrow.Author.Tests.{lt-ltb, le-ltb, le-leb, eq-eqb, ne-eqb, ltb-true, ltb-false, leb-true, eqb-false, not-true}
 use Rattle.rules.specs.Vector.{Whom, nobody, thread, next}
 use Rattle.vv.proofs.Walks.{left-cons}
 use Rattle.atomic.specs.Seen.{unseen, markOf, known, seenThrough, someone, seen, seenBeforeYield, touched, touchedAt, seenSlots}
@@ -25,21 +26,31 @@ someone-next : (w : Whom) → someone (next w) ≡ someone w
 someone-next nobody = refl
 someone-next (thread t) = refl
 
-module _ (marks vs : List ℕ) (i : ℕ) (h : i < length marks) (k : i < length vs) where
-  pub seen-on-unseen : getD marks i 0 ≡ unseen → seen (drop (i + 1) marks) (drop (i + 1) vs) ≡ seen (drop i marks) (drop i vs)
-  unfolding seen seenThrough
-  seen-on-unseen e = rw (left-cons seen marks vs i h k, eq-eqb (getD marks i 0) unseen e, someone-next)
+flag : (b : Bool) → (b ≡ true) ⊎ (b ≡ false)
+flag true = inl refl
+flag false = inr refl
 
-  pub seen-on-later : getD marks i 0 ≢ unseen → getD vs i 0 < getD marks i 0 →
-      seen (drop (i + 1) marks) (drop (i + 1) vs) ≡ seen (drop i marks) (drop i vs)
-  unfolding seen seenThrough
-  seen-on-later n l =
-      rw (left-cons seen marks vs i h k, ne-eqb (getD marks i 0) unseen n, lt-leb (getD marks i 0) (getD vs i 0) l, someone-next)
+or-or : (a b c : Bool) → (a || b) || c ≡ a || (b || c)
+or-or true b c = refl
+or-or false b c = refl
 
-  pub seen-ends : getD marks i 0 ≢ unseen → getD marks i 0 ≤ getD vs i 0 → seen (drop i marks) (drop i vs) ≡ true
-  unfolding seen seenThrough
-  seen-ends n l =
-      rw (left-cons seen marks vs i h k, ne-eqb (getD marks i 0) unseen n, le-leb (getD marks i 0) (getD vs i 0) l)
+seen-next : (m v : ℕ) (marks vs : List ℕ) → known m v ≡ false → seen (m ∷ marks) (v ∷ vs) ≡ seen marks vs
+unfolding seen seenThrough
+seen-next m v marks vs e = rw e (someone-next (seenThrough marks vs))
+
+seen-or : (m v : ℕ) (marks vs : List ℕ) → known m v || seen marks vs ≡ seen (m ∷ marks) (v ∷ vs)
+unfolding seen seenThrough
+seen-or m v marks vs =
+    ⊎-elim (λ e. rw e) (λ e. rw e (sym (someone-next (seenThrough marks vs)))) (flag (known m v))
+
+module _ (marks vs : List ℕ) (i : ℕ) (h : i < length marks) (k : i < length vs) (so : Bool) where
+  pub seen-on : (so || known (getD marks i 0) (getD vs i 0)) || seen (drop (i + 1) marks) (drop (i + 1) vs) ≡ so || seen (drop i marks) (drop i vs)
+  seen-on = rw (left-cons seen marks vs i h k, ← seen-or) (or-or so _ _)
+
+-- with no mark left, what was found so far is the answer
+pub so-far : (so : Bool) → so || false ≡ so
+so-far true = refl
+so-far false = refl
 
 -- the answers below i, with those for the stores from i on still to be made
 abbrev pub answering : List Bool → List (List ℕ) → List ℕ → ℕ → List Bool
@@ -69,11 +80,11 @@ module _ (marks : List ℕ) (t : ℕ) (h : t < length marks) where
   marked : markOf marks t ≡ getD marks t 0
   marked = within marks t unseen 0 h
 
-  pub touch-first : (v : ℕ) → getD marks t 0 ≡ unseen → set marks t v ≡ touched marks t v
+  touch-first : (v : ℕ) → getD marks t 0 ≡ unseen → set marks t v ≡ touched marks t v
   unfolding touched
   touch-first v e = rw (eq-eqb (markOf marks t) unseen (marked ∙ e))
 
-  pub touch-again : (v : ℕ) → getD marks t 0 ≢ unseen → marks ≡ touched marks t v
+  touch-again : (v : ℕ) → getD marks t 0 ≢ unseen → marks ≡ touched marks t v
   unfolding touched
   touch-again v n = rw (ne-eqb (markOf marks t) unseen (λ e. n (sym marked ∙ e)))
 
@@ -86,13 +97,44 @@ module _ (marks : List ℕ) (t : ℕ) (h : t < length marks) where
   yield-seen y m n = rw (ne-eqb y unseen m, ne-eqb (markOf marks t) unseen (λ e. n (sym marked ∙ e)), marked)
 
 module _ (marks : List ℕ) (t : ℕ) (h : length marks ≤ t) where
-  pub touch-nobody : (v : ℕ) → marks ≡ touched marks t v
+  touch-nobody : (v : ℕ) → marks ≡ touched marks t v
   unfolding touched
   touch-nobody v = rw (List·getD-eq-default marks unseen h) (sym (set-out marks t v h))
 
   pub yield-nobody : (y : ℕ) → false ≡ seenBeforeYield marks t y
   unfolding seenBeforeYield
   yield-nobody y = rw (List·getD-eq-default marks unseen h) (never (not (eqb y unseen)))
+
+-- marks, touched once the walk has passed the thread
+abbrev pub touching : List ℕ → ℕ → ℕ → ℕ → List ℕ
+touching marks t v i = cond (ltb t i) (touched marks t v) marks
+
+module _ (marks : List ℕ) (t v : ℕ) where
+  pub touch-none : marks ≡ touching marks t v 0
+  touch-none = rw (le-ltb t 0 (omega arith))
+
+  pub touch-on : (i : ℕ) → i ≢ t → touching marks t v i ≡ touching marks t v (i + 1)
+  touch-on i n =
+      ⊎-elim
+      (λ e. rw (e, lt-ltb t (i + 1) (omega (arith, ltb-true t i e))))
+      (λ e. rw (e, le-ltb t (i + 1) (omega (arith, ltb-false t i e, n))))
+      (flag (ltb t i))
+
+  pub touch-all : (i : ℕ) → length marks ≤ i → touching marks t v i ≡ touched marks t v
+  touch-all i h =
+      ⊎-elim (λ e. rw e) (λ e. rw e (touch-nobody marks t (omega (arith, ltb-false t i e)) v)) (flag (ltb t i))
+
+  module _ (now : List ℕ) (i : ℕ) (e : now ≡ touching marks t v i) (o : i ≡ t) (h : i < length now) where
+    here-still : now ≡ marks
+    here-still = e ∙ ap (λ (b : Bool). cond b (touched marks t v) marks) (le-ltb t i (omega (arith, o)))
+
+    pub touch-own : getD now i 0 ≡ unseen → set now i v ≡ touching marks t v (i + 1)
+    touch-own u =
+        rw (lt-ltb t (i + 1) (omega (arith, o))) (rw (← here-still, ← o) (touch-first now i h v u))
+
+    pub touch-kept : getD now i 0 ≢ unseen → now ≡ touching marks t v (i + 1)
+    touch-kept n =
+        rw (lt-ltb t (i + 1) (omega (arith, o))) (rw (← here-still, ← o) (touch-again now i h v n))
 
 pub yield-none : (marks : List ℕ) (t y : ℕ) → y ≡ unseen → false ≡ seenBeforeYield marks t y
 unfolding seenBeforeYield
@@ -103,10 +145,6 @@ unfolding touchedAt
 touch-at rows slot t v row e = rw e
 
 -- What the definitions say of each thread and each slot
-
-flag : (b : Bool) → (b ≡ true) ⊎ (b ≡ false)
-flag true = inl refl
-flag false = inr refl
 
 both : (a b : Bool) → a && b ≡ true → (a ≡ true) × (b ≡ true)
 both a b = and-eq-true-iff a b .0
@@ -119,10 +157,6 @@ pub record Known (marks vs : List ℕ) (t : ℕ) : Type 0 where
 
 later : (m v t : ℕ) (marks vs : List ℕ) → Known (m ∷ marks) (v ∷ vs) (suc t) → Known marks vs t
 later m v t marks vs k = record { part = omega (arith, k .part); there = k .there; reached = k .reached }
-
-seen-next : (m v : ℕ) (marks vs : List ℕ) → known m v ≡ false → seen (m ∷ marks) (v ∷ vs) ≡ seen marks vs
-unfolding seen seenThrough
-seen-next m v marks vs e = rw e (someone-next (seenThrough marks vs))
 
 pub seen-made : (marks vs : List ℕ) (t : ℕ) → Known marks vs t → seen marks vs ≡ true
 unfolding seen seenThrough

@@ -23,22 +23,24 @@ pub const RMW: u16 = 3;
 pub fn last_dependent_branch(small: &Small, action: u16, cell: usize) -> u16
     requires { ⌜ cell < 4 ⌝ }
 {
-    if action == LOAD {
-        small[NON_LOAD_BRANCH + cell]
+    let at = if action == LOAD {
+        NON_LOAD_BRANCH
     } else {
-        small[ACCESS_BRANCH + cell]
-    }
+        ACCESS_BRANCH
+    };
+    small[at + cell]
 }
 
 // That access's vector.
 pub fn last_dependent_version(clocks: &Clocks, action: u16, cell: usize) -> [u16; 5]
     requires { ⌜ cell < 4 ⌝ }
 {
-    if action == LOAD {
-        clocks[LAST_NON_LOAD_ACCESS + cell]
+    let at = if action == LOAD {
+        LAST_NON_LOAD_ACCESS
     } else {
-        clocks[LAST_ACCESS + cell]
-    }
+        LAST_ACCESS
+    };
+    clocks[at + cell]
 }
 
 // Whether a dependent access is there that did not happen before what the thread has scheduled so far.

@@ -1,6 +1,7 @@
 // Fences: loom's fence and its four kinds.
 ghost use Prim.Native.Nat.{_<_, _≤_};
-use crate::first_seen::FirstSeen;
+use crate::first_seen::is_seen;
+use crate::live_stores;
 use crate::state;
 use crate::state::CAUSALITY;
 use crate::state::COUNT;
@@ -43,34 +44,25 @@ pub fn fence_acq(clocks: &mut Clocks, marks: &Marks, small: &Small, thread: usiz
     let mut cell = 0;
     while cell < cells {
         let count = small[COUNT + cell];
-        fence_acq_cell(clocks, marks[cell], count, thread, cell);
+        fence_acq_cell(clocks, marks, count, thread, cell);
         cell += 1;
     }
 }
 
 // A cell's stores are visited oldest first, since what one of them brings may show another to be seen.
-fn fence_acq_cell(clocks: &mut Clocks, marks: [[u16; 5]; 7], count: u16, thread: usize, cell: usize)
+fn fence_acq_cell(clocks: &mut Clocks, marks: &Marks, count: u16, thread: usize, cell: usize)
     requires { ⌜ (thread < 5) × (cell < 4) ⌝ }
 {
     let live = live_stores(count);
     let mut k = 0;
     while k < live {
         let slot = kth_oldest(count, k);
-        let row = marks[slot];
-        let first = FirstSeen { versions: row };
         let causality = clocks[CAUSALITY + thread];
-        if first.is_seen_by_current(causality) {
+        if is_seen(marks, cell, slot, causality) {
             sync_load(clocks, thread, state::store_at(cell, slot), ACQUIRE);
         }
         k += 1;
     }
-}
-
-// How many of a cell's stores are kept.
-fn live_stores(count: u16) -> usize
-    ensures { λ r. ⌜ r ≤ 7 ⌝ }
-{
-    if count < 7 { count as usize } else { 7 }
 }
 
 // The slot of the k-th store, counted from the oldest that is kept.

@@ -1,7 +1,10 @@
 // When each thread first saw a store: loom's FirstSeen, and the marks of a cell's seven stores.
 ghost use mathlib.Core.Path.{_≡_};
 ghost use Prim.Native.Nat.{_<_};
+ghost use mathlib.Core.List.{[]};
+ghost use lib.ListN.{getD};
 ghost use Rattle.atomic.specs.Seen.{unseens, seen, seenBeforeYield, seenSlots, touched, touchedAt};
+use crate::state::Marks;
 use crate::state::NONE;
 
 // The version of each thread at its first sight of the store, or NONE.
@@ -19,32 +22,33 @@ impl FirstSeen {
         }
     }
 
-    // The thread's mark, set only where it has none.
+    // The thread's mark, set only where it has none. All marks are gone through, as in VersionVec's raise.
     pub fn touch(mut self, thread: usize, version: u16) -> FirstSeen
         ensures { λ r. ⌜ r .versions ≡ touched (self .versions) thread version ⌝ }
     {
-        if thread < 5 {
-            if self.versions[thread] == NONE {
-                self.versions[thread] = version;
-            }
-        }
-        self
-    }
-
-    // Whether some thread's first sight is known to whoever has this causality.
-    pub fn is_seen_by_current(self, causality: [u16; 5]) -> bool
-        ensures { λ r. ⌜ r ≡ seen (self .versions) causality ⌝ }
-    {
         let mut i = 0;
         while i < 5 {
-            if self.versions[i] != NONE {
-                if self.versions[i] <= causality[i] {
-                    return true;
+            if i == thread {
+                if self.versions[i] == NONE {
+                    self.versions[i] = version;
                 }
             }
             i += 1;
         }
-        false
+        self
+    }
+
+    // Whether some thread's first sight is known to whoever has this causality. No mark ends the walk.
+    pub fn is_seen_by_current(self, causality: [u16; 5]) -> bool
+        ensures { λ r. ⌜ r ≡ seen (self .versions) causality ⌝ }
+    {
+        let mut seen = false;
+        let mut i = 0;
+        while i < 5 {
+            seen = seen | ((self.versions[i] != NONE) & (self.versions[i] <= causality[i]));
+            i += 1;
+        }
+        seen
     }
 
     // Whether this thread saw the store no later than its last yield.
@@ -75,6 +79,16 @@ pub fn touched(mut marks: [[u16; 5]; 7], slot: usize, thread: usize, version: u1
     let row = seen.versions;
     marks[slot] = row;
     marks
+}
+
+// Whether one store of a cell is seen.
+pub fn is_seen(marks: &Marks, cell: usize, slot: usize, causality: [u16; 5]) -> bool
+    requires { ⌜ (cell < 4) × (slot < 7) ⌝ }
+    ensures { λ r. ⌜ r ≡ seen (getD (getD (now (marks .entry)) cell []) slot []) causality ⌝ }
+{
+    let row = marks[cell][slot];
+    let first = FirstSeen { versions: row };
+    first.is_seen_by_current(causality)
 }
 
 // Which stores of a cell are seen.

@@ -3,11 +3,11 @@
 ghost use Prim.Native.Nat.{_<_, _≤_};
 use change::Change;
 use change::Changed;
+use first_seen::is_seen;
 use state::CAUSALITY;
 use state::COUNT;
 use state::Clocks;
 use state::HAPPENS_BEFORE;
-use state::HISTORY;
 use state::MODIFICATION_ORDER;
 use state::Marks;
 use state::SYNC;
@@ -55,11 +55,19 @@ pub fn newest(count: u16) -> usize
     ((count % 7 + 6) % 7) as usize
 }
 
+// How many of a cell's stores are kept.
+pub fn live_stores(count: u16) -> usize
+    ensures { λ r. ⌜ r ≤ 7 ⌝ }
+{
+    if count < 7 { count as usize } else { 7 }
+}
+
 // Loads from a slot: race, coherence, touch, sync, in that order.
 pub fn load(
     clocks: &mut Clocks,
     marks: &mut Marks,
     values: &Values,
+    small: &Small,
     thread: usize,
     cell: usize,
     slot: usize,
@@ -70,7 +78,7 @@ pub fn load(
     if let Race::With { kind, other } = track::track_load(clocks, thread, cell) {
         return Loaded::Raced { kind, other };
     }
-    apply_load_coherence(clocks, marks[cell], thread, cell, slot);
+    apply_load_coherence(clocks, marks, small, thread, cell, slot);
     touch(clocks, marks, thread, cell, slot);
     let store = state::store_at(cell, slot);
     sync_load(clocks, thread, store, order);
@@ -97,12 +105,12 @@ pub fn store(
     small[COUNT + cell] = vv::one_more(count);
     let causality = clocks[CAUSALITY + thread];
     // The slot that is replaced still counts here, so its order is joined before it is overwritten.
-    let modification_order = store_order(clocks, marks[cell], thread, cell);
+    let modification_order = store_order(clocks, marks, count, thread, cell);
     let sync = sync_store(clocks, thread, sync, order);
     clocks[HAPPENS_BEFORE + at] = causality;
     clocks[MODIFICATION_ORDER + at] = modification_order;
     clocks[SYNC + at] = sync;
-    marks[cell] = first_marked(marks[cell], slot, thread, causality[thread]);
+    marks[cell][slot] = first_marked(thread, causality[thread]);
     values[VALUE + at] = value;
     small[state::SEQ_CST + at] = is_seq_cst(order);
 }
@@ -125,7 +133,7 @@ pub fn rmw(
     if let Race::With { kind, other } = track::track_load(clocks, thread, cell) {
         return Loaded::Raced { kind, other };
     }
-    apply_load_coherence(clocks, marks[cell], thread, cell, slot);
+    apply_load_coherence(clocks, marks, small, thread, cell, slot);
     touch(clocks, marks, thread, cell, slot);
     let at = state::store_at(cell, slot);
     let prev = values[VALUE + at];
@@ -199,7 +207,8 @@ pub fn with_mut(
 // The chosen store's order takes in those of the stores that the thread has seen or that happened before it.
 pub fn apply_load_coherence(
     clocks: &mut Clocks,
-    marks: [[u16; 5]; 7],
+    marks: &Marks,
+    small: &Small,
     thread: usize,
     cell: usize,
     slot: usize,
@@ -207,50 +216,55 @@ pub fn apply_load_coherence(
     requires { ⌜ (thread < 5) × (cell < 4) × (slot < 7) ⌝ }
 {
     let causality = clocks[CAUSALITY + thread];
-    let seen = first_seen::seen_slots(marks, causality);
     let chosen = MODIFICATION_ORDER + state::store_at(cell, slot);
+    let live = live_stores(small[COUNT + cell]);
+    let mut order = clocks[chosen];
     let mut i = 0;
-    while i < HISTORY {
+    while i < live {
         if i != slot {
             let at = state::store_at(cell, i);
             let before = clocks[HAPPENS_BEFORE + at];
-            if seen[i] || is_before(before, causality) {
-                synchronize::join_into(clocks, chosen, MODIFICATION_ORDER + at);
+            if is_seen(marks, cell, i, causality) | is_before(before, causality) {
+                let other = clocks[MODIFICATION_ORDER + at];
+                let both = join(order, other);
+                order = both;
             }
         }
         i += 1;
     }
+    clocks[chosen] = order;
 }
 
-// The thread's mark on a store that it reads.
+// The thread's mark on a store that it reads, where it has none yet.
 pub fn touch(clocks: &Clocks, marks: &mut Marks, thread: usize, cell: usize, slot: usize)
     requires { ⌜ (thread < 5) × (cell < 4) × (slot < 7) ⌝ }
 {
+    let row = marks[cell][slot];
+    if row[thread] != state::NONE {
+        return;
+    }
     let causality = clocks[CAUSALITY + thread];
     marks[cell] = first_seen::touched(marks[cell], slot, thread, causality[thread]);
 }
 
-// The marks of a cell with a new store in a slot, seen by its own thread alone.
-fn first_marked(mut marks: [[u16; 5]; 7], slot: usize, thread: usize, version: u16) -> [[u16; 5]; 7]
-    requires { ⌜ slot < 7 ⌝ }
-{
+// The marks of a new store, seen by its own thread alone.
+fn first_marked(thread: usize, version: u16) -> [u16; 5] {
     let fresh = first_seen::FirstSeen::new();
     let fresh = fresh.touch(thread, version);
-    let row = fresh.versions;
-    marks[slot] = row;
-    marks
+    fresh.versions
 }
 
-// The place of a new store in modification order: after all that its thread knows, and after each store it has seen.
-fn store_order(clocks: &Clocks, marks: [[u16; 5]; 7], thread: usize, cell: usize) -> [u16; 5]
+// The place of a new store in modification order: after all that its thread knows, and after each store it has seen of the
+// `count` before it.
+fn store_order(clocks: &Clocks, marks: &Marks, count: u16, thread: usize, cell: usize) -> [u16; 5]
     requires { ⌜ (thread < 5) × (cell < 4) ⌝ }
 {
     let causality = clocks[CAUSALITY + thread];
-    let seen = first_seen::seen_slots(marks, causality);
+    let live = live_stores(count);
     let mut order = causality;
     let mut i = 0;
-    while i < HISTORY {
-        if seen[i] {
+    while i < live {
+        if is_seen(marks, cell, i, causality) {
             let other = clocks[MODIFICATION_ORDER + state::store_at(cell, i)];
             let both = join(order, other);
             order = both;

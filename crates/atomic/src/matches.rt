@@ -2,11 +2,11 @@
 ghost use Prim.Native.Nat.{_<_, _≤_};
 use crate::first_seen::FirstSeen;
 use crate::first_seen::seen_slots;
+use crate::live_stores;
 use crate::state;
 use crate::state::CAUSALITY;
 use crate::state::COUNT;
 use crate::state::Clocks;
-use crate::state::HISTORY;
 use crate::state::LAST_YIELD;
 use crate::state::MODIFICATION_ORDER;
 use crate::state::Small;
@@ -48,22 +48,20 @@ pub fn match_load_to_stores(
     let causality = clocks[CAUSALITY + thread];
     let seen = seen_slots(marks, causality);
     let last_yield = small[LAST_YIELD + thread];
-    let count = state::wide(small[COUNT + cell]);
+    let live = live_stores(small[COUNT + cell]);
     let mut n = 0;
     let mut i = 0;
-    while i < HISTORY {
-        if i < count {
-            let row = marks[i];
-            let first = FirstSeen { versions: row };
-            let before_yield = first.is_seen_before_yield(thread, last_yield);
-            match load_fate(clocks, small, cell, i, order, seen, before_yield) {
-                Fate::Kept => {
-                    dst[n] = i as u8;
-                    n += 1;
-                }
-                Fate::Dropped => {}
-                Fate::Equal => return Matched::Equal,
+    while i < live {
+        let row = marks[i];
+        let first = FirstSeen { versions: row };
+        let before_yield = first.is_seen_before_yield(thread, last_yield);
+        match load_fate(clocks, small, cell, i, order, seen, before_yield) {
+            Fate::Kept => {
+                dst[n] = i as u8;
+                n += 1;
             }
+            Fate::Dropped => {}
+            Fate::Equal => return Matched::Equal,
         }
         i += 1;
     }
@@ -83,10 +81,10 @@ fn load_fate(
 ) -> Fate
     requires { ⌜ (cell < 4) × (i < 7) ⌝ }
 {
-    let count = state::wide(small[COUNT + cell]);
+    let live = live_stores(small[COUNT + cell]);
     let mut j = 0;
-    while j < HISTORY {
-        if j != i && j < count {
+    while j < live {
+        if j != i {
             match compare_orders(clocks, cell, i, j) {
                 Order::Equal => return Fate::Equal,
                 Order::Less => {
@@ -111,19 +109,17 @@ pub fn match_rmw_to_stores(
 ) -> Matched
     requires { ⌜ cell < 4 ⌝ }
 {
-    let count = state::wide(small[COUNT + cell]);
+    let live = live_stores(small[COUNT + cell]);
     let mut n = 0;
     let mut i = 0;
-    while i < HISTORY {
-        if i < count {
-            match rmw_fate(clocks, small, cell, i) {
-                Fate::Kept => {
-                    dst[n] = i as u8;
-                    n += 1;
-                }
-                Fate::Dropped => {}
-                Fate::Equal => return Matched::Equal,
+    while i < live {
+        match rmw_fate(clocks, small, cell, i) {
+            Fate::Kept => {
+                dst[n] = i as u8;
+                n += 1;
             }
+            Fate::Dropped => {}
+            Fate::Equal => return Matched::Equal,
         }
         i += 1;
     }
@@ -134,10 +130,10 @@ pub fn match_rmw_to_stores(
 fn rmw_fate(clocks: &Clocks, small: &Small, cell: usize, i: usize) -> Fate
     requires { ⌜ (cell < 4) × (i < 7) ⌝ }
 {
-    let count = state::wide(small[COUNT + cell]);
+    let live = live_stores(small[COUNT + cell]);
     let mut j = 0;
-    while j < HISTORY {
-        if j != i && j < count {
+    while j < live {
+        if j != i {
             match compare_orders(clocks, cell, i, j) {
                 Order::Equal => return Fate::Equal,
                 Order::Less => return Fate::Dropped,
@@ -157,13 +153,13 @@ fn compare_orders(clocks: &Clocks, cell: usize, i: usize, j: usize) -> Order
     let b = clocks[MODIFICATION_ORDER + state::store_at(cell, j)];
     let first = VersionVec { versions: a };
     let second = VersionVec { versions: b };
+    if !first.at_most(second) {
+        return Order::Other;
+    }
     if first.equal(second) {
         return Order::Equal;
     }
-    if first.less(second) {
-        return Order::Less;
-    }
-    Order::Other
+    Order::Less
 }
 
 // Whether the load and both stores are SeqCst.

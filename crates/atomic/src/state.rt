@@ -20,7 +20,7 @@ pub type Marks = [[[u16; 5]; 7]; 4];
 
 pub type Values = [u64; 48];
 
-pub type Small = [u16; 90];
+pub type Small = [u16; 89];
 
 // clocks, by thread: what it has observed, its latest release fence, its schedule vector.
 pub const CAUSALITY: usize = 0;
@@ -80,8 +80,8 @@ pub const NON_LOAD_BRANCH: usize = 48;
 // By store: whether it was SeqCst.
 pub const SEQ_CST: usize = 52;
 // By thread: whom a blocked thread waits for.
-pub const AWAITS: usize = 85;
-// One each: the thread that runs, rows begun, whether exploring and skipping, branches passed in this execution.
+pub const AWAITS: usize = 84;
+// One each: the thread that runs, rows begun, whether exploring and skipping.
 pub const ACTIVE: usize = 80;
 
 pub const BEGUN: usize = 81;
@@ -89,8 +89,6 @@ pub const BEGUN: usize = 81;
 pub const EXPLORING: usize = 82;
 
 pub const SKIPPING: usize = 83;
-
-pub const BRANCHES: usize = 84;
 
 // The number of a store among those of all cells.
 pub fn store_at(cell: usize, slot: usize) -> usize

@@ -204,7 +204,7 @@ fn read_from(
     requires { ⌜ (thread < 5) × (cell < 4) × (slot < 7) ⌝ }
 {
     if row.opcode == 0 {
-        return atomic::load(clocks, marks, values, thread, cell, slot, row.order);
+        return atomic::load(clocks, marks, values, small, thread, cell, slot, row.order);
     }
     let change = change_of(row.kind, row.a, row.b);
     atomic::rmw(

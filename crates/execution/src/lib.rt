@@ -35,10 +35,8 @@ pub enum Event {
     Moves,
     // A row is complete: the slot (or 255) and the value of its trace entry.
     Done { slot: u8, value: u64 },
-    // A yield is complete, and calls the scheduling.
-    Yields,
-    // The scheduling is called.
-    Switches,
+    // The scheduling is called, by a yield that is complete or by a row that is not.
+    Switches { yielded: bool },
     // A load or a read-modify-write asks for its store.
     Loads,
     // `branch_spurious` asks for its bit.
@@ -82,7 +80,7 @@ pub fn tick(
     if threads::is_fresh(small, thread) {
         if shape[COUNTS + thread] <= small[NEXT_ROW + thread] {
             threads::end(small, thread);
-            return Event::Switches;
+            return Event::Switches { yielded: false };
         }
         return rows::begin(row, limit, small, thread);
     }

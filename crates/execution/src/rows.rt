@@ -49,7 +49,7 @@ pub fn begin(row: Row, limit: u16, small: &mut Small, thread: usize) -> Event
     };
     small[OPERATION + thread] = action;
     small[OBJECT + thread] = row.object as u16;
-    Event::Switches
+    Event::Switches { yielded: false }
 }
 
 // Acts by the opcode. An accepted table has no opcode above 16, no register above 3 and no cell or thread out of range.
@@ -132,7 +132,7 @@ fn yield_row(thread: usize, clocks: &Clocks, small: &mut Small) -> Event
 {
     threads::set_yield(clocks, small, thread);
     threads::complete_row(small, thread);
-    Event::Yields
+    Event::Switches { yielded: true }
 }
 
 // Goes through if the target has ended, and takes its causality and schedule vector; else blocks within the row.
@@ -150,7 +150,7 @@ fn join_row(row: Row, thread: usize, clocks: &mut Clocks, small: &mut Small) -> 
         return done(small, thread);
     }
     threads::set_blocked(small, thread, target);
-    Event::Switches
+    Event::Switches { yielded: false }
 }
 
 // Opcode 9 always jumps, 10 where the register equals a, 11 where it does not.

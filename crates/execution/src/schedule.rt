@@ -8,7 +8,6 @@ use atomic::access;
 use atomic::access::NO_ACTION;
 use atomic::state;
 use atomic::state::ACTIVE;
-use atomic::state::BRANCHES;
 use atomic::state::Clocks;
 use atomic::state::MAX_CELLS;
 use atomic::state::MAX_THREADS;

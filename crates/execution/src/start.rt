@@ -124,7 +124,7 @@ fn clear_values(values: &mut Values) {
 // All small numbers are 0, but those that stand for none.
 fn clear_small(small: &mut Small) {
     let mut i = 0;
-    while i < 90 {
+    while i < 89 {
         small[i] = 0;
         i += 1;
     }

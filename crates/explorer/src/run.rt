@@ -44,7 +44,7 @@ pub fn run(table: &[u8], settings: Settings, path: &mut [u8], trace: &mut [u8]) 
     let mut clocks = [[0u16; 5]; 124];
     let mut marks = [[[NONE; 5]; 7]; 4];
     let mut values = [0u64; 48];
-    let mut small = [0u16; 90];
+    let mut small = [0u16; 89];
     let mut ledger = nothing();
     let mut longest = 0;
     let mut begun = 0;
@@ -100,6 +100,7 @@ fn once(
     if 4 < cells {
         return stops(Fault::Impossible, ledger);
     }
+    ledger.pos = 0;
     ledger.entries = 0;
     start(
         table,
@@ -143,6 +144,7 @@ fn finish(
 fn nothing() -> Ledger {
     Ledger {
         len: 0,
+        pos: 0,
         opened: 0,
         entries: 0,
         thread: 0,

@@ -5,7 +5,6 @@ ghost use lib.ListN.{length};
 use atomic::matches::Matched;
 use atomic::state;
 use atomic::state::ACTIVE;
-use atomic::state::BRANCHES;
 use atomic::state::Clocks;
 use atomic::state::EXPLORING;
 use atomic::state::HISTORY;
@@ -30,9 +29,11 @@ use table::Row;
 // How many bytes a path record and a trace entry have.
 pub const RECORD: usize = 16;
 
-// What a run counts: records in the path, choices opened, entries in the trace; and where the active thread was.
+// What a run counts: records in the path, those that the present execution has passed, choices opened, entries in the trace;
+// and where the active thread was.
 pub struct Ledger {
     pub len: usize,
+    pub pos: usize,
     pub opened: u64,
     pub entries: usize,
     pub thread: usize,
@@ -97,16 +98,23 @@ pub fn take_turn(
     match event {
         Event::Moves => goes(ledger),
         Event::Done { slot, value } => note(trace, ledger, row.opcode, slot, 0, value),
-        Event::Yields => {
-            let noted = note(trace, ledger, row.opcode, 255, 0, 0);
-            let ledger = noted.ledger;
+        Event::Switches { yielded } => {
+            let ledger = if_yielded(yielded, trace, ledger, row.opcode);
             choose_thread(bound, clocks, small, path, ledger)
         }
-        Event::Switches => choose_thread(bound, clocks, small, path, ledger),
         Event::Loads => choose_slot(row, clocks, marks, values, small, path, trace, ledger),
         Event::Chances => choose_bit(row, values, small, path, trace, ledger),
         Event::Stops(fault) => stops(fault, ledger),
     }
+}
+
+// A yield is complete before its scheduling, and so is its trace entry.
+fn if_yielded(yielded: bool, trace: &mut [u8], ledger: Ledger, opcode: u8) -> Ledger {
+    if yielded {
+        let noted = note(trace, ledger, opcode, 255, 0, 0);
+        return noted.ledger;
+    }
+    ledger
 }
 
 // Adds a trace entry for the row that the active thread was at.
@@ -216,20 +224,19 @@ fn choose_thread(
     let points = schedule::conflicts(clocks, small);
     let marked = mark(path, len, points, bound);
     ledger.opened = plus(ledger.opened, marked);
-    let pos = state::wide(small[BRANCHES]);
-    let asked = ask_thread(small, path, ledger, pos);
+    let asked = ask_thread(small, path, ledger);
     let turn = asked.turn;
     let Turn::Goes = turn else {
         return asked;
     };
     let ledger = asked.ledger;
-    follow_thread(clocks, small, path, ledger, pos)
+    follow_thread(clocks, small, path, ledger)
 }
 
 // Adds the schedule branch, if it is new.
-fn ask_thread(small: &Small, path: &mut [u8], ledger: Ledger, pos: usize) -> Turned {
+fn ask_thread(small: &Small, path: &mut [u8], ledger: Ledger) -> Turned {
     let len = ledger.len;
-    if pos != len {
+    if ledger.pos != len {
         return goes(ledger);
     }
     if path.len() / RECORD < len {
@@ -253,25 +260,26 @@ fn added(pushed: Pushed, mut ledger: Ledger) -> Turned {
     }
 }
 
+// One record more is passed.
+fn passed(mut ledger: Ledger) -> Ledger {
+    ledger.pos = one_longer(ledger.pos);
+    ledger
+}
+
 // One record more; a path holds far fewer than a usize can count.
 fn one_longer(len: usize) -> usize {
     if len < 0xffff_ffff { len + 1 } else { len }
 }
 
 // The thread that the branch chooses goes on.
-fn follow_thread(
-    clocks: &mut Clocks,
-    small: &mut Small,
-    path: &[u8],
-    ledger: Ledger,
-    pos: usize,
-) -> Turned {
+fn follow_thread(clocks: &mut Clocks, small: &mut Small, path: &[u8], ledger: Ledger) -> Turned {
+    let pos = ledger.pos;
     if path.len() / RECORD <= pos {
         return stops(Fault::Impossible, ledger);
     }
     match path::branch_thread(path, pos) {
         Chosen::Thread(chosen) => switch(clocks, small, chosen, ledger),
-        Chosen::Nobody => nobody(small, ledger),
+        Chosen::Nobody => nobody(small, passed(ledger)),
         Chosen::Unexpected => stops(Fault::Impossible, ledger),
     }
 }
@@ -285,15 +293,13 @@ fn switch(clocks: &mut Clocks, small: &mut Small, chosen: usize, ledger: Ledger)
     if state != threads::RUNNABLE && state != threads::YIELDED {
         return stops(Fault::Impossible, ledger);
     }
-    let branch = small[BRANCHES];
-    small[BRANCHES] = vv::one_more(branch);
+    let branch = (ledger.pos % 65536) as u16;
     schedule::choose(clocks, small, chosen, branch);
-    goes(ledger)
+    goes(passed(ledger))
 }
 
 // No thread can run: the execution has ended, or it is a deadlock.
-fn nobody(small: &mut Small, ledger: Ledger) -> Turned {
-    small[BRANCHES] = vv::one_more(small[BRANCHES]);
+fn nobody(small: &Small, ledger: Ledger) -> Turned {
     if threads::all_ended(small) {
         return Turned {
             turn: Turn::Ends,
@@ -314,14 +320,13 @@ fn choose_slot(
     trace: &mut [u8],
     ledger: Ledger,
 ) -> Turned {
-    let pos = state::wide(small[BRANCHES]);
-    let asked = ask_slot(row, clocks, marks, small, path, ledger, pos);
+    let asked = ask_slot(row, clocks, marks, small, path, ledger);
     let turn = asked.turn;
     let Turn::Goes = turn else {
         return asked;
     };
     let ledger = asked.ledger;
-    follow_slot(row, clocks, marks, values, small, path, trace, ledger, pos)
+    follow_slot(row, clocks, marks, values, small, path, trace, ledger)
 }
 
 // Adds the load's branch, if it is new, with what is offered there.
@@ -332,11 +337,10 @@ fn ask_slot(
     small: &Small,
     path: &mut [u8],
     ledger: Ledger,
-    pos: usize,
 ) -> Turned {
     let thread = ledger.thread;
     let len = ledger.len;
-    if pos != len {
+    if ledger.pos != len {
         return goes(ledger);
     }
     if path.len() / RECORD < len || MAX_THREADS <= thread {
@@ -363,9 +367,9 @@ fn follow_slot(
     path: &[u8],
     trace: &mut [u8],
     ledger: Ledger,
-    pos: usize,
 ) -> Turned {
     let thread = ledger.thread;
+    let pos = ledger.pos;
     if path.len() / RECORD <= pos || MAX_THREADS <= thread {
         return stops(Fault::Impossible, ledger);
     }
@@ -375,9 +379,8 @@ fn follow_slot(
     if HISTORY <= slot {
         return stops(Fault::Impossible, ledger);
     }
-    small[BRANCHES] = vv::one_more(small[BRANCHES]);
     let event = accesses::load_from(row, slot, thread, clocks, marks, values, small);
-    conclude(event, trace, ledger, row.opcode, mask)
+    conclude(event, trace, passed(ledger), row.opcode, mask)
 }
 
 // Whether `branch_spurious` is set.
@@ -389,20 +392,19 @@ fn choose_bit(
     trace: &mut [u8],
     ledger: Ledger,
 ) -> Turned {
-    let pos = state::wide(small[BRANCHES]);
-    let asked = ask_bit(small, path, ledger, pos);
+    let asked = ask_bit(small, path, ledger);
     let turn = asked.turn;
     let Turn::Goes = turn else {
         return asked;
     };
     let ledger = asked.ledger;
-    follow_bit(row, values, small, path, trace, ledger, pos)
+    follow_bit(row, values, small, path, trace, ledger)
 }
 
 // Adds the spurious branch, if it is new.
-fn ask_bit(small: &Small, path: &mut [u8], ledger: Ledger, pos: usize) -> Turned {
+fn ask_bit(small: &Small, path: &mut [u8], ledger: Ledger) -> Turned {
     let len = ledger.len;
-    if pos != len {
+    if ledger.pos != len {
         return goes(ledger);
     }
     if path.len() / RECORD < len {
@@ -420,18 +422,17 @@ fn follow_bit(
     path: &[u8],
     trace: &mut [u8],
     ledger: Ledger,
-    pos: usize,
 ) -> Turned {
     let thread = ledger.thread;
+    let pos = ledger.pos;
     if path.len() / RECORD <= pos || MAX_THREADS <= thread {
         return stops(Fault::Impossible, ledger);
     }
     let Spurious::Bit(bit) = path::branch_spurious(path, pos) else {
         return stops(Fault::Impossible, ledger);
     };
-    small[BRANCHES] = vv::one_more(small[BRANCHES]);
     let event = execution::rows::chance(row, bit, thread, values, small);
-    conclude(event, trace, ledger, row.opcode, 0)
+    conclude(event, trace, passed(ledger), row.opcode, 0)
 }
 
 // A row that was given its answer is complete, or has stopped the run.

@@ -14,19 +14,21 @@ pub enum Found {
     Nowhere,
 }
 
-// The lowest thread in a state, or MAX_THREADS where there is none.
+// The lowest thread in a state, or MAX_THREADS where there is none. It goes down through all, since a walk up that ends at
+// the first would be a branch that differs from record to record.
 pub fn first_in(path: &[u8], at: usize, state: u8) -> usize
     requires { ⌜ 16 * at + 16 ≤ length (now path) ⌝ }
     ensures { λ r. ⌜ r ≤ 5 ⌝ }
 {
-    let mut thread = 0;
-    while thread < MAX_THREADS {
+    let mut found = MAX_THREADS;
+    let mut thread = MAX_THREADS;
+    while 0 < thread {
+        thread -= 1;
         if field(path, at, fields::THREADS + thread) == state {
-            return thread;
+            found = thread;
         }
-        thread += 1;
     }
-    MAX_THREADS
+    found
 }
 
 // The thread that is Active, or MAX_THREADS.

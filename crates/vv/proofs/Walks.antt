@@ -1,19 +1,21 @@
 -- Laws for loops that walk along two vectors: what is left to be asked from place i on. Over every length. Assumes nothing.
 --     left-cons, left-none     whatever is asked of two lists, of what is left of them at i
---     atMost-.., equal-..      a part that lets the walk go on, and one that ends it
---     ahead-..                 the same, where a place is answered
+--     atMost-on, equal-on      one part more is compared, and what was found so far is kept
+--     ahead-..                 a part that lets the walk go on, and one that ends it; ahead-none: no walk
 --     join-..                  the parts below i are joined, what is left is still to be
--- and for two functions without a loop: less-.., raise-..
+--     raise-..                 the walk comes to the thread, is elsewhere, is past all
+-- and for functions without a loop: less-.., one-more, no-more
 use Prim.Native.Nat.{ℕ, suc, _+_, _≤_, _<_, max}
 use mathlib.Core.List.{List, [], _∷_, _++_, append-nil}
-use mathlib.Core.Bool.{Bool, true, false, not}
+use mathlib.Core.Bool.{Bool, true, false, cond, not, _&&_, and-eq-true-iff}
 use mathlib.Core.Path.{_≡_, refl, ap, sym, _∙_}
-use mathlib.Core.Logic.{_≢_}
+use mathlib.Core.Logic.{_≢_, _⊎_, inl, inr, ⊎-elim}
+use lib.Dec.{ltb, leb, eqb}
 use native.Mathlib.Omega.{arith}
 use native.Mathlib.Numerals.{add-one}
 use lib.ListN.{length, getD, set, take, drop, drop-of-length-le, length-set}
 use lib.Seq.{drop-cons, take-suc-set, drop-set-lt, set-getD, set-out, take-all, append-snoc}
-use borrow.Author.Tests.{lt-ltb, le-ltb, le-leb, lt-leb, eq-eqb, ne-eqb}
+use borrow.Author.Tests.{lt-ltb, le-ltb, leb-true, ltb-true, ltb-false}
 use Rattle.rules.specs.Vector.{largest, atMost, equal, less, joined, oneMore, raised, ahead, next, Whom, nobody, thread}
 
 module _ {A : Type 0} (f : List ℕ → List ℕ → A) (xs ys : List ℕ) (i : ℕ) where
@@ -24,22 +26,27 @@ module _ {A : Type 0} (f : List ℕ → List ℕ → A) (xs ys : List ℕ) (i : 
   pub left-none : length xs ≤ i → length ys ≤ i → f (drop i xs) (drop i ys) ≡ f [] []
   left-none h k = rw (drop-of-length-le xs h, drop-of-length-le ys k)
 
-module _ (xs ys : List ℕ) (i : ℕ) (h : i < length xs) (k : i < length ys) where
-  pub atMost-on : getD xs i 0 ≤ getD ys i 0 → atMost (drop (i + 1) xs) (drop (i + 1) ys) ≡ atMost (drop i xs) (drop i ys)
+flag : (b : Bool) → (b ≡ true) ⊎ (b ≡ false)
+flag true = inl refl
+flag false = inr refl
+
+and-and : (a b c : Bool) → (a && b) && c ≡ a && (b && c)
+and-and true b c = refl
+and-and false b c = refl
+
+module _ (xs ys : List ℕ) (i : ℕ) (h : i < length xs) (k : i < length ys) (so : Bool) where
+  pub atMost-on : (so && leb (getD xs i 0) (getD ys i 0)) && atMost (drop (i + 1) xs) (drop (i + 1) ys) ≡ so && atMost (drop i xs) (drop i ys)
   unfolding atMost
-  atMost-on l = rw (left-cons atMost xs ys i h k, le-leb (getD xs i 0) (getD ys i 0) l)
+  atMost-on = rw (left-cons atMost xs ys i h k) (and-and so _ _)
 
-  pub atMost-ends : getD ys i 0 < getD xs i 0 → atMost (drop i xs) (drop i ys) ≡ false
-  unfolding atMost
-  atMost-ends l = rw (left-cons atMost xs ys i h k, lt-leb (getD xs i 0) (getD ys i 0) l)
-
-  pub equal-on : getD xs i 0 ≡ getD ys i 0 → equal (drop (i + 1) xs) (drop (i + 1) ys) ≡ equal (drop i xs) (drop i ys)
+  pub equal-on : (so && eqb (getD xs i 0) (getD ys i 0)) && equal (drop (i + 1) xs) (drop (i + 1) ys) ≡ so && equal (drop i xs) (drop i ys)
   unfolding equal
-  equal-on l = rw (left-cons equal xs ys i h k, eq-eqb (getD xs i 0) (getD ys i 0) l)
+  equal-on = rw (left-cons equal xs ys i h k) (and-and so _ _)
 
-  pub equal-ends : getD xs i 0 ≢ getD ys i 0 → equal (drop i xs) (drop i ys) ≡ false
-  unfolding equal
-  equal-ends l = rw (left-cons equal xs ys i h k, ne-eqb (getD xs i 0) (getD ys i 0) l)
+-- with no part left, what was found so far is the answer
+pub so-far : (so : Bool) → so && true ≡ so
+so-far true = refl
+so-far false = refl
 
 -- an answer about what is left at i, as one about the whole
 abbrev pub past : ℕ → Whom → Whom
@@ -62,6 +69,15 @@ module _ (xs ys : List ℕ) (i : ℕ) (h : i < length xs) (k : i < length ys) wh
   pub ahead-ends : getD xs i 0 < getD ys i 0 → past i (ahead (drop i xs) (drop i ys)) ≡ thread i
   unfolding ahead
   ahead-ends l = rw (left-cons ahead xs ys i h k, lt-ltb (getD xs i 0) (getD ys i 0) l) (let e : i + 0 ≡ i = omega arith in cc)
+
+-- where each part of ys is at most that of xs, no thread is ahead
+pub ahead-none : (xs ys : List ℕ) → length ys ≤ length xs → atMost ys xs ≡ true → ahead xs ys ≡ nobody
+unfolding ahead atMost
+ahead-none xs [] h e = refl
+ahead-none [] (y ∷ ys) h e = absurd (omega arith)
+ahead-none (x ∷ xs) (y ∷ ys) h e =
+    let both = and-eq-true-iff (leb y x) (atMost ys xs) .0 e in
+    rw (le-ltb x y (leb-true y x (both .0)), ahead-none xs ys (omega arith) (both .1))
 
 -- xs with the parts from i on still to be joined with those of ys
 abbrev pub joining : List ℕ → List ℕ → ℕ → List ℕ
@@ -99,10 +115,27 @@ one-more n h = rw (lt-ltb n largest h)
 pub no-more : (n : ℕ) → largest ≤ n → n ≡ oneMore n
 no-more n h = rw (le-ltb n largest h)
 
-pub raise-own : (xs : List ℕ) (t v : ℕ) → v ≡ oneMore (getD xs t 0) → set xs t v ≡ raised xs t
-unfolding raised
-raise-own xs t v e = ap (set xs t) e
+-- xs, raised once the walk has passed the thread
+abbrev pub raising : List ℕ → ℕ → ℕ → List ℕ
+raising xs t i = cond (ltb t i) (raised xs t) xs
 
-pub raise-nobody : (xs : List ℕ) (t : ℕ) → length xs ≤ t → xs ≡ raised xs t
+pub raise-none : (xs : List ℕ) (t : ℕ) → xs ≡ raising xs t 0
+raise-none xs t = rw (le-ltb t 0 (omega arith))
+
+pub raise-own : (xs ys : List ℕ) (t i v : ℕ) → ys ≡ raising xs t i → i ≡ t → v ≡ oneMore (getD ys i 0) → set ys i v ≡ raising xs t (i + 1)
 unfolding raised
-raise-nobody xs t h = sym (set-out xs t _ h)
+raise-own xs ys t i v e o w =
+    let same : ys ≡ xs = e ∙ ap (λ (b : Bool). cond b (raised xs t) xs) (le-ltb t i (omega (arith, o))) in
+    rw (lt-ltb t (i + 1) (omega (arith, o)), w, same, o)
+
+pub raise-on : (xs : List ℕ) (t i : ℕ) → i ≢ t → raising xs t i ≡ raising xs t (i + 1)
+raise-on xs t i n =
+    ⊎-elim
+    (λ e. rw (e, lt-ltb t (i + 1) (omega (arith, ltb-true t i e))))
+    (λ e. rw (e, le-ltb t (i + 1) (omega (arith, ltb-false t i e, n))))
+    (flag (ltb t i))
+
+pub raise-all : (xs : List ℕ) (t i : ℕ) → length xs ≤ i → raising xs t i ≡ raised xs t
+unfolding raised
+raise-all xs t i h =
+    ⊎-elim (λ e. rw e) (λ e. rw e (sym (set-out xs t _ (omega (arith, ltb-false t i e))))) (flag (ltb t i))

@@ -47,42 +47,45 @@ impl VersionVec {
         self
     }
 
-    // The thread's own part raised by one. A thread that is none changes nothing.
+    // The thread's own part raised by one. A thread that is none changes nothing. All parts are gone through, since a part
+    // that is written alone holds up the next read of all five.
     pub fn raise(mut self, thread: usize) -> VersionVec
         ensures { λ r. ⌜ r .versions ≡ raised (self .versions) thread ⌝ }
     {
-        if thread < MAX_THREADS {
-            self.versions[thread] = one_more(self.versions[thread]);
+        let mut i = 0;
+        while i < MAX_THREADS {
+            if i == thread {
+                self.versions[i] = one_more(self.versions[i]);
+            }
+            i += 1;
         }
         self
     }
 
-    // Whether each part is at most the other's.
+    // Whether each part is at most the other's. No part ends the walk, so that all are compared at once.
     pub fn at_most(self, other: VersionVec) -> bool
         ensures { λ r. ⌜ r ≡ atMost (self .versions) (other .versions) ⌝ }
     {
+        let mut all = true;
         let mut i = 0;
         while i < MAX_THREADS {
-            if other.versions[i] < self.versions[i] {
-                return false;
-            }
+            all = all & (self.versions[i] <= other.versions[i]);
             i += 1;
         }
-        true
+        all
     }
 
     // Whether all parts are equal.
     pub fn equal(self, other: VersionVec) -> bool
         ensures { λ r. ⌜ r ≡ equal (self .versions) (other .versions) ⌝ }
     {
+        let mut all = true;
         let mut i = 0;
         while i < MAX_THREADS {
-            if self.versions[i] != other.versions[i] {
-                return false;
-            }
+            all = all & (self.versions[i] == other.versions[i]);
             i += 1;
         }
-        true
+        all
     }
 
     // Whether each part is at most the other's and not all are equal.
@@ -96,10 +99,13 @@ impl VersionVec {
         }
     }
 
-    // The lowest thread whose part in the other vector is greater.
+    // The lowest thread whose part in the other vector is greater. Hardly ever is there one, which is asked first.
     pub fn ahead(self, other: VersionVec) -> Ahead
         ensures { λ r. ⌜ whom r ≡ ahead (self .versions) (other .versions) ⌝ }
     {
+        if other.at_most(self) {
+            return Ahead::Nobody;
+        }
         let mut i = 0;
         while i < MAX_THREADS {
             if self.versions[i] < other.versions[i] {

@@ -4,10 +4,10 @@ use Rattle.atomic.proofs.apply_load_coherence.Statement.{statement}
 use Rattle.atomic.proofs.apply_load_coherence.Tie as tie
 
 abbrev Inv-loop : tie.InvT-loop
-Inv-loop clocks₀ thread cell slot causality seen chosen i₀ clocks i = i ≤ 7
+Inv-loop clocks marks small thread cell slot causality chosen live order₀ i₀ order i = i ≤ 7
 
 abbrev μ-loop : tie.MeasureT-loop
-μ-loop clocks₀ thread cell slot causality seen chosen i₀ clocks i = 7 - i
+μ-loop clocks marks small thread cell slot causality chosen live order₀ i₀ order i = 7 - i
 
 add-causality : tie.Need-add-causality Inv-loop μ-loop
 add-causality c = search needs
@@ -18,14 +18,29 @@ mul-causality c = search needs
 element-copy-out-causality : tie.Need-element-copy-out-causality Inv-loop μ-loop
 element-copy-out-causality c = search needs
 
-seen-slots-requires : tie.Need-seen-slots-requires Inv-loop μ-loop
-seen-slots-requires c κs = search needs
-
 store-at-requires : tie.Need-store-at-requires Inv-loop μ-loop
 store-at-requires c κs = search needs
 
 add-chosen : tie.Need-add-chosen Inv-loop μ-loop
 add-chosen c = search needs
+
+add-live-stores : tie.Need-add-live-stores Inv-loop μ-loop
+add-live-stores c = search needs
+
+mul-live-stores : tie.Need-mul-live-stores Inv-loop μ-loop
+mul-live-stores c = search needs
+
+element-copy-out-live-stores : tie.Need-element-copy-out-live-stores Inv-loop μ-loop
+element-copy-out-live-stores c = search needs
+
+live-stores-requires : tie.Need-live-stores-requires Inv-loop μ-loop
+live-stores-requires c κs = search needs
+
+mul-order : tie.Need-mul-order Inv-loop μ-loop
+mul-order c = search needs
+
+element-copy-out-order : tie.Need-element-copy-out-order Inv-loop μ-loop
+element-copy-out-order c = search needs
 
 loop-holds : tie.Need-loop-holds Inv-loop μ-loop
 loop-holds c = search needs
@@ -42,17 +57,23 @@ mul-before c = search needs
 element-copy-out-before : tie.Need-element-copy-out-before Inv-loop μ-loop
 element-copy-out-before c = search needs
 
-array-read-if2 : tie.Need-array-read-if2 Inv-loop μ-loop
-array-read-if2 c = search needs
+is-seen-requires : tie.Need-is-seen-requires Inv-loop μ-loop
+is-seen-requires c κs = search needs
 
 is-before-requires : tie.Need-is-before-requires Inv-loop μ-loop
 is-before-requires c κs = search needs
 
-add-join-into : tie.Need-add-join-into Inv-loop μ-loop
-add-join-into c = search needs
+add-other : tie.Need-add-other Inv-loop μ-loop
+add-other c = search needs
 
-join-into-requires : tie.Need-join-into-requires Inv-loop μ-loop
-join-into-requires c κs = search needs
+mul-other : tie.Need-mul-other Inv-loop μ-loop
+mul-other c = search needs
+
+element-copy-out-other : tie.Need-element-copy-out-other Inv-loop μ-loop
+element-copy-out-other c = search needs
+
+join-requires : tie.Need-join-requires Inv-loop μ-loop
+join-requires c κs = search needs
 
 add-i : tie.Need-add-i Inv-loop μ-loop
 add-i c = search needs
@@ -62,6 +83,12 @@ loop-less c = search needs
 
 loop-again : tie.Need-loop-again Inv-loop μ-loop
 loop-again c = search needs
+
+mul-order-2 : tie.Need-mul-order-2 Inv-loop μ-loop
+mul-order-2 c = search needs
+
+element-set-from-order : tie.Need-element-set-from-order Inv-loop μ-loop
+element-set-from-order c = search needs
 
 returns : tie.Need-returns Inv-loop μ-loop
 returns c = search needs
@@ -75,19 +102,28 @@ apply-load-coherence-spec =
     add-causality
     mul-causality
     element-copy-out-causality
-    seen-slots-requires
     store-at-requires
     add-chosen
+    add-live-stores
+    mul-live-stores
+    element-copy-out-live-stores
+    live-stores-requires
+    mul-order
+    element-copy-out-order
     loop-holds
     store-at-requires-2
     add-before
     mul-before
     element-copy-out-before
-    array-read-if2
+    is-seen-requires
     is-before-requires
-    add-join-into
-    join-into-requires
+    add-other
+    mul-other
+    element-copy-out-other
+    join-requires
     add-i
     loop-less
     loop-again
+    mul-order-2
+    element-set-from-order
     returns)

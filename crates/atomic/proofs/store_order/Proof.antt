@@ -4,10 +4,10 @@ use Rattle.atomic.proofs.store_order.Statement.{statement}
 use Rattle.atomic.proofs.store_order.Tie as tie
 
 abbrev Inv-loop : tie.InvT-loop
-Inv-loop clocks thread cell seen order₀ i₀ order i = i ≤ 7
+Inv-loop clocks marks count thread cell causality live order₀ i₀ order i = i ≤ 7
 
 abbrev μ-loop : tie.MeasureT-loop
-μ-loop clocks thread cell seen order₀ i₀ order i = 7 - i
+μ-loop clocks marks count thread cell causality live order₀ i₀ order i = 7 - i
 
 add-causality : tie.Need-add-causality Inv-loop μ-loop
 add-causality c = search needs
@@ -18,14 +18,14 @@ mul-causality c = search needs
 element-copy-out-causality : tie.Need-element-copy-out-causality Inv-loop μ-loop
 element-copy-out-causality c = search needs
 
-seen-slots-requires : tie.Need-seen-slots-requires Inv-loop μ-loop
-seen-slots-requires c κs = search needs
+live-stores-requires : tie.Need-live-stores-requires Inv-loop μ-loop
+live-stores-requires c κs = search needs
 
 loop-holds : tie.Need-loop-holds Inv-loop μ-loop
 loop-holds c = search needs
 
-array-read-if1 : tie.Need-array-read-if1 Inv-loop μ-loop
-array-read-if1 c = search needs
+is-seen-requires : tie.Need-is-seen-requires Inv-loop μ-loop
+is-seen-requires c κs = search needs
 
 store-at-requires : tie.Need-store-at-requires Inv-loop μ-loop
 store-at-requires c κs = search needs
@@ -63,9 +63,9 @@ store-order-spec =
     add-causality
     mul-causality
     element-copy-out-causality
-    seen-slots-requires
+    live-stores-requires
     loop-holds
-    array-read-if1
+    is-seen-requires
     store-at-requires
     add-other
     mul-other

@@ -21,12 +21,6 @@ mul-count c = search needs
 element-copy-out-count : tie.Need-element-copy-out-count Inv-loop μ-loop
 element-copy-out-count c = search needs
 
-mul-fence-acq-cell : tie.Need-mul-fence-acq-cell Inv-loop μ-loop
-mul-fence-acq-cell c = search needs
-
-element-copy-out-fence-acq-cell : tie.Need-element-copy-out-fence-acq-cell Inv-loop μ-loop
-element-copy-out-fence-acq-cell c = search needs
-
 fence-acq-cell-requires : tie.Need-fence-acq-cell-requires Inv-loop μ-loop
 fence-acq-cell-requires c κs = search needs
 
@@ -52,8 +46,6 @@ fence-acq-spec =
     add-count
     mul-count
     element-copy-out-count
-    mul-fence-acq-cell
-    element-copy-out-fence-acq-cell
     fence-acq-cell-requires
     add-cell
     loop-less

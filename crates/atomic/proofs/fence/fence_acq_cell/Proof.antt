@@ -4,10 +4,10 @@ use Rattle.atomic.proofs.fence.fence_acq_cell.Statement.{statement}
 use Rattle.atomic.proofs.fence.fence_acq_cell.Tie as tie
 
 abbrev Inv-loop : tie.InvT-loop
-Inv-loop clocks₀ count thread cell marks live k₀ clocks k = k ≤ live
+Inv-loop clocks₀ marks count thread cell live k₀ clocks k = k ≤ live
 
 abbrev μ-loop : tie.MeasureT-loop
-μ-loop clocks₀ count thread cell marks live k₀ clocks k = live - k
+μ-loop clocks₀ marks count thread cell live k₀ clocks k = live - k
 
 live-stores-requires : tie.Need-live-stores-requires Inv-loop μ-loop
 live-stores-requires c κs = search needs
@@ -18,12 +18,6 @@ loop-holds c = search needs
 kth-oldest-requires : tie.Need-kth-oldest-requires Inv-loop μ-loop
 kth-oldest-requires c κs = search needs
 
-mul-row : tie.Need-mul-row Inv-loop μ-loop
-mul-row c = search needs
-
-array-copy-out-row : tie.Need-array-copy-out-row Inv-loop μ-loop
-array-copy-out-row c = search needs
-
 add-causality : tie.Need-add-causality Inv-loop μ-loop
 add-causality c = search needs
 
@@ -33,8 +27,8 @@ mul-causality c = search needs
 element-copy-out-causality : tie.Need-element-copy-out-causality Inv-loop μ-loop
 element-copy-out-causality c = search needs
 
-is-seen-by-current-requires : tie.Need-is-seen-by-current-requires Inv-loop μ-loop
-is-seen-by-current-requires c κs = search needs
+is-seen-requires : tie.Need-is-seen-requires Inv-loop μ-loop
+is-seen-requires c κs = search needs
 
 store-at-requires : tie.Need-store-at-requires Inv-loop μ-loop
 store-at-requires c κs = search needs
@@ -63,12 +57,10 @@ fence-acq-cell-spec =
     live-stores-requires
     loop-holds
     kth-oldest-requires
-    mul-row
-    array-copy-out-row
     add-causality
     mul-causality
     element-copy-out-causality
-    is-seen-by-current-requires
+    is-seen-requires
     store-at-requires
     sync-load-requires
     add-k

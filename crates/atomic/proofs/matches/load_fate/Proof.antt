@@ -4,22 +4,22 @@ use Rattle.atomic.proofs.matches.load_fate.Statement.{statement}
 use Rattle.atomic.proofs.matches.load_fate.Tie as tie
 
 abbrev Inv-loop : tie.InvT-loop
-Inv-loop clocks small cell i order before-yield seen count j₀ j = j ≤ 7
+Inv-loop clocks small cell i order before-yield seen live j₀ j = j ≤ 7
 
 abbrev μ-loop : tie.MeasureT-loop
-μ-loop clocks small cell i order before-yield seen count j₀ j = 7 - j
+μ-loop clocks small cell i order before-yield seen live j₀ j = 7 - j
 
-add-wide : tie.Need-add-wide Inv-loop μ-loop
-add-wide c = search needs
+add-live-stores : tie.Need-add-live-stores Inv-loop μ-loop
+add-live-stores c = search needs
 
-mul-wide : tie.Need-mul-wide Inv-loop μ-loop
-mul-wide c = search needs
+mul-live-stores : tie.Need-mul-live-stores Inv-loop μ-loop
+mul-live-stores c = search needs
 
-element-copy-out-wide : tie.Need-element-copy-out-wide Inv-loop μ-loop
-element-copy-out-wide c = search needs
+element-copy-out-live-stores : tie.Need-element-copy-out-live-stores Inv-loop μ-loop
+element-copy-out-live-stores c = search needs
 
-wide-requires : tie.Need-wide-requires Inv-loop μ-loop
-wide-requires c κs = search needs
+live-stores-requires : tie.Need-live-stores-requires Inv-loop μ-loop
+live-stores-requires c κs = search needs
 
 loop-holds : tie.Need-loop-holds Inv-loop μ-loop
 loop-holds c = search needs
@@ -36,8 +36,8 @@ returns c = search needs
 enum-told-2 : tie.Need-enum-told-2 Inv-loop μ-loop
 enum-told-2 c = search needs
 
-array-read-if3 : tie.Need-array-read-if3 Inv-loop μ-loop
-array-read-if3 c = search needs
+array-read-if2 : tie.Need-array-read-if2 Inv-loop μ-loop
+array-read-if2 c = search needs
 
 all-seq-cst-requires : tie.Need-all-seq-cst-requires Inv-loop μ-loop
 all-seq-cst-requires c κs = search needs
@@ -66,16 +66,16 @@ load-fate-spec =
     (tie.spec
     Inv-loop
     μ-loop
-    add-wide
-    mul-wide
-    element-copy-out-wide
-    wide-requires
+    add-live-stores
+    mul-live-stores
+    element-copy-out-live-stores
+    live-stores-requires
     loop-holds
     compare-orders-requires
     enum-told
     returns
     enum-told-2
-    array-read-if3
+    array-read-if2
     all-seq-cst-requires
     returns-2
     enum-told-3

@@ -4,22 +4,22 @@ use Rattle.atomic.proofs.matches.rmw_fate.Statement.{statement}
 use Rattle.atomic.proofs.matches.rmw_fate.Tie as tie
 
 abbrev Inv-loop : tie.InvT-loop
-Inv-loop clocks small cell i count j₀ j = j ≤ 7
+Inv-loop clocks small cell i live j₀ j = j ≤ 7
 
 abbrev μ-loop : tie.MeasureT-loop
-μ-loop clocks small cell i count j₀ j = 7 - j
+μ-loop clocks small cell i live j₀ j = 7 - j
 
-add-wide : tie.Need-add-wide Inv-loop μ-loop
-add-wide c = search needs
+add-live-stores : tie.Need-add-live-stores Inv-loop μ-loop
+add-live-stores c = search needs
 
-mul-wide : tie.Need-mul-wide Inv-loop μ-loop
-mul-wide c = search needs
+mul-live-stores : tie.Need-mul-live-stores Inv-loop μ-loop
+mul-live-stores c = search needs
 
-element-copy-out-wide : tie.Need-element-copy-out-wide Inv-loop μ-loop
-element-copy-out-wide c = search needs
+element-copy-out-live-stores : tie.Need-element-copy-out-live-stores Inv-loop μ-loop
+element-copy-out-live-stores c = search needs
 
-wide-requires : tie.Need-wide-requires Inv-loop μ-loop
-wide-requires c κs = search needs
+live-stores-requires : tie.Need-live-stores-requires Inv-loop μ-loop
+live-stores-requires c κs = search needs
 
 loop-holds : tie.Need-loop-holds Inv-loop μ-loop
 loop-holds c = search needs
@@ -60,10 +60,10 @@ rmw-fate-spec =
     (tie.spec
     Inv-loop
     μ-loop
-    add-wide
-    mul-wide
-    element-copy-out-wide
-    wide-requires
+    add-live-stores
+    mul-live-stores
+    element-copy-out-live-stores
+    live-stores-requires
     loop-holds
     compare-orders-requires
     enum-told

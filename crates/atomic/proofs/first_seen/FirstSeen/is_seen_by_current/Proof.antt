@@ -1,21 +1,21 @@
 use borrow.Author.Needs.{needs}
 use native.Mathlib.Omega.{arith}
-use Prim.Native.Nat.{_≤_, _-_, _<_}
-use mathlib.Core.Path.{_≡_, refl, sym, _∙_}
-use mathlib.Core.Logic.{⊎-elim}
+use Prim.Native.Nat.{_≤_, _-_}
+use mathlib.Core.Bool.{Bool, _||_}
+use mathlib.Core.Path.{_≡_, refl, sym, ap, _∙_}
 use lib.ListN.{length, drop}
 use Rattle.vv.proofs.Walks.{left-none}
 use Rattle.atomic.specs.Seen.{seen, seenThrough}
-use Rattle.atomic.proofs.SeenLaws.{seen-on-later, seen-on-unseen, seen-ends}
+use Rattle.atomic.proofs.SeenLaws.{seen-on, so-far}
 use Rattle.atomic.proofs.first_seen.FirstSeen.is_seen_by_current.Statement.{statement}
 use Rattle.atomic.proofs.first_seen.FirstSeen.is_seen_by_current.Tie as tie
 
 abbrev Inv-loop : tie.InvT-loop
-Inv-loop self causality i₀ i =
-    (i ≤ 5) × (seen (drop i (self .versions)) (drop i causality) ≡ seen (self .versions) causality)
+Inv-loop self causality seen₀ i₀ found i =
+    (i ≤ 5) × (found || seen (drop i (self .versions)) (drop i causality) ≡ seen (self .versions) causality)
 
 abbrev μ-loop : tie.MeasureT-loop
-μ-loop self causality i₀ i = 5 - i
+μ-loop self causality seen₀ i₀ found i = 5 - i
 
 len1 : (c : tie.Start Inv-loop μ-loop) → length (c .args .t1 .versions) ≡ 5
 len1 c = search needs
@@ -26,28 +26,23 @@ len2 c = search needs
 loop-holds : tie.Need-loop-holds Inv-loop μ-loop
 loop-holds c = (search needs, refl)
 
-mul-if1 : tie.Need-mul-if1 Inv-loop μ-loop
-mul-if1 c = search needs
+mul-seen : tie.Need-mul-seen Inv-loop μ-loop
+mul-seen c = search needs
 
-element-copy-out-if1 : tie.Need-element-copy-out-if1 Inv-loop μ-loop
-element-copy-out-if1 c = search needs
+element-copy-out-seen : tie.Need-element-copy-out-seen Inv-loop μ-loop
+element-copy-out-seen c = search needs
 
-mul-if2 : tie.Need-mul-if2 Inv-loop μ-loop
-mul-if2 c = search needs
+mul-seen-2 : tie.Need-mul-seen-2 Inv-loop μ-loop
+mul-seen-2 c = search needs
 
-element-copy-out-if2 : tie.Need-element-copy-out-if2 Inv-loop μ-loop
-element-copy-out-if2 c = search needs
+element-copy-out-seen-2 : tie.Need-element-copy-out-seen-2 Inv-loop μ-loop
+element-copy-out-seen-2 c = search needs
 
-mul-if2-2 : tie.Need-mul-if2-2 Inv-loop μ-loop
-mul-if2-2 c = search needs
+mul-seen-3 : tie.Need-mul-seen-3 Inv-loop μ-loop
+mul-seen-3 c = search needs
 
-array-read-if2 : tie.Need-array-read-if2 Inv-loop μ-loop
-array-read-if2 c = search needs
-
-returns : tie.Need-returns Inv-loop μ-loop
-returns c =
-    let at = c .before .before .before .before .before in
-    sym (sym (at .loop .inv .1) ∙ seen-ends _ _ (at .loop .i) (omega (arith, len1 (at .before))) (omega (arith, len2 (at .before))) (c .before .before .if1 .taken) (c .if2 .taken))
+array-read-seen : tie.Need-array-read-seen Inv-loop μ-loop
+array-read-seen c = search needs
 
 add-i : tie.Need-add-i Inv-loop μ-loop
 add-i c = search needs
@@ -57,21 +52,16 @@ loop-less c = search needs
 
 loop-again : tie.Need-loop-again Inv-loop μ-loop
 loop-again c =
-    let at = c .before .before .before in
-    let h : at .loop .i < length (at .before .args .t1 .versions) = omega (arith, len1 (at .before)) in
-    let k : at .loop .i < length (at .before .args .t2) = omega (arith, len2 (at .before)) in (
+    let at = c .before .before .before in (
       search needs,
-      ⊎-elim
-          (λ w. seen-on-later _ _ (at .loop .i) h k (w .0 .taken) (w .2 .left))
-          (λ w. seen-on-unseen _ _ (at .loop .i) h k (w .left))
-          (c .if1 .came) ∙
-          at .loop .inv .1,
+      seen-on (at .before .args .t1 .versions) (at .before .args .t2) (at .loop .i) (omega (arith, len1 (at .before))) (omega (arith, len2 (at .before))) (at .loop .seen) ∙ at .loop .inv .1,
     )
 
-returns-2 : tie.Need-returns-2 Inv-loop μ-loop
+returns : tie.Need-returns Inv-loop μ-loop
 unfolding seen seenThrough
-returns-2 c =
-    sym (left-none seen _ _ (c .before .loop .i) (omega (arith, len1 (c .before .before))) (omega (arith, len2 (c .before .before)))) ∙ c .before .loop .inv .1
+returns c =
+    let at = c .before in
+    sym (so-far _) ∙ sym (ap (λ (b : Bool). at .loop .seen || b) (left-none seen _ _ (at .loop .i) (omega (arith, len1 (at .before))) (omega (arith, len2 (at .before))))) ∙ at .loop .inv .1
 
 pub is-seen-by-current-spec : {M : Type 1} → statement M
 is-seen-by-current-spec =
@@ -80,14 +70,13 @@ is-seen-by-current-spec =
     Inv-loop
     μ-loop
     loop-holds
-    mul-if1
-    element-copy-out-if1
-    mul-if2
-    element-copy-out-if2
-    mul-if2-2
-    array-read-if2
-    returns
+    mul-seen
+    element-copy-out-seen
+    mul-seen-2
+    element-copy-out-seen-2
+    mul-seen-3
+    array-read-seen
     add-i
     loop-less
     loop-again
-    returns-2)
+    returns)

@@ -1,36 +1,71 @@
 use borrow.Author.Needs.{needs}
 use native.Mathlib.Omega.{arith}
-use mathlib.Core.Path.{_≡_}
-use lib.ListN.{length}
-use Rattle.atomic.proofs.SeenLaws.{touch-first, touch-again, touch-nobody}
+use Prim.Native.Nat.{_≤_, _-_, _<_}
+use mathlib.Core.Path.{_≡_, sym, _∙_}
+use mathlib.Core.Logic.{⊎-elim}
+use lib.ListN.{length, length-set}
+use Rattle.atomic.proofs.SeenLaws.{touching, touch-none, touch-own, touch-kept, touch-on, touch-all}
 use Rattle.atomic.proofs.first_seen.FirstSeen.touch.Statement.{statement}
 use Rattle.atomic.proofs.first_seen.FirstSeen.touch.Tie as tie
 
-len : (c : tie.Start) → length (c .args .t1 .versions) ≡ 5
+abbrev Inv-loop : tie.InvT-loop
+Inv-loop thread version self₀ i₀ self i =
+    (i ≤ 5) × (length (self .versions) ≡ 5) × (self .versions ≡ touching (self₀ .versions) thread version i)
+
+abbrev μ-loop : tie.MeasureT-loop
+μ-loop thread version self₀ i₀ self i = 5 - i
+
+len : (c : tie.Start Inv-loop μ-loop) → length (c .args .t1 .versions) ≡ 5
 len c = search needs
 
-mul-if2 : tie.Need-mul-if2
+loop-holds : tie.Need-loop-holds Inv-loop μ-loop
+loop-holds c = (search needs, len c, touch-none _ (c .args .thread) (c .args .version))
+
+mul-if2 : tie.Need-mul-if2 Inv-loop μ-loop
 mul-if2 c = search needs
 
-element-copy-out-if2 : tie.Need-element-copy-out-if2
+element-copy-out-if2 : tie.Need-element-copy-out-if2 Inv-loop μ-loop
 element-copy-out-if2 c = search needs
 
-mul-self : tie.Need-mul-self
+mul-self : tie.Need-mul-self Inv-loop μ-loop
 mul-self c = search needs
 
-element-write-self : tie.Need-element-write-self
+element-write-self : tie.Need-element-write-self Inv-loop μ-loop
 element-write-self c = search needs
 
-returns : tie.Need-returns
-returns c = touch-first _ _ (omega (arith, len (c .before .before .before))) _ (c .if2 .taken)
+add-i : tie.Need-add-i Inv-loop μ-loop
+add-i c = search needs
 
-returns-2 : tie.Need-returns-2
-returns-2 c = touch-again _ _ (omega (arith, len (c .before .before .before))) _ (c .if2 .left)
+loop-less : tie.Need-loop-less Inv-loop μ-loop
+loop-less c = search needs
 
-returns-3 : tie.Need-returns-3
-returns-3 c = touch-nobody _ _ (omega (arith, len (c .before))) _
+loop-again : tie.Need-loop-again Inv-loop μ-loop
+loop-again c =
+    let at = c .before .before in
+    let h : at .loop .i < length (at .loop .self .versions) = omega arith in
+    ⊎-elim
+    (λ w. rw (w .3) (search needs, simp length-set (at .loop .inv .1), touch-own _ _ _ _ _ (at .loop .inv .2) (w .0 .taken) h (w .2 .taken)))
+    (⊎-elim
+    (λ w. rw (w .3) (search needs, at .loop .inv .1, touch-kept _ _ _ _ _ (at .loop .inv .2) (w .0 .taken) h (w .2 .left)))
+    (λ w. rw (w .1) (search needs, at .loop .inv .1, at .loop .inv .2 ∙ touch-on _ _ _ _ (w .0 .left))))
+    (c .if1 .came)
+
+returns : tie.Need-returns Inv-loop μ-loop
+returns c =
+    let at = c .before in at .loop .inv .2 ∙ touch-all _ _ _ (at .loop .i) (omega (arith, len (at .before)))
 
 pub touch-spec : {M : Type 1} → statement M
 touch-spec =
     tie.close
-    (tie.spec mul-if2 element-copy-out-if2 mul-self element-write-self returns returns-2 returns-3)
+    (tie.spec
+    Inv-loop
+    μ-loop
+    loop-holds
+    mul-if2
+    element-copy-out-if2
+    mul-self
+    element-write-self
+    add-i
+    loop-less
+    loop-again
+    returns)
