@@ -16,8 +16,8 @@ use native.Mathlib.Omega.{arith}
 use native.Mathlib.Numerals.{add-one}
 use lib.Dec.{ltb, leb, eqb}
 use lib.ListN.{length, getD, set, take, drop, drop-of-length-le, length-set, length-map, List·getD-eq-default, List·getD-map}
-use lib.Seq.{drop-cons, take-suc-set, set-out, take-all, append-snoc, getD-set-same, getD-set-other}
-use borrow.Author.Tests.{lt-ltb, le-ltb, le-leb, eq-eqb, ne-eqb, ltb-true, ltb-false, leb-true, eqb-false, not-true}
+use lib.Seq.{drop-cons, take-suc-set, set-out, take-all, append-snoc, set-getD, getD-set-same, getD-set-other}
+use borrow.Author.Tests.{lt-ltb, le-ltb, le-leb, eq-eqb, ne-eqb, ltb-true, ltb-false, leb-true, eqb-true, eqb-false, not-true}
 use Rattle.rules.specs.Vector.{Whom, nobody, thread, next}
 use Rattle.vv.proofs.Walks.{left-cons}
 use Rattle.atomic.specs.Seen.{unseen, markOf, known, seenThrough, someone, seen, seenBeforeYield, touched, touchedAt, seenSlots}
@@ -29,6 +29,13 @@ someone-next (thread t) = refl
 flag : (b : Bool) → (b ≡ true) ⊎ (b ≡ false)
 flag true = inl refl
 flag false = inr refl
+
+both : (a b : Bool) → a && b ≡ true → (a ≡ true) × (b ≡ true)
+both a b = and-eq-true-iff a b .0
+
+other-false : (a b : Bool) → a ≡ true → a && b ≡ false → b ≡ false
+other-false true b o p = p
+other-false false b o p = absurd (false≢true o)
 
 or-or : (a b c : Bool) → (a || b) || c ≡ a || (b || c)
 or-or true b c = refl
@@ -113,8 +120,8 @@ module _ (marks : List ℕ) (t v : ℕ) where
   pub touch-none : marks ≡ touching marks t v 0
   touch-none = rw (le-ltb t 0 (omega arith))
 
-  pub touch-on : (i : ℕ) → i ≢ t → touching marks t v i ≡ touching marks t v (i + 1)
-  touch-on i n =
+  touch-past : (i : ℕ) → i ≢ t → touching marks t v i ≡ touching marks t v (i + 1)
+  touch-past i n =
       ⊎-elim
       (λ e. rw (e, lt-ltb t (i + 1) (omega (arith, ltb-true t i e))))
       (λ e. rw (e, le-ltb t (i + 1) (omega (arith, ltb-false t i e, n))))
@@ -124,17 +131,31 @@ module _ (marks : List ℕ) (t v : ℕ) where
   touch-all i h =
       ⊎-elim (λ e. rw e) (λ e. rw e (touch-nobody marks t (omega (arith, ltb-false t i e)) v)) (flag (ltb t i))
 
-  module _ (now : List ℕ) (i : ℕ) (e : now ≡ touching marks t v i) (o : i ≡ t) (h : i < length now) where
-    here-still : now ≡ marks
-    here-still = e ∙ ap (λ (b : Bool). cond b (touched marks t v) marks) (le-ltb t i (omega (arith, o)))
+  module _ (now : List ℕ) (i : ℕ) (e : now ≡ touching marks t v i) (h : i < length now) where
+    still : i ≡ t → now ≡ marks
+    still o = e ∙ ap (λ (b : Bool). cond b (touched marks t v) marks) (le-ltb t i (omega (arith, o)))
 
-    pub touch-own : getD now i 0 ≡ unseen → set now i v ≡ touching marks t v (i + 1)
-    touch-own u =
-        rw (lt-ltb t (i + 1) (omega (arith, o))) (rw (← here-still, ← o) (touch-first now i h v u))
+    touch-first-at : i ≡ t → getD now i 0 ≡ unseen → set now i v ≡ touching marks t v (i + 1)
+    touch-first-at o u =
+        rw (lt-ltb t (i + 1) (omega (arith, o))) (rw (← still o, ← o) (touch-first now i h v u))
 
-    pub touch-kept : getD now i 0 ≢ unseen → now ≡ touching marks t v (i + 1)
-    touch-kept n =
-        rw (lt-ltb t (i + 1) (omega (arith, o))) (rw (← here-still, ← o) (touch-again now i h v n))
+    touch-again-at : i ≡ t → getD now i 0 ≢ unseen → now ≡ touching marks t v (i + 1)
+    touch-again-at o n =
+        rw (lt-ltb t (i + 1) (omega (arith, o))) (rw (← still o, ← o) (touch-again now i h v n))
+
+    -- one place more, whose new mark is w: the test was that it is the thread's and unseen
+    pub touch-own : (w : ℕ) → eqb i t && eqb (getD now i 0) unseen ≡ true → w ≡ v → set now i w ≡ touching marks t v (i + 1)
+    touch-own w p q =
+        let k = both (eqb i t) (eqb (getD now i 0) unseen) p in
+        ap (set now i) q ∙ touch-first-at (eqb-true i t (k .0)) (eqb-true (getD now i 0) unseen (k .1))
+
+    pub touch-on : (w : ℕ) → eqb i t && eqb (getD now i 0) unseen ≡ false → w ≡ getD now i 0 → set now i w ≡ touching marks t v (i + 1)
+    touch-on w p q =
+        ap (set now i) q ∙ set-getD now i 0 ∙
+        ⊎-elim
+        (λ o. touch-again-at (eqb-true i t o) (eqb-false (getD now i 0) unseen (other-false _ _ o p)))
+        (λ o. e ∙ touch-past i (eqb-false i t o))
+        (flag (eqb i t))
 
 pub yield-none : (marks : List ℕ) (t y : ℕ) → y ≡ unseen → false ≡ seenBeforeYield marks t y
 unfolding seenBeforeYield
@@ -145,9 +166,6 @@ unfolding touchedAt
 touch-at rows slot t v row e = rw e
 
 -- What the definitions say of each thread and each slot
-
-both : (a b : Bool) → a && b ≡ true → (a ≡ true) × (b ≡ true)
-both a b = and-eq-true-iff a b .0
 
 -- "for some thread, mark ≤ that part"
 pub record Known (marks vs : List ℕ) (t : ℕ) : Type 0 where

@@ -28,11 +28,12 @@ impl FirstSeen {
     {
         let mut i = 0;
         while i < 5 {
-            if i == thread {
-                if self.versions[i] == NONE {
-                    self.versions[i] = version;
-                }
-            }
+            let mark = self.versions[i];
+            self.versions[i] = if (i == thread) & (mark == NONE) {
+                version
+            } else {
+                mark
+            };
             i += 1;
         }
         self

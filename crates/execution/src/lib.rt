@@ -55,6 +55,14 @@ pub const FIRSTS: usize = 7;
 
 pub type Shape = [u16; 12];
 
+// How many threads there are.
+pub fn threads_of(shape: &Shape) -> usize
+    ensures { λ r. ⌜ r ≤ 5 ⌝ }
+{
+    let threads = state::wide(shape[THREADS]);
+    if threads < 5 { threads } else { 5 }
+}
+
 // The row that a thread is at; past its last row it is no row of the thread, and is not looked at.
 pub fn row_of(table: &[u8], shape: &Shape, thread: usize, number: u16) -> Row
     requires { ⌜ thread < 5 ⌝ }

@@ -27,19 +27,9 @@ pub const YIELD: u8 = 2;
 
 pub const CHOSEN: u8 = 4;
 
-// Rule (a): by thread, the branch to backtrack from, or NONE.
-pub fn conflicts(clocks: &Clocks, small: &Small) -> [u16; 5] {
-    let mut points = [NONE; 5];
-    let mut t = 0;
-    while t < MAX_THREADS {
-        points[t] = conflict(clocks, small, t);
-        t += 1;
-    }
-    points
-}
-
-// The branch of the access that the thread's pending operation is concurrent with, or NONE.
-fn conflict(clocks: &Clocks, small: &Small, thread: usize) -> u16
+// Rule (a): the branch of the access that a thread's pending operation is concurrent with, or NONE. That branch is to be
+// backtracked from.
+pub fn conflict(clocks: &Clocks, small: &Small, thread: usize) -> u16
     requires { ⌜ thread < 5 ⌝ }
 {
     let action = small[OPERATION + thread];

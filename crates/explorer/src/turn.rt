@@ -100,7 +100,7 @@ pub fn take_turn(
         Event::Done { slot, value } => note(trace, ledger, row.opcode, slot, 0, value),
         Event::Switches { yielded } => {
             let ledger = if_yielded(yielded, trace, ledger, row.opcode);
-            choose_thread(bound, clocks, small, path, ledger)
+            choose_thread(shape, bound, clocks, small, path, ledger)
         }
         Event::Loads => choose_slot(row, clocks, marks, values, small, path, trace, ledger),
         Event::Chances => choose_bit(row, values, small, path, trace, ledger),
@@ -179,29 +179,33 @@ pub fn plus(a: u64, b: u64) -> u64 {
     }
 }
 
-// Rule (a): marks the branches from which a conflicting order is to be tried; answers how many choices that opened.
-fn mark(path: &mut [u8], len: usize, points: [u16; 5], bound: Bound) -> u64 {
+// Rule (a): marks the branches from which a conflicting order is to be tried, thread by thread; answers how many choices
+// that opened.
+fn mark(
+    shape: &Shape,
+    clocks: &Clocks,
+    small: &Small,
+    path: &mut [u8],
+    len: usize,
+    bound: Bound,
+) -> u64 {
     let bounded = bound.bounded;
     let most = bound.bound;
+    let threads = execution::threads_of(shape);
     let mut opened = 0;
     let mut t = 0;
-    while t < MAX_THREADS {
-        let marked = mark_from(path, len, points[t], t, bounded, most);
-        opened = plus(opened, marked);
+    while t < threads {
+        let point = schedule::conflict(clocks, small, t);
+        opened += mark_from(path, len, point, t, bounded, most);
         t += 1;
     }
     opened
 }
 
-// A point that is no branch of the path, as NONE, marks nothing.
-fn mark_from(
-    path: &mut [u8],
-    len: usize,
-    point: u16,
-    thread: usize,
-    bounded: bool,
-    most: u8,
-) -> u64 {
+// The choices that one mark opens. A point that is no branch of the path, as NONE, marks nothing.
+fn mark_from(path: &mut [u8], len: usize, point: u16, thread: usize, bounded: bool, most: u8) -> u64
+    ensures { λ r. ⌜ r ≤ 10 ⌝ }
+{
     let point = state::wide(point);
     if len <= point {
         return 0;
@@ -214,6 +218,7 @@ fn mark_from(
 
 // The scheduling, rules (a) to (e).
 fn choose_thread(
+    shape: &Shape,
     bound: Bound,
     clocks: &mut Clocks,
     small: &mut Small,
@@ -221,8 +226,7 @@ fn choose_thread(
     mut ledger: Ledger,
 ) -> Turned {
     let len = ledger.len;
-    let points = schedule::conflicts(clocks, small);
-    let marked = mark(path, len, points, bound);
+    let marked = mark(shape, clocks, small, path, len, bound);
     ledger.opened = plus(ledger.opened, marked);
     let asked = ask_thread(small, path, ledger);
     let turn = asked.turn;

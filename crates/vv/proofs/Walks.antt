@@ -128,12 +128,15 @@ raise-own xs ys t i v e o w =
     let same : ys ≡ xs = e ∙ ap (λ (b : Bool). cond b (raised xs t) xs) (le-ltb t i (omega (arith, o))) in
     rw (lt-ltb t (i + 1) (omega (arith, o)), w, same, o)
 
-pub raise-on : (xs : List ℕ) (t i : ℕ) → i ≢ t → raising xs t i ≡ raising xs t (i + 1)
-raise-on xs t i n =
+raise-past : (xs : List ℕ) (t i : ℕ) → i ≢ t → raising xs t i ≡ raising xs t (i + 1)
+raise-past xs t i n =
     ⊎-elim
     (λ e. rw (e, lt-ltb t (i + 1) (omega (arith, ltb-true t i e))))
     (λ e. rw (e, le-ltb t (i + 1) (omega (arith, ltb-false t i e, n))))
     (flag (ltb t i))
+
+pub raise-on : (xs ys : List ℕ) (t i v : ℕ) → ys ≡ raising xs t i → i ≢ t → v ≡ getD ys i 0 → set ys i v ≡ raising xs t (i + 1)
+raise-on xs ys t i v e n w = ap (set ys i) w ∙ set-getD ys i 0 ∙ e ∙ raise-past xs t i n
 
 pub raise-all : (xs : List ℕ) (t i : ℕ) → length xs ≤ i → raising xs t i ≡ raised xs t
 unfolding raised

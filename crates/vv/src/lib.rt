@@ -54,9 +54,8 @@ impl VersionVec {
     {
         let mut i = 0;
         while i < MAX_THREADS {
-            if i == thread {
-                self.versions[i] = one_more(self.versions[i]);
-            }
+            let n = self.versions[i];
+            self.versions[i] = if i == thread { one_more(n) } else { n };
             i += 1;
         }
         self

@@ -1,30 +1,31 @@
 use borrow.Author.Needs.{needs}
-use Prim.Native.Nat.{_≤_, _-_}
+use Prim.Native.Nat.{_≤_, _*_, _-_}
 use mathlib.Core.Path.{_≡_}
 use lib.ListN.{length}
 use Rattle.explorer.proofs.turn.mark.Statement.{statement}
 use Rattle.explorer.proofs.turn.mark.Tie as tie
 
 abbrev Inv-loop : tie.InvT-loop
-Inv-loop path₀ len points bounded most opened₀ t₀ path opened t = (t ≤ 5) × (length path ≡ length path₀)
+Inv-loop shape clocks small path₀ len bounded most threads opened₀ t₀ path opened t =
+    (t ≤ threads) × (opened ≤ 10 * t) × (length path ≡ length path₀)
 
 abbrev μ-loop : tie.MeasureT-loop
-μ-loop path₀ len points bounded most opened₀ t₀ path opened t = 5 - t
+μ-loop shape clocks small path₀ len bounded most threads opened₀ t₀ path opened t = threads - t
+
+threads-of-requires : tie.Need-threads-of-requires Inv-loop μ-loop
+threads-of-requires c κs = search needs
 
 loop-holds : tie.Need-loop-holds Inv-loop μ-loop
 loop-holds c = search needs
 
-mul-mark-from : tie.Need-mul-mark-from Inv-loop μ-loop
-mul-mark-from c = search needs
-
-array-read-mark-from : tie.Need-array-read-mark-from Inv-loop μ-loop
-array-read-mark-from c = search needs
+conflict-requires : tie.Need-conflict-requires Inv-loop μ-loop
+conflict-requires c κs = search needs
 
 mark-from-requires : tie.Need-mark-from-requires Inv-loop μ-loop
 mark-from-requires c κs = search needs
 
-plus-requires : tie.Need-plus-requires Inv-loop μ-loop
-plus-requires c κs = search needs
+add-opened : tie.Need-add-opened Inv-loop μ-loop
+add-opened c = search needs
 
 add-t : tie.Need-add-t Inv-loop μ-loop
 add-t c = search needs
@@ -47,11 +48,11 @@ mark-spec =
     (tie.spec
     Inv-loop
     μ-loop
+    threads-of-requires
     loop-holds
-    mul-mark-from
-    array-read-mark-from
+    conflict-requires
     mark-from-requires
-    plus-requires
+    add-opened
     add-t
     loop-less
     loop-again

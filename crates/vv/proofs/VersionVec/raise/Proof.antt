@@ -1,7 +1,7 @@
 use borrow.Author.Needs.{needs}
 use native.Mathlib.Omega.{arith}
-use Prim.Native.Nat.{_≤_, _-_}
-use mathlib.Core.Path.{_≡_, refl, sym, _∙_}
+use Prim.Native.Nat.{_≤_, _-_, _<_}
+use mathlib.Core.Path.{_≡_, sym, _∙_}
 use mathlib.Core.Logic.{⊎-elim}
 use lib.ListN.{length, length-set}
 use Rattle.vv.proofs.Walks.{raising, raise-none, raise-own, raise-on, raise-all}
@@ -21,11 +21,11 @@ len c = search needs
 loop-holds : tie.Need-loop-holds Inv-loop μ-loop
 loop-holds c = (search needs, len c, raise-none _ (c .args .thread))
 
-mul-one-more : tie.Need-mul-one-more Inv-loop μ-loop
-mul-one-more c = search needs
+mul-n : tie.Need-mul-n Inv-loop μ-loop
+mul-n c = search needs
 
-element-copy-out-one-more : tie.Need-element-copy-out-one-more Inv-loop μ-loop
-element-copy-out-one-more c = search needs
+element-copy-out-n : tie.Need-element-copy-out-n Inv-loop μ-loop
+element-copy-out-n c = search needs
 
 one-more-requires : tie.Need-one-more-requires Inv-loop μ-loop
 one-more-requires c κs = search needs
@@ -44,11 +44,14 @@ loop-less c = search needs
 
 loop-again : tie.Need-loop-again Inv-loop μ-loop
 loop-again c =
-    let at = c .before .before in
-    ⊎-elim
-    (λ w. rw (w .3) (search needs, simp length-set (at .loop .inv .1), raise-own _ _ _ _ _ (at .loop .inv .2) (w .0 .taken) (w .2 .ensures)))
-    (λ w. rw (w .1) (search needs, at .loop .inv .1, at .loop .inv .2 ∙ raise-on _ _ _ (w .0 .left)))
-    (c .if1 .came)
+    let at = c .before .before .before in (
+      search needs,
+      simp length-set (at .loop .inv .1),
+      ⊎-elim
+          (λ w. raise-own _ _ _ _ _ (at .loop .inv .2) (w .0 .taken) (w .2 ∙ w .1 .ensures))
+          (λ w. raise-on _ _ _ _ _ (at .loop .inv .2) (w .0 .left) (w .1))
+          (c .if1 .came),
+    )
 
 returns : tie.Need-returns Inv-loop μ-loop
 returns c =
@@ -61,8 +64,8 @@ raise-spec =
     Inv-loop
     μ-loop
     loop-holds
-    mul-one-more
-    element-copy-out-one-more
+    mul-n
+    element-copy-out-n
     one-more-requires
     mul-self
     element-write-self

@@ -1,10 +1,10 @@
 use borrow.Author.Needs.{needs}
 use native.Mathlib.Omega.{arith}
 use Prim.Native.Nat.{_≤_, _-_, _<_}
-use mathlib.Core.Path.{_≡_, sym, _∙_}
+use mathlib.Core.Path.{_≡_, _∙_}
 use mathlib.Core.Logic.{⊎-elim}
 use lib.ListN.{length, length-set}
-use Rattle.atomic.proofs.SeenLaws.{touching, touch-none, touch-own, touch-kept, touch-on, touch-all}
+use Rattle.atomic.proofs.SeenLaws.{touching, touch-none, touch-own, touch-on, touch-all}
 use Rattle.atomic.proofs.first_seen.FirstSeen.touch.Statement.{statement}
 use Rattle.atomic.proofs.first_seen.FirstSeen.touch.Tie as tie
 
@@ -21,11 +21,11 @@ len c = search needs
 loop-holds : tie.Need-loop-holds Inv-loop μ-loop
 loop-holds c = (search needs, len c, touch-none _ (c .args .thread) (c .args .version))
 
-mul-if2 : tie.Need-mul-if2 Inv-loop μ-loop
-mul-if2 c = search needs
+mul-mark : tie.Need-mul-mark Inv-loop μ-loop
+mul-mark c = search needs
 
-element-copy-out-if2 : tie.Need-element-copy-out-if2 Inv-loop μ-loop
-element-copy-out-if2 c = search needs
+element-copy-out-mark : tie.Need-element-copy-out-mark Inv-loop μ-loop
+element-copy-out-mark c = search needs
 
 mul-self : tie.Need-mul-self Inv-loop μ-loop
 mul-self c = search needs
@@ -41,14 +41,15 @@ loop-less c = search needs
 
 loop-again : tie.Need-loop-again Inv-loop μ-loop
 loop-again c =
-    let at = c .before .before in
-    let h : at .loop .i < length (at .loop .self .versions) = omega arith in
-    ⊎-elim
-    (λ w. rw (w .3) (search needs, simp length-set (at .loop .inv .1), touch-own _ _ _ _ _ (at .loop .inv .2) (w .0 .taken) h (w .2 .taken)))
-    (⊎-elim
-    (λ w. rw (w .3) (search needs, at .loop .inv .1, touch-kept _ _ _ _ _ (at .loop .inv .2) (w .0 .taken) h (w .2 .left)))
-    (λ w. rw (w .1) (search needs, at .loop .inv .1, at .loop .inv .2 ∙ touch-on _ _ _ _ (w .0 .left))))
-    (c .if1 .came)
+    let at = c .before .before .before in
+    let h : at .loop .i < length (at .loop .self .versions) = omega arith in (
+      search needs,
+      simp length-set (at .loop .inv .1),
+      ⊎-elim
+          (λ w. touch-own _ _ _ _ (at .loop .i) (at .loop .inv .2) h _ (w .0 .taken) (w .1))
+          (λ w. touch-on _ _ _ _ (at .loop .i) (at .loop .inv .2) h _ (w .0 .left) (w .1))
+          (c .if1 .came),
+    )
 
 returns : tie.Need-returns Inv-loop μ-loop
 returns c =
@@ -61,8 +62,8 @@ touch-spec =
     Inv-loop
     μ-loop
     loop-holds
-    mul-if2
-    element-copy-out-if2
+    mul-mark
+    element-copy-out-mark
     mul-self
     element-write-self
     add-i
