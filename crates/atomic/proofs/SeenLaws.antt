@@ -20,13 +20,14 @@ use lib.Seq.{drop-cons, take-suc-set, set-out, take-all, append-snoc, set-getD, 
 use borrow.Author.Tests.{lt-ltb, le-ltb, le-leb, eq-eqb, ne-eqb, ltb-true, ltb-false, leb-true, eqb-true, eqb-false, not-true}
 use Rattle.rules.specs.Vector.{Whom, nobody, thread, next}
 use Rattle.vv.proofs.Walks.{left-cons}
-use Rattle.atomic.specs.Seen.{unseen, markOf, known, seenThrough, someone, seen, seenBeforeYield, touched, touchedAt, seenSlots}
+use Rattle.rules.specs.Seen.{unseen, markOf, known, seenThrough, someone, seen, seenBeforeYield, touched, touchedAt, seenSlots}
 
 someone-next : (w : Whom) → someone (next w) ≡ someone w
 someone-next nobody = refl
 someone-next (thread t) = refl
 
-flag : (b : Bool) → (b ≡ true) ⊎ (b ≡ false)
+-- a test either holds or does not
+pub flag : (b : Bool) → (b ≡ true) ⊎ (b ≡ false)
 flag true = inl refl
 flag false = inr refl
 
@@ -37,7 +38,7 @@ other-false : (a b : Bool) → a ≡ true → a && b ≡ false → b ≡ false
 other-false true b o p = p
 other-false false b o p = absurd (false≢true o)
 
-or-or : (a b c : Bool) → (a || b) || c ≡ a || (b || c)
+pub or-or : (a b c : Bool) → (a || b) || c ≡ a || (b || c)
 or-or true b c = refl
 or-or false b c = refl
 
@@ -91,7 +92,7 @@ module _ (marks : List ℕ) (t : ℕ) (h : t < length marks) where
   unfolding touched
   touch-first v e = rw (eq-eqb (markOf marks t) unseen (marked ∙ e))
 
-  touch-again : (v : ℕ) → getD marks t 0 ≢ unseen → marks ≡ touched marks t v
+  pub touch-again : (v : ℕ) → getD marks t 0 ≢ unseen → marks ≡ touched marks t v
   unfolding touched
   touch-again v n = rw (ne-eqb (markOf marks t) unseen (λ e. n (sym marked ∙ e)))
 
@@ -104,7 +105,7 @@ module _ (marks : List ℕ) (t : ℕ) (h : t < length marks) where
   yield-seen y m n = rw (ne-eqb y unseen m, ne-eqb (markOf marks t) unseen (λ e. n (sym marked ∙ e)), marked)
 
 module _ (marks : List ℕ) (t : ℕ) (h : length marks ≤ t) where
-  touch-nobody : (v : ℕ) → marks ≡ touched marks t v
+  pub touch-nobody : (v : ℕ) → marks ≡ touched marks t v
   unfolding touched
   touch-nobody v = rw (List·getD-eq-default marks unseen h) (sym (set-out marks t v h))
 

@@ -1,5 +1,13 @@
 // The last dependent access of a cell, for the search for races between schedules: loom's rt/access.rs and Action.
+ghost use mathlib.Core.Path.{_≡_};
+ghost use mathlib.Core.Bool.{not, _||_};
 ghost use Prim.Native.Nat.{_<_};
+ghost use lib.Dec.{eqb};
+ghost use Rattle.rules.specs.Machine.{dependentBranch, dependentVector};
+ghost use Rattle.rules.specs.State as rules;
+ghost use Rattle.rules.specs.Vector.{atMost};
+ghost use Rattle.atomic.specs.Access.{state};
+ghost use Rattle.atomic.specs.LastAccess.{accessed};
 use crate::state::ACCESS_BRANCH;
 use crate::state::Clocks;
 use crate::state::LAST_ACCESS;
@@ -22,6 +30,7 @@ pub const RMW: u16 = 3;
 // The branch of the access that this operation depends on, or NONE: a load does not depend on loads.
 pub fn last_dependent_branch(small: &Small, action: u16, cell: usize) -> u16
     requires { ⌜ cell < 4 ⌝ }
+    ensures { λ r. ⌜ r ≡ dependentBranch (now (small .entry)) action cell ⌝ }
 {
     let at = if action == LOAD {
         NON_LOAD_BRANCH
@@ -34,6 +43,7 @@ pub fn last_dependent_branch(small: &Small, action: u16, cell: usize) -> u16
 // That access's vector.
 pub fn last_dependent_version(clocks: &Clocks, action: u16, cell: usize) -> [u16; 5]
     requires { ⌜ cell < 4 ⌝ }
+    ensures { λ r. ⌜ r ≡ dependentVector (now (clocks .entry)) action cell ⌝ }
 {
     let at = if action == LOAD {
         LAST_NON_LOAD_ACCESS
@@ -52,6 +62,7 @@ pub fn is_concurrent(
     cell: usize,
 ) -> bool
     requires { ⌜ (thread < 5) × (cell < 4) ⌝ }
+    ensures { λ r. ⌜ r ≡ not (eqb (dependentBranch (now (small .entry)) action cell) rules.none || atMost (dependentVector (now (clocks .entry)) action cell) (rules.vector (now (clocks .entry)) (rules.scheduleOf thread))) ⌝ }
 {
     if last_dependent_branch(small, action, cell) == NONE {
         return false;
@@ -72,6 +83,7 @@ pub fn set_last_access(
     branch: u16,
 )
     requires { ⌜ (thread < 5) × (cell < 4) ⌝ }
+    ensures { λ _. ⌜ ((marks : rules.Marks) (values : rules.Values) → state (now (clocks .exit)) marks values (now (small .exit)) ≡ accessed (state (now (clocks .entry)) marks values (now (small .entry))) thread action cell branch) ⌝ }
 {
     let row = clocks[SCHEDULE + thread];
     let mut schedule = VersionVec { versions: row };

@@ -1,4 +1,8 @@
 // What a read-modify-write or an exclusive change makes of a value: an enum in the place of loom's closures.
+ghost use mathlib.Core.Path.{_≡_};
+ghost use lib.Dec.{ltb};
+ghost use Rattle.rules.specs.Cell as rules;
+ghost use Rattle.atomic.specs.Changes.{changeMeant, changedOf};
 
 // The thirteen changes, with their operands.
 pub enum Change {
@@ -24,7 +28,9 @@ pub enum Changed {
 }
 
 // The change that a row names; an unknown kind, which no accepted table has, decrements.
-pub fn change_of(kind: u8, a: u64, b: u64) -> Change {
+pub fn change_of(kind: u8, a: u64, b: u64) -> Change
+    ensures { λ r. ⌜ changeMeant r ≡ rules.changeOf kind a b ⌝ }
+{
     match kind {
         0 => Change::Swap(a),
         1 => Change::Add(a),
@@ -43,7 +49,9 @@ pub fn change_of(kind: u8, a: u64, b: u64) -> Change {
 }
 
 // Only a comparison and a decrement can fail.
-pub fn apply(change: Change, value: u64) -> Changed {
+pub fn apply(change: Change, value: u64) -> Changed
+    ensures { λ r. ⌜ changedOf r ≡ rules.applied (changeMeant change) value ⌝ }
+{
     match change {
         Change::Swap(a) => Changed::Success(a),
         Change::Add(a) => Changed::Success(std::num::wrapping_add_u64(value, a)),
@@ -61,29 +69,41 @@ pub fn apply(change: Change, value: u64) -> Changed {
     }
 }
 
-fn greater(x: u64, y: u64) -> u64 {
+fn greater(x: u64, y: u64) -> u64
+    ensures { λ r. ⌜ r ≡ rules.greater (ltb x y) x y ⌝ }
+{
     if x < y { y } else { x }
 }
 
-fn lesser(x: u64, y: u64) -> u64 {
+fn lesser(x: u64, y: u64) -> u64
+    ensures { λ r. ⌜ r ≡ rules.lesser (ltb x y) x y ⌝ }
+{
     if x < y { x } else { y }
 }
 
 // Whether x is below y as signed numbers: the half from 2^63 on stands below the other.
-fn signed_less(x: u64, y: u64) -> bool {
+fn signed_less(x: u64, y: u64) -> bool
+    ensures { λ r. ⌜ r ≡ ltb (rules.signed x) (rules.signed y) ⌝ }
+{
     let half = 0x8000_0000_0000_0000;
     std::num::wrapping_add_u64(x, half) < std::num::wrapping_add_u64(y, half)
 }
 
-fn signed_greater(x: u64, y: u64) -> u64 {
+fn signed_greater(x: u64, y: u64) -> u64
+    ensures { λ r. ⌜ r ≡ rules.greater (ltb (rules.signed x) (rules.signed y)) x y ⌝ }
+{
     if signed_less(x, y) { y } else { x }
 }
 
-fn signed_lesser(x: u64, y: u64) -> u64 {
+fn signed_lesser(x: u64, y: u64) -> u64
+    ensures { λ r. ⌜ r ≡ rules.lesser (ltb (rules.signed x) (rules.signed y)) x y ⌝ }
+{
     if signed_less(x, y) { x } else { y }
 }
 
-fn compare(value: u64, expected: u64, new: u64) -> Changed {
+fn compare(value: u64, expected: u64, new: u64) -> Changed
+    ensures { λ r. ⌜ changedOf r ≡ rules.applied (rules.compare expected new) value ⌝ }
+{
     if value == expected {
         Changed::Success(new)
     } else {
@@ -91,7 +111,9 @@ fn compare(value: u64, expected: u64, new: u64) -> Changed {
     }
 }
 
-fn decrement(value: u64) -> Changed {
+fn decrement(value: u64) -> Changed
+    ensures { λ r. ⌜ changedOf r ≡ rules.applied rules.decrement value ⌝ }
+{
     if value == 0 {
         Changed::Failure
     } else {

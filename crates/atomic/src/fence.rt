@@ -1,5 +1,9 @@
 // Fences: loom's fence and its four kinds.
+ghost use mathlib.Core.Path.{_≡_};
 ghost use Prim.Native.Nat.{_<_, _≤_};
+ghost use Rattle.rules.specs.Cell.{cellAcquired, fenceAcquired, fenceReleased, fenceSeqCst, fenced};
+ghost use Rattle.rules.specs.State.{marksOf, vector, withVector, released, causality};
+ghost use Rattle.atomic.specs.Fences.{Oldest};
 use crate::first_seen::is_seen;
 use crate::live_stores;
 use crate::state;
@@ -27,6 +31,7 @@ pub fn fence(
     order: u8,
 )
     requires { ⌜ (thread < 5) × (cells ≤ 4) ⌝ }
+    ensures { λ _. ⌜ now (clocks .exit) ≡ fenced (now (clocks .entry)) (now (marks .entry)) (now (small .entry)) thread cells order ⌝ }
 {
     match order {
         ACQUIRE => fence_acq(clocks, marks, small, thread, cells),
@@ -40,6 +45,7 @@ pub fn fence(
 // Acquires from each seen store of each cell, cells in order.
 pub fn fence_acq(clocks: &mut Clocks, marks: &Marks, small: &Small, thread: usize, cells: usize)
     requires { ⌜ (thread < 5) × (cells ≤ 4) ⌝ }
+    ensures { λ _. ⌜ now (clocks .exit) ≡ fenceAcquired (now (clocks .entry)) (now (marks .entry)) (now (small .entry)) thread cells ⌝ }
 {
     let mut cell = 0;
     while cell < cells {
@@ -52,6 +58,7 @@ pub fn fence_acq(clocks: &mut Clocks, marks: &Marks, small: &Small, thread: usiz
 // A cell's stores are visited oldest first, since what one of them brings may show another to be seen.
 fn fence_acq_cell(clocks: &mut Clocks, marks: &Marks, count: u16, thread: usize, cell: usize)
     requires { ⌜ (thread < 5) × (cell < 4) ⌝ }
+    ensures { λ _. ⌜ now (clocks .exit) ≡ cellAcquired (now (clocks .entry)) (marksOf (now (marks .entry)) cell) count thread cell ⌝ }
 {
     let live = live_stores(count);
     let mut k = 0;
@@ -68,7 +75,7 @@ fn fence_acq_cell(clocks: &mut Clocks, marks: &Marks, count: u16, thread: usize,
 // The slot of the k-th store, counted from the oldest that is kept.
 fn kth_oldest(count: u16, k: usize) -> usize
     requires { ⌜ k < 7 ⌝ }
-    ensures { λ r. ⌜ r < 7 ⌝ }
+    ensures { λ r. ⌜ Oldest count k r ⌝ }
 {
     if count < 7 {
         return k;
@@ -79,6 +86,7 @@ fn kth_oldest(count: u16, k: usize) -> usize
 // Takes a snapshot of the thread's causality as its released vector.
 pub fn fence_rel(clocks: &mut Clocks, thread: usize)
     requires { ⌜ thread < 5 ⌝ }
+    ensures { λ _. ⌜ now (clocks .exit) ≡ withVector (now (clocks .entry)) (released thread) (vector (now (clocks .entry)) (causality thread)) ⌝ }
 {
     let causality = clocks[CAUSALITY + thread];
     clocks[RELEASED + thread] = causality;
@@ -86,6 +94,7 @@ pub fn fence_rel(clocks: &mut Clocks, thread: usize)
 
 pub fn fence_acqrel(clocks: &mut Clocks, marks: &Marks, small: &Small, thread: usize, cells: usize)
     requires { ⌜ (thread < 5) × (cells ≤ 4) ⌝ }
+    ensures { λ _. ⌜ now (clocks .exit) ≡ fenceReleased (fenceAcquired (now (clocks .entry)) (now (marks .entry)) (now (small .entry)) thread cells) thread ⌝ }
 {
     fence_acq(clocks, marks, small, thread, cells);
     fence_rel(clocks, thread);
@@ -94,6 +103,7 @@ pub fn fence_acqrel(clocks: &mut Clocks, marks: &Marks, small: &Small, thread: u
 // Acquire, release, then the thread and the vector of all SeqCst fences take each other in.
 pub fn fence_seqcst(clocks: &mut Clocks, marks: &Marks, small: &Small, thread: usize, cells: usize)
     requires { ⌜ (thread < 5) × (cells ≤ 4) ⌝ }
+    ensures { λ _. ⌜ now (clocks .exit) ≡ fenceSeqCst (fenceReleased (fenceAcquired (now (clocks .entry)) (now (marks .entry)) (now (small .entry)) thread cells) thread) thread ⌝ }
 {
     fence_acqrel(clocks, marks, small, thread, cells);
     join_into(clocks, CAUSALITY + thread, SEQ_CST_CAUSALITY);

@@ -3,7 +3,7 @@ ghost use mathlib.Core.Path.{_≡_};
 ghost use Prim.Native.Nat.{_<_};
 ghost use mathlib.Core.List.{[]};
 ghost use lib.ListN.{getD};
-ghost use Rattle.atomic.specs.Seen.{unseens, seen, seenBeforeYield, seenSlots, touched, touchedAt};
+ghost use Rattle.rules.specs.Seen.{unseens, seen, seenBeforeYield, seenSlots, touched, touchedAt};
 use crate::state::Marks;
 use crate::state::NONE;
 

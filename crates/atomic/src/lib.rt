@@ -1,6 +1,16 @@
 // An atomic cell, after loom's rt/atomic.rs: what a store, a load, a read-modify-write, an unsynchronised load and an
 // exclusive change do to the lent state, each once its thread has been chosen.
-ghost use Prim.Native.Nat.{_<_, _≤_};
+ghost use mathlib.Core.Path.{_≡_};
+ghost use Prim.Native.Nat.{_<_};
+ghost use Rattle.rules.specs.Cell.{loadDone, storeDone, succeeded, rmwDone, unsyncLoadDone, coherent, touchDone, storeOrder, seqCstFlag};
+ghost use Rattle.rules.specs.Seen.{touched, unseens};
+ghost use Rattle.rules.specs.State.{marksOf};
+ghost use Rattle.rules.specs.Vector.{less};
+ghost use Rattle.rules.specs.State as rules;
+ghost use Rattle.atomic.specs.Access.{state, accessOf};
+ghost use Rattle.atomic.specs.Changes.{changeMeant};
+ghost use Rattle.atomic.specs.Exclusive.{Mutates};
+ghost use Rattle.atomic.specs.Slots.{Next, Newest, Live};
 use change::Change;
 use change::Changed;
 use first_seen::is_seen;
@@ -43,21 +53,21 @@ pub enum Mutated {
 
 // The slot that the next store of a cell takes, by how many there were.
 pub fn index(count: u16) -> usize
-    ensures { λ r. ⌜ r < 7 ⌝ }
+    ensures { λ r. ⌜ Next count r ⌝ }
 {
     (count % 7) as usize
 }
 
 // The slot of the newest store.
 pub fn newest(count: u16) -> usize
-    ensures { λ r. ⌜ r < 7 ⌝ }
+    ensures { λ r. ⌜ Newest count r ⌝ }
 {
     ((count % 7 + 6) % 7) as usize
 }
 
 // How many of a cell's stores are kept.
 pub fn live_stores(count: u16) -> usize
-    ensures { λ r. ⌜ r ≤ 7 ⌝ }
+    ensures { λ r. ⌜ Live count r ⌝ }
 {
     if count < 7 { count as usize } else { 7 }
 }
@@ -74,6 +84,7 @@ pub fn load(
     order: u8,
 ) -> Loaded
     requires { ⌜ (thread < 5) × (cell < 4) × (slot < 7) ⌝ }
+    ensures { λ r. ⌜ accessOf r (state (now (clocks .exit)) (now (marks .exit)) (now (values .entry)) (now (small .entry))) ≡ loadDone (state (now (clocks .entry)) (now (marks .entry)) (now (values .entry)) (now (small .entry))) thread cell slot order ⌝ }
 {
     if let Race::With { kind, other } = track::track_load(clocks, thread, cell) {
         return Loaded::Raced { kind, other };
@@ -98,6 +109,7 @@ pub fn store(
     order: u8,
 )
     requires { ⌜ (thread < 5) × (cell < 4) ⌝ }
+    ensures { λ _. ⌜ state (now (clocks .exit)) (now (marks .exit)) (now (values .exit)) (now (small .exit)) ≡ storeDone (state (now (clocks .entry)) (now (marks .entry)) (now (values .entry)) (now (small .entry))) thread cell sync value order ⌝ }
 {
     let count = small[COUNT + cell];
     let slot = index(count);
@@ -129,6 +141,7 @@ pub fn rmw(
     failure: u8,
 ) -> Loaded
     requires { ⌜ (thread < 5) × (cell < 4) × (slot < 7) ⌝ }
+    ensures { λ r. ⌜ accessOf r (state (now (clocks .exit)) (now (marks .exit)) (now (values .exit)) (now (small .exit))) ≡ rmwDone (state (now (clocks .entry)) (now (marks .entry)) (now (values .entry)) (now (small .entry))) thread cell slot (changeMeant change) success failure ⌝ }
 {
     if let Race::With { kind, other } = track::track_load(clocks, thread, cell) {
         return Loaded::Raced { kind, other };
@@ -137,11 +150,40 @@ pub fn rmw(
     touch(clocks, marks, thread, cell, slot);
     let at = state::store_at(cell, slot);
     let prev = values[VALUE + at];
-    let changed = change::apply(change, prev);
-    let Changed::Success(next) = changed else {
+    let Changed::Success(next) = change::apply(change, prev) else {
         sync_load(clocks, thread, at, failure);
         return Loaded::Value(prev);
     };
+    rmw_store(
+        clocks,
+        marks,
+        values,
+        small,
+        thread,
+        cell,
+        at,
+        prev,
+        next,
+        success,
+    )
+}
+
+// The rest of a read-modify-write whose change has succeeded: `next` is stored in the place of `prev`, read from store `at`.
+fn rmw_store(
+    clocks: &mut Clocks,
+    marks: &mut Marks,
+    values: &mut Values,
+    small: &mut Small,
+    thread: usize,
+    cell: usize,
+    at: usize,
+    prev: u64,
+    next: u64,
+    success: u8,
+) -> Loaded
+    requires { ⌜ (thread < 5) × (cell < 4) × (at < 28) ⌝ }
+    ensures { λ r. ⌜ accessOf r (state (now (clocks .exit)) (now (marks .exit)) (now (values .exit)) (now (small .exit))) ≡ succeeded (state (now (clocks .entry)) (now (marks .entry)) (now (values .entry)) (now (small .entry))) thread cell at prev next success ⌝ }
+{
     if let Race::With { kind, other } = track::track_store(clocks, thread, cell) {
         return Loaded::Raced { kind, other };
     }
@@ -171,6 +213,7 @@ pub fn unsync_load(
     cell: usize,
 ) -> Loaded
     requires { ⌜ (thread < 5) × (cell < 4) ⌝ }
+    ensures { λ r. ⌜ ((marks : rules.Marks) → accessOf r (state (now (clocks .exit)) marks (now (values .entry)) (now (small .entry))) ≡ unsyncLoadDone (state (now (clocks .entry)) marks (now (values .entry)) (now (small .entry))) thread cell) ⌝ }
 {
     if let Race::With { kind, other } = track::track_unsync_load(clocks, thread, cell) {
         return Loaded::Raced { kind, other };
@@ -189,6 +232,7 @@ pub fn with_mut(
     change: Change,
 ) -> Mutated
     requires { ⌜ (thread < 5) × (cell < 4) ⌝ }
+    ensures { λ r. ⌜ Mutates r (now (clocks .entry)) (now (clocks .exit)) (now (values .entry)) (now (values .exit)) (now (small .entry)) thread cell (changeMeant change) ⌝ }
 {
     if let Race::With { kind, other } = track::track_unsync_mut(clocks, thread, cell) {
         return Mutated::Raced { kind, other };
@@ -214,6 +258,7 @@ pub fn apply_load_coherence(
     slot: usize,
 )
     requires { ⌜ (thread < 5) × (cell < 4) × (slot < 7) ⌝ }
+    ensures { λ _. ⌜ now (clocks .exit) ≡ coherent (now (clocks .entry)) (marksOf (now (marks .entry)) cell) (now (small .entry)) thread cell slot ⌝ }
 {
     let causality = clocks[CAUSALITY + thread];
     let chosen = MODIFICATION_ORDER + state::store_at(cell, slot);
@@ -238,6 +283,7 @@ pub fn apply_load_coherence(
 // The thread's mark on a store that it reads, where it has none yet.
 pub fn touch(clocks: &Clocks, marks: &mut Marks, thread: usize, cell: usize, slot: usize)
     requires { ⌜ (thread < 5) × (cell < 4) × (slot < 7) ⌝ }
+    ensures { λ _. ⌜ now (marks .exit) ≡ touchDone (now (clocks .entry)) (now (marks .entry)) thread cell slot ⌝ }
 {
     let row = marks[cell][slot];
     if row[thread] != state::NONE {
@@ -248,7 +294,9 @@ pub fn touch(clocks: &Clocks, marks: &mut Marks, thread: usize, cell: usize, slo
 }
 
 // The marks of a new store, seen by its own thread alone.
-fn first_marked(thread: usize, version: u16) -> [u16; 5] {
+fn first_marked(thread: usize, version: u16) -> [u16; 5]
+    ensures { λ r. ⌜ r ≡ touched (unseens 5) thread version ⌝ }
+{
     let fresh = first_seen::FirstSeen::new();
     let fresh = fresh.touch(thread, version);
     fresh.versions
@@ -258,6 +306,7 @@ fn first_marked(thread: usize, version: u16) -> [u16; 5] {
 // `count` before it.
 fn store_order(clocks: &Clocks, marks: &Marks, count: u16, thread: usize, cell: usize) -> [u16; 5]
     requires { ⌜ (thread < 5) × (cell < 4) ⌝ }
+    ensures { λ r. ⌜ r ≡ storeOrder (now (clocks .entry)) (marksOf (now (marks .entry)) cell) count thread cell ⌝ }
 {
     let causality = clocks[CAUSALITY + thread];
     let live = live_stores(count);
@@ -274,11 +323,15 @@ fn store_order(clocks: &Clocks, marks: &Marks, count: u16, thread: usize, cell: 
     order
 }
 
-fn is_before(a: [u16; 5], b: [u16; 5]) -> bool {
+fn is_before(a: [u16; 5], b: [u16; 5]) -> bool
+    ensures { λ r. ⌜ r ≡ less a b ⌝ }
+{
     let first = VersionVec { versions: a };
     first.less(VersionVec { versions: b })
 }
 
-fn is_seq_cst(order: u8) -> u16 {
+fn is_seq_cst(order: u8) -> u16
+    ensures { λ r. ⌜ r ≡ seqCstFlag order ⌝ }
+{
     if order == synchronize::SEQ_CST { 1 } else { 0 }
 }

@@ -1,5 +1,8 @@
 // Which stores a load or a read-modify-write may return: loom's match_load_to_stores and match_rmw_to_stores.
-ghost use Prim.Native.Nat.{_<_, _≤_};
+ghost use mathlib.Core.Path.{_≡_};
+ghost use Prim.Native.Nat.{_<_};
+ghost use Rattle.rules.specs.Cell.{allSeqCst, fateFrom, liveIn, rmwFate, matchedLoad, matchedRmw, orderOf};
+ghost use Rattle.atomic.specs.Offers.{compared, fateOf, drops, scanned, offered};
 use crate::first_seen::FirstSeen;
 use crate::first_seen::seen_slots;
 use crate::live_stores;
@@ -44,6 +47,7 @@ pub fn match_load_to_stores(
     dst: &mut [u8; 7],
 ) -> Matched
     requires { ⌜ (thread < 5) × (cell < 4) ⌝ }
+    ensures { λ r. ⌜ scanned r (now (dst .exit)) ≡ offered (matchedLoad (now (clocks .entry)) marks (now (small .entry)) thread cell order) (now (dst .entry)) ⌝ }
 {
     let causality = clocks[CAUSALITY + thread];
     let seen = seen_slots(marks, causality);
@@ -80,6 +84,7 @@ fn load_fate(
     before_yield: bool,
 ) -> Fate
     requires { ⌜ (cell < 4) × (i < 7) ⌝ }
+    ensures { λ r. ⌜ fateOf r ≡ fateFrom (now (clocks .entry)) cell i (drops seen «before_yield» (now (small .entry)) cell order i) (liveIn (now (small .entry)) cell) 0 ⌝ }
 {
     let live = live_stores(small[COUNT + cell]);
     let mut j = 0;
@@ -108,6 +113,7 @@ pub fn match_rmw_to_stores(
     dst: &mut [u8; 7],
 ) -> Matched
     requires { ⌜ cell < 4 ⌝ }
+    ensures { λ r. ⌜ scanned r (now (dst .exit)) ≡ offered (matchedRmw (now (clocks .entry)) (now (small .entry)) cell) (now (dst .entry)) ⌝ }
 {
     let live = live_stores(small[COUNT + cell]);
     let mut n = 0;
@@ -129,6 +135,7 @@ pub fn match_rmw_to_stores(
 // Store i is dropped at the first newer live one.
 fn rmw_fate(clocks: &Clocks, small: &Small, cell: usize, i: usize) -> Fate
     requires { ⌜ (cell < 4) × (i < 7) ⌝ }
+    ensures { λ r. ⌜ fateOf r ≡ rmwFate (now (clocks .entry)) (now (small .entry)) cell i ⌝ }
 {
     let live = live_stores(small[COUNT + cell]);
     let mut j = 0;
@@ -148,6 +155,7 @@ fn rmw_fate(clocks: &Clocks, small: &Small, cell: usize, i: usize) -> Fate
 // Store i against store j in modification order.
 fn compare_orders(clocks: &Clocks, cell: usize, i: usize, j: usize) -> Order
     requires { ⌜ (cell < 4) × (i < 7) × (j < 7) ⌝ }
+    ensures { λ r. ⌜ r ≡ compared (orderOf (now (clocks .entry)) cell i) (orderOf (now (clocks .entry)) cell j) ⌝ }
 {
     let a = clocks[MODIFICATION_ORDER + state::store_at(cell, i)];
     let b = clocks[MODIFICATION_ORDER + state::store_at(cell, j)];
@@ -165,8 +173,9 @@ fn compare_orders(clocks: &Clocks, cell: usize, i: usize, j: usize) -> Order
 // Whether the load and both stores are SeqCst.
 fn all_seq_cst(small: &Small, cell: usize, i: usize, j: usize, order: u8) -> bool
     requires { ⌜ (cell < 4) × (i < 7) × (j < 7) ⌝ }
+    ensures { λ r. ⌜ r ≡ allSeqCst (now (small .entry)) cell i j order ⌝ }
 {
     let a = small[state::SEQ_CST + state::store_at(cell, i)];
     let b = small[state::SEQ_CST + state::store_at(cell, j)];
-    order == SEQ_CST && a == 1 && b == 1
+    (order == SEQ_CST) & (a == 1) & (b == 1)
 }

@@ -1,5 +1,10 @@
 // How vectors pass between threads and stores: loom's rt/synchronize.rs over the lent clocks.
+ghost use mathlib.Core.Path.{_≡_};
 ghost use Prim.Native.Nat.{_<_};
+ghost use mathlib.Core.List.{[]};
+ghost use lib.ListN.{getD, set};
+ghost use Rattle.rules.specs.Vector.{joined};
+ghost use Rattle.rules.specs.Cell.{loadSynced, storeSynced};
 use crate::state::CAUSALITY;
 use crate::state::Clocks;
 use crate::state::RELEASED;
@@ -18,7 +23,9 @@ pub const ACQ_REL: u8 = 3;
 pub const SEQ_CST: u8 = 4;
 
 // The greater of each part of two rows.
-pub fn join(a: [u16; 5], b: [u16; 5]) -> [u16; 5] {
+pub fn join(a: [u16; 5], b: [u16; 5]) -> [u16; 5]
+    ensures { λ r. ⌜ r ≡ joined a b ⌝ }
+{
     let first = VersionVec { versions: a };
     let both = first.join(VersionVec { versions: b });
     both.versions
@@ -27,6 +34,7 @@ pub fn join(a: [u16; 5], b: [u16; 5]) -> [u16; 5] {
 // The vector at `at` takes the one at `from` in.
 pub fn join_into(clocks: &mut Clocks, at: usize, from: usize)
     requires { ⌜ (at < 124) × (from < 124) ⌝ }
+    ensures { λ _. ⌜ now (clocks .exit) ≡ set (now (clocks .entry)) at (joined (getD (now (clocks .entry)) at []) (getD (now (clocks .entry)) from [])) ⌝ }
 {
     let own = clocks[at];
     let other = clocks[from];
@@ -36,6 +44,7 @@ pub fn join_into(clocks: &mut Clocks, at: usize, from: usize)
 // A load by an order that acquires takes the store's sync vector into the thread.
 pub fn sync_load(clocks: &mut Clocks, thread: usize, store: usize, order: u8)
     requires { ⌜ (thread < 5) × (store < 28) ⌝ }
+    ensures { λ _. ⌜ now (clocks .exit) ≡ loadSynced (now (clocks .entry)) thread store order ⌝ }
 {
     match order {
         ACQUIRE | ACQ_REL | SEQ_CST => join_into(clocks, CAUSALITY + thread, SYNC + store),
@@ -46,6 +55,7 @@ pub fn sync_load(clocks: &mut Clocks, thread: usize, store: usize, order: u8)
 // What a store leaves for loads that acquire: the released vector too, and by an order that releases the thread's own.
 pub fn sync_store(clocks: &Clocks, thread: usize, sync: [u16; 5], order: u8) -> [u16; 5]
     requires { ⌜ thread < 5 ⌝ }
+    ensures { λ r. ⌜ r ≡ storeSynced (now (clocks .entry)) thread sync order ⌝ }
 {
     let released = clocks[RELEASED + thread];
     let sync = join(sync, released);

@@ -1,5 +1,12 @@
 // Which accesses a cell has had, and whether one more races with them: loom's track_ functions.
+ghost use mathlib.Core.Path.{_≡_};
 ghost use Prim.Native.Nat.{_<_};
+ghost use mathlib.Core.List.{[]};
+ghost use lib.ListN.{getD};
+ghost use Rattle.rules.specs.Cell.{ofKind, loadRace, loadTracked, unsyncLoadRace, unsyncLoadTracked, storeRace, storeTracked, mutRace, mutTracked};
+ghost use Rattle.rules.specs.State.{vector, causality};
+ghost use Rattle.rules.specs.Vector as rules;
+ghost use Rattle.atomic.specs.Tracked.{raceOf, Tracked};
 use crate::state::CAUSALITY;
 use crate::state::Clocks;
 use crate::state::LOADED_AT;
@@ -19,6 +26,7 @@ pub enum Race {
 // A race of this kind where the accesses recorded at `at` have a thread ahead of the current one.
 pub fn race_with(clocks: &Clocks, thread: usize, at: usize, kind: u8) -> Race
     requires { ⌜ (thread < 5) × (at < 124) ⌝ }
+    ensures { λ r. ⌜ raceOf r ≡ ofKind kind (rules.ahead (vector (now (clocks .entry)) (causality thread)) (getD (now (clocks .entry)) at [])) ⌝ }
 {
     let current = clocks[CAUSALITY + thread];
     let recorded = clocks[at];
@@ -32,6 +40,7 @@ pub fn race_with(clocks: &Clocks, thread: usize, at: usize, kind: u8) -> Race
 // Track an atomic load.
 pub fn track_load(clocks: &mut Clocks, thread: usize, cell: usize) -> Race
     requires { ⌜ (thread < 5) × (cell < 4) ⌝ }
+    ensures { λ r. ⌜ Tracked (raceOf r) (now (clocks .exit)) (loadRace (now (clocks .entry)) thread cell) (loadTracked (now (clocks .entry)) thread cell) ⌝ }
 {
     if let Race::With { kind, other } = race_with(clocks, thread, UNSYNC_MUT_AT + cell, 1) {
         return Race::With { kind, other };
@@ -43,6 +52,7 @@ pub fn track_load(clocks: &mut Clocks, thread: usize, cell: usize) -> Race
 // Track an unsynchronised load.
 pub fn track_unsync_load(clocks: &mut Clocks, thread: usize, cell: usize) -> Race
     requires { ⌜ (thread < 5) × (cell < 4) ⌝ }
+    ensures { λ r. ⌜ Tracked (raceOf r) (now (clocks .exit)) (unsyncLoadRace (now (clocks .entry)) thread cell) (unsyncLoadTracked (now (clocks .entry)) thread cell) ⌝ }
 {
     if let Race::With { kind, other } = race_with(clocks, thread, UNSYNC_MUT_AT + cell, 2) {
         return Race::With { kind, other };
@@ -57,6 +67,7 @@ pub fn track_unsync_load(clocks: &mut Clocks, thread: usize, cell: usize) -> Rac
 // Track an atomic store.
 pub fn track_store(clocks: &mut Clocks, thread: usize, cell: usize) -> Race
     requires { ⌜ (thread < 5) × (cell < 4) ⌝ }
+    ensures { λ r. ⌜ Tracked (raceOf r) (now (clocks .exit)) (storeRace (now (clocks .entry)) thread cell) (storeTracked (now (clocks .entry)) thread cell) ⌝ }
 {
     if let Race::With { kind, other } = race_with(clocks, thread, UNSYNC_MUT_AT + cell, 4) {
         return Race::With { kind, other };
@@ -71,6 +82,7 @@ pub fn track_store(clocks: &mut Clocks, thread: usize, cell: usize) -> Race
 // Track an exclusive change.
 pub fn track_unsync_mut(clocks: &mut Clocks, thread: usize, cell: usize) -> Race
     requires { ⌜ (thread < 5) × (cell < 4) ⌝ }
+    ensures { λ r. ⌜ Tracked (raceOf r) (now (clocks .exit)) (mutRace (now (clocks .entry)) thread cell) (mutTracked (now (clocks .entry)) thread cell) ⌝ }
 {
     if let Race::With { kind, other } = race_with(clocks, thread, LOADED_AT + cell, 6) {
         return Race::With { kind, other };

@@ -6,13 +6,9 @@ use libc::STDERR_FILENO;
 use options::Asked;
 use options::Options;
 
-mod answer;
 mod file;
-mod line;
 mod options;
-mod print;
 mod run;
-mod words;
 
 fn main() {
     if !explored() {

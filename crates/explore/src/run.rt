@@ -1,13 +1,9 @@
 // A run: the buffers, the exploration and what is printed of it.
 ghost use Prim.Native.Nat.{_≤_};
-use crate::answer;
-use crate::line;
-use crate::print;
 use explorer::Answer;
 use explorer::MAX_EXECUTIONS;
 use explorer::Report;
 use explorer::Settings;
-use explorer::report;
 use libc::STDERR_FILENO;
 
 // Explores and prints, with as much of the largest buffers as the settings ask for.
@@ -37,7 +33,7 @@ fn bytes(records: u64, all: usize) -> usize
 // Explores in buffers of the right lengths, and prints.
 fn run_in(table: &[u8], settings: Settings, path: &mut [u8], trace: &mut [u8]) {
     let report = explore(table, settings, path, trace);
-    print_report(table, settings, report, trace);
+    tell::print_report(table, settings, report, trace);
 }
 
 // Explores. The library gives no word before its answer, so a long run is made with budgets that double: one that is spent
@@ -75,28 +71,4 @@ fn with_budget(settings: Settings, executions: u64) -> Settings {
         bound: settings.bound,
         exploring: settings.exploring,
     }
-}
-
-// Prints all of a report; where nothing began, only what is wrong.
-fn print_report(table: &[u8], settings: Settings, report: Report, trace: &[u8]) {
-    let answer = report.answer;
-    let number = report::number(answer);
-    answer::print(
-        number,
-        report::race_kind(answer),
-        report::other_thread(answer),
-        report,
-        settings,
-    );
-    if report.begun == 0 {
-        return;
-    }
-    line::write(b"");
-    print::counts(report);
-    line::write(b"");
-    let threads = report.threads;
-    print::threads(threads);
-    line::write(b"");
-    print::execution(table, trace);
-    print::failed(table, report.thread, report.row);
 }

@@ -25,9 +25,10 @@ use execution::Shape;
 use execution::THREADS;
 use execution::start::start;
 
-// How many ticks an execution of `operations` rows can take: a row begins, may block once, and acts; each thread ends.
+// More ticks than an execution of `operations` rows can take: a row begins, may block once, and acts; each thread ends, and
+// may free four others.
 pub fn ticks(operations: u64) -> u64 {
-    3 * (operations % 65536) + 6
+    3 * (operations % 65536) + 26
 }
 
 // What an execution that is over says of the run.

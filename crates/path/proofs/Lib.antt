@@ -1,2 +1,16 @@
 pub mod Answers
+pub mod ChoiceLaws
+pub mod FieldLaws
+pub mod HoldsLaws
+pub mod LoadLaws
+pub mod MarkLaws
+pub mod NewLaws
+pub mod OpenLaws
+pub mod OpenWalks
 pub mod Places
+pub mod PushLaws
+pub mod ScheduleLaws
+pub mod StatesLaws
+pub mod StepLaws
+pub mod ThreadLaws
+pub mod WalkLaws

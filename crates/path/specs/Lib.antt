@@ -1,3 +1,9 @@
 pub mod Answers
+pub mod Choices
 pub mod Fields
+pub mod Holds
 pub mod Places
+pub mod Pushes
+pub mod Schedules
+pub mod Steps
+pub mod Walks

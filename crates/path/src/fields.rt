@@ -2,7 +2,9 @@
 ghost use mathlib.Core.Path.{_≡_};
 ghost use Prim.Native.Nat.{_+_, _*_, _≤_, _<_};
 ghost use lib.ListN.{length};
-ghost use Rattle.path.specs.Fields.{fieldOf, withField};
+ghost use lib.Dec.{eqb};
+ghost use Rattle.rules.specs.Path.{flag};
+ghost use Rattle.path.specs.Fields.{fieldOf, withField, begun, cleared};
 
 pub const MAX_THREADS: usize = 5;
 
@@ -100,6 +102,7 @@ pub fn put(path: &mut [u8], at: usize, k: usize, v: u8)
 // explored. The fields that are to be zero need no more.
 pub fn begin(path: &mut [u8], at: usize, kind: u8, exploring: bool)
     requires { ⌜ 16 * at + 16 ≤ length (now path) ⌝ }
+    ensures { λ _. ⌜ now (path .exit) ≡ begun (now (path .entry)) at kind exploring ⌝ }
 {
     put(path, at, KIND, kind);
     put(path, at, EXPLORING, flag(exploring));
@@ -108,6 +111,7 @@ pub fn begin(path: &mut [u8], at: usize, kind: u8, exploring: bool)
 // Sets all bytes of a record to zero, as they are past the last one.
 pub fn clear(path: &mut [u8], at: usize)
     requires { ⌜ 16 * at + 16 ≤ length (now path) ⌝ }
+    ensures { λ _. ⌜ now (path .exit) ≡ cleared (now (path .entry)) at ⌝ }
 {
     let mut k = 0;
     while k < RECORD {
@@ -119,6 +123,7 @@ pub fn clear(path: &mut [u8], at: usize)
 // Whether the record at a position is of a kind.
 pub fn is_kind(path: &[u8], at: usize, kind: u8) -> bool
     requires { ⌜ 16 * at + 16 ≤ length (now path) ⌝ }
+    ensures { λ r. ⌜ r ≡ eqb (fieldOf (now (path .entry)) at 0) kind ⌝ }
 {
     field(path, at, KIND) == kind
 }
@@ -126,6 +131,7 @@ pub fn is_kind(path: &[u8], at: usize, kind: u8) -> bool
 // Whether the choices of the record at a position are explored.
 pub fn is_exploring(path: &[u8], at: usize) -> bool
     requires { ⌜ 16 * at + 16 ≤ length (now path) ⌝ }
+    ensures { λ r. ⌜ r ≡ eqb (fieldOf (now (path .entry)) at 1) 1 ⌝ }
 {
     field(path, at, EXPLORING) == 1
 }
@@ -137,7 +143,9 @@ pub fn wide(b: u8) -> usize
     b as usize
 }
 
-fn flag(exploring: bool) -> u8 {
+fn flag(exploring: bool) -> u8
+    ensures { λ r. ⌜ r ≡ flag exploring ⌝ }
+{
     if exploring {
         return 1;
     }

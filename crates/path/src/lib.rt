@@ -6,9 +6,17 @@ mod load;
 mod schedule;
 
 ghost use Prim.Native.Nat.{_+_, _*_, _≤_};
-ghost use lib.ListN.{length};
-ghost use Rattle.path.specs.Answers.{pushedWithin, chosenThread, offeredSlot};
-ghost use Rattle.path.specs.Places.{foundBelow};
+ghost use mathlib.Core.Bool.{cond};
+ghost use lib.Dec.{eqb};
+ghost use lib.ListN.{length, take};
+ghost use Rattle.rules.specs.Path.{spuriousAdded, loadAdded};
+ghost use Rattle.path.specs.Choices.{Reads, Says};
+ghost use Rattle.path.specs.Pushes.{Pushes};
+ghost use Rattle.path.specs.Answers.{Counts};
+ghost use Rattle.path.specs.Fields.{fieldOf};
+ghost use Rattle.path.specs.Schedules.{boundOf};
+ghost use Rattle.path.specs.Steps.{OpenAt, AnyOpen, OpenIn, Sets, StepsAt, Steps};
+ghost use Rattle.path.specs.Walks.{LastOf, ExploringFrom, SwitchFrom, MarksBefore, Backtracks, Chooses, PushesThread};
 use fields::RECORD;
 use fields::field;
 use fields::put;
@@ -46,7 +54,7 @@ pub enum Spurious {
 // Adds a schedule branch with the seed's thread states. It opens nothing yet: backtrack does.
 pub fn push_thread(path: &mut [u8], len: usize, exploring: bool, seed: [u8; 5]) -> Pushed
     requires { ⌜ 16 * len ≤ length (now path) ⌝ }
-    ensures { λ r. ⌜ pushedWithin (now (path .entry)) len 0 r ⌝ }
+    ensures { λ r. ⌜ PushesThread (now (path .entry)) (now (path .exit)) len exploring seed r ⌝ }
 {
     if path.len() - RECORD * len < RECORD {
         return Pushed::Full;
@@ -68,7 +76,7 @@ pub fn push_thread(path: &mut [u8], len: usize, exploring: bool, seed: [u8; 5]) 
 // The thread that the branch at a position has Active.
 pub fn branch_thread(path: &[u8], pos: usize) -> Chosen
     requires { ⌜ 16 * pos + 16 ≤ length (now path) ⌝ }
-    ensures { λ r. ⌜ chosenThread r ⌝ }
+    ensures { λ r. ⌜ Chooses (now (path .entry)) pos r ⌝ }
 {
     if !fields::is_kind(path, pos, fields::SCHEDULE) {
         return Chosen::Unexpected;
@@ -84,7 +92,7 @@ pub fn branch_thread(path: &[u8], pos: usize) -> Chosen
 // others are opened where it is explored.
 pub fn push_load(path: &mut [u8], len: usize, exploring: bool, seed: [u8; 7], n: usize) -> Pushed
     requires { ⌜ (16 * len ≤ length (now path)) × (n ≤ 7) ⌝ }
-    ensures { λ r. ⌜ pushedWithin (now (path .entry)) len 6 r ⌝ }
+    ensures { λ r. ⌜ Pushes (now (path .entry)) (now (path .exit)) len 6 (λ B bs. loadAdded B bs exploring (take n seed)) r ⌝ }
 {
     if path.len() - RECORD * len < RECORD {
         return Pushed::Full;
@@ -100,7 +108,7 @@ pub fn push_load(path: &mut [u8], len: usize, exploring: bool, seed: [u8; 7], n:
 // The slot that the branch at a position chooses now, with its offers.
 pub fn branch_load(path: &[u8], pos: usize) -> Offered
     requires { ⌜ 16 * pos + 16 ≤ length (now path) ⌝ }
-    ensures { λ r. ⌜ offeredSlot r ⌝ }
+    ensures { λ r. ⌜ Reads (now (path .entry)) pos r ⌝ }
 {
     if !fields::is_kind(path, pos, fields::LOAD) {
         return Offered::Unexpected;
@@ -111,7 +119,7 @@ pub fn branch_load(path: &[u8], pos: usize) -> Offered
 // Adds a spurious branch, which says no first. Its yes is opened where it is explored.
 pub fn push_spurious(path: &mut [u8], len: usize, exploring: bool) -> Pushed
     requires { ⌜ 16 * len ≤ length (now path) ⌝ }
-    ensures { λ r. ⌜ pushedWithin (now (path .entry)) len 1 r ⌝ }
+    ensures { λ r. ⌜ Pushes (now (path .entry)) (now (path .exit)) len 1 (λ B bs. spuriousAdded B bs exploring) r ⌝ }
 {
     if path.len() - RECORD * len < RECORD {
         return Pushed::Full;
@@ -126,6 +134,7 @@ pub fn push_spurious(path: &mut [u8], len: usize, exploring: bool) -> Pushed
 // What the branch at a position says now.
 pub fn branch_spurious(path: &[u8], pos: usize) -> Spurious
     requires { ⌜ 16 * pos + 16 ≤ length (now path) ⌝ }
+    ensures { λ r. ⌜ Says (now (path .entry)) pos r ⌝ }
 {
     if !fields::is_kind(path, pos, fields::SPURIOUS) {
         return Spurious::Unexpected;
@@ -137,7 +146,7 @@ pub fn branch_spurious(path: &[u8], pos: usize) -> Spurious
 // how many choices that opened. With a bound an earlier schedule is marked too.
 pub fn backtrack(path: &mut [u8], point: usize, thread: usize, bounded: bool, bound: u8) -> u64
     requires { ⌜ 16 * point + 16 ≤ length (now path) ⌝ }
-    ensures { λ r. ⌜ r ≤ 10 ⌝ }
+    ensures { λ r. ⌜ Backtracks (now (path .entry)) (now (path .exit)) point (boundOf bounded bound) thread r ⌝ }
 {
     let Found::At(at) = exploring_from(path, point) else {
         return 0;
@@ -152,6 +161,7 @@ pub fn backtrack(path: &mut [u8], point: usize, thread: usize, bounded: bool, bo
 // Whether some choice is open. It looks at the last records first, where most open choices are.
 pub fn any_open(path: &[u8], len: usize) -> bool
     requires { ⌜ 16 * len ≤ length (now path) ⌝ }
+    ensures { λ r. ⌜ AnyOpen (now (path .entry)) len r ⌝ }
 {
     let mut last = len;
     while 0 < last {
@@ -166,7 +176,7 @@ pub fn any_open(path: &[u8], len: usize) -> bool
 // How many choices are open.
 pub fn open(path: &[u8], len: usize) -> u64
     requires { ⌜ 16 * len ≤ length (now path) ⌝ }
-    ensures { λ r. ⌜ r ≤ 6 * len ⌝ }
+    ensures { λ r. ⌜ OpenIn (now (path .entry)) len r ⌝ }
 {
     let mut count = 0;
     let mut at = 0;
@@ -182,7 +192,7 @@ pub fn open(path: &[u8], len: usize) -> u64
 // walked depth first.
 pub fn step(path: &mut [u8], len: usize) -> usize
     requires { ⌜ 16 * len ≤ length (now path) ⌝ }
-    ensures { λ r. ⌜ r ≤ len ⌝ }
+    ensures { λ r. ⌜ Steps (now (path .entry)) (now (path .exit)) len r ⌝ }
 {
     let mut left = len;
     while 0 < left {
@@ -199,7 +209,7 @@ pub fn step(path: &mut [u8], len: usize) -> usize
 // The last schedule record of the path.
 fn last_schedule(path: &[u8], len: usize) -> Found
     requires { ⌜ 16 * len ≤ length (now path) ⌝ }
-    ensures { λ r. ⌜ foundBelow len r ⌝ }
+    ensures { λ r. ⌜ LastOf (now (path .entry)) len r ⌝ }
 {
     let mut last = len;
     while 0 < last {
@@ -214,7 +224,7 @@ fn last_schedule(path: &[u8], len: usize) -> Found
 // The last exploring schedule record that does not stand after the point.
 fn exploring_from(path: &[u8], point: usize) -> Found
     requires { ⌜ 16 * point + 16 ≤ length (now path) ⌝ }
-    ensures { λ r. ⌜ foundBelow (point + 1) r ⌝ }
+    ensures { λ r. ⌜ ExploringFrom (now (path .entry)) point r ⌝ }
 {
     let mut at = point + 1;
     while 0 < at {
@@ -233,7 +243,7 @@ fn exploring_from(path: &[u8], point: usize) -> Found
 // opened.
 fn backtrack_before(path: &mut [u8], at: usize, thread: usize, bound: u8) -> u64
     requires { ⌜ 16 * at + 16 ≤ length (now path) ⌝ }
-    ensures { λ r. ⌜ r ≤ 5 ⌝ }
+    ensures { λ r. ⌜ MarksBefore (now (path .entry)) (now (path .exit)) at bound thread r ⌝ }
 {
     let Found::At(prev) = schedule::prev(path, at) else {
         return 0;
@@ -248,7 +258,7 @@ fn backtrack_before(path: &mut [u8], at: usize, thread: usize, bound: u8) -> u64
 // before it. The very first schedule counts too, where it is explored.
 fn switch_from(path: &[u8], from: usize) -> Found
     requires { ⌜ 16 * from + 16 ≤ length (now path) ⌝ }
-    ensures { λ r. ⌜ foundBelow (from + 1) r ⌝ }
+    ensures { λ r. ⌜ SwitchFrom (now (path .entry)) from r ⌝ }
 {
     let mut curr = from;
     loop {
@@ -273,7 +283,7 @@ fn switch_from(path: &[u8], from: usize) -> Found
 // How many choices are open at the record at a position: none where it is not explored.
 fn open_at(path: &[u8], at: usize) -> u64
     requires { ⌜ 16 * at + 16 ≤ length (now path) ⌝ }
-    ensures { λ r. ⌜ r ≤ 6 ⌝ }
+    ensures { λ r. ⌜ OpenAt (now (path .entry)) at r ⌝ }
 {
     if !fields::is_exploring(path, at) {
         return 0;
@@ -291,6 +301,7 @@ fn open_at(path: &[u8], at: usize) -> u64
 // not explored there is none.
 fn step_at(path: &mut [u8], at: usize) -> bool
     requires { ⌜ 16 * at + 16 ≤ length (now path) ⌝ }
+    ensures { λ r. ⌜ StepsAt (now (path .entry)) (now (path .exit)) at r ⌝ }
 {
     if !fields::is_exploring(path, at) {
         return false;
@@ -307,7 +318,7 @@ fn step_at(path: &mut [u8], at: usize) -> bool
 // A spurious branch that says no can still say yes.
 fn open_spurious(path: &[u8], at: usize) -> u64
     requires { ⌜ 16 * at + 16 ≤ length (now path) ⌝ }
-    ensures { λ r. ⌜ r ≤ 1 ⌝ }
+    ensures { λ r. ⌜ Counts 1 (cond (eqb (fieldOf (now (path .entry)) at 2) 0) 1 0) r ⌝ }
 {
     if field(path, at, fields::SPUR) == 0 {
         return 1;
@@ -318,6 +329,7 @@ fn open_spurious(path: &[u8], at: usize) -> u64
 // From no to yes. Answers whether it said no.
 fn step_spurious(path: &mut [u8], at: usize) -> bool
     requires { ⌜ 16 * at + 16 ≤ length (now path) ⌝ }
+    ensures { λ r. ⌜ Sets (now (path .entry)) (now (path .exit)) at r ⌝ }
 {
     if field(path, at, fields::SPUR) == 0 {
         put(path, at, fields::SPUR, 1);

@@ -1,8 +1,12 @@
 // A load record, after loom's Load: the slots that a load may read, and which of them it reads
 // now.
+ghost use mathlib.Core.Path.{_≡_};
 ghost use Prim.Native.Nat.{_+_, _*_, _≤_, _<_};
 ghost use lib.ListN.{length};
-ghost use Rattle.path.specs.Answers.{offeredSlot};
+ghost use Rattle.path.specs.Fields.{fieldOf, withValues, valuesAt};
+ghost use Rattle.path.specs.Choices.{offers, OfLoad};
+ghost use Rattle.path.specs.Steps.{Moves};
+ghost use Rattle.path.specs.Answers.{Offers, Left};
 use crate::Offered;
 use crate::fields;
 use crate::fields::MAX_ATOMIC_HISTORY;
@@ -13,6 +17,7 @@ use crate::fields::wide;
 // Sets the values to the seed's first n, and how many there are.
 pub fn put_values(path: &mut [u8], at: usize, seed: [u8; 7], n: usize)
     requires { ⌜ (16 * at + 16 ≤ length (now path)) × (n ≤ 7) ⌝ }
+    ensures { λ _. ⌜ now (path .exit) ≡ withValues (now (path .entry)) at seed n ⌝ }
 {
     let mut i = 0;
     while i < n {
@@ -26,7 +31,7 @@ pub fn put_values(path: &mut [u8], at: usize, seed: [u8; 7], n: usize)
 // position is none of theirs or a value is no slot.
 pub fn offered(path: &[u8], at: usize) -> Offered
     requires { ⌜ 16 * at + 16 ≤ length (now path) ⌝ }
-    ensures { λ r. ⌜ offeredSlot r ⌝ }
+    ensures { λ r. ⌜ OfLoad (now (path .entry)) at r ⌝ }
 {
     let pos = wide(field(path, at, fields::POS));
     let len = wide(field(path, at, fields::LEN));
@@ -46,7 +51,7 @@ pub fn offered(path: &[u8], at: usize) -> Offered
 // The slot, with the mask of the record's first n values: bit i for slot i.
 fn with_mask(path: &[u8], at: usize, n: usize, slot: usize) -> Offered
     requires { ⌜ (16 * at + 16 ≤ length (now path)) × (n ≤ 7) × (slot < 7) ⌝ }
-    ensures { λ r. ⌜ offeredSlot r ⌝ }
+    ensures { λ r. ⌜ Offers (offers slot 0 (valuesAt (now (path .entry)) at n)) r ⌝ }
 {
     let mut mask = 0;
     let mut i = 0;
@@ -63,7 +68,7 @@ fn with_mask(path: &[u8], at: usize, n: usize, slot: usize) -> Offered
 
 // How many values follow a position, which are the choices still open.
 pub fn left(pos: usize, len: usize) -> u64
-    ensures { λ r. ⌜ r ≤ 6 ⌝ }
+    ensures { λ r. ⌜ Left pos len r ⌝ }
 {
     if MAX_ATOMIC_HISTORY < len {
         return 0;
@@ -77,7 +82,7 @@ pub fn left(pos: usize, len: usize) -> u64
 // How many of the record's values are still to be read.
 pub fn open(path: &[u8], at: usize) -> u64
     requires { ⌜ 16 * at + 16 ≤ length (now path) ⌝ }
-    ensures { λ r. ⌜ r ≤ 6 ⌝ }
+    ensures { λ r. ⌜ Left (fieldOf (now (path .entry)) at 9) (fieldOf (now (path .entry)) at 10) r ⌝ }
 {
     left(
         wide(field(path, at, fields::POS)),
@@ -88,6 +93,7 @@ pub fn open(path: &[u8], at: usize) -> u64
 // Goes on to the next value. Answers whether there was one.
 pub fn step(path: &mut [u8], at: usize) -> bool
     requires { ⌜ 16 * at + 16 ≤ length (now path) ⌝ }
+    ensures { λ r. ⌜ Moves (now (path .entry)) (now (path .exit)) at r ⌝ }
 {
     let next = wide(field(path, at, fields::POS)) + 1;
     if next < wide(field(path, at, fields::LEN)) {

@@ -1,7 +1,15 @@
 // A schedule record, after loom's impl Schedule and impl Thread.
-ghost use Prim.Native.Nat.{_+_, _*_, _≤_, _<_};
+ghost use mathlib.Core.Path.{_≡_};
+ghost use mathlib.Core.Bool.{_&&_};
+ghost use Prim.Native.Nat.{_+_, _*_, _/_, _%_, _≤_, _<_};
 ghost use lib.ListN.{length};
-ghost use Rattle.path.specs.Places.{foundBelow};
+ghost use lib.Dec.{eqb};
+ghost use Rattle.rules.specs.Path.{active, toggled, pendings, left};
+ghost use Rattle.path.specs.Answers.{Counts};
+ghost use Rattle.path.specs.Fields.{fieldOf, withField, statesAt, withStatesAt};
+ghost use Rattle.path.specs.Steps.{Visits};
+ghost use Rattle.path.specs.Places.{foundBelow, First};
+ghost use Rattle.path.specs.Schedules.{byteOf, boundOf, positionOf, initialAt, Explores, ExploresAll, MarksAt, PrevOf, PreemptionsOf, PreemptionsBefore};
 use crate::fields;
 use crate::fields::MAX_THREADS;
 use crate::fields::field;
@@ -18,7 +26,7 @@ pub enum Found {
 // the first would be a branch that differs from record to record.
 pub fn first_in(path: &[u8], at: usize, state: u8) -> usize
     requires { ⌜ 16 * at + 16 ≤ length (now path) ⌝ }
-    ensures { λ r. ⌜ r ≤ 5 ⌝ }
+    ensures { λ r. ⌜ First (statesAt (now (path .entry)) at) state r ⌝ }
 {
     let mut found = MAX_THREADS;
     let mut thread = MAX_THREADS;
@@ -34,13 +42,15 @@ pub fn first_in(path: &[u8], at: usize, state: u8) -> usize
 // The thread that is Active, or MAX_THREADS.
 pub fn active_thread_index(path: &[u8], at: usize) -> usize
     requires { ⌜ 16 * at + 16 ≤ length (now path) ⌝ }
-    ensures { λ r. ⌜ r ≤ 5 ⌝ }
+    ensures { λ r. ⌜ First (statesAt (now (path .entry)) at) active r ⌝ }
 {
     first_in(path, at, fields::ACTIVE)
 }
 
 // A thread as the byte of the initial active field: NOBODY where it is none of the five.
-fn thread_byte(thread: usize) -> u8 {
+fn thread_byte(thread: usize) -> u8
+    ensures { λ r. ⌜ r ≡ byteOf thread ⌝ }
+{
     if thread < MAX_THREADS {
         return (thread % 256) as u8;
     }
@@ -51,7 +61,7 @@ fn thread_byte(thread: usize) -> u8 {
 // away from the thread that was active first.
 pub fn preemptions(path: &[u8], at: usize) -> usize
     requires { ⌜ 16 * at + 16 ≤ length (now path) ⌝ }
-    ensures { λ r. ⌜ r ≤ 256 ⌝ }
+    ensures { λ r. ⌜ PreemptionsOf (now (path .entry)) at r ⌝ }
 {
     let before = wide(field(path, at, fields::PREEMPTIONS));
     let initial = field(path, at, fields::INITIAL_ACTIVE);
@@ -67,7 +77,7 @@ pub fn preemptions(path: &[u8], at: usize) -> usize
 // The preemptions before a new branch at a position, by the schedule record before it.
 pub fn preemptions_before(path: &[u8], at: usize, prev: Found) -> usize
     requires { ⌜ (16 * at ≤ length (now path)) × foundBelow at prev ⌝ }
-    ensures { λ r. ⌜ r ≤ 256 ⌝ }
+    ensures { λ r. ⌜ PreemptionsBefore (now (path .entry)) prev r ⌝ }
 {
     let Found::At(p) = prev else {
         return 0;
@@ -76,18 +86,19 @@ pub fn preemptions_before(path: &[u8], at: usize, prev: Found) -> usize
 }
 
 // The schedule record before this one. One that does not lie below counts as none, so that a walk
-// always ends.
+// always ends: NO_PREV lies below no record. One that is no schedule, which no push_thread has
+// written, counts as none too.
 pub fn prev(path: &[u8], at: usize) -> Found
     requires { ⌜ 16 * at + 16 ≤ length (now path) ⌝ }
-    ensures { λ r. ⌜ foundBelow at r ⌝ }
+    ensures { λ r. ⌜ PrevOf (now (path .entry)) at r ⌝ }
 {
     let low = wide(field(path, at, fields::PREV_LOW));
     let high = wide(field(path, at, fields::PREV_HIGH));
     let prev = low + 256 * high;
-    if prev == fields::NO_PREV {
+    if at <= prev {
         return Found::Nowhere;
     }
-    if at <= prev {
+    if !fields::is_kind(path, prev, fields::SCHEDULE) {
         return Found::Nowhere;
     }
     Found::At(prev)
@@ -96,13 +107,16 @@ pub fn prev(path: &[u8], at: usize) -> Found
 // Sets the position of the schedule record before this one, or NO_PREV where there is none.
 pub fn put_prev(path: &mut [u8], at: usize, prev: Found)
     requires { ⌜ 16 * at + 16 ≤ length (now path) ⌝ }
+    ensures { λ _. ⌜ now (path .exit) ≡ withField (withField (now (path .entry)) at 9 (positionOf prev % 256)) at 10 (positionOf prev / 256 % 256) ⌝ }
 {
     let position = position_of(prev);
     put(path, at, fields::PREV_LOW, (position % 256) as u8);
     put(path, at, fields::PREV_HIGH, (position / 256 % 256) as u8);
 }
 
-fn position_of(prev: Found) -> usize {
+fn position_of(prev: Found) -> usize
+    ensures { λ r. ⌜ r ≡ positionOf prev ⌝ }
+{
     let Found::At(p) = prev else {
         return fields::NO_PREV;
     };
@@ -112,6 +126,7 @@ fn position_of(prev: Found) -> usize {
 // Sets the five thread states to the seed.
 pub fn put_threads(path: &mut [u8], at: usize, seed: [u8; 5])
     requires { ⌜ 16 * at + 16 ≤ length (now path) ⌝ }
+    ensures { λ _. ⌜ now (path .exit) ≡ withStatesAt (now (path .entry)) at seed ⌝ }
 {
     let mut thread = 0;
     while thread < MAX_THREADS {
@@ -123,40 +138,50 @@ pub fn put_threads(path: &mut [u8], at: usize, seed: [u8; 5])
 // Where no thread is Active, the first that is in Yield becomes Active.
 pub fn toggle_yield(path: &mut [u8], at: usize)
     requires { ⌜ 16 * at + 16 ≤ length (now path) ⌝ }
+    ensures { λ _. ⌜ now (path .exit) ≡ withStatesAt (now (path .entry)) at (toggled (statesAt (now (path .entry)) at)) ⌝ }
 {
     if active_thread_index(path, at) < MAX_THREADS {
         return;
     }
     let yielded = first_in(path, at, fields::YIELD);
-    if yielded < MAX_THREADS {
-        put(path, at, fields::THREADS + yielded, fields::ACTIVE);
+    if MAX_THREADS <= yielded {
+        return;
     }
+    put(path, at, fields::THREADS + yielded, fields::ACTIVE);
 }
 
-// Sets the initial active thread: the Active one, unless the schedule before chose another.
+// Sets the initial active thread.
 pub fn put_initial_active(path: &mut [u8], at: usize, prev: Found)
     requires { ⌜ (16 * at + 16 ≤ length (now path)) × foundBelow at prev ⌝ }
+    ensures { λ _. ⌜ now (path .exit) ≡ withField (now (path .entry)) at 8 (initialAt (now (path .entry)) at prev) ⌝ }
+{
+    let initial = initial_active(path, at, prev);
+    put(path, at, fields::INITIAL_ACTIVE, initial);
+}
+
+// The Active thread, unless the schedule before chose another.
+fn initial_active(path: &[u8], at: usize, prev: Found) -> u8
+    requires { ⌜ (16 * at + 16 ≤ length (now path)) × foundBelow at prev ⌝ }
+    ensures { λ r. ⌜ r ≡ initialAt (now (path .entry)) at prev ⌝ }
 {
     let active = active_thread_index(path, at);
-    if let Found::At(p) = prev {
-        if active != active_thread_index(path, p) {
-            put(path, at, fields::INITIAL_ACTIVE, fields::NOBODY);
-            return;
-        }
+    let Found::At(p) = prev else {
+        return thread_byte(active);
+    };
+    if active != active_thread_index(path, p) {
+        return fields::NOBODY;
     }
-    put(path, at, fields::INITIAL_ACTIVE, thread_byte(active));
+    thread_byte(active)
 }
 
 // Marks a thread to be explored, and answers how many choices that opened. With a bound, a record
 // that has reached it takes no mark.
 pub fn backtrack(path: &mut [u8], at: usize, thread: usize, bounded: bool, bound: u8) -> u64
     requires { ⌜ 16 * at + 16 ≤ length (now path) ⌝ }
-    ensures { λ r. ⌜ r ≤ 5 ⌝ }
+    ensures { λ r. ⌜ MarksAt (now (path .entry)) (now (path .exit)) at (boundOf bounded bound) thread r ⌝ }
 {
-    if bounded {
-        if field(path, at, fields::PREEMPTIONS) == bound {
-            return 0;
-        }
+    if is_bound(path, at, bounded, bound) {
+        return 0;
     }
     if MAX_THREADS <= thread {
         return 0;
@@ -167,10 +192,21 @@ pub fn backtrack(path: &mut [u8], at: usize, thread: usize, bounded: bool, bound
     explore(path, at, thread)
 }
 
+// Whether the preemptions before the record are as many as the bound.
+fn is_bound(path: &[u8], at: usize, bounded: bool, bound: u8) -> bool
+    requires { ⌜ 16 * at + 16 ≤ length (now path) ⌝ }
+    ensures { λ r. ⌜ r ≡ bounded && eqb (fieldOf (now (path .entry)) at 7) bound ⌝ }
+{
+    if !bounded {
+        return false;
+    }
+    field(path, at, fields::PREEMPTIONS) == bound
+}
+
 // Turns Skip into Pending, and answers how many choices that opened. Every other state stays.
 fn explore(path: &mut [u8], at: usize, thread: usize) -> u64
     requires { ⌜ (16 * at + 16 ≤ length (now path)) × (thread < 5) ⌝ }
-    ensures { λ r. ⌜ r ≤ 1 ⌝ }
+    ensures { λ r. ⌜ Explores (now (path .entry)) (now (path .exit)) at thread r ⌝ }
 {
     if field(path, at, fields::THREADS + thread) == fields::SKIP {
         put(path, at, fields::THREADS + thread, fields::PENDING);
@@ -182,7 +218,7 @@ fn explore(path: &mut [u8], at: usize, thread: usize) -> u64
 // The same for each thread.
 fn explore_all(path: &mut [u8], at: usize) -> u64
     requires { ⌜ 16 * at + 16 ≤ length (now path) ⌝ }
-    ensures { λ r. ⌜ r ≤ 5 ⌝ }
+    ensures { λ r. ⌜ ExploresAll (now (path .entry)) (now (path .exit)) at r ⌝ }
 {
     let mut opened = 0;
     let mut thread = 0;
@@ -196,7 +232,7 @@ fn explore_all(path: &mut [u8], at: usize) -> u64
 // How many threads are Pending.
 pub fn pending(path: &[u8], at: usize) -> u64
     requires { ⌜ 16 * at + 16 ≤ length (now path) ⌝ }
-    ensures { λ r. ⌜ r ≤ 5 ⌝ }
+    ensures { λ r. ⌜ Counts 5 (pendings (statesAt (now (path .entry)) at)) r ⌝ }
 {
     let mut count = 0;
     let mut thread = 0;
@@ -213,6 +249,7 @@ pub fn pending(path: &[u8], at: usize) -> u64
 // one.
 pub fn step(path: &mut [u8], at: usize) -> bool
     requires { ⌜ 16 * at + 16 ≤ length (now path) ⌝ }
+    ensures { λ r. ⌜ Visits (now (path .entry)) (now (path .exit)) at r ⌝ }
 {
     visit(path, at);
     let next = first_in(path, at, fields::PENDING);
@@ -226,6 +263,7 @@ pub fn step(path: &mut [u8], at: usize) -> bool
 // The Active thread becomes Visited.
 fn visit(path: &mut [u8], at: usize)
     requires { ⌜ 16 * at + 16 ≤ length (now path) ⌝ }
+    ensures { λ _. ⌜ now (path .exit) ≡ withStatesAt (now (path .entry)) at (left (statesAt (now (path .entry)) at)) ⌝ }
 {
     let active = active_thread_index(path, at);
     if active < MAX_THREADS {

@@ -4,7 +4,7 @@ use native.Mathlib.Omega.{arith}
 use mathlib.Core.Bool.{Bool, false}
 use mathlib.Core.Path.{_≡_}
 use borrow.Author.Tests.{lt-leb}
-use Rattle.table.specs.Table.{Row, fineAs, rowFine, lastOpcode}
+use Rattle.rules.specs.Table.{Row, fineAs, rowFine, lastOpcode}
 
 -- what the last arm of a match knows of x, that it is none of the numbers below n, in the form that a match hands over
 abbrev pub NoneBelow : ℕ → ℕ → Type 0

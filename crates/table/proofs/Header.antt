@@ -9,7 +9,7 @@ use lib.Dec.{leb, eqb}
 use lib.ListN.{length, getD, take, drop, replicate, length-take, length-drop}
 use lib.Seq.{drop-cons, getD-take, getD-drop}
 use borrow.Author.Tests.{le-leb, lt-leb, leb-true}
-use Rattle.table.specs.Table.{maxThreads, maxCells, headerBytes, sizeOf, threadsOf, cellsOf, countsOf, countsFine, total, firstRows, shapeOf, headerFine}
+use Rattle.rules.specs.Table.{maxThreads, maxCells, headerBytes, sizeOf, threadsOf, cellsOf, countsOf, countsFine, total, firstRows, shapeOf, headerFine}
 
 module _ (t : List ℕ) where
   -- no header: a shape of zeros, and a bad one

@@ -4,7 +4,7 @@ use mathlib.Core.List.{List}
 use mathlib.Core.Path.{_≡_}
 use lib.ListN.{length}
 use borrow.Author.Tests.{lt-ltb, le-ltb, le-leb, lt-leb}
-use Rattle.table.specs.Table.{maxCells, allRows, headerBytes, valueBytes, rowBytes, sizeOf, u64At, startValue, rowFrom, noRow, rowAt}
+use Rattle.rules.specs.Table.{maxCells, allRows, headerBytes, valueBytes, rowBytes, sizeOf, u64At, startValue, rowFrom, noRow, rowAt}
 
 module _ (t : List ℕ) (cell : ℕ) where
   pub value-held : cell < maxCells → headerBytes + valueBytes * cell + valueBytes ≤ length t →

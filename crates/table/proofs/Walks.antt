@@ -10,7 +10,7 @@ use lib.ListN.{length, getD, drop, drop-of-length-le}
 use lib.Seq.{drop-cons}
 use borrow.Author.Tests.{lt-ltb, le-ltb}
 use lib.Dec.{ltb}
-use Rattle.table.specs.Table.{maxThreads, headerBytes, countsOf, countFine, countsFine, firstNot, firstBad, rowFine, rowAt, rowsJudged, badRow, good, badHeader, judged, headerFine, threadsOf, cellsOf}
+use Rattle.rules.specs.Table.{maxThreads, headerBytes, countsOf, countFine, countsFine, firstNot, firstBad, rowFine, rowAt, rowsJudged, badRow, good, badHeader, judged, headerFine, threadsOf, cellsOf}
 use Rattle.table.proofs.Header.{counts-length, counts-at}
 
 -- a search for the first that is not fine

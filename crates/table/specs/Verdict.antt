@@ -1,5 +1,5 @@
 -- What the answers of this crate stand for in the definition. Assumes nothing.
-use Rattle.table.specs.Table as rules
+use Rattle.rules.specs.Table as rules
 use Rattle.table.specs.declared.Verdict.{Verdict}
 use Rattle.table.specs.declared.Verdict.the-variants.{Accepted, Header, Row as Bad}
 use Rattle.table.specs.declared.Row.{Row}

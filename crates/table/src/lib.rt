@@ -1,9 +1,9 @@
 // The table: which bytes are one, which row of one is the first bad one, and what stands in a row.
-// Each promise is an equation with the definition in specs/Table.antt.
+// Each promise is an equation with the definition in rules (Table).
 ghost use mathlib.Core.Path.{_≡_};
 ghost use Prim.Native.Nat.{_+_, _<_, _≤_, _^_};
 ghost use lib.ListN.{length};
-ghost use Rattle.table.specs.Table.{headerBytes, rowBytes, headerFine, countFine, countsFine, countsOf, firstBad, judged, shapeOf, startValue, rowAt, rowFrom};
+ghost use Rattle.rules.specs.Table.{headerBytes, rowBytes, headerFine, countFine, countsFine, countsOf, firstBad, judged, shapeOf, startValue, rowAt, rowFrom};
 ghost use Rattle.table.specs.Verdict.{verdictOf, rowOf};
 
 pub mod limits;

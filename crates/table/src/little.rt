@@ -3,7 +3,7 @@ ghost use mathlib.Core.Path.{_≡_};
 ghost use Prim.Native.Nat.{_+_, _≤_};
 ghost use lib.ListN.{length};
 ghost use Rattle.table.specs.Wide.{Wide};
-ghost use Rattle.table.specs.Table.{u16At, u32At, u64At};
+ghost use Rattle.rules.specs.Table.{u16At, u32At, u64At};
 
 // A byte, and then a number of two bytes, as a number of more bits.
 pub fn short(x: u8) -> u16

@@ -3,7 +3,7 @@
 ghost use mathlib.Core.Path.{_≡_};
 ghost use mathlib.Core.Bool.{cond};
 ghost use lib.Dec.{ltb, leb, eqb};
-ghost use Rattle.table.specs.Table.{fineAs, rowFine, loadOrder, storeOrder, usesFailure, changeFine, operandsFine};
+ghost use Rattle.rules.specs.Table.{fineAs, rowFine, loadOrder, storeOrder, usesFailure, changeFine, operandsFine};
 ghost use Rattle.table.specs.Verdict.{rowOf};
 use crate::Row;
 use crate::limits::REGISTERS;

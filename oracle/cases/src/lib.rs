@@ -10,10 +10,12 @@ mod generate;
 pub mod hand;
 pub mod lines;
 pub mod list;
+pub mod pick;
 pub mod random;
 mod recipes;
 pub mod run;
 mod spread;
+pub mod state;
 pub mod table;
 pub mod tally;
 

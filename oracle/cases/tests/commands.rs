@@ -1,9 +1,10 @@
 //! The binary: what it prints, and how it refuses what it cannot use.
 
+use std::env;
 use std::fs;
 use std::io::Write;
 use std::path::PathBuf;
-use std::process::{Command, Output, Stdio};
+use std::process::{self, Command, Output, Stdio};
 
 fn run(arguments: &[&str], input: &str) -> Output {
     let mut child = Command::new(env!("CARGO_BIN_EXE_cases"))
@@ -33,6 +34,9 @@ fn refused(arguments: &[&str], input: &str, wanted: &str) {
     assert!(said.contains(wanted), "{arguments:?}: {said}");
 }
 
+/// The definition.
+const SPECS: &str = "../../crates/rules/specs";
+
 /// A file of its own for each test.
 fn file(name: &str, content: &str) -> PathBuf {
     let path = PathBuf::from(env!("CARGO_TARGET_TMPDIR")).join(name);
@@ -40,9 +44,29 @@ fn file(name: &str, content: &str) -> PathBuf {
     path
 }
 
+/// A folder outside the repository, where its crates would be taken for the repository's. It goes when the test is over.
+struct Folder(PathBuf);
+
+impl Folder {
+    fn new(name: &str) -> Folder {
+        Folder(env::temp_dir().join(format!("chjirvollu-{}-{name}", process::id())))
+    }
+
+    fn name(&self) -> &str {
+        self.0.to_str().expect("a name in UTF-8")
+    }
+}
+
+impl Drop for Folder {
+    fn drop(&mut self) {
+        // Where nothing was written there is nothing to remove.
+        let _ = fs::remove_dir_all(&self.0);
+    }
+}
+
 #[test]
 fn bad_arguments_are_refused() {
-    let refusals: [(&[&str], &str); 17] = [
+    let refusals: [(&[&str], &str); 24] = [
         (&[], "no command"),
         (&["frobnicate"], "unknown command 'frobnicate'"),
         (&["make"], "usage: cases make SEED COUNT"),
@@ -60,6 +84,13 @@ fn bad_arguments_are_refused() {
         (&["check", "no such file"], "no such file: No such file"),
         (&["tally", "1"], "usage: cases tally SEED COUNT"),
         (&["list", "all"], "usage: cases list"),
+        (&["pick", "1"], "usage: cases pick SEED COUNT"),
+        (&["state", "a"], "usage: cases state FILE SPECS FOLDER"),
+        (&["state", "a", "no such folder", "b"], "no such folder: No such file"),
+        (&["state", "no such file", SPECS, "b"], "no such file: No such file"),
+        (&["state", "a", "src", "b"], "src: no Explored.antt is here"),
+        (&["ask", "no such file", "P1", SPECS, "b"], "no such file: No such file"),
+        (&["told"], "usage: cases told FILE NAME REFUSED.."),
     ];
     for (arguments, wanted) in refusals {
         refused(arguments, "", wanted);
@@ -70,7 +101,8 @@ fn bad_arguments_are_refused() {
 fn help_is_no_failure() {
     let output = run(&["help"], "");
     assert!(output.status.success());
-    for command in ["make", "answer", "check", "tally", "compare", "list"] {
+    let commands = ["make", "answer", "check", "tally", "compare", "list"];
+    for command in commands.into_iter().chain(["pick", "hand", "state", "ask", "told"]) {
         assert!(text(&output.stdout).contains(&format!("cases {command}")));
     }
 }
@@ -123,4 +155,48 @@ fn comparing_and_counting_say_how_many() {
     let output = run(&["tally", "3", "200"], "");
     assert!(output.status.success());
     assert!(text(&output.stdout).starts_with("cases 200\n"));
+}
+
+#[test]
+fn cases_are_picked_and_stated() {
+    let picked = run(&["pick", "3", "30"], "");
+    assert!(picked.status.success());
+    let picked = text(&picked.stdout);
+    assert!(picked.contains("\n# cases 30\n# executions "), "{picked}");
+    let path = file("picked", &picked);
+    let path = path.to_str().expect("a name in UTF-8");
+    assert_eq!(text(&run(&["check", path], "").stdout), "30 cases agree, 0 differ\n");
+    let stated = Folder::new("stated");
+    let folder = stated.name();
+    let output = run(&["state", path, SPECS, folder], "");
+    assert_eq!(text(&output.stdout), "30 cases stated\n", "{}", text(&output.stderr));
+    let last = fs::read_to_string(format!("{folder}/crates/part2/proofs/Case30.antt"));
+    assert!(last.expect("the last case").ends_with("\ncase = refl\n"));
+}
+
+#[test]
+fn a_case_is_asked_about_by_name() {
+    let answered = text(&run(&["answer"], &text(&run(&["make", "3", "5"], "").stdout)).stdout);
+    let path = file("asked", &answered);
+    let path = path.to_str().expect("a name in UTF-8");
+    let asked = Folder::new("asked");
+    let folder = asked.name();
+    refused(&["ask", path, "g3.5", SPECS, folder], "", "no case is called 'g3.5'");
+    assert!(run(&["ask", path, "g3.4", SPECS, folder], "").status.success());
+    let crates = fs::read_to_string(format!("{folder}/crates.txt")).expect("its crates");
+    assert_eq!(crates, "rules:\ntold: rules\nask: rules told\n");
+    let root = fs::read_to_string(format!("{folder}/crates/ask/proofs/Lib.antt"));
+    let root = root.expect("its root");
+    let questions: Vec<&str> = root.lines().filter_map(|line| line.strip_prefix("mod ")).collect();
+    // All refused: no bit is set.
+    let output = run(&[&["told", path, "g3.4"], &questions[..]].concat(), "");
+    let said = text(&output.stdout);
+    assert!(said.starts_with("g3.4: answer: oracle "), "{said}");
+    assert!(said.ends_with(", definition 0\n"), "{said}");
+}
+
+#[test]
+fn the_telling_cases_have_the_oracles_answers() {
+    let output = run(&["check", "../definition/telling"], "");
+    assert_eq!(text(&output.stdout), "30 cases agree, 0 differ\n");
 }

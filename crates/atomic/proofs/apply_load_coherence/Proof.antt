@@ -1,10 +1,17 @@
 use borrow.Author.Needs.{needs}
+use mathlib.Core.Path.{_≡_, refl, _∙_}
+use mathlib.Core.Logic.{⊎-elim}
 use Prim.Native.Nat.{_≤_, _-_}
+use Rattle.rules.specs.State.{marksOf}
+use Rattle.rules.specs.Cell.{coherentFrom, liveIn, orderOf}
+use Rattle.atomic.proofs.OrderLaws.{cohere-start, cohere-all, cohere-done, cohere-own, cohere-known, cohere-unknown}
 use Rattle.atomic.proofs.apply_load_coherence.Statement.{statement}
 use Rattle.atomic.proofs.apply_load_coherence.Tie as tie
 
 abbrev Inv-loop : tie.InvT-loop
-Inv-loop clocks marks small thread cell slot causality chosen live order₀ i₀ order i = i ≤ 7
+Inv-loop clocks marks small thread cell slot causality chosen live order₀ i₀ order i =
+    let made = coherentFrom clocks (marksOf marks cell) thread cell slot in
+    (i ≤ 7) × (made order (live - i) i ≡ made (orderOf clocks cell slot) (liveIn small cell) 0)
 
 abbrev μ-loop : tie.MeasureT-loop
 μ-loop clocks marks small thread cell slot causality chosen live order₀ i₀ order i = 7 - i
@@ -43,7 +50,9 @@ element-copy-out-order : tie.Need-element-copy-out-order Inv-loop μ-loop
 element-copy-out-order c = search needs
 
 loop-holds : tie.Need-loop-holds Inv-loop μ-loop
-loop-holds c = search needs
+loop-holds c =
+    let live = c .before in
+    (search needs, cohere-start _ _ _ _ _ _ _ _ _ (live .before .before .store-at .ensures) refl (live .live-stores .ensures .is))
 
 store-at-requires-2 : tie.Need-store-at-requires-2 Inv-loop μ-loop
 store-at-requires-2 c κs = search needs
@@ -82,7 +91,15 @@ loop-less : tie.Need-loop-less Inv-loop μ-loop
 loop-less c = search needs
 
 loop-again : tie.Need-loop-again Inv-loop μ-loop
-loop-again c = search needs
+loop-again c =
+    let at = c .before .before in
+    let h = c .before .loop-test .taken in
+    ⊎-elim
+    (λ w. (search needs, cohere-known _ _ _ _ _ _ _ _ _ (at .loop .inv .1) h _ (w .0 .taken) _ (w .1 .ensures) _ _ (w .3 .ensures) (w .4 .ensures) (w .5 .taken) (w .8 ∙ w .7 .ensures)))
+    (⊎-elim
+    (λ w. (search needs, cohere-unknown _ _ _ _ _ _ _ _ _ (at .loop .inv .1) h _ (w .0 .taken) _ (w .1 .ensures) _ _ (w .3 .ensures) (w .4 .ensures) (w .5 .left) (w .6)))
+    (λ w. (search needs, cohere-own _ _ _ _ _ _ _ _ _ (at .loop .inv .1) h _ (w .0 .left) (w .1))))
+    (c .if1 .came)
 
 mul-order-2 : tie.Need-mul-order-2 Inv-loop μ-loop
 mul-order-2 c = search needs
@@ -91,7 +108,10 @@ element-set-from-order : tie.Need-element-set-from-order Inv-loop μ-loop
 element-set-from-order c = search needs
 
 returns : tie.Need-returns Inv-loop μ-loop
-returns c = search needs
+returns c =
+    let at = c .before in
+    let call = at .before .before .before .before in
+    cohere-done _ _ _ _ _ _ _ _ (call .store-at .ensures) (cohere-all _ _ _ _ _ _ _ _ _ (at .loop .inv .1) (c .loop-test .left))
 
 pub apply-load-coherence-spec : {M : Type 1} → statement M
 apply-load-coherence-spec =

@@ -1,4 +1,7 @@
 use borrow.Author.Needs.{needs}
+use Rattle.atomic.specs.Changes.{changeMeant}
+use Rattle.atomic.proofs.AccessLaws.{changing, rmw-raced, rmw-failed, rmw-succeeded}
+use Rattle.atomic.proofs.TrackLaws.{answered}
 use Rattle.atomic.proofs.rmw.Statement.{statement}
 use Rattle.atomic.proofs.rmw.Tie as tie
 
@@ -9,7 +12,25 @@ enum-known-kind : tie.Need-enum-known-kind
 enum-known-kind c = search needs
 
 returns : tie.Need-returns
-returns c = search needs
+returns c =
+    let call = c .before .before .before in
+    let args = call .before .before .args in
+    rmw-raced
+    (args .clocks .now)
+    (args .marks .now)
+    (args .values .now)
+    (args .small .now)
+    (args .thread)
+    (args .cell)
+    (args .slot)
+    _
+    (call .track-load .ensures .left)
+    _
+    _
+    (answered _ _ _ (c .before .kind .given .1) (call .track-load .ensures .answer))
+    (changeMeant (args .change))
+    (args .success)
+    (args .failure)
 
 enum-told : tie.Need-enum-told
 enum-told c = search needs
@@ -35,8 +56,8 @@ element-copy-out-prev c = search needs
 apply-requires : tie.Need-apply-requires
 apply-requires c κs = search needs
 
-enum-known-changed : tie.Need-enum-known-changed
-enum-known-changed c = search needs
+enum-known-next : tie.Need-enum-known-next
+enum-known-next c = search needs
 
 enum-told-2 : tie.Need-enum-told-2
 enum-told-2 c = search needs
@@ -45,37 +66,70 @@ sync-load-requires : tie.Need-sync-load-requires
 sync-load-requires c κs = search needs
 
 returns-2 : tie.Need-returns-2
-returns-2 c = search needs
+returns-2 c =
+    let store = c .before .before .before .before .before .before in
+    let ordered = store .before .before .before .before in
+    let told = ordered .before .before .before .before in
+    let call = told .before .before in
+    let args = call .before .before .args in
+    rmw-failed
+    (args .clocks .now)
+    (args .marks .now)
+    (args .values .now)
+    (args .small .now)
+    (args .thread)
+    (args .cell)
+    (args .slot)
+    _
+    (call .track-load .ensures .left)
+    (answered _ _ _ (told .enum-told .given .1) (call .track-load .ensures .answer))
+    _
+    (store .store-at .ensures)
+    _
+    (ordered .apply-load-coherence .ensures)
+    _
+    (store .before .touch .ensures)
+    (changeMeant (args .change))
+    (args .success)
+    (args .failure)
+    (changing _ _ _ (c .before .before .enum-told2 .given .1) (c .before .before .before .before .apply .ensures))
+    _
+    (c .sync-load .ensures)
 
-track-store-requires : tie.Need-track-store-requires
-track-store-requires c κs = search needs
-
-enum-known-kind-2 : tie.Need-enum-known-kind-2
-enum-known-kind-2 c = search needs
+rmw-store-requires : tie.Need-rmw-store-requires
+rmw-store-requires c κs = search needs
 
 returns-3 : tie.Need-returns-3
-returns-3 c = search needs
-
-enum-told-3 : tie.Need-enum-told-3
-enum-told-3 c = search needs
-
-sync-load-requires-2 : tie.Need-sync-load-requires-2
-sync-load-requires-2 c κs = search needs
-
-add-sync : tie.Need-add-sync
-add-sync c = search needs
-
-mul-sync : tie.Need-mul-sync
-mul-sync c = search needs
-
-element-copy-out-sync : tie.Need-element-copy-out-sync
-element-copy-out-sync c = search needs
-
-store-requires : tie.Need-store-requires
-store-requires c κs = let start = c .before .before .before .before .before .before .before .before .before .before .before .before .before .before .before .before .before .before .before .before .before .before .before .before .before .before .before .before in (start .pre .0, start .pre .1)
-
-returns-4 : tie.Need-returns-4
-returns-4 c = search needs
+returns-3 c =
+    let store = c .before .before .before .before .before .before .before .before .before .before in
+    let ordered = store .before .before .before .before in
+    let told = ordered .before .before .before .before in
+    let call = told .before .before in
+    let args = call .before .before .args in
+    rmw-succeeded
+    (args .clocks .now)
+    (args .marks .now)
+    (args .values .now)
+    (args .small .now)
+    (args .thread)
+    (args .cell)
+    (args .slot)
+    _
+    (call .track-load .ensures .left)
+    (answered _ _ _ (told .enum-told .given .1) (call .track-load .ensures .answer))
+    _
+    (store .store-at .ensures)
+    _
+    (ordered .apply-load-coherence .ensures)
+    _
+    (store .before .touch .ensures)
+    (changeMeant (args .change))
+    (args .success)
+    (args .failure)
+    _
+    (changing _ _ _ (c .before .before .before .before .before .before .next .given .1) (c .before .before .before .before .before .before .before .before .apply .ensures))
+    _
+    (c .rmw-store .ensures)
 
 pub rmw-spec : {M : Type 1} → statement M
 rmw-spec =
@@ -92,17 +146,9 @@ rmw-spec =
     mul-prev
     element-copy-out-prev
     apply-requires
-    enum-known-changed
+    enum-known-next
     enum-told-2
     sync-load-requires
     returns-2
-    track-store-requires
-    enum-known-kind-2
-    returns-3
-    enum-told-3
-    sync-load-requires-2
-    add-sync
-    mul-sync
-    element-copy-out-sync
-    store-requires
-    returns-4)
+    rmw-store-requires
+    returns-3)

@@ -1,10 +1,17 @@
 use borrow.Author.Needs.{needs}
+use mathlib.Core.Path.{_≡_, _∙_}
+use mathlib.Core.Logic.{⊎-elim}
 use Prim.Native.Nat.{_≤_, _-_}
+use Rattle.rules.specs.State.{marksOf}
+use Rattle.rules.specs.Cell.{storeOrderFrom, storeOrder}
+use Rattle.atomic.proofs.OrderLaws.{store-start, store-all, store-seen, store-unseen}
 use Rattle.atomic.proofs.store_order.Statement.{statement}
 use Rattle.atomic.proofs.store_order.Tie as tie
 
 abbrev Inv-loop : tie.InvT-loop
-Inv-loop clocks marks count thread cell causality live order₀ i₀ order i = i ≤ 7
+Inv-loop clocks marks count thread cell causality live order₀ i₀ order i =
+    let rows = marksOf marks cell in
+    (i ≤ 7) × (storeOrderFrom clocks rows thread cell order (live - i) i ≡ storeOrder clocks rows count thread cell)
 
 abbrev μ-loop : tie.MeasureT-loop
 μ-loop clocks marks count thread cell causality live order₀ i₀ order i = 7 - i
@@ -22,7 +29,7 @@ live-stores-requires : tie.Need-live-stores-requires Inv-loop μ-loop
 live-stores-requires c κs = search needs
 
 loop-holds : tie.Need-loop-holds Inv-loop μ-loop
-loop-holds c = search needs
+loop-holds c = (search needs, store-start _ _ _ _ _ _ (c .live-stores .ensures .is))
 
 is-seen-requires : tie.Need-is-seen-requires Inv-loop μ-loop
 is-seen-requires c κs = search needs
@@ -49,10 +56,17 @@ loop-less : tie.Need-loop-less Inv-loop μ-loop
 loop-less c = search needs
 
 loop-again : tie.Need-loop-again Inv-loop μ-loop
-loop-again c = search needs
+loop-again c =
+    let at = c .before .before .before in
+    let h = c .before .before .loop-test .taken in
+    let seen = c .before .is-seen .ensures in
+    ⊎-elim
+    (λ w. (search needs, store-seen _ _ _ _ _ _ _ _ (at .loop .inv .1) h _ _ seen (w .0 .taken) _ (w .1 .ensures) (w .4 ∙ w .3 .ensures)))
+    (λ w. (search needs, store-unseen _ _ _ _ _ _ _ _ (at .loop .inv .1) h _ _ seen (w .0 .left) (w .1)))
+    (c .if1 .came)
 
 returns : tie.Need-returns Inv-loop μ-loop
-returns c = search needs
+returns c = store-all _ _ _ _ _ _ _ _ (c .before .loop .inv .1) (c .loop-test .left)
 
 pub store-order-spec : {M : Type 1} → statement M
 store-order-spec =

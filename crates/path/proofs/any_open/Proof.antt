@@ -1,16 +1,17 @@
 use borrow.Author.Needs.{needs}
+use Rattle.path.proofs.OpenWalks.{Below, any-start, any-here, any-on, any-none}
 use Prim.Native.Nat.{_≤_}
 use Rattle.path.proofs.any_open.Statement.{statement}
 use Rattle.path.proofs.any_open.Tie as tie
 
 abbrev Inv-loop : tie.InvT-loop
-Inv-loop path len last₀ last = last ≤ len
+Inv-loop path len last₀ last = (last ≤ len) × Below path len last
 
 abbrev μ-loop : tie.MeasureT-loop
 μ-loop path len last₀ last = last
 
 loop-holds : tie.Need-loop-holds Inv-loop μ-loop
-loop-holds c = search needs
+loop-holds c = (search needs, any-start _ _)
 
 sub-last : tie.Need-sub-last Inv-loop μ-loop
 sub-last c = search needs
@@ -19,16 +20,22 @@ open-at-requires : tie.Need-open-at-requires Inv-loop μ-loop
 open-at-requires c κs = search needs
 
 returns : tie.Need-returns Inv-loop μ-loop
-returns c = search needs
+returns c =
+    let call = c .before in
+    let loop = call .before .before in
+    any-here _ _ _ _ (call .before .loop-test .taken) (loop .loop .inv .0) (call .open-at .ensures) (loop .loop .inv .1) (c .if1 .taken)
 
 loop-less : tie.Need-loop-less Inv-loop μ-loop
 loop-less c = search needs
 
 loop-again : tie.Need-loop-again Inv-loop μ-loop
-loop-again c = search needs
+loop-again c =
+    let call = c .before in
+    let loop = call .before .before in
+    (search needs, any-on _ _ _ _ (call .before .loop-test .taken) (loop .loop .inv .0) (call .open-at .ensures) (loop .loop .inv .1) (c .if1 .left))
 
 returns-2 : tie.Need-returns-2 Inv-loop μ-loop
-returns-2 c = search needs
+returns-2 c = any-none _ _ _ (c .loop-test .left) (c .before .loop .inv .1)
 
 pub any-open-spec : {M : Type 1} → statement M
 any-open-spec =

@@ -1,4 +1,5 @@
 use borrow.Author.Needs.{needs}
+use Rattle.path.proofs.WalkLaws.{second-none, second-nowhere, second-at}
 use native.Mathlib.Omega.{arith}
 use Rattle.path.proofs.Places.{place-below}
 use Rattle.path.proofs.backtrack_before.Statement.{statement}
@@ -17,12 +18,12 @@ same-length : tie.Need-same-length
 same-length c = search needs
 
 returns : tie.Need-returns
-returns c = search needs
+returns c = record { few = search needs; marks = λ m s h. second-none _ _ _ _ (c .before .before .prev .ensures) m s h (c .enum-told .given .1) }
 
 switch-from-requires : tie.Need-switch-from-requires
 switch-from-requires c κs =
     let at = c .before .before in
-    omega (arith, place-below (at .prev2 .given .1) (at .before .before .prev .ensures))
+    omega (arith, place-below (at .prev2 .given .1) (at .before .before .prev .ensures .below))
 
 enum-known-curr : tie.Need-enum-known-curr
 enum-known-curr c = search needs
@@ -34,19 +35,27 @@ same-length-2 : tie.Need-same-length-2
 same-length-2 c = search needs
 
 returns-2 : tie.Need-returns-2
-returns-2 c = search needs
+returns-2 c =
+    let found = c .before .before in
+    let at = found .before .before .before in
+    record { few = search needs; marks = λ m s h. second-nowhere _ _ _ _ (at .before .before .prev .ensures) m s h _ (at .prev2 .given .1) _ (found .switch-from .ensures) (c .enum-told2 .given .1) }
 
 backtrack-requires : tie.Need-backtrack-requires
 backtrack-requires c κs =
-    let at = c .before .before in
-    let up = at .before .before .before .before .before in
-    omega (arith, place-below (at .curr .given .1) (at .before .before .switch-from .ensures), place-below (up .prev2 .given .1) (up .before .before .prev .ensures))
+    let curr = c .before .before in
+    let at = curr .before .before .before .before .before in
+    omega (arith, place-below (curr .curr .given .1) (curr .before .before .switch-from .ensures .below), place-below (at .prev2 .given .1) (at .before .before .prev .ensures .below))
 
 same-length-3 : tie.Need-same-length-3
 same-length-3 c = search needs
 
 returns-3 : tie.Need-returns-3
-returns-3 c = search needs
+returns-3 c =
+    let marked = c .before .before in
+    let curr = marked .before .before .before in
+    let found = curr .before .before in
+    let at = found .before .before .before in
+    record { few = marked .backtrack .ensures .few; marks = λ m s h. second-at _ _ _ _ (at .before .before .prev .ensures) m s h _ (at .prev2 .given .1) _ (found .switch-from .ensures) _ (curr .curr .given .1) _ _ (marked .backtrack .ensures) }
 
 pub backtrack-before-spec : {M : Type 1} → statement M
 backtrack-before-spec =

@@ -1,16 +1,17 @@
 use borrow.Author.Needs.{needs}
+use Rattle.path.proofs.OpenWalks.{Summed, sum-start, sum-on, sum-all}
 use Prim.Native.Nat.{_≤_, _*_, _-_}
 use Rattle.path.proofs.open.Statement.{statement}
 use Rattle.path.proofs.open.Tie as tie
 
 abbrev Inv-loop : tie.InvT-loop
-Inv-loop path len count₀ at₀ count at = (at ≤ len) × (count ≤ 6 * at)
+Inv-loop path len count₀ at₀ count at = (at ≤ len) × (count ≤ 6 * at) × Summed path len at count
 
 abbrev μ-loop : tie.MeasureT-loop
 μ-loop path len count₀ at₀ count at = len - at
 
 loop-holds : tie.Need-loop-holds Inv-loop μ-loop
-loop-holds c = search needs
+loop-holds c = (search needs, search needs, sum-start _ _)
 
 open-at-requires : tie.Need-open-at-requires Inv-loop μ-loop
 open-at-requires c κs = search needs
@@ -25,10 +26,12 @@ loop-less : tie.Need-loop-less Inv-loop μ-loop
 loop-less c = search needs
 
 loop-again : tie.Need-loop-again Inv-loop μ-loop
-loop-again c = search needs
+loop-again c =
+    let loop = c .before .before in
+    (search needs, search needs, sum-on _ _ _ _ _ (c .before .loop-test .taken) (c .open-at .ensures) (loop .loop .inv .2))
 
 returns : tie.Need-returns Inv-loop μ-loop
-returns c = search needs
+returns c = sum-all _ _ _ _ (c .before .loop .inv .1) (c .before .loop .inv .0) (c .loop-test .left) (c .before .loop .inv .2)
 
 pub open-spec : {M : Type 1} → statement M
 open-spec =

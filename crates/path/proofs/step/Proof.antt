@@ -1,4 +1,5 @@
 use borrow.Author.Needs.{needs}
+use Rattle.path.proofs.OpenWalks.{StillLeft, step-start, step-here, step-on, step-none}
 use Prim.Native.Nat.{_≤_}
 use mathlib.Core.Path.{_≡_}
 use lib.ListN.{length}
@@ -6,13 +7,13 @@ use Rattle.path.proofs.step.Statement.{statement}
 use Rattle.path.proofs.step.Tie as tie
 
 abbrev Inv-loop : tie.InvT-loop
-Inv-loop path₀ len left₀ path left = (left ≤ len) × (length path ≡ length path₀)
+Inv-loop path₀ len left₀ path left = (left ≤ len) × (length path ≡ length path₀) × StillLeft path₀ path len left
 
 abbrev μ-loop : tie.MeasureT-loop
 μ-loop path₀ len left₀ path left = left
 
 loop-holds : tie.Need-loop-holds Inv-loop μ-loop
-loop-holds c = search needs
+loop-holds c = (search needs, search needs, step-start _ _)
 
 sub-last : tie.Need-sub-last Inv-loop μ-loop
 sub-last c = search needs
@@ -24,7 +25,10 @@ same-length : tie.Need-same-length Inv-loop μ-loop
 same-length c = search needs
 
 returns : tie.Need-returns Inv-loop μ-loop
-returns c = search needs
+returns c =
+    let step = c .before .before .before in
+    let loop = step .before .before .before in
+    step-here _ _ _ _ _ (step .before .before .loop-test .taken) (loop .loop .inv .0) _ (step .step-at .ensures) (loop .loop .inv .2) (c .if1 .taken)
 
 clear-requires : tie.Need-clear-requires Inv-loop μ-loop
 clear-requires c κs = search needs
@@ -33,13 +37,18 @@ loop-less : tie.Need-loop-less Inv-loop μ-loop
 loop-less c = search needs
 
 loop-again : tie.Need-loop-again Inv-loop μ-loop
-loop-again c = search needs
+loop-again c =
+    let clear = c .before .before in
+    let test = clear .before .before in
+    let step = test .before .before .before in
+    let loop = step .before .before .before in
+    (search needs, search needs, step-on _ _ _ _ _ (step .before .before .loop-test .taken) (loop .loop .inv .0) _ (step .step-at .ensures) (loop .loop .inv .2) (test .if1 .left) _ (clear .clear .ensures))
 
 same-length-2 : tie.Need-same-length-2 Inv-loop μ-loop
 same-length-2 c = search needs
 
 returns-2 : tie.Need-returns-2 Inv-loop μ-loop
-returns-2 c = search needs
+returns-2 c = step-none _ _ _ _ (c .loop-test .left) (c .before .loop .inv .2)
 
 pub step-spec : {M : Type 1} → statement M
 step-spec =

@@ -3,7 +3,7 @@ use mathlib.Core.Path.{_≡_, refl, sym, _∙_}
 use mathlib.Core.Bool.{true, false}
 use lib.ListN.{drop, getD}
 use borrow.Author.Tests.{not-true, not-false}
-use Rattle.table.specs.Table.{maxThreads, countsOf, countFine, countsFine}
+use Rattle.rules.specs.Table.{maxThreads, countsOf, countFine, countsFine}
 use Rattle.table.proofs.Walks.{counts-on, counts-end, counts-none}
 use borrow.Author.Needs.{needs}
 use Rattle.table.proofs.counts_fine.Statement.{statement}

@@ -2,7 +2,7 @@ use Prim.Native.Nat.{_≤_, _-_, _+_}
 use mathlib.Core.Path.{_≡_, sym, _∙_}
 use mathlib.Core.Bool.{true, false}
 use borrow.Author.Tests.{not-true, not-false}
-use Rattle.table.specs.Table.{rowFine, rowAt, firstBad}
+use Rattle.rules.specs.Table.{rowFine, rowAt, firstBad}
 use Rattle.table.proofs.Walks.{badLeft, bad-all, first-on, first-found, first-none}
 use borrow.Author.Needs.{needs}
 use Rattle.table.proofs.first_bad.Statement.{statement}

@@ -4,7 +4,7 @@ use mathlib.Core.Path.{_≡_, refl, sym, _∙_}
 use mathlib.Core.Bool.{true}
 use lib.ListN.{length, drop}
 use borrow.Author.Tests.{not-true, not-false}
-use Rattle.table.specs.Table.{maxThreads, headerBytes, headerFine, countsOf, rowsJudged, judged}
+use Rattle.rules.specs.Table.{maxThreads, headerBytes, headerFine, countsOf, rowsJudged, judged}
 use Rattle.table.proofs.Header.{header-long}
 use Rattle.table.proofs.Walks.{threads-on, threads-bad, threads-none, judged-bad, judged-rows}
 use borrow.Author.Needs.{needs}

@@ -1,4 +1,4 @@
-use Rattle.table.specs.Table.{rowFrom}
+use Rattle.rules.specs.Table.{rowFrom}
 use borrow.Author.Needs.{needs}
 use Rattle.table.proofs.row_from.Statement.{statement}
 use Rattle.table.proofs.row_from.Tie as tie

@@ -1,4 +1,5 @@
 use borrow.Author.Needs.{needs}
+use Rattle.atomic.proofs.LastAccessLaws.{branch-load, branch-other}
 use mathlib.Core.Logic.{⊎-elim}
 use Rattle.atomic.proofs.access.last_dependent_branch.Statement.{statement}
 use Rattle.atomic.proofs.access.last_dependent_branch.Tie as tie
@@ -13,7 +14,12 @@ element-copy-out-result : tie.Need-element-copy-out-result
 element-copy-out-result c = ⊎-elim (λ w. search needs) (λ w. search needs) (c .before .if1 .came)
 
 returns : tie.Need-returns
-returns c = search needs
+returns c =
+    let args = c .before .before .before .args in
+    ⊎-elim
+    (λ w. branch-load _ (args .cell) _ (args .small .now) (w .0 .taken) (rw (w .1)))
+    (λ w. branch-other _ (args .cell) _ (args .small .now) (w .0 .left) (rw (w .1)))
+    (c .before .before .if1 .came)
 
 pub last-dependent-branch-spec : {M : Type 1} → statement M
 last-dependent-branch-spec =

@@ -3,7 +3,7 @@ use native.Mathlib.Omega.{arith}
 use Prim.Native.Nat.{_≤_, _-_}
 use mathlib.Core.Path.{_≡_, refl, sym, _∙_}
 use lib.ListN.{length, length-set}
-use Rattle.atomic.specs.Seen.{seenSlots}
+use Rattle.rules.specs.Seen.{seenSlots}
 use Rattle.atomic.proofs.SeenLaws.{answering, slots-on, slots-all}
 use Rattle.atomic.proofs.first_seen.seen_slots.Statement.{statement}
 use Rattle.atomic.proofs.first_seen.seen_slots.Tie as tie

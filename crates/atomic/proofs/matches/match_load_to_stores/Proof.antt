@@ -1,14 +1,32 @@
 use borrow.Author.Needs.{needs}
-use mathlib.Core.Logic.{⊎-elim}
+use mathlib.Core.Path.{_≡_, _∙_}
 use Prim.Native.Nat.{_≤_, _-_}
+use Rattle.rules.specs.Cell.{liveIn, loadFate, matchedFrom, matchedLoad}
+use Rattle.atomic.specs.Offers.{fateOf, offered}
+use Rattle.atomic.proofs.OfferLaws.{fate-load, offering, offer-all, offer-none, offer-kept, offer-dropped, offer-equal}
+use mathlib.Core.Logic.{⊎-elim}
 use Rattle.atomic.proofs.matches.match_load_to_stores.Statement.{statement}
 use Rattle.atomic.proofs.matches.match_load_to_stores.Tie as tie
 
 abbrev Inv-loop : tie.InvT-loop
-Inv-loop clocks small thread cell order dst₀ marks seen last-yield live n₀ i₀ dst n i = (n ≤ i) × (i ≤ 7)
+Inv-loop clocks small thread cell order dst₀ marks seen last-yield live n₀ i₀ dst n i =
+    let fate = loadFate clocks marks small thread cell order in
+    (n ≤ i) × (i ≤ 7) × (offering dst n i (matchedFrom fate (live - i) i) ≡ offered (matchedFrom fate (liveIn small cell) 0) dst₀)
 
 abbrev μ-loop : tie.MeasureT-loop
 μ-loop clocks small thread cell order dst₀ marks seen last-yield live n₀ i₀ dst n i = 7 - i
+
+-- the fate that was answered is the definition's
+fated : (c : tie.After-load-fate Inv-loop μ-loop) →
+    let at = c .before .before .before .before in
+    let args = at .before .before .before .before .before .before .args in
+    fateOf (c .load-fate .result) ≡ loadFate (args .clocks .now) (args .t2) (args .small .now) (args .thread) (args .cell) (args .order) (at .loop .i)
+fated c =
+    let at = c .before .before .before .before in
+    let slots = at .before .before .before .before in
+    let args = slots .before .before .args in
+    c .load-fate .ensures
+    ∙ fate-load (args .clocks .now) (args .t2) (args .small .now) (args .thread) (args .cell) (args .order) (at .loop .i) _ _ (slots .seen-slots .ensures) (c .before .is-seen-before-yield .ensures)
 
 add-causality : tie.Need-add-causality Inv-loop μ-loop
 add-causality c = search needs
@@ -44,7 +62,7 @@ live-stores-requires : tie.Need-live-stores-requires Inv-loop μ-loop
 live-stores-requires c κs = search needs
 
 loop-holds : tie.Need-loop-holds Inv-loop μ-loop
-loop-holds c = search needs
+loop-holds c = (search needs, search needs, offer-all _ _ _ _ (c .live-stores .ensures .is))
 
 mul-row : tie.Need-mul-row Inv-loop μ-loop
 mul-row c = search needs
@@ -77,7 +95,11 @@ enum-told-3 : tie.Need-enum-told-3 Inv-loop μ-loop
 enum-told-3 c = search needs
 
 returns : tie.Need-returns Inv-loop μ-loop
-returns c = search needs
+unfolding matchedLoad
+returns c =
+    let call = c .before .before in
+    let at = call .before .before .before .before in
+    offer-equal _ _ _ _ _ _ (at .loop .inv .2) (call .before .before .before .loop-test .taken) _ (fated call) (c .enum-told3 .given .1)
 
 add-i : tie.Need-add-i Inv-loop μ-loop
 add-i c = search needs
@@ -86,10 +108,18 @@ loop-less : tie.Need-loop-less Inv-loop μ-loop
 loop-less c = search needs
 
 loop-again : tie.Need-loop-again Inv-loop μ-loop
-loop-again c = ⊎-elim (λ w. search needs) (λ w. search needs) (c .match .came)
+loop-again c =
+    let call = c .before in
+    let at = call .before .before .before .before in
+    let h = call .before .before .before .loop-test .taken in
+    ⊎-elim
+    (λ w. (search needs, search needs, offer-kept _ _ _ _ _ _ (at .loop .inv .2) h _ (fated call) _ _ (w .1 .given .1) (w .2) (w .3)))
+    (λ w. (search needs, search needs, offer-dropped _ _ _ _ _ _ (at .loop .inv .2) h _ (fated call) _ _ (w .1 .given .1) (w .2) (w .3)))
+    (c .match .came)
 
 returns-2 : tie.Need-returns-2 Inv-loop μ-loop
-returns-2 c = search needs
+unfolding matchedLoad
+returns-2 c = offer-none _ _ _ _ _ _ (c .before .loop .inv .2) (c .loop-test .left)
 
 pub match-load-to-stores-spec : {M : Type 1} → statement M
 match-load-to-stores-spec =

@@ -1,5 +1,5 @@
 use native.Mathlib.Omega.{arith}
-use Rattle.table.specs.Table.{u16At}
+use Rattle.rules.specs.Table.{u16At}
 use borrow.Author.Needs.{needs}
 use Rattle.table.proofs.little.u16_at.Statement.{statement}
 use Rattle.table.proofs.little.u16_at.Tie as tie

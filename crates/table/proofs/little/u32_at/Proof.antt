@@ -1,5 +1,5 @@
 use native.Mathlib.Omega.{arith}
-use Rattle.table.specs.Table.{u32At}
+use Rattle.rules.specs.Table.{u32At}
 use borrow.Author.Needs.{needs}
 use Rattle.table.proofs.little.u32_at.Statement.{statement}
 use Rattle.table.proofs.little.u32_at.Tie as tie

@@ -1,5 +1,5 @@
 use native.Mathlib.Omega.{arith}
-use Rattle.table.specs.Table.{u64At}
+use Rattle.rules.specs.Table.{u64At}
 use borrow.Author.Needs.{needs}
 use Rattle.table.proofs.little.u64_at.Statement.{statement}
 use Rattle.table.proofs.little.u64_at.Tie as tie

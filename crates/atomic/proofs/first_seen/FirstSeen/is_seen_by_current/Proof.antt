@@ -5,7 +5,7 @@ use mathlib.Core.Bool.{Bool, _||_}
 use mathlib.Core.Path.{_≡_, refl, sym, ap, _∙_}
 use lib.ListN.{length, drop}
 use Rattle.vv.proofs.Walks.{left-none}
-use Rattle.atomic.specs.Seen.{seen, seenThrough}
+use Rattle.rules.specs.Seen.{seen, seenThrough}
 use Rattle.atomic.proofs.SeenLaws.{seen-on, so-far}
 use Rattle.atomic.proofs.first_seen.FirstSeen.is_seen_by_current.Statement.{statement}
 use Rattle.atomic.proofs.first_seen.FirstSeen.is_seen_by_current.Tie as tie

@@ -1,0 +1,53 @@
+-- The laws of a cell's slots, for the functions that count, touch and mark them. Assumes nothing.
+--     live-few, live-all              how many stores are live
+--     flag-set, flag-clear            whether a store was SeqCst
+--     touch-again, touch-first        the thread's mark on the store that it reads
+--     marked-first                    the marks of a new store
+use Prim.Native.Nat.{ℕ, _≤_, _<_}
+use mathlib.Core.List.{List, []}
+use mathlib.Core.Path.{_≡_}
+use mathlib.Core.Logic.{_≢_, ⊎-elim}
+use native.Mathlib.Omega.{arith}
+use lib.Dec.{ltb}
+use lib.ListN.{length, getD, set}
+use lib.Seq.{set-getD}
+use borrow.Author.Tests.{eq-eqb, ne-eqb, lt-ltb, le-ltb, ltb-true, ltb-false}
+use Rattle.rules.specs.Seen.{unseen, unseens, touched, touchedAt}
+use Rattle.rules.specs.State.{Clocks, Marks, marksOf}
+use Rattle.rules.specs.Cell.{seqCstOrder, seqCstFlag, version, touchDone}
+use Rattle.atomic.specs.Slots.{Live}
+use Rattle.atomic.proofs.SeenLaws as Seen
+
+pub live-few : (n : ℕ) → n < 7 → Live n n
+live-few n h = record { is = rw (lt-ltb n 7 h); within = omega arith }
+
+pub live-all : (n : ℕ) → 7 ≤ n → Live n 7
+live-all n h = record { is = rw (le-ltb n 7 h); within = omega arith }
+
+pub flag-set : (o : ℕ) → o ≡ seqCstOrder → 1 ≡ seqCstFlag o
+flag-set o e = rw (eq-eqb o seqCstOrder e)
+
+pub flag-clear : (o : ℕ) → o ≢ seqCstOrder → 0 ≡ seqCstFlag o
+flag-clear o n = rw (ne-eqb o seqCstOrder n)
+
+-- a mark that is there stays; a thread that is none has no mark to be made
+mark-there : (marks : List ℕ) (t v : ℕ) → getD marks t 0 ≢ unseen → marks ≡ touched marks t v
+mark-there marks t v n =
+    ⊎-elim
+    (λ e. Seen.touch-again marks t (ltb-true t (length marks) e) v n)
+    (λ e. Seen.touch-nobody marks t (ltb-false t (length marks) e) v)
+    (Seen.flag (ltb t (length marks)))
+
+module _ (clocks : Clocks) (marks : Marks) (t c slot : ℕ) where
+  pub touch-first : (rows : List (List ℕ)) → rows ≡ touchedAt (marksOf marks c) slot t (version clocks t) →
+      set marks c rows ≡ touchDone clocks marks t c slot
+  unfolding touchDone
+  touch-first rows e = rw e
+
+  pub touch-again : getD (getD (marksOf marks c) slot []) t 0 ≢ unseen →
+      marks ≡ touchDone clocks marks t c slot
+  unfolding touchDone touchedAt
+  touch-again n = rw (← mark-there (getD (marksOf marks c) slot []) t (version clocks t) n, set-getD, set-getD)
+
+pub marked-first : (t v : ℕ) (fresh marks : List ℕ) → fresh ≡ unseens 5 → marks ≡ touched fresh t v → marks ≡ touched (unseens 5) t v
+marked-first t v fresh marks e f = rw (← e) f

@@ -1,0 +1,30 @@
+-- What an exclusive change answers and leaves. It reads no marks, so it says the same of every marks. Assumes nothing.
+use Prim.Native.Nat.{ℕ}
+use mathlib.Core.Path.{_≡_}
+use Rattle.rules.specs.Cell as rules
+use Rattle.rules.specs.State.{State, Clocks, Marks, Values, Small, value, ofStore}
+use Rattle.atomic.specs.Access.{state}
+use Rattle.atomic.specs.declared.Mutated.{Mutated}
+use Rattle.atomic.specs.declared.Mutated.the-variants as code
+
+-- the value found or the race, with the state that is left
+abbrev pub mutatedOf : Mutated → State → rules.Access
+mutatedOf (code.Values read left) st = rules.read read st
+mutatedOf (code.Raced kind other) st = rules.raced kind other st
+
+-- the value that is answered as left; with a race there is none to answer
+abbrev pub leftOf : Mutated → ℕ → ℕ
+leftOf (code.Values read left) n = left
+leftOf (code.Raced kind other) n = n
+
+-- what a change leaves of the newest store's value
+abbrev pub toLeave : Values → Small → ℕ → rules.Change → ℕ
+toLeave values small c change =
+    let v = value values (ofStore (rules.newestOf small c)) in
+    rules.leaves (rules.applied change v) v
+
+-- from the state at entry to the clocks and values at exit
+pub record Mutates (r : Mutated) (clocks exitClocks : Clocks) (values exitValues : Values) (small : Small) (t c : ℕ) (change : rules.Change) : Type 0 where
+  pub access : (marks : Marks) →
+      mutatedOf r (state exitClocks marks exitValues small) ≡ rules.mutDone (state clocks marks values small) t c change
+  pub left : leftOf r (toLeave values small c change) ≡ toLeave values small c change

@@ -1,0 +1,130 @@
+-- What turns and executions do to the path, whatever the machine asks: marks, and fresh records.
+--     turn-gained             a turn
+--     course-open             what an execution opens and what it leaves open
+use Prim.Native.Nat.{ℕ, zero, suc}
+use mathlib.Core.List.{List, [], _∷_, _++_, append-assoc, Perm, Perm·refl, Perm·trans, Perm·symm, Perm·append-left}
+use mathlib.Core.Bool.{Bool, true, false, cond}
+use mathlib.Core.Path.{_≡_, refl, sym, subst}
+use lib.Dec.{eqb}
+use lib.ListN.{length, getD}
+use Rattle.rules.specs.Path.{Branch, noBranch}
+use Rattle.rules.specs.Event as Event
+use Rattle.rules.specs.Event.{Machine, moves, asks, stops, ends, Question}
+use Rattle.rules.specs.Explorer.{Limits, Ledger, Walk, Turn, goes, over, faulted, Reply, says, unexpected, reply, Pushed, pushes, faults, pushed, withBranch, withLedger, withState, noted, onward, firstMarked, followed, replied, newBranch, met, asked, taken, turn, fits, walked, fresh, execution}
+use Rattle.ledger.specs.Course.{Every, turnsFrom, courseOf}
+use Rattle.ledger.specs.History.{leftBy}
+use Rattle.ledger.specs.Turning.{Name, openNames, openedNames, joinedOver, openedTurn}
+use Rattle.ledger.proofs.Marking.{AllMarking, all-refl, firstMarked-marks}
+use Rattle.ledger.proofs.Growth.{Grown, grown-refl, grown-trans}
+use Rattle.ledger.proofs.Proper.{Proper, pushed-fresh}
+use Rattle.ledger.proofs.Opened.{Gained, gained-grown, gained-proper, marking-gained, gained-added, opened-open}
+use Rattle.ledger.proofs.Lists.{left-comm}
+
+module _ (M : Machine) (limits : Limits) where
+  -- A turn
+
+  abbrev pathLeft : Turn (M .State) → List Branch
+  pathLeft t = leftBy t .ledger .path
+
+  followed-path : (began : M .State) (w : Walk (M .State)) (e : Event.Event (M .State)) →
+      pathLeft (followed M limits began w e) ≡ w .ledger .path
+  followed-path began w (moves s es) = go (fits M limits w es)
+    where
+      go : (x : Bool) → pathLeft (cond x (goes (noted w s es)) (faulted Event.impossible began (withState w s))) ≡ w .ledger .path
+      go true = refl
+      go false = refl
+  followed-path began w (asks s es x q) = refl
+  followed-path began w (stops s f) = refl
+  followed-path began w (ends s) = refl
+
+  replied-path : (began : M .State) (w : Walk (M .State)) (r : Reply) → pathLeft (replied M limits began w r) ≡ w .ledger .path
+  replied-path began w (says a) = followed-path began (onward w) (M .answered (w .state) a)
+  replied-path began w unexpected = refl
+
+  new-gained : (bs : List Branch) (began : M .State) (w : Walk (M .State)) (x : Bool) (q : Question) → AllMarking bs (w .ledger .path) →
+      (P : Pushed) →
+      pushed (limits .branches) (w .ledger .path) x q ≡ P → Gained bs (pathLeft (newBranch M limits began w q P))
+  new-gained bs began w x q m (pushes b) e =
+      rw (replied-path began (withLedger w (withBranch (w .ledger) b)) (reply (w .pos) b q))
+      (gained-added bs (w .ledger .path) b m (pushed-fresh (limits .branches) (w .ledger .path) x q b e))
+  new-gained bs began w x q m (faults f) e = marking-gained bs (w .ledger .path) m
+
+  met-gained : (bs : List Branch) (began : M .State) (w : Walk (M .State)) (x : Bool) (q : Question) → AllMarking bs (w .ledger .path) →
+      Gained bs (pathLeft (met M limits began w x q))
+  met-gained bs began w x q m = go (eqb (w .pos) (length (w .ledger .path)))
+    where
+      go : (y : Bool) → Gained bs (pathLeft (cond y (newBranch M limits began w q (pushed (limits .branches) (w .ledger .path) x q))
+          (replied M limits began w (reply (w .pos) (getD (w .ledger .path) (w .pos) noBranch) q))))
+      go true = new-gained bs began w x q m (pushed (limits .branches) (w .ledger .path) x q) refl
+      go false = rw (replied-path began w (reply (w .pos) (getD (w .ledger .path) (w .pos) noBranch) q)) (marking-gained bs (w .ledger .path) m)
+
+  idle : (w : Walk (M .State)) → Gained (w .ledger .path) (w .ledger .path)
+  idle w = marking-gained (w .ledger .path) (w .ledger .path) (all-refl (w .ledger .path))
+
+  taken-gained : (w : Walk (M .State)) (e : Event.Event (M .State)) → Gained (w .ledger .path) (pathLeft (taken M limits w e))
+  taken-gained w (moves s es) = go (fits M limits w es)
+    where
+      go : (x : Bool) → Gained (w .ledger .path) (pathLeft (cond x (goes (noted w s es)) (faulted Event.impossible (w .state) (withState w s))))
+      go true = idle w
+      go false = idle w
+  taken-gained w (asks s es x q) = go (fits M limits w es)
+    where
+      go : (y : Bool) → Gained (w .ledger .path) (pathLeft (cond y (asked M limits (w .state) (noted w s es) x q) (faulted Event.impossible (w .state) (withState w s))))
+      go true =
+          met-gained (w .ledger .path) (w .state) (withLedger (noted w s es) (firstMarked (limits .bound) (w .ledger) q)) x q
+          (firstMarked-marks (limits .bound) (w .ledger) q)
+      go false = idle w
+  taken-gained w (stops s f) = idle w
+  taken-gained w (ends s) = idle w
+
+  pub turn-gained : (w : Walk (M .State)) → Gained (w .ledger .path) (pathLeft (turn M limits w))
+  unfolding turn
+  turn-gained w = taken-gained w (M .next (w .state))
+
+  -- An execution
+
+  pub record Gains (w : Walk (M .State)) (ws : List (Walk (M .State))) (v : Walk (M .State)) : Type 0 where
+    pub grown : Grown (w .ledger .path) (v .ledger .path)
+    pub proper : Every Proper (w .ledger .path) → Every Proper (v .ledger .path)
+    pub opens : Perm (joinedOver (openedTurn M limits) ws ++ openNames (w .ledger .path)) (openNames (v .ledger .path))
+
+  -- put together: what was opened later, what was opened first, and what was open
+  combined : (news rest were mids lasts : List Name) → Perm mids (news ++ were) → Perm (rest ++ mids) lasts →
+      Perm ((news ++ rest) ++ were) lasts
+  combined news rest were mids lasts p q =
+      subst (λ l. Perm l lasts) (sym (append-assoc news rest were))
+      (Perm·trans {l₂ = rest ++ (news ++ were)} (left-comm news rest were)
+      (Perm·trans {l₂ = rest ++ mids} (Perm·append-left {t₁ = news ++ were} {t₂ = mids} rest (Perm·symm p)) q))
+
+  one-turn : (w v : Walk (M .State)) → Gained (w .ledger .path) (v .ledger .path) →
+      openedTurn M limits w ≡ openedNames (w .ledger .path) (v .ledger .path) →
+      (ws : List (Walk (M .State))) (u : Walk (M .State)) → Gains v ws u → Gains w (w ∷ ws) u
+  unfolding joinedOver
+  one-turn w v g e ws u r =
+      record {
+        grown = grown-trans (w .ledger .path) (v .ledger .path) (u .ledger .path) (gained-grown (w .ledger .path) (v .ledger .path) g) (r .grown);
+        proper = λ p. r .proper (gained-proper (w .ledger .path) (v .ledger .path) g p);
+        opens = rw e (combined (openedNames (w .ledger .path) (v .ledger .path)) (joinedOver (openedTurn M limits) ws) (openNames (w .ledger .path)) (openNames (v .ledger .path)) (openNames (u .ledger .path))
+            (opened-open (w .ledger .path) (v .ledger .path) g) (r .opens));
+      }
+
+  no-turn : (w : Walk (M .State)) → Gains w [] w
+  unfolding joinedOver
+  no-turn w = record { grown = grown-refl (w .ledger .path); proper = λ p. p; opens = Perm·refl (openNames (w .ledger .path)) }
+
+  pub walk-gains : (n : ℕ) (w : Walk (M .State)) → Gains w (turnsFrom M limits n w) (leftBy (walked M limits n w))
+  unfolding turnsFrom walked
+  walk-gains zero w = no-turn w
+  walk-gains (suc n) w = go (turn M limits w) refl (λ v. walk-gains n v)
+    where
+      go : (t : Turn (M .State)) → turn M limits w ≡ t →
+          ((v : Walk (M .State)) → Gains v (turnsFrom M limits n v) (leftBy (walked M limits n v))) →
+          Gains w (w ∷ elim t [ goes v ↦ turnsFrom M limits n v | over v ↦ [] | faulted f s v ↦ [] ])
+          (leftBy (elim t [ goes v ↦ walked M limits n v | over v ↦ over v | faulted f s v ↦ faulted f s v ]))
+      go (goes v) e h = one-turn w v (rw e at (turn-gained w)) (rw e) (turnsFrom M limits n v) (leftBy (walked M limits n v)) (h v)
+      go (over v) e h = one-turn w v (rw e at (turn-gained w)) (rw e) [] v (no-turn v)
+      go (faulted f s v) e h = one-turn w v (rw e at (turn-gained w)) (rw e) [] v (no-turn v)
+
+  pub course-gains : (l : Ledger) → Gains (fresh M limits l) (courseOf M limits l .turns) (courseOf M limits l .end)
+  unfolding courseOf execution
+  course-gains l = walk-gains (limits .turns) (fresh M limits l)

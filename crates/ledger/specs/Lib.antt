@@ -1,0 +1,11 @@
+pub mod Balance
+pub mod Course
+pub mod History
+pub mod Named
+pub mod Play
+pub mod Replay
+pub mod Small
+pub mod Tree
+pub mod Turning
+pub mod Wrong
+pub mod WrongTree

@@ -1,0 +1,66 @@
+-- Demand 3, replay, over any machine: an execution that goes along a known path asks there what was asked before.
+--     Comes        states that come from a seed by marks and visits alone
+--     Agrees       a record that agrees with the question asked at it
+--     Replay       the statement
+use Prim.Native.Nat.{ℕ, _≤_, _<_}
+use mathlib.Core.List.{List, []}
+use mathlib.Core.Bool.{Bool}
+use mathlib.Core.Path.{_≡_}
+use lib.ListN.{length, getD}
+use Rattle.rules.specs.Path.{Branch, schedule, load, spurious, toggled, marked, turned, pendings, noBranch}
+use Rattle.rules.specs.Event.{Machine, Entry, Question, whichThread, whichSlot, whichBit, offers, slotsOf, asks}
+use Rattle.rules.specs.Explorer.{Limits, Walk, turn, seedOf}
+use Rattle.ledger.specs.Course.{Every, Course, courses, executed}
+use Rattle.ledger.specs.History.{leftBy}
+use Rattle.ledger.specs.Play.{finalOf, played}
+
+-- "the states come from this seed by marks and visits alone": a mark is the definition's, and a visit is made where
+-- something is Pending: the Active becomes Visited and the first Pending Active
+pub data Comes (seed : List ℕ) : List ℕ → Type 0 where
+  seeded : Comes seed (toggled seed)
+  marks : {states : List ℕ} (t : ℕ) → Comes seed states → Comes seed (marked states t)
+  visits : {states : List ℕ} → 0 < pendings states → Comes seed states → Comes seed (turned states)
+
+-- "for a load the recorded values are the offers of this very execution, judged as the slot is chosen; for a schedule the
+-- states come from this seed by marks and visits alone; for a spurious branch it is one". A record is exploring where the
+-- asker is
+abbrev pub Agrees : Bool → Branch → Question → Type 0
+Agrees exploring (schedule s) (whichThread points initial standings) =
+    (s .exploring ≡ exploring) × Comes (seedOf initial standings) (s .states)
+Agrees exploring (schedule s) (whichSlot m) = ⊥
+Agrees exploring (schedule s) whichBit = ⊥
+Agrees exploring (load l) (whichThread points initial standings) = ⊥
+Agrees exploring (load l) (whichSlot m) =
+    (l .exploring ≡ exploring)
+    × (slots : List Bool)
+    × (m ≡ offers slots)
+    × (l .values ≡ slotsOf slots)
+    × (l .pos < length (l .values))
+Agrees exploring (load l) whichBit = ⊥
+Agrees exploring (spurious u) (whichThread points initial standings) = ⊥
+Agrees exploring (spurious u) (whichSlot m) = ⊥
+Agrees exploring (spurious u) whichBit = u .exploring ≡ exploring
+
+module _ (M : Machine) (limits : Limits) where
+  -- a turn that passes a branch: it has asked, and the record there, which has answered, agrees with the question
+  unfoldable pub Answered : Walk (M .State) → Type 0
+  Answered w =
+      w .pos < leftBy (turn M limits w) .pos →
+      (s : M .State) ×
+      (es : List Entry) ×
+      (exploring : Bool) ×
+      (q : Question) ×
+      (M .next (w .state) ≡ asks s es exploring q) ×
+      Agrees exploring (getD (leftBy (turn M limits w) .ledger .path) (w .pos) noBranch) q
+
+  -- an execution: each branch is answered by a record that agrees; the known path has been gone through whenever it is over or
+  -- has met a fault; and how it is left is a function of its choices
+  pub record Follows (c : Course (M .State)) : Type 0 where
+    pub answered : Every Answered (c .turns)
+    pub gone-through : length (c .known) ≤ c .end .pos
+    pub by-choices : finalOf (c .end) ≡ played M limits (limits .turns) (M .start) [] 0 (executed c .choices)
+
+-- "At every branch of every execution the record that answers agrees with the question asked there .. So an execution is a
+-- function of its choices, and a fault never comes before the known path has been gone through."
+unfoldable pub Replay : Type 1
+Replay = (M : Machine) (limits : Limits) (n : ℕ) → Every (Follows M limits) (courses M limits n)

@@ -1,0 +1,123 @@
+-- The laws of a new branch. Assumes nothing.
+--     refused          no room for it
+--     added-as         it was written past the last
+--     spurious-.., load-..     the two that open what they add
+use Prim.Native.Nat.{ℕ, _+_, _*_, _-_, _/_, _≤_, _<_}
+use mathlib.Core.List.{List, [], _∷_, _++_}
+use mathlib.Core.Bool.{Bool, true, false, cond}
+use mathlib.Core.Path.{_≡_, refl, ap, sym, subst, _∙_}
+use native.Mathlib.Omega.{arith}
+use borrow.Author.Tests.{le-leb, lt-leb}
+use lib.Dec.{leb}
+use lib.ListN.{length, set, take, replicate}
+use lib.Seq.{paste, length-take-le}
+use Rattle.rules.specs.Path as rules
+use Rattle.rules.specs.Path.{Branch, encoded, spuriousAdded, loadAdded, openedBy}
+use Rattle.rules.specs.Records.{recordAt, withRecord}
+use Rattle.rules.proofs.RecordLaws.{record-now, record-again}
+use Rattle.path.specs.Answers.{Left}
+use Rattle.path.specs.Fields.{begun, withValues}
+use Rattle.path.specs.Holds.{Holds, shaped}
+use Rattle.path.specs.Pushes.{Pushes, pushedOf, grown}
+use Rattle.path.specs.declared.Pushed.the-variants.{Added, Full}
+use Rattle.path.proofs.LoadLaws.{load-new, left-whole}
+use Rattle.path.proofs.HoldsLaws.{holds-blank, holds-added}
+
+pub no-room : (n k : ℕ) → 16 * k ≤ n → n - 16 * k < 16 → leb (n / 16) k ≡ true
+no-room n k h l = le-leb (n / 16) k (omega arith)
+
+pub has-room : (n k : ℕ) → 16 * k + 16 ≤ n → leb (n / 16) k ≡ false
+has-room n k h = lt-leb (n / 16) k (omega arith)
+
+module _ (bytes : List ℕ) (len most : ℕ) (answer : ℕ → List Branch → rules.Added) where
+  pub refused : 16 * len ≤ length bytes → length bytes - 16 * len < 16 → ((B : ℕ) (bs : List Branch) → leb B (length bs) ≡ true → answer B bs ≡ rules.full) → Pushes bytes bytes len most answer Full
+  refused h l f =
+      let says : (bs : List Branch) → length bs ≡ len → answer (length bytes / 16) bs ≡ rules.full =
+      λ bs e. f (length bytes / 16) bs (rw e (no-room (length bytes) len h l)) in
+      record {
+        within = omega arith;
+        says = λ bs q e. ap pushedOf (sym (says bs e));
+        holds = λ bs q e. subst (λ (a : rules.Added). Holds bytes (grown bs a)) (sym (says bs e)) q;
+      }
+
+  added-as :
+      16 * len + 16 ≤ length bytes → (exit : List ℕ) (b : Branch) (n : ℕ) → n ≤ most → n ≡ openedBy b → shaped b ≡ true
+      → (recordAt bytes len ≡ replicate 16 0 → exit ≡ withRecord bytes len (encoded b))
+      → ((B : ℕ) (bs : List Branch) → leb B (length bs) ≡ false → answer B bs ≡ rules.added b)
+      → Pushes bytes exit len most answer (Added n)
+  added-as room exit b n few opens shape put f =
+      let says : (bs : List Branch) → length bs ≡ len → answer (length bytes / 16) bs ≡ rules.added b =
+      λ bs e. f (length bytes / 16) bs (rw e (has-room (length bytes) len room)) in
+      let holds : (bs : List Branch) → Holds bytes bs → length bs ≡ len → Holds exit (bs ++ (b ∷ [])) =
+      λ bs q e.
+      let fits : 16 * length bs + 16 ≤ length bytes = omega arith in
+      let blank : recordAt bytes len ≡ replicate 16 0 = rw e at (holds-blank q fits) in
+      rw (put blank, ← e) (holds-added q fits b shape) in
+      record {
+        within = record { room = room; few = few };
+        says = λ bs q e. ap Added opens ∙ ap pushedOf (sym (says bs e));
+        holds = λ bs q e. subst (λ (a : rules.Added). Holds exit (grown bs a)) (sym (says bs e)) (holds bs q e);
+      }
+
+-- A spurious branch
+
+abbrev newSpurious : Bool → Branch
+newSpurious exploring = rules.spurious (record { exploring = exploring; bit = false })
+
+module _ (bytes : List ℕ) (len : ℕ) (exploring : Bool) where
+  pub spurious-refused : 16 * len ≤ length bytes → length bytes - 16 * len < 16 → Pushes bytes bytes len 1 (λ B bs. spuriousAdded B bs exploring) Full
+  unfolding spuriousAdded
+  spurious-refused h l = refused bytes len 1 (λ B bs. spuriousAdded B bs exploring) h l (λ B bs e. rw e)
+
+  spurious-put : recordAt bytes len ≡ replicate 16 0 → begun bytes len 3 exploring ≡ withRecord bytes len (encoded (newSpurious exploring))
+  unfolding begun encoded
+  spurious-put e = rw e
+
+  pub spurious-added : 16 * len + 16 ≤ length bytes → (exit : List ℕ) (n : ℕ) → n ≡ cond exploring 1 0 → n ≤ 1 → exit ≡ begun bytes len 3 exploring → Pushes bytes exit len 1 (λ B bs. spuriousAdded B bs exploring) (Added n)
+  unfolding spuriousAdded openedBy
+  spurious-added room exit n opens few e =
+      added-as bytes len 1 (λ B bs. spuriousAdded B bs exploring) room exit (newSpurious exploring) n few opens refl (λ z. e ∙ spurious-put z) (λ B bs q. rw q)
+
+-- A load branch
+
+-- what is left of it opens, where it is explored
+pub opens-left : {exploring : Bool} {n m : ℕ} → exploring ≡ true → n ≤ 7 → Left 0 n m → m ≡ cond exploring (n - 1) 0
+opens-left {exploring} {n} {m} e h l = left-whole n m h l ∙ sym (ap (λ (x : Bool). cond x (n - 1) 0) e)
+
+pub opens-none : {exploring : Bool} (n : ℕ) → exploring ≡ false → 0 ≡ cond exploring (n - 1) 0
+opens-none {exploring} n e = sym (ap (λ (x : Bool). cond x (n - 1) 0) e)
+
+abbrev newLoad : Bool → List ℕ → Branch
+newLoad exploring offers = rules.load (record { exploring = exploring; values = offers; pos = 0 })
+
+module _ (bytes : List ℕ) (len : ℕ) (exploring : Bool) (seed : List ℕ) (n : ℕ) where
+  pub load-refused : 16 * len ≤ length bytes → length bytes - 16 * len < 16 → Pushes bytes bytes len 6 (λ B bs. loadAdded B bs exploring (take n seed)) Full
+  unfolding loadAdded
+  load-refused h l = refused bytes len 6 (λ B bs. loadAdded B bs exploring (take n seed)) h l (λ B bs e. rw e)
+
+  module _ (room : 16 * len + 16 ≤ length bytes) (l : length seed ≡ 7) (h : n ≤ 7) where
+    begun-blank : recordAt bytes len ≡ replicate 16 0 → begun bytes len 2 exploring ≡ withRecord bytes len (2 ∷ rules.flag exploring ∷ replicate 14 0)
+    unfolding begun
+    begun-blank e = rw e
+
+    load-put : (mid : List ℕ) → mid ≡ withRecord bytes len (2 ∷ rules.flag exploring ∷ replicate 14 0) → withValues mid len seed n ≡ withRecord bytes len (encoded (newLoad exploring (take n seed)))
+    unfolding withValues
+    load-put mid e =
+        let r : List ℕ = 2 ∷ rules.flag exploring ∷ replicate 14 0 in
+        let now : recordAt mid len ≡ r = ap (λ (x : List ℕ). recordAt x len) e ∙ record-now bytes len room r refl in
+        ap (λ (x : List ℕ). withRecord mid len (set (paste x 2 seed n) 10 n)) now
+        ∙ ap (withRecord mid len) (load-new seed n (rules.flag exploring) l h exploring refl)
+        ∙ ap (λ (x : List ℕ). withRecord x len (encoded (newLoad exploring (take n seed)))) e
+        ∙ record-again bytes len room r (encoded (newLoad exploring (take n seed))) refl
+
+    pub load-added :
+        (mid exit : List ℕ) (m : ℕ) → m ≡ cond exploring (n - 1) 0 → m ≤ 6 → mid ≡ begun bytes len 2 exploring → exit ≡ withValues mid len seed n
+        → Pushes bytes exit len 6 (λ B bs. loadAdded B bs exploring (take n seed)) (Added m)
+    unfolding loadAdded openedBy
+    load-added mid exit m opens few e f =
+        let k : length (take n seed) ≡ n = length-take-le n seed (omega arith) in
+        added-as bytes len 6 (λ B bs. loadAdded B bs exploring (take n seed)) room exit (newLoad exploring (take n seed)) m few
+        (opens ∙ ap (λ (x : ℕ). cond exploring (x - 1) 0) (sym k))
+        (le-leb (length (take n seed)) 7 (omega arith))
+        (λ z. f ∙ load-put mid (e ∙ begun-blank z))
+        (λ B bs q. rw q)

@@ -1,0 +1,453 @@
+-- An atomic cell: which stores a load may read, races, and what each access does: document 01, "`State`", "Sync" and "Match
+-- for load". Every function takes the tables that it reads, and is defined on every table. Assumes nothing.
+--     matchedLoad, matchedRmw        the offers, or that equal orders were met
+--     loadDone, rmwDone, storeDone, unsyncLoadDone, mutDone       the accesses
+--     fenced                         the fences
+use Prim.Native.Nat.{ℕ, zero, suc, _+_, _-_, _*_, _%_, _^_, max, min}
+use mathlib.Core.List.{List, [], _∷_, map}
+use mathlib.Core.Bool.{Bool, true, false, cond, not, _&&_, _||_}
+use lib.Dec.{ltb, leb, eqb}
+use lib.Bits.{bitAnd, bitOr, bitXor}
+use lib.ListN.{getD, set, replicate}
+use Rattle.rules.specs.Vector as Vectors
+use Rattle.rules.specs.Vector.{joined, less, ahead, Whom, nobody, thread, zeros, oneMore}
+use Rattle.rules.specs.Seen.{seen, seenBeforeYield, touchedAt, touched, unseens}
+use Rattle.rules.specs.Event.{Matched, offers}
+use Rattle.rules.specs.Event as Event
+use Rattle.rules.specs.State.{State, Clocks, Marks, Values, Small, Vector, Number, vector, withVector, marksOf, withMarks, value, withValue, number, withNumber, storeAt, history, threads}
+use Rattle.rules.specs.State.{causality, released, seqCst, loaded, unsyncLoaded, stored, mutated, happensBefore, order, sync, ofStore, count, isSeqCst, lastYield}
+
+-- Orders
+
+-- "4 SeqCst"
+abbrev pub seqCstOrder : ℕ
+seqCstOrder = 4
+
+-- "orders 2, 3, 4 join the store's sync vector into the thread"
+abbrev pub acquires : ℕ → Bool
+acquires o = eqb o 2 || eqb o 3 || eqb o 4
+
+-- "for 1, 3, 4 join the thread too"
+abbrev pub releases : ℕ → Bool
+releases o = eqb o 1 || eqb o 3 || eqb o 4
+
+-- Synchronisation
+
+-- one vector takes another in
+abbrev pub joinInto : Clocks → Vector → Vector → Clocks
+joinInto clocks v w = withVector clocks v (joined (vector clocks v) (vector clocks w))
+
+-- "Load synchronisation: orders 2, 3, 4 join the store's sync vector into the thread."
+unfoldable pub loadSynced : Clocks → ℕ → ℕ → ℕ → Clocks
+loadSynced clocks t store o = cond (acquires o) (joinInto clocks (causality t) (sync store)) clocks
+
+-- "Store synchronisation: join released into sync; for 1, 3, 4 join the thread too."
+unfoldable pub storeSynced : Clocks → ℕ → List ℕ → ℕ → List ℕ
+storeSynced clocks t s o =
+    cond (releases o)
+    (joined (joined s (vector clocks (released t))) (vector clocks (causality t)))
+    (joined s (vector clocks (released t)))
+
+-- Which stores are offered
+
+-- "Slot is cnt mod 7, live means slot < cnt.": so many slots are live, from slot 0 on
+abbrev pub liveStores : ℕ → ℕ
+liveStores n = cond (ltb n history) n history
+
+abbrev pub liveIn : Small → ℕ → ℕ
+liveIn small c = liveStores (number small (count c))
+
+abbrev pub orderOf : Clocks → ℕ → ℕ → List ℕ
+orderOf clocks c i = vector clocks (order (storeAt c i))
+
+-- "j seen": the slot's store, by the thread's causality
+abbrev pub seenBy : Clocks → List (List ℕ) → ℕ → ℕ → Bool
+seenBy clocks rows t i = seen (getD rows i []) (vector clocks (causality t))
+
+-- "order, i and j all SeqCst"
+abbrev pub allSeqCst : Small → ℕ → ℕ → ℕ → ℕ → Bool
+allSeqCst small c i j o =
+    eqb o seqCstOrder
+    && eqb (number small (isSeqCst (storeAt c i))) 1
+    && eqb (number small (isSeqCst (storeAt c j))) 1
+
+-- what a scan says of a store
+pub data Fate : Type 0 where
+  kept : Fate
+  dropped : Fate
+  equalMet : Fate
+
+-- "slot i is dropped at the first live j with order i < order j and (..)"; "13 exactly if some row i meets an equal order at j
+-- before being dropped". Here are the n slots from j on, i itself passed over; what stands in the brackets is a test of j
+unfoldable pub fateFrom : Clocks → ℕ → ℕ → (ℕ → Bool) → ℕ → ℕ → Fate
+fateFrom clocks c i drops zero j = kept
+fateFrom clocks c i drops (suc n) j =
+    elim (eqb j i) [
+      | true ↦ fateFrom clocks c i drops n (j + 1)
+      | false ↦ elim (Vectors.equal (orderOf clocks c i) (orderOf clocks c j)) [
+        | true ↦ equalMet
+        | false ↦ elim (less (orderOf clocks c i) (orderOf clocks c j) && drops j) [
+          | true ↦ dropped
+          | false ↦ fateFrom clocks c i drops n (j + 1)
+        ]
+      ]
+    ]
+
+-- "(j seen, or i seen by this thread no later than its last yield, or order, i and j all SeqCst)"
+abbrev pub loadDrops : Clocks → List (List ℕ) → Small → ℕ → ℕ → ℕ → ℕ → ℕ → Bool
+loadDrops clocks rows small t c o i j =
+    seenBy clocks rows t j
+    || seenBeforeYield (getD rows i []) t (number small (lastYield t))
+    || allSeqCst small c i j o
+
+-- "Match for load"
+unfoldable pub loadFate : Clocks → List (List ℕ) → Small → ℕ → ℕ → ℕ → ℕ → Fate
+loadFate clocks rows small t c o i = fateFrom clocks c i (loadDrops clocks rows small t c o i) (liveIn small c) 0
+
+-- "RMW drops at any greater j."
+unfoldable pub rmwFate : Clocks → Small → ℕ → ℕ → Fate
+rmwFate clocks small c i = fateFrom clocks c i (λ (j : ℕ). true) (liveIn small c) 0
+
+abbrev pub alsoOffered : Bool → Matched → Matched
+alsoOffered b (offers more) = offers (b ∷ more)
+alsoOffered b Event.equal = Event.equal
+
+abbrev pub byFate : Fate → Matched → Matched
+byFate kept more = alsoOffered true more
+byFate dropped more = alsoOffered false more
+byFate equalMet more = Event.equal
+
+-- the n slots from i on: each is offered where it is kept; "13 exactly if some row i meets an equal order"
+unfoldable pub matchedFrom : (ℕ → Fate) → ℕ → ℕ → Matched
+matchedFrom fate zero i = offers []
+matchedFrom fate (suc n) i = byFate (fate i) (matchedFrom fate n (i + 1))
+
+unfoldable pub matchedLoad : Clocks → List (List ℕ) → Small → ℕ → ℕ → ℕ → Matched
+matchedLoad clocks rows small t c o = matchedFrom (loadFate clocks rows small t c o) (liveIn small c) 0
+
+unfoldable pub matchedRmw : Clocks → Small → ℕ → Matched
+matchedRmw clocks small c = matchedFrom (rmwFate clocks small c) (liveIn small c) 0
+
+-- Races
+
+pub data Race : Type 0 where
+  noRace : Race
+  raceOf : ℕ → ℕ → Race
+
+-- "14 race: kind and other thread": the accesses of this sort have a thread ahead
+abbrev pub ofKind : ℕ → Whom → Race
+ofKind kind nobody = noRace
+ofKind kind (thread other) = raceOf kind other
+
+abbrev pub raceWith : Clocks → ℕ → Vector → ℕ → Race
+raceWith clocks t v kind = ofKind kind (ahead (vector clocks (causality t)) (vector clocks v))
+
+abbrev pub orElse : Race → Race → Race
+orElse noRace other = other
+orElse (raceOf kind t) other = raceOf kind t
+
+-- "Race kinds in check order: load 1 (mut)"
+unfoldable pub loadRace : Clocks → ℕ → ℕ → Race
+loadRace clocks t c = raceWith clocks t (mutated c) 1
+
+-- "unsynchronised load 2 (mut), 3 (store)"
+unfoldable pub unsyncLoadRace : Clocks → ℕ → ℕ → Race
+unsyncLoadRace clocks t c = orElse (raceWith clocks t (mutated c) 2) (raceWith clocks t (stored c) 3)
+
+-- "store 4 (mut), 5 (unsynchronised load)"
+unfoldable pub storeRace : Clocks → ℕ → ℕ → Race
+storeRace clocks t c = orElse (raceWith clocks t (mutated c) 4) (raceWith clocks t (unsyncLoaded c) 5)
+
+-- "exclusive 6 (load), 7 (unsynchronised load), 8 (store), 9 (mut)"
+unfoldable pub mutRace : Clocks → ℕ → ℕ → Race
+mutRace clocks t c =
+    orElse (raceWith clocks t (loaded c) 6)
+    (orElse (raceWith clocks t (unsyncLoaded c) 7)
+    (orElse (raceWith clocks t (stored c) 8)
+    (raceWith clocks t (mutated c) 9)))
+
+-- an access that does not race is recorded: its sort takes the thread's causality in
+abbrev pub recorded : Race → Clocks → Vector → ℕ → Clocks
+recorded noRace clocks v t = joinInto clocks v (causality t)
+recorded (raceOf kind other) clocks v t = clocks
+
+unfoldable pub loadTracked : Clocks → ℕ → ℕ → Clocks
+loadTracked clocks t c = recorded (loadRace clocks t c) clocks (loaded c) t
+
+unfoldable pub unsyncLoadTracked : Clocks → ℕ → ℕ → Clocks
+unsyncLoadTracked clocks t c = recorded (unsyncLoadRace clocks t c) clocks (unsyncLoaded c) t
+
+unfoldable pub storeTracked : Clocks → ℕ → ℕ → Clocks
+storeTracked clocks t c = recorded (storeRace clocks t c) clocks (stored c) t
+
+unfoldable pub mutTracked : Clocks → ℕ → ℕ → Clocks
+mutTracked clocks t c = recorded (mutRace clocks t c) clocks (mutated c) t
+
+-- Coherence and touch
+
+-- the other stores that the thread has seen or that happened before it
+abbrev pub coheres : Clocks → List (List ℕ) → ℕ → ℕ → ℕ → ℕ → Bool
+coheres clocks rows t c slot i =
+    not (eqb i slot)
+    && (seenBy clocks rows t i || less (vector clocks (happensBefore (storeAt c i))) (vector clocks (causality t)))
+
+-- "coherence": an order takes in the orders of those stores, here of the n slots from i on
+unfoldable pub coherentFrom : Clocks → List (List ℕ) → ℕ → ℕ → ℕ → List ℕ → ℕ → ℕ → List ℕ
+coherentFrom clocks rows t c slot so zero i = so
+coherentFrom clocks rows t c slot so (suc n) i =
+    coherentFrom clocks rows t c slot (cond (coheres clocks rows t c slot i) (joined so (orderOf clocks c i)) so) n (i + 1)
+
+-- the chosen store's order
+unfoldable pub coherent : Clocks → List (List ℕ) → Small → ℕ → ℕ → ℕ → Clocks
+coherent clocks rows small t c slot =
+    withVector clocks (order (storeAt c slot)) (coherentFrom clocks rows t c slot (orderOf clocks c slot) (liveIn small c) 0)
+
+-- "A thread's version is its own part."
+abbrev pub version : Clocks → ℕ → ℕ
+version clocks t = getD (vector clocks (causality t)) t 0
+
+-- "touch": the thread's mark on the store that it reads
+unfoldable pub touchDone : Clocks → Marks → ℕ → ℕ → ℕ → Marks
+touchDone clocks marks t c slot = withMarks marks c (touchedAt (marksOf marks c) slot t (version clocks t))
+
+-- Store
+
+-- "Slot is cnt mod 7"
+abbrev pub slotOf : ℕ → ℕ
+slotOf n = n % history
+
+-- "newest": the last in execution order
+abbrev pub newest : ℕ → ℕ
+newest n = (n % history + 6) % history
+
+-- "A new store joins the orders of all seen slots, the one it replaces included.", here of the n slots from i on
+unfoldable pub storeOrderFrom : Clocks → List (List ℕ) → ℕ → ℕ → List ℕ → ℕ → ℕ → List ℕ
+storeOrderFrom clocks rows t c so zero i = so
+storeOrderFrom clocks rows t c so (suc n) i =
+    storeOrderFrom clocks rows t c (cond (seenBy clocks rows t i) (joined so (orderOf clocks c i)) so) n (i + 1)
+
+unfoldable pub storeOrder : Clocks → List (List ℕ) → ℕ → ℕ → ℕ → List ℕ
+storeOrder clocks rows cnt t c = storeOrderFrom clocks rows t c (vector clocks (causality t)) (liveStores cnt) 0
+
+-- a store's three vectors
+abbrev pub withStore : Clocks → ℕ → List ℕ → List ℕ → List ℕ → Clocks
+withStore clocks store hb so s =
+    withVector (withVector (withVector clocks (happensBefore store) hb) (order store) so) (sync store) s
+
+-- the new store is seen by its own thread alone
+abbrev pub firstMarked : Clocks → List (List ℕ) → ℕ → ℕ → List (List ℕ)
+firstMarked clocks rows t slot = set rows slot (touched (unseens threads) t (version clocks t))
+
+abbrev pub seqCstFlag : ℕ → ℕ
+seqCstFlag o = cond (eqb o seqCstOrder) 1 0
+
+-- a store of a value in the cell's next slot, with the sync vector that it starts from
+unfoldable pub storeDone : State → ℕ → ℕ → List ℕ → ℕ → ℕ → State
+storeDone st t c from v o =
+    let n = number (st .small) (count c) in
+    let store = storeAt c (slotOf n) in
+    let rows = marksOf (st .marks) c in
+    record {
+      clocks = withStore (st .clocks) store (vector (st .clocks) (causality t))
+          (storeOrder (st .clocks) rows n t c) (storeSynced (st .clocks) t from o);
+      marks = withMarks (st .marks) c (firstMarked (st .clocks) rows t (slotOf n));
+      values = withValue (st .values) (ofStore store) v;
+      small = withNumber (withNumber (st .small) (count c) (oneMore n)) (isSeqCst store) (seqCstFlag o);
+    }
+
+-- Accesses
+
+-- what an access comes to: the value read, or the race that stopped it
+pub data Access : Type 0 where
+  raced : ℕ → ℕ → State → Access
+  read : ℕ → State → Access
+
+abbrev pub withClocks : State → Clocks → State
+withClocks st clocks = record { clocks = clocks; marks = st .marks; values = st .values; small = st .small }
+
+abbrev pub withBoth : State → Clocks → Marks → State
+withBoth st clocks marks = record { clocks = clocks; marks = marks; values = st .values; small = st .small }
+
+abbrev pub withValues : State → Values → State
+withValues st values = record { clocks = st .clocks; marks = st .marks; values = values; small = st .small }
+
+-- "race (14); coherence; touch": a slot that is read, where there is no race
+unfoldable pub sighted : State → ℕ → ℕ → ℕ → State
+sighted st t c slot =
+    let clocks = coherent (loadTracked (st .clocks) t c) (marksOf (st .marks) c) (st .small) t c slot in
+    withBoth st clocks (touchDone clocks (st .marks) t c slot)
+
+abbrev pub unlessRace : Race → State → Access → Access
+unlessRace noRace st done = done
+unlessRace (raceOf kind other) st done = raced kind other st
+
+-- "Load order: ..; choose; race (14); coherence; touch; sync."
+unfoldable pub loadDone : State → ℕ → ℕ → ℕ → ℕ → Access
+loadDone st t c slot o =
+    let seenIt = sighted st t c slot in
+    unlessRace (loadRace (st .clocks) t c) st
+    (read (value (st .values) (ofStore (storeAt c slot)))
+    (withClocks seenIt (loadSynced (seenIt .clocks) t (storeAt c slot) o)))
+
+-- Changes
+
+-- "Changes (both in RMW and exclusive): 0 swap, 1 add, 2 subtract (both wrap at 2^64), 3 and, 4 or, 5 xor, 6 nand, 7 unsigned
+-- max, 8 unsigned min, 9 signed max, 10 signed min, 11 compare a, write b, 12 decrement unless zero."
+pub data Change : Type 0 where
+  swap : ℕ → Change
+  add : ℕ → Change
+  subtract : ℕ → Change
+  and : ℕ → Change
+  or : ℕ → Change
+  xor : ℕ → Change
+  nand : ℕ → Change
+  greatest : ℕ → Change
+  least : ℕ → Change
+  signedGreatest : ℕ → Change
+  signedLeast : ℕ → Change
+  compare : ℕ → ℕ → Change
+  decrement : Change
+
+-- the change that a row's kind and operands name
+unfoldable pub changeOf : ℕ → ℕ → ℕ → Change
+changeOf kind a b =
+    cond (eqb kind 0) (swap a)
+    (cond (eqb kind 1) (add a)
+    (cond (eqb kind 2) (subtract a)
+    (cond (eqb kind 3) (and a)
+    (cond (eqb kind 4) (or a)
+    (cond (eqb kind 5) (xor a)
+    (cond (eqb kind 6) (nand a)
+    (cond (eqb kind 7) (greatest a)
+    (cond (eqb kind 8) (least a)
+    (cond (eqb kind 9) (signedGreatest a)
+    (cond (eqb kind 10) (signedLeast a)
+    (cond (eqb kind 11) (compare a b)
+    decrement)))))))))))
+
+-- "taken apart into success or failure with its value"
+pub data Changed : Type 0 where
+  success : ℕ → Changed
+  failure : Changed
+
+-- "wrap at 2^64"
+abbrev pub word : ℕ
+word = 2 ^ 64
+
+-- a number's place among the signed ones: the half from 2^63 on stands below the other
+abbrev pub signed : ℕ → ℕ
+signed n = (n + 2 ^ 63) % word
+
+abbrev pub greater : Bool → ℕ → ℕ → ℕ
+greater below v a = cond below a v
+
+abbrev pub lesser : Bool → ℕ → ℕ → ℕ
+lesser below v a = cond below v a
+
+-- what a change makes of a value. "Only kinds 11 and 12 may fail"
+unfoldable pub applied : Change → ℕ → Changed
+applied (swap a) v = success a
+applied (add a) v = success ((v + a) % word)
+applied (subtract a) v = success ((v + (word - a)) % word)
+applied (and a) v = success (bitAnd v a)
+applied (or a) v = success (bitOr v a)
+applied (xor a) v = success (bitXor v a)
+applied (nand a) v = success (word - 1 - bitAnd v a)
+applied (greatest a) v = success (greater (ltb v a) v a)
+applied (least a) v = success (lesser (ltb v a) v a)
+applied (signedGreatest a) v = success (greater (ltb (signed v) (signed a)) v a)
+applied (signedLeast a) v = success (lesser (ltb (signed v) (signed a)) v a)
+applied (compare a b) v = cond (eqb v a) (success b) failure
+applied decrement v = cond (eqb v 0) failure (success (v - 1))
+
+-- "failure syncs by the failure order only"
+abbrev pub failed : State → ℕ → ℕ → ℕ → ℕ → Access
+failed st t store v o = read v (withClocks st (loadSynced (st .clocks) t store o))
+
+-- "An RMW that succeeds checks the store race after touching, then syncs by success order, and copies that sync into the new
+-- store"
+unfoldable pub succeeded : State → ℕ → ℕ → ℕ → ℕ → ℕ → ℕ → Access
+succeeded st t c store v new o =
+    let synced = withClocks st (loadSynced (storeTracked (st .clocks) t c) t store o) in
+    unlessRace (storeRace (st .clocks) t c) st
+    (read v (storeDone synced t c (vector (synced .clocks) (sync store)) new o))
+
+abbrev pub byChange : Changed → State → ℕ → ℕ → ℕ → ℕ → ℕ → ℕ → Access
+byChange (success new) st t c store v o f = succeeded st t c store v new o
+byChange failure st t c store v o f = failed st t store v f
+
+-- RMW of a slot: a load's race, coherence and touch, then the change
+unfoldable pub rmwDone : State → ℕ → ℕ → ℕ → Change → ℕ → ℕ → Access
+rmwDone st t c slot change o f =
+    let store = storeAt c slot in
+    let v = value (st .values) (ofStore store) in
+    unlessRace (loadRace (st .clocks) t c) st
+    (byChange (applied change v) (sighted st t c slot) t c store v o f)
+
+-- Accesses without synchronisation, of the newest store
+
+abbrev pub newestOf : Small → ℕ → ℕ
+newestOf small c = storeAt c (newest (number small (count c)))
+
+-- "5 unsynchronised load"
+unfoldable pub unsyncLoadDone : State → ℕ → ℕ → Access
+unsyncLoadDone st t c =
+    unlessRace (unsyncLoadRace (st .clocks) t c) st
+    (read (value (st .values) (ofStore (newestOf (st .small) c))) (withClocks st (unsyncLoadTracked (st .clocks) t c)))
+
+-- the value that a change leaves: "also on failure"
+abbrev pub leaves : Changed → ℕ → ℕ
+leaves (success new) v = new
+leaves failure v = v
+
+-- "6 exclusive change (`with_mut`)": only the newest store's value changes. A failing one still tracks
+unfoldable pub mutDone : State → ℕ → ℕ → Change → Access
+mutDone st t c change =
+    let store = newestOf (st .small) c in
+    let v = value (st .values) (ofStore store) in
+    unlessRace (mutRace (st .clocks) t c) st
+    (read v (withValues (withClocks st (mutTracked (st .clocks) t c)) (withValue (st .values) (ofStore store) (leaves (applied change v) v))))
+
+-- Fences
+
+-- the k-th from the oldest of the stores that are live: "stores oldest first"
+abbrev pub kthOldest : ℕ → ℕ → ℕ
+kthOldest n k = cond (ltb n history) k ((n % history + k) % history)
+
+-- "Acquire fence: .. stores oldest first; causality grown by one join counts for the next store.": n more stores, from the
+-- k-th on. Only seen stores are joined
+unfoldable pub acquiredFrom : Clocks → List (List ℕ) → ℕ → ℕ → ℕ → ℕ → ℕ → Clocks
+acquiredFrom clocks rows cnt t c zero k = clocks
+acquiredFrom clocks rows cnt t c (suc n) k =
+    acquiredFrom
+    (cond (seenBy clocks rows t (kthOldest cnt k)) (joinInto clocks (causality t) (sync (storeAt c (kthOldest cnt k)))) clocks)
+    rows cnt t c n (k + 1)
+
+unfoldable pub cellAcquired : Clocks → List (List ℕ) → ℕ → ℕ → ℕ → Clocks
+cellAcquired clocks rows cnt t c = acquiredFrom clocks rows cnt t c (liveStores cnt) 0
+
+-- "cells in order": n more cells, from cell c on
+unfoldable pub cellsAcquired : Clocks → Marks → Small → ℕ → ℕ → ℕ → Clocks
+cellsAcquired clocks marks small t zero c = clocks
+cellsAcquired clocks marks small t (suc n) c =
+    cellsAcquired (cellAcquired clocks (marksOf marks c) (number small (count c)) t c) marks small t n (c + 1)
+
+unfoldable pub fenceAcquired : Clocks → Marks → Small → ℕ → ℕ → Clocks
+fenceAcquired clocks marks small t cells = cellsAcquired clocks marks small t cells 0
+
+-- a release fence sets released to the causality
+unfoldable pub fenceReleased : Clocks → ℕ → Clocks
+fenceReleased clocks t = withVector clocks (released t) (vector clocks (causality t))
+
+-- "A SeqCst fence is acquire, release, then the thread joins the global SeqCst vector and that joins the thread."
+unfoldable pub fenceSeqCst : Clocks → ℕ → Clocks
+fenceSeqCst clocks t = joinInto (joinInto clocks (causality t) seqCst) seqCst (causality t)
+
+-- "Orders: .. 1 Release, 2 Acquire, 3 AcqRel, 4 SeqCst."
+unfoldable pub fenced : Clocks → Marks → Small → ℕ → ℕ → ℕ → Clocks
+fenced clocks marks small t cells o =
+    cond (eqb o 1) (fenceReleased clocks t)
+    (cond (eqb o 2) (fenceAcquired clocks marks small t cells)
+    (cond (eqb o 3) (fenceReleased (fenceAcquired clocks marks small t cells) t)
+    (cond (eqb o 4) (fenceSeqCst (fenceReleased (fenceAcquired clocks marks small t cells) t) t)
+    clocks)))

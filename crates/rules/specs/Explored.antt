@@ -1,0 +1,200 @@
+-- What `explore` answers for any bytes, settings and buffers, and what it leaves in the buffers: document 01, "Settings,
+-- buffers, answers". Assumes nothing.
+use Prim.Native.Nat.{ℕ, _+_, _-_, _*_}
+use mathlib.Core.List.{List, [], _∷_, _++_, map}
+use mathlib.Core.Bool.{Bool, true, false, cond, not, _&&_, _||_}
+use lib.Dec.{ltb, leb, eqb}
+use lib.ListN.{length, replicate}
+use Rattle.rules.specs.Path.{Bound, openIn, written, recordBytes}
+use Rattle.rules.specs.Table.{judged, good, badHeader, badRow}
+use Rattle.rules.specs.Event as Event
+use Rattle.rules.specs.Event.{Fault, Entry, entryBytes, faultNumber, raceKind, otherThread}
+use Rattle.rules.specs.State as State
+use Rattle.rules.specs.State.{State, number, rowsOf, yields, begun}
+use Rattle.rules.specs.Cell.{version}
+use Rattle.rules.specs.Machine.{Program, machine, active, activeRow, absent, isIn, everyThread}
+use Rattle.rules.specs.Explorer.{Limits, Stop, Verdict, exhausted, spent, stopped, run}
+
+pub record Settings : Type 0 where
+  pub branches : ℕ
+  pub operations : ℕ
+  pub executions : ℕ
+  pub bound : Bound
+  pub exploring : Bool
+
+-- "summaries: state .., rows begun, yields, own version"
+pub record Summary : Type 0 where
+  pub state : ℕ
+  pub rows : ℕ
+  pub yields : ℕ
+  pub version : ℕ
+
+-- "The report gives answer, executions begun, choices opened, choices open, rows begun in the last execution, thread and row at
+-- fault .., race kind .., other thread .., and five thread summaries"
+pub record Report : Type 0 where
+  pub answer : ℕ
+  pub begun : ℕ
+  pub opened : ℕ
+  pub stillOpen : ℕ
+  pub rows : ℕ
+  pub thread : ℕ
+  pub row : ℕ
+  pub kind : ℕ
+  pub other : ℕ
+  pub threads : List Summary
+
+-- a report with both buffers as they are left
+pub record Explored : Type 0 where
+  pub report : Report
+  pub path : List ℕ
+  pub trace : List ℕ
+
+-- "0 for an absent thread"
+abbrev pub noSummary : Summary
+noSummary = record { state = 0; rows = 0; yields = 0; version = 0 }
+
+unfoldable pub summary : State → ℕ → Summary
+summary st t =
+    cond (isIn (st .small) absent t) noSummary
+    (record {
+      state = number (st .small) (State.state t);
+      rows = number (st .small) (rowsOf t);
+      yields = number (st .small) (yields t);
+      version = version (st .clocks) t;
+    })
+
+-- "Checks run 2, 3, 4, 5; these give zero counts and summaries."
+unfoldable pub refused : ℕ → ℕ → ℕ → List ℕ → List ℕ → Explored
+refused answer t k path trace = record {
+  report = record {
+    answer = answer;
+    begun = 0;
+    opened = 0;
+    stillOpen = 0;
+    rows = 0;
+    thread = t;
+    row = k;
+    kind = 0;
+    other = 255;
+    threads = replicate 5 noSummary;
+  };
+  path = path;
+  trace = trace;
+}
+
+abbrev pub verdictNumber : Verdict → ℕ
+verdictNumber exhausted = 0
+verdictNumber spent = 1
+verdictNumber (stopped f) = faultNumber f
+
+abbrev pub verdictKind : Verdict → ℕ
+verdictKind exhausted = 0
+verdictKind spent = 0
+verdictKind (stopped f) = raceKind f
+
+abbrev pub verdictOther : Verdict → ℕ
+verdictOther exhausted = 255
+verdictOther spent = 255
+verdictOther (stopped f) = otherThread f
+
+-- "255, 255 for 0 to 4 and 10", "from 11 on the current thread and its row, the row count if it is ending"
+unfoldable pub namesPlace : Verdict → Bool
+namesPlace v = leb 11 (verdictNumber v)
+
+unfoldable pub reported : Stop State → Report
+reported r = record {
+  answer = verdictNumber (r .verdict);
+  begun = length (r .history);
+  opened = r .walk .ledger .opened;
+  stillOpen = openIn (r .walk .ledger .path);
+  rows = number (r .walk .state .small) begun;
+  thread = cond (namesPlace (r .verdict)) (active (r .began)) 255;
+  row = cond (namesPlace (r .verdict)) (activeRow (r .began)) 255;
+  kind = verdictKind (r .verdict);
+  other = verdictOther (r .verdict);
+  threads = map (summary (r .walk .state)) everyThread;
+}
+
+unfoldable pub entriesBytes : List Entry → List ℕ
+entriesBytes [] = []
+entriesBytes (e ∷ es) = entryBytes e ++ entriesBytes es
+
+-- "when it stops, all bytes past .. the last execution's last trace entry are zero"
+unfoldable pub noted : ℕ → List Entry → List ℕ
+noted n es = entriesBytes es ++ replicate (n - recordBytes * length es) 0
+
+-- more turns than an execution can take: each row that begins takes at most three (it begins, may block once, acts), each
+-- thread's end one, and each end may free the joins of four others
+abbrev pub turnsOf : ℕ → ℕ
+turnsOf operations = 3 * operations + 26
+
+abbrev pub limitsOf : Settings → Limits
+limitsOf s = record {
+  branches = s .branches;
+  operations = s .operations;
+  bound = s .bound;
+  turns = turnsOf (s .operations);
+}
+
+abbrev pub programOf : List ℕ → Settings → Program
+programOf table s = record { table = table; operations = s .operations; exploring = s .exploring }
+
+unfoldable pub stopOf : List ℕ → Settings → Stop State
+stopOf table s = run (machine (programOf table s)) (limitsOf s) (s .executions)
+
+unfoldable pub ran : ℕ → ℕ → Stop State → Explored
+ran pathBytes traceBytes r = record {
+  report = reported r;
+  path = written pathBytes (r .walk .ledger .path);
+  trace = noted traceBytes (r .walk .trace);
+}
+
+-- "Branch limit B 1..1,024; operation limit L 1..4,096; execution budget N 1..65,535"
+abbrev pub within : ℕ → ℕ → Bool
+within n most = leb 1 n && leb n most
+
+unfoldable pub settingsFine : Settings → Bool
+settingsFine s = within (s .branches) 1024 && within (s .operations) 4096 && within (s .executions) 65535
+
+-- "2 B, L or N out of range; 3 path buffer length wrong; 4 trace buffer .. length wrong; 5 table refused". "The path buffer has
+-- exactly 16·B bytes, the trace buffer 16·L."
+unfoldable pub explored : List ℕ → Settings → List ℕ → List ℕ → Explored
+explored table s path trace =
+    elim (settingsFine s) [
+      | false ↦ refused 2 255 255 path trace
+      | true ↦
+          elim (eqb (length path) (recordBytes * s .branches)) [
+            | false ↦ refused 3 255 255 path trace
+            | true ↦
+                elim (eqb (length trace) (recordBytes * s .operations)) [
+                  | false ↦ refused 4 255 255 path trace
+                  | true ↦
+                      elim (judged table) [
+                        | badHeader ↦ refused 5 255 255 path trace
+                        | badRow t k ↦ refused 5 t k path trace
+                        | good ↦ ran (length path) (length trace) (stopOf table s)
+                      ]
+                ]
+          ]
+    ]
+
+-- "a second thin entry copies them into the caller's list of thread records, which must hold exactly five and stays unchanged
+-- on 2 to 5"
+pub record ExploredInto : Type 0 where
+  pub explored : Explored
+  pub list : List Summary
+
+-- an answer from 2 to 5 is a refusal
+abbrev pub isRefusal : ℕ → Bool
+isRefusal answer = leb 2 answer && leb answer 5
+
+abbrev pub copied : Explored → List Summary → ExploredInto
+copied e list = record { explored = e; list = cond (isRefusal (e .report .answer)) list (e .report .threads) }
+
+-- "4 trace buffer or thread list length wrong": judged with the trace buffer, so before the table
+unfoldable pub exploredInto : List ℕ → Settings → List ℕ → List ℕ → List Summary → ExploredInto
+exploredInto table s path trace list =
+    elim (eqb (length list) 5 || not (settingsFine s) || not (eqb (length path) (recordBytes * s .branches))) [
+      | true ↦ copied (explored table s path trace) list
+      | false ↦ record { explored = refused 4 255 255 path trace; list = list }
+    ]

@@ -1,0 +1,247 @@
+-- How an event meets the path, an execution as turns, a run as executions, over any machine: document 01, "Settings, buffers,
+-- answers" and "Explorer". Assumes nothing.
+--     Walk, turn        an execution under way, and its next turn
+--     Execution         what is left of one that is over: its choices and its trace
+--     run               one execution after another, with their history
+use Prim.Native.Nat.{ℕ, zero, suc, _+_}
+use mathlib.Core.List.{List, [], _∷_, _++_, map}
+use mathlib.Core.Bool.{Bool, true, false, cond, not, _&&_, _||_}
+use lib.Dec.{ltb, leb, eqb}
+use lib.ListN.{length, getD, take}
+use Rattle.rules.specs.Path.{Branch, schedule, load, spurious, Schedule, Load, Spurious, Bound, Added, added, Marked, Choice}
+use Rattle.rules.specs.Path.{threadAdded, loadAdded, spuriousAdded, openedBy, backtracked, stepped, openIn, choiceOf, activeIn, noBranch}
+use Rattle.rules.specs.Path.{disabled, skip, yield, toActive}
+use Rattle.rules.specs.Vector.{Whom}
+use Rattle.rules.specs.Event as Event
+use Rattle.rules.specs.Event.{Standing, yielded, cannotRun, other, slotsOf}
+use Rattle.rules.specs.Event.{Fault, Entry, Place, nowhere, branch, Matched, offers, Question, whichThread, whichSlot, whichBit, Answer, runThread, readSlot, takeBit, Machine, moves, asks, stops, ends}
+
+-- "Branch limit B", "operation limit L", the preemption bound, and how many turns an execution may take
+pub record Limits : Type 0 where
+  pub branches : ℕ
+  pub operations : ℕ
+  pub bound : Bound
+  pub turns : ℕ
+
+-- A question meets the path
+
+-- a path with the choices opened so far in the whole history
+pub record Ledger : Type 0 where
+  pub path : List Branch
+  pub opened : ℕ
+
+-- "(a) for each thread in order .. `backtrack` from that access's branch for that thread"
+abbrev pub backtrackFrom : Bound → Ledger → Place → ℕ → Ledger
+backtrackFrom bound l nowhere t = l
+backtrackFrom bound l (branch point) t = record {
+  path = backtracked bound (l .path) point t .path;
+  opened = l .opened + backtracked bound (l .path) point t .opened;
+}
+
+-- of the threads from this one on
+unfoldable pub allMarked : Bound → Ledger → List Place → ℕ → Ledger
+allMarked bound l [] t = l
+allMarked bound l (p ∷ points) t = allMarked bound (backtrackFrom bound l p t) points (t + 1)
+
+abbrev pub firstMarked : Bound → Ledger → Question → Ledger
+firstMarked bound l (whichThread points initial standings) = allMarked bound l points 0
+firstMarked bound l (whichSlot m) = l
+firstMarked bound l whichBit = l
+
+-- "(c) seed: initial Active, else yielded Yield, not runnable or absent Disabled, others Skip"
+abbrev pub seedState : Standing → ℕ
+seedState yielded = yield
+seedState cannotRun = disabled
+seedState other = skip
+
+unfoldable pub seedOf : Whom → List Standing → List ℕ
+seedOf initial standings = toActive initial (map seedState standings)
+
+-- the branch that a question adds where the path has none yet: "if new, match (13) then push (11)"
+pub data Pushed : Type 0 where
+  pushes : Branch → Pushed
+  faults : Fault → Pushed
+
+abbrev pub orFault : Added → Pushed
+orFault (added b) = pushes b
+orFault Added.full = faults Event.full
+orFault Added.preempted = faults Event.preemptions
+
+abbrev pub loadPushed : ℕ → List Branch → Bool → Matched → Pushed
+loadPushed B bs exploring (offers slots) = orFault (loadAdded B bs exploring (slotsOf slots))
+loadPushed B bs exploring Event.equal = faults Event.equalOrders
+
+unfoldable pub pushed : ℕ → List Branch → Bool → Question → Pushed
+pushed B bs exploring (whichThread points initial standings) = orFault (threadAdded B bs exploring (seedOf initial standings))
+pushed B bs exploring (whichSlot m) = loadPushed B bs exploring m
+pushed B bs exploring whichBit = orFault (spuriousAdded B bs exploring)
+
+abbrev pub withBranch : Ledger → Branch → Ledger
+withBranch l b = record { path = l .path ++ (b ∷ []); opened = l .opened + openedBy b }
+
+-- The record's answer, where it is one of the question's kind
+
+pub data Reply : Type 0 where
+  says : Answer → Reply
+  unexpected : Reply
+
+abbrev pub maxSlots : ℕ
+maxSlots = 7
+
+unfoldable pub allBelow : ℕ → List ℕ → Bool
+allBelow n [] = true
+allBelow n (x ∷ xs) = ltb x n && allBelow n xs
+
+-- a load's value at its position; no path has a position past its values or a value that is no slot
+abbrev pub slotOf : Load → Reply
+slotOf l =
+    cond (ltb (l .pos) (length (l .values)) && allBelow maxSlots (l .values))
+    (says (readSlot (getD (l .values) (l .pos) 0) (l .values)))
+    unexpected
+
+unfoldable pub reply : ℕ → Branch → Question → Reply
+reply pos (schedule s) (whichThread points initial standings) = says (runThread (activeIn (s .states)) pos)
+reply pos (schedule s) (whichSlot m) = unexpected
+reply pos (schedule s) whichBit = unexpected
+reply pos (load l) (whichThread points initial standings) = unexpected
+reply pos (load l) (whichSlot m) = slotOf l
+reply pos (load l) whichBit = unexpected
+reply pos (spurious u) (whichThread points initial standings) = unexpected
+reply pos (spurious u) (whichSlot m) = unexpected
+reply pos (spurious u) whichBit = says (takeBit (u .bit))
+
+-- An execution under way
+
+pub record Walk (S : Type 0) : Type 0 where
+  pub state : S
+  pub ledger : Ledger
+  -- the branches passed in this execution
+  pub pos : ℕ
+  pub trace : List Entry
+
+-- how a turn comes out; a fault is kept with the state that its turn began in, which says where it was met
+pub data Turn (S : Type 0) : Type 0 where
+  goes : Walk S → Turn S
+  over : Walk S → Turn S
+  faulted : Fault → S → Walk S → Turn S
+
+abbrev pub withState : {S : Type 0} → Walk S → S → Walk S
+withState w s = record { state = s; ledger = w .ledger; pos = w .pos; trace = w .trace }
+
+abbrev pub withLedger : {S : Type 0} → Walk S → Ledger → Walk S
+withLedger w l = record { state = w .state; ledger = l; pos = w .pos; trace = w .trace }
+
+abbrev pub onward : {S : Type 0} → Walk S → Walk S
+onward w = record { state = w .state; ledger = w .ledger; pos = w .pos + 1; trace = w .trace }
+
+-- the rows that are now complete have their entries
+abbrev pub noted : {S : Type 0} → Walk S → S → List Entry → Walk S
+noted w s es = record { state = s; ledger = w .ledger; pos = w .pos; trace = w .trace ++ es }
+
+module _ (M : Machine) (limits : Limits) where
+  -- "the trace buffer 16·L": L entries have room
+  abbrev pub fits : Walk (M .State) → List Entry → Bool
+  fits w es = leb (length (w .trace) + length es) (limits .operations)
+
+  -- what follows an answer; a machine that asks again before it has moved has no place here
+  abbrev pub followed : M .State → Walk (M .State) → Event.Event (M .State) → Turn (M .State)
+  followed began w (moves s es) = cond (fits w es) (goes (noted w s es)) (faulted Event.impossible began (withState w s))
+  followed began w (asks s es exploring q) = faulted Event.impossible began (withState w s)
+  followed began w (stops s f) = faulted f began (withState w s)
+  followed began w (ends s) = over (withState w s)
+
+  abbrev pub replied : M .State → Walk (M .State) → Reply → Turn (M .State)
+  replied began w (says a) = followed began (onward w) (M .answered (w .state) a)
+  replied began w unexpected = faulted Event.impossible began w
+
+  abbrev pub newBranch : M .State → Walk (M .State) → Question → Pushed → Turn (M .State)
+  newBranch began w q (pushes b) = replied began (withLedger w (withBranch (w .ledger) b)) (reply (w .pos) b q)
+  newBranch began w q (faults f) = faulted f began w
+
+  -- past the known path the question adds a branch; before its end the branch there answers
+  abbrev pub met : M .State → Walk (M .State) → Bool → Question → Turn (M .State)
+  met began w exploring q =
+      cond (eqb (w .pos) (length (w .ledger .path)))
+      (newBranch began w q (pushed (limits .branches) (w .ledger .path) exploring q))
+      (replied began w (reply (w .pos) (getD (w .ledger .path) (w .pos) noBranch) q))
+
+  -- marks are made first: "In a run the first fault stops everything; marks made before it stay."
+  abbrev pub asked : M .State → Walk (M .State) → Bool → Question → Turn (M .State)
+  asked began w exploring q = met began (withLedger w (firstMarked (limits .bound) (w .ledger) q)) exploring q
+
+  abbrev pub taken : Walk (M .State) → Event.Event (M .State) → Turn (M .State)
+  taken w (moves s es) = cond (fits w es) (goes (noted w s es)) (faulted Event.impossible (w .state) (withState w s))
+  taken w (asks s es exploring q) =
+      cond (fits w es) (asked (w .state) (noted w s es) exploring q) (faulted Event.impossible (w .state) (withState w s))
+  taken w (stops s f) = faulted f (w .state) (withState w s)
+  taken w (ends s) = over (withState w s)
+
+  unfoldable pub turn : Walk (M .State) → Turn (M .State)
+  turn w = taken w (M .next (w .state))
+
+  -- the turns of an execution, at most n
+  unfoldable pub walked : ℕ → Walk (M .State) → Turn (M .State)
+  walked zero w = faulted Event.impossible (w .state) w
+  walked (suc n) w = elim (turn w) [ goes v ↦ walked n v | over v ↦ over v | faulted f s v ↦ faulted f s v ]
+
+  -- "Start of each execution": the path is what was left, the trace begins anew
+  abbrev pub fresh : Ledger → Walk (M .State)
+  fresh l = record { state = M .start; ledger = l; pos = 0; trace = [] }
+
+  unfoldable pub execution : Ledger → Turn (M .State)
+  execution l = walked (limits .turns) (fresh l)
+
+-- A run
+
+-- an execution that is over: what was chosen at each branch that it reached, and its trace
+pub record Execution : Type 0 where
+  pub choices : List Choice
+  pub trace : List Entry
+
+abbrev pub executionOf : {S : Type 0} → Walk S → Execution
+executionOf w = record { choices = map choiceOf (take (w .pos) (w .ledger .path)); trace = w .trace }
+
+-- "0 an execution ended, no choice open"; "1 N executions ended, some choice open"; the faults
+pub data Verdict : Type 0 where
+  exhausted : Verdict
+  spent : Verdict
+  stopped : Fault → Verdict
+
+-- where a run stops: the last execution as it was left, the state that its last turn began in, and all executions
+pub record Stop (S : Type 0) : Type 0 where
+  pub verdict : Verdict
+  pub began : S
+  pub walk : Walk S
+  pub history : List Execution
+
+abbrev pub stop : {S : Type 0} → Verdict → S → Walk S → List Execution → Stop S
+stop verdict began w past = record { verdict = verdict; began = began; walk = w; history = past ++ (executionOf w ∷ []) }
+
+-- a run stops, or goes on with the next path
+pub data After (S : Type 0) : Type 0 where
+  stopsHere : Stop S → After S
+  goesOn : Ledger → List Execution → After S
+
+abbrev pub nextLedger : Ledger → Ledger
+nextLedger l = record { path = stepped (l .path); opened = l .opened }
+
+-- "0 an execution ended, no choice open": also at the Nth. "After answer 0 or 1 no `step` is made."
+unfoldable pub after : {S : Type 0} → Bool → List Execution → Turn S → After S
+after last past (goes w) = stopsHere (stop (stopped Event.impossible) (w .state) w past)
+after last past (over w) =
+    cond (eqb (openIn (w .ledger .path)) 0) (stopsHere (stop exhausted (w .state) w past))
+    (cond last (stopsHere (stop spent (w .state) w past))
+    (goesOn (nextLedger (w .ledger)) (past ++ (executionOf w ∷ []))))
+after last past (faulted f began w) = stopsHere (stop (stopped f) began w past)
+
+module _ (M : Machine) (limits : Limits) where
+  -- at most n more executions, from this ledger, after these executions. With none allowed, which is refused before a run,
+  -- nothing begins
+  unfoldable pub runFrom : ℕ → Ledger → List Execution → Stop (M .State)
+  runFrom zero l past = record { verdict = stopped Event.impossible; began = M .start; walk = fresh M limits l; history = past }
+  runFrom (suc n) l past =
+      elim (after (eqb n 0) past (execution M limits l)) [ stopsHere r ↦ r | goesOn m more ↦ runFrom n m more ]
+
+  -- "execution budget N"
+  unfoldable pub run : ℕ → Stop (M .State)
+  run n = runFrom n (record { path = []; opened = 0 }) []

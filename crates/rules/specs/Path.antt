@@ -1,0 +1,384 @@
+-- The path: the branches of an execution in the order in which they were met, and how they are added, marked and stepped:
+-- document 01, "`Path`", "Path record", "Opened" and "Open". Assumes nothing: every function is defined on every list.
+--     Branch, encoded            a branch, and its 16 bytes
+--     threadAdded, loadAdded, spuriousAdded     a branch added at the end
+--     backtracked                marks made from a point
+--     stepped                    the next path to be tried
+--     opened.., openIn           what is counted
+use Prim.Native.Nat.{ℕ, zero, suc, _+_, _-_, _*_, _/_, _%_}
+use mathlib.Core.List.{List, [], _∷_, _++_, map}
+use mathlib.Core.Bool.{Bool, true, false, cond, not, _&&_, _||_}
+use lib.Dec.{ltb, leb, eqb}
+use lib.ListN.{length, getD, set, take, replicate}
+use Rattle.rules.specs.Vector.{Whom, nobody, thread, next}
+
+-- Branches
+
+-- "five states (0 Disabled, 1 Skip, 2 Yield, 3 Pending, 4 Active, 5 Visited)"
+abbrev pub disabled : ℕ
+disabled = 0
+
+abbrev pub skip : ℕ
+skip = 1
+
+abbrev pub yield : ℕ
+yield = 2
+
+abbrev pub pending : ℕ
+pending = 3
+
+abbrev pub active : ℕ
+active = 4
+
+abbrev pub visited : ℕ
+visited = 5
+
+-- "initial active or 255", "prev u16 or 65535": the numbers that stand for none
+abbrev pub noThread : ℕ
+noThread = 255
+
+abbrev pub noPrev : ℕ
+noPrev = 65535
+
+-- "schedule: five states .., preemptions, initial active or 255, prev u16 or 65535"
+pub record Schedule : Type 0 where
+  pub exploring : Bool
+  pub states : List ℕ
+  pub preemptions : ℕ
+  pub initial : ℕ
+  pub prev : ℕ
+
+-- "load: seven values, pos, len": the values are the offers, and len is how many there are
+pub record Load : Type 0 where
+  pub exploring : Bool
+  pub values : List ℕ
+  pub pos : ℕ
+
+-- "spurious: bit"
+pub record Spurious : Type 0 where
+  pub exploring : Bool
+  pub bit : Bool
+
+-- "Path record: kind (1 schedule, 2 load, 3 spurious), exploring"
+pub data Branch : Type 0 where
+  schedule : Schedule → Branch
+  load : Load → Branch
+  spurious : Spurious → Branch
+
+abbrev pub isExploring : Branch → Bool
+isExploring (schedule s) = s .exploring
+isExploring (load l) = l .exploring
+isExploring (spurious u) = u .exploring
+
+-- The bytes of a record
+
+abbrev pub recordBytes : ℕ
+recordBytes = 16
+
+abbrev pub maxValues : ℕ
+maxValues = 7
+
+abbrev pub flag : Bool → ℕ
+flag b = cond b 1 0
+
+-- "Path record: kind .., exploring; schedule: five states, preemptions, initial active, prev; load: seven values, pos, len;
+-- spurious: bit. Rest zero."
+unfoldable pub encoded : Branch → List ℕ
+encoded (schedule s) =
+    1 ∷ flag (s .exploring) ∷ (s .states ++ (s .preemptions ∷ s .initial ∷ s .prev % 256 ∷ s .prev / 256 ∷ replicate 5 0))
+encoded (load l) =
+    2
+    ∷ flag (l .exploring)
+    ∷ (l .values ++ (replicate (maxValues - length (l .values)) 0 ++ (l .pos ∷ length (l .values) ∷ replicate 5 0)))
+encoded (spurious u) = 3 ∷ flag (u .exploring) ∷ flag (u .bit) ∷ replicate 13 0
+
+unfoldable pub encodedAll : List Branch → List ℕ
+encodedAll [] = []
+encodedAll (b ∷ bs) = encoded b ++ encodedAll bs
+
+-- "all bytes past the last path record .. are zero": a buffer of n bytes that holds this path
+unfoldable pub written : ℕ → List Branch → List ℕ
+written n bs = encodedAll bs ++ replicate (n - recordBytes * length bs) 0
+
+-- The threads of a schedule
+
+-- the lowest thread that is in a state
+unfoldable pub firstIn : ℕ → List ℕ → Whom
+firstIn x [] = nobody
+firstIn x (s ∷ states) = cond (eqb s x) (thread 0) (next (firstIn x states))
+
+abbrev pub activeIn : List ℕ → Whom
+activeIn = firstIn active
+
+-- a thread as the record's number: "or 255"
+abbrev pub orNone : Whom → ℕ
+orNone nobody = noThread
+orNone (thread t) = t
+
+unfoldable pub activeOf : Schedule → ℕ
+activeOf s = orNone (activeIn (s .states))
+
+-- "Without Active in the seed the first Yield becomes Active."
+abbrev pub toActive : Whom → List ℕ → List ℕ
+toActive nobody states = states
+toActive (thread t) states = set states t active
+
+abbrev pub unlessActive : Whom → List ℕ → List ℕ
+unlessActive nobody seed = toActive (firstIn yield seed) seed
+unlessActive (thread t) seed = seed
+
+unfoldable pub toggled : List ℕ → List ℕ
+toggled seed = unlessActive (activeIn seed) seed
+
+-- the preemptions up to a schedule and with it: one more where it chooses another than the thread that was active at first
+unfoldable pub preemptionsWith : Schedule → ℕ
+preemptionsWith s =
+    cond (eqb (s .initial) noThread || eqb (s .initial) (activeOf s)) (s .preemptions) (s .preemptions + 1)
+
+-- The schedule before a new branch
+
+pub data Last : Type 0 where
+  none : Last
+  at : ℕ → Schedule → Last
+
+-- one branch further on
+abbrev pub further : Last → Last
+further none = none
+further (at k s) = at (k + 1) s
+
+abbrev pub orFirst : Last → Branch → Last
+orFirst (at k s) b = at k s
+orFirst none (schedule s) = at 0 s
+orFirst none (load l) = none
+orFirst none (spurious u) = none
+
+-- the last schedule of a path, with its position among all branches
+unfoldable pub lastSchedule : List Branch → Last
+lastSchedule [] = none
+lastSchedule (b ∷ bs) = orFirst (further (lastSchedule bs)) b
+
+abbrev pub preemptionsAfter : Last → ℕ
+preemptionsAfter none = 0
+preemptionsAfter (at k s) = preemptionsWith s
+
+-- the Active of the new branch, unless the schedule before has another
+abbrev pub initialAfter : Last → ℕ → ℕ
+initialAfter none now = now
+initialAfter (at k s) now = cond (eqb now (activeOf s)) now noThread
+
+abbrev pub prevOf : Last → ℕ
+prevOf none = noPrev
+prevOf (at k s) = k
+
+-- Adding a branch
+
+pub data Added : Type 0 where
+  added : Branch → Added
+  full : Added
+  preempted : Added
+
+abbrev pub newSchedule : Bool → Last → List ℕ → Schedule
+newSchedule exploring last states = record {
+  exploring = exploring;
+  states = states;
+  preemptions = preemptionsAfter last;
+  initial = initialAfter last (orNone (activeIn states));
+  prev = prevOf last;
+}
+
+-- "11: a branch is to be added with B present"; "17: a new schedule branch's preemptions would pass 255 (tested after 11; the
+-- branch isn't added)"
+unfoldable pub threadAdded : ℕ → List Branch → Bool → List ℕ → Added
+threadAdded B bs exploring seed =
+    cond (leb B (length bs)) full
+    (cond (ltb 255 (preemptionsAfter (lastSchedule bs))) preempted
+    (added (schedule (newSchedule exploring (lastSchedule bs) (toggled seed)))))
+
+-- a load branch reads its first value first
+unfoldable pub loadAdded : ℕ → List Branch → Bool → List ℕ → Added
+loadAdded B bs exploring offers =
+    cond (leb B (length bs)) full (added (load (record { exploring = exploring; values = offers; pos = 0 })))
+
+-- a spurious branch says 0 first
+unfoldable pub spuriousAdded : ℕ → List Branch → Bool → Added
+spuriousAdded B bs exploring =
+    cond (leb B (length bs)) full (added (spurious (record { exploring = exploring; bit = false })))
+
+-- "Opened: .. len−1 at each exploring load added; 1 at each exploring spurious added."
+unfoldable pub openedBy : Branch → ℕ
+openedBy (schedule s) = 0
+openedBy (load l) = cond (l .exploring) (length (l .values) - 1) 0
+openedBy (spurious u) = cond (u .exploring) 1 0
+
+-- Marks
+
+-- "`explore` turns only Skip into Pending"
+abbrev pub explored : ℕ → ℕ
+explored s = cond (eqb s skip) pending s
+
+abbrev pub isSkip : ℕ → ℕ
+isSkip s = cond (eqb s skip) 1 0
+
+unfoldable pub skips : List ℕ → ℕ
+skips [] = 0
+skips (s ∷ states) = isSkip s + skips states
+
+-- "a disabled target explores all Skip". A thread that is none is no target
+unfoldable pub marked : List ℕ → ℕ → List ℕ
+marked states t = cond (eqb (getD states t visited) disabled) (map explored states) (set states t (explored (getD states t visited)))
+
+-- "Opened: each Skip turned Pending"
+unfoldable pub openedAt : List ℕ → ℕ → ℕ
+openedAt states t = cond (eqb (getD states t visited) disabled) (skips states) (isSkip (getD states t visited))
+
+-- "preemption bound none or 0..255"
+pub data Bound : Type 0 where
+  unbounded : Bound
+  atMost : ℕ → Bound
+
+-- a record whose preemptions equal the bound takes no marks
+unfoldable pub takesMarks : Bound → Schedule → Bool
+takesMarks unbounded s = true
+takesMarks (atMost n) s = not (eqb (s .preemptions) n)
+
+abbrev pub withStates : Schedule → List ℕ → Schedule
+withStates s states = record {
+  exploring = s .exploring;
+  states = states;
+  preemptions = s .preemptions;
+  initial = s .initial;
+  prev = s .prev;
+}
+
+unfoldable pub scheduleMarked : Bound → Schedule → ℕ → Schedule
+scheduleMarked bound s t = cond (takesMarks bound s) (withStates s (marked (s .states) t)) s
+
+unfoldable pub scheduleOpened : Bound → Schedule → ℕ → ℕ
+scheduleOpened bound s t = cond (takesMarks bound s) (openedAt (s .states) t) 0
+
+-- a path, and how many choices were opened in it
+pub record Marked : Type 0 where
+  pub path : List Branch
+  pub opened : ℕ
+
+-- no schedule at the place: nothing is marked
+abbrev pub unmarked : List Branch → Marked
+unmarked bs = record { path = bs; opened = 0 }
+
+abbrev pub markedAt : Bound → List Branch → Last → ℕ → Marked
+markedAt bound bs none t = unmarked bs
+markedAt bound bs (at k s) t = record {
+  path = set bs k (schedule (scheduleMarked bound s t));
+  opened = scheduleOpened bound s t;
+}
+
+-- the schedule at a position, if there is one
+abbrev pub theSchedule : ℕ → Branch → Last
+theSchedule k (schedule s) = at k s
+theSchedule k (load l) = none
+theSchedule k (spurious u) = none
+
+-- what stands where there is no branch
+abbrev pub noBranch : Branch
+noBranch = load (record { exploring = false; values = []; pos = 0 })
+
+unfoldable pub scheduleAt : List Branch → ℕ → Last
+scheduleAt bs k = theSchedule k (getD bs k noBranch)
+
+abbrev pub ifExploring : Last → Last → Last
+ifExploring none other = other
+ifExploring (at k s) other = cond (s .exploring) (at k s) other
+
+-- `backtrack` from a point: the last exploring schedule that does not stand after it. The first n branches are looked at
+unfoldable pub exploringBelow : List Branch → ℕ → Last
+exploringBelow bs zero = none
+exploringBelow bs (suc k) = let below = exploringBelow bs k in ifExploring (scheduleAt bs k) below
+
+-- the schedule that a schedule's prev names. One that does not stand below it, which no path has, counts as none
+unfoldable pub before : List Branch → Last → Last
+before bs none = none
+before bs (at k s) = cond (ltb (s .prev) k) (scheduleAt bs (s .prev)) none
+
+-- "With a bound, the second backtrack walks `prev` as in the source": from a schedule down to the last exploring one whose
+-- Active is not that of the schedule before it; the very first counts, if it is exploring. The walk takes at most n steps
+unfoldable pub switchFrom : List Branch → ℕ → Last → Last
+switchFrom bs n none = none
+switchFrom bs zero (at k s) = none
+switchFrom bs (suc n) (at k s) =
+    elim (before bs (at k s)) [
+      | none ↦ ifExploring (at k s) none
+      | at p q ↦ elim (s .exploring && not (eqb (activeOf s) (activeOf q))) [ true ↦ at k s | false ↦ switchFrom bs n (at p q) ]
+    ]
+
+abbrev pub both : ℕ → Marked → Marked
+both n m = record { path = m .path; opened = n + m .opened }
+
+-- the second mark, where the first was looked for at this schedule: "not where no exploring record was found, nor where that
+-- record has no prev"
+unfoldable pub markedBefore : Bound → Marked → Last → ℕ → Marked
+markedBefore bound m first t =
+    both (m .opened) (markedAt bound (m .path) (switchFrom (m .path) (length (m .path)) (before (m .path) first)) t)
+
+-- `backtrack` from a branch for a thread
+unfoldable pub backtracked : Bound → List Branch → ℕ → ℕ → Marked
+backtracked unbounded bs point t = markedAt unbounded bs (exploringBelow bs (point + 1)) t
+backtracked (atMost n) bs point t =
+    markedBefore (atMost n) (markedAt (atMost n) bs (exploringBelow bs (point + 1)) t) (exploringBelow bs (point + 1)) t
+
+-- What is open, and the next path
+
+abbrev pub isPending : ℕ → ℕ
+isPending s = cond (eqb s pending) 1 0
+
+unfoldable pub pendings : List ℕ → ℕ
+pendings [] = 0
+pendings (s ∷ states) = isPending s + pendings states
+
+-- "Open: Pending marks, len−1−pos, unset bits, on exploring records"
+unfoldable pub openAt : Branch → ℕ
+openAt (schedule s) = cond (s .exploring) (pendings (s .states)) 0
+openAt (load l) = cond (l .exploring) (length (l .values) - 1 - l .pos) 0
+openAt (spurious u) = cond (u .exploring) (cond (u .bit) 0 1) 0
+
+unfoldable pub openIn : List Branch → ℕ
+openIn [] = 0
+openIn (b ∷ bs) = openAt b + openIn bs
+
+abbrev pub toVisited : Whom → List ℕ → List ℕ
+toVisited nobody states = states
+toVisited (thread t) states = set states t visited
+
+abbrev pub left : List ℕ → List ℕ
+left states = toVisited (activeIn states) states
+
+-- the Active becomes Visited, and the first Pending Active
+unfoldable pub turned : List ℕ → List ℕ
+turned states = toActive (firstIn pending (left states)) (left states)
+
+-- a branch at its next choice
+unfoldable pub turnedBranch : Branch → Branch
+turnedBranch (schedule s) = schedule (withStates s (turned (s .states)))
+turnedBranch (load l) = load (record { exploring = l .exploring; values = l .values; pos = l .pos + 1 })
+turnedBranch (spurious u) = spurious (record { exploring = u .exploring; bit = true })
+
+-- `step`: the last branch with an open choice is set to its next one, and every branch after it is dropped. Nothing is left
+-- where nothing is open
+abbrev pub orTurned : List Branch → Branch → List Branch
+orTurned [] b = cond (ltb 0 (openAt b)) (turnedBranch b ∷ []) []
+orTurned (c ∷ cs) b = b ∷ c ∷ cs
+
+unfoldable pub stepped : List Branch → List Branch
+stepped [] = []
+stepped (b ∷ bs) = orTurned (stepped bs) b
+
+-- What a branch chooses
+
+pub data Choice : Type 0 where
+  runs : Whom → Choice
+  reads : ℕ → Choice
+  says : Bool → Choice
+
+unfoldable pub choiceOf : Branch → Choice
+choiceOf (schedule s) = runs (activeIn (s .states))
+choiceOf (load l) = reads (getD (l .values) (l .pos) 0)
+choiceOf (spurious u) = says (u .bit)

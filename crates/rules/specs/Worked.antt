@@ -1,0 +1,216 @@
+-- Small hand-offs with known outcomes: document 01's cases P, in one table. Each has what the definition gives and what the
+-- document says; that the two columns are equal is one statement, computed by the checker (proofs/Worked.antt).
+use Prim.Native.Nat.{ℕ, zero, suc, _+_, _-_, _*_, _^_}
+use mathlib.Core.List.{List, [], _∷_, _++_, map}
+use mathlib.Core.Bool.{Bool, true, false, cond}
+use lib.Dec.{eqb}
+use lib.ListN.{length, replicate}
+use Rattle.rules.specs.Path.{Bound, unbounded, atMost}
+use Rattle.rules.specs.Event.{Entry, little}
+use Rattle.rules.specs.Table.{Row}
+use Rattle.rules.specs.Cell.{Change, changeOf, Changed, success, failure, applied, kthOldest, liveStores}
+use Rattle.rules.specs.Explorer.{Execution}
+use Rattle.rules.specs.Explored.{Settings, Explored, explored, stopOf}
+
+-- Programs, as the bytes of their tables
+
+abbrev pub row : ℕ → ℕ → ℕ → ℕ → ℕ → ℕ → Row
+row opcode object order kind register a = record {
+  opcode = opcode;
+  object = object;
+  order = order;
+  failure = 0;
+  kind = kind;
+  register = register;
+  target = 0;
+  a = a;
+  b = 0;
+}
+
+-- "Row: opcode, cell or thread, order, failure order, change kind, register 0..3, jump target u16 .., operand a u64, operand b u64."
+abbrev pub rowAsBytes : Row → List ℕ
+rowAsBytes r =
+    r .opcode
+    ∷ r .object
+    ∷ r .order
+    ∷ r .failure
+    ∷ r .kind
+    ∷ r .register
+    ∷ (little 2 (r .target) ++ (little 8 (r .a) ++ little 8 (r .b)))
+
+unfoldable pub rowsAsBytes : List Row → List ℕ
+rowsAsBytes [] = []
+rowsAsBytes (r ∷ rows) = rowAsBytes r ++ rowsAsBytes rows
+
+unfoldable pub threadsAsBytes : List (List Row) → List ℕ
+threadsAsBytes [] = []
+threadsAsBytes (rows ∷ threads) = rowsAsBytes rows ++ threadsAsBytes threads
+
+-- one cell with this start value, and these threads
+unfoldable pub table : ℕ → List (List Row) → List ℕ
+table start threads =
+    length threads
+    ∷ 1
+    ∷ (map (λ (rows : List Row). length rows) threads
+    ++ (replicate (5 - length threads) 0 ++ (0 ∷ (little 8 start ++ threadsAsBytes threads))))
+
+abbrev pub load : Row
+load = row 0 0 0 0 0 0
+
+abbrev pub store : ℕ → Row
+store a = row 1 0 0 0 0 a
+
+abbrev pub exclusive : Row
+exclusive = row 6 0 0 0 0 0
+
+abbrev pub join : ℕ → Row
+join t = row 8 t 0 0 0 0
+
+abbrev pub decrement : Row
+decrement = row 3 0 0 12 0 0
+
+abbrev pub check : ℕ → Row
+check a = row 12 0 0 0 0 a
+
+-- Settings: "All explore on start; no bound unless named."
+abbrev pub limits : ℕ → ℕ → Bound → Settings
+limits B L bound = record { branches = B; operations = L; executions = 100; bound = bound; exploring = true }
+
+-- What is looked at
+
+abbrev pub run : List ℕ → Settings → Explored
+run t s = explored t s (replicate (16 * s .branches) 165) (replicate (16 * s .operations) 90)
+
+abbrev pub answerOf : Explored → List ℕ
+answerOf e = e .report .answer ∷ []
+
+abbrev pub answerAndBegun : Explored → List ℕ
+answerAndBegun e = e .report .answer ∷ e .report .begun ∷ []
+
+-- the values that loads read, in all executions of the run
+unfoldable pub loadsIn : List Entry → List ℕ
+loadsIn [] = []
+loadsIn (e ∷ es) = cond (eqb (e .opcode) 0) (e .value ∷ loadsIn es) (loadsIn es)
+
+unfoldable pub loadsInAll : List Execution → List ℕ
+loadsInAll [] = []
+loadsInAll (x ∷ xs) = loadsIn (x .trace) ++ loadsInAll xs
+
+-- n numbers from i on
+unfoldable pub numbersFrom : ℕ → ℕ → List ℕ
+numbersFrom zero i = []
+numbersFrom (suc n) i = i ∷ numbersFrom n (i + 1)
+
+abbrev pub changedTo : Changed → List ℕ
+changedTo (success v) = v ∷ []
+changedTo failure = []
+
+-- The table
+
+pub record Worked : Type 0 where
+  pub given : List ℕ
+  pub said : List ℕ
+
+-- "P1 one thread, cell 7, load Relaxed, B=3, L=1: answer 0. Trace 00 00 00 00 01 00 00 00 07 then seven zeros. Path: 01 01 04 00
+-- 00 00 00 00 00 FF FF then five zeros; 02 01, eight zeros, 01, five zeros; 01 01, six zeros, FF, seven zeros."
+abbrev pub oneLoad : List ℕ
+oneLoad = table 7 ((load ∷ []) ∷ [])
+
+abbrev pub p1 : Worked
+p1 = record { given = answerOf (run oneLoad (limits 3 1 unbounded)); said = 0 ∷ [] }
+
+abbrev pub p1Trace : Worked
+p1Trace = record {
+  given = run oneLoad (limits 3 1 unbounded) .trace;
+  said = 0 ∷ 0 ∷ 0 ∷ 0 ∷ 1 ∷ 0 ∷ 0 ∷ 0 ∷ 7 ∷ replicate 7 0;
+}
+
+abbrev pub p1Path : Worked
+p1Path = record {
+  given = run oneLoad (limits 3 1 unbounded) .path;
+  said =
+      1 ∷ 1 ∷ 4 ∷ 0 ∷ 0 ∷ 0 ∷ 0 ∷ 0 ∷ 0 ∷ 255 ∷ 255 ∷ (replicate 5 0
+      ++ (2 ∷ 1 ∷ (replicate 8 0 ++ (1 ∷ (replicate 5 0 ++ (1 ∷ 1 ∷ (replicate 6 0 ++ (255 ∷ replicate 7 0))))))));
+}
+
+-- "P2 B=2: 11."
+abbrev pub p2 : Worked
+p2 = record { given = answerOf (run oneLoad (limits 2 1 unbounded)); said = 11 ∷ [] }
+
+-- "P3 thread 0 stores 1, thread 1 loads, Relaxed, one cell starting at 0: 5 executions, values 0,1,0,0,1, opened 4."
+abbrev pub storeAndLoad : List ℕ
+storeAndLoad = table 0 ((store 1 ∷ []) ∷ (load ∷ []) ∷ [])
+
+abbrev pub p3 : Worked
+p3 = record { given = answerAndBegun (run storeAndLoad (limits 8 4 unbounded)); said = 0 ∷ 5 ∷ [] }
+
+abbrev pub p3Values : Worked
+p3Values = record {
+  given = loadsInAll (stopOf storeAndLoad (limits 8 4 unbounded) .history);
+  said = 0 ∷ 1 ∷ 0 ∷ 0 ∷ 1 ∷ [];
+}
+
+abbrev pub p3Opened : Worked
+p3Opened = record { given = run storeAndLoad (limits 8 4 unbounded) .report .opened ∷ []; said = 4 ∷ [] }
+
+-- "P4 bound 0: 2 executions. P5 bound 1: 3."
+abbrev pub p4 : Worked
+p4 = record { given = answerAndBegun (run storeAndLoad (limits 8 4 (atMost 0))); said = 0 ∷ 2 ∷ [] }
+
+abbrev pub p5 : Worked
+p5 = record { given = answerAndBegun (run storeAndLoad (limits 8 4 (atMost 1))); said = 0 ∷ 3 ∷ [] }
+
+-- "P6 a thread joins itself: 10."
+abbrev pub p6 : Worked
+p6 = record { given = answerOf (run (table 0 ((join 0 ∷ []) ∷ [])) (limits 8 4 unbounded)); said = 10 ∷ [] }
+
+-- "P7 thread 0 exclusive, thread 1 load: 14, kind 1, other 0."
+abbrev pub raceOf : Explored → List ℕ
+raceOf e = e .report .answer ∷ e .report .kind ∷ e .report .other ∷ []
+
+abbrev pub p7 : Worked
+p7 = record {
+  given = raceOf (run (table 0 ((exclusive ∷ []) ∷ (load ∷ []) ∷ [])) (limits 8 4 unbounded));
+  said = 14 ∷ 1 ∷ 0 ∷ [];
+}
+
+-- "P8 fence order at cnt 9: 2,3,4,5,6,0,1."
+abbrev pub p8 : Worked
+p8 = record { given = map (kthOldest 9) (numbersFrom (liveStores 9) 0); said = 2 ∷ 3 ∷ 4 ∷ 5 ∷ 6 ∷ 0 ∷ 1 ∷ [] }
+
+-- "P9 signed max of 2^64−1 and 0 is 0. P10 signed max of 2^63 and 2^63−1 is 2^63−1."
+abbrev pub p9 : Worked
+p9 = record { given = changedTo (applied (changeOf 9 0 0) (2 ^ 64 - 1)); said = 0 ∷ [] }
+
+abbrev pub p10 : Worked
+p10 = record { given = changedTo (applied (changeOf 9 (2 ^ 63 - 1) 0) (2 ^ 63)); said = (2 ^ 63 - 1) ∷ [] }
+
+-- "P11 decrement at 0 fails, register 0.": by its meaning, and in a run that checks the register
+abbrev pub p11 : Worked
+p11 = record { given = changedTo (applied (changeOf 12 0 0) 0); said = [] }
+
+abbrev pub p11Register : Worked
+p11Register = record {
+  given = answerOf (run (table 0 ((decrement ∷ check 0 ∷ []) ∷ [])) (limits 8 4 unbounded));
+  said = 0 ∷ [];
+}
+
+abbrev pub worked : List Worked
+worked =
+    p1
+    ∷ p1Trace
+    ∷ p1Path
+    ∷ p2
+    ∷ p3
+    ∷ p3Values
+    ∷ p3Opened
+    ∷ p4
+    ∷ p5
+    ∷ p6
+    ∷ p7
+    ∷ p8
+    ∷ p9
+    ∷ p10
+    ∷ p11
+    ∷ p11Register
+    ∷ []
