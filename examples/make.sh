@@ -1,5 +1,5 @@
 #!/usr/bin/env bash
-# Writes the table of every example beside its text, and the copy that the gate runs: examples/make.sh, from anywhere.
+# Writes the table of every example beside its text, and the copies that the gate runs: examples/make.sh, from anywhere.
 # A table is a header of 8 bytes, a start value of 8 bytes for each cell and rows of 24 bytes, thread 0's first;
 # all numbers little-endian.
 set -euo pipefail
@@ -138,3 +138,4 @@ hand_off_fence >hand-off-fence.table
 spin_wait >spin-wait.table
 lock >lock.table
 cp hand-off-wrong.table ../crates/explore/data/
+cp hand-off-wrong.table ../crates/show/stdin
