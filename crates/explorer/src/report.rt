@@ -1,5 +1,8 @@
 // What a run answers.
+ghost use mathlib.Core.Path.{_≡_};
 ghost use Prim.Native.Nat.{_<_};
+ghost use Rattle.rules.specs.Event.{faultNumber, raceKind, otherThread};
+ghost use Rattle.explorer.specs.Answers.{faultOf, numberOf, kindOf, otherOf};
 use atomic::state::BEGUN;
 use atomic::state::Clocks;
 use atomic::state::ROWS;
@@ -96,7 +99,9 @@ pub fn summaries(clocks: &Clocks, small: &Small) -> [ThreadRecord; 5] {
 }
 
 // The answer's number.
-pub fn number(answer: Answer) -> u64 {
+pub fn number(answer: Answer) -> u64
+    ensures { λ r. ⌜ r ≡ numberOf answer ⌝ }
+{
     match answer {
         Answer::Exhausted => 0,
         Answer::Spent => 1,
@@ -109,7 +114,9 @@ pub fn number(answer: Answer) -> u64 {
 }
 
 // A fault's number. No run gives the last, which is kept for a path that does not fit the program.
-pub fn fault_number(fault: Fault) -> u64 {
+pub fn fault_number(fault: Fault) -> u64
+    ensures { λ r. ⌜ r ≡ faultNumber (faultOf fault) ⌝ }
+{
     match fault {
         Fault::Deadlock => 10,
         Fault::Full => 11,
@@ -124,23 +131,63 @@ pub fn fault_number(fault: Fault) -> u64 {
 }
 
 // The race kind, or 0.
-pub fn race_kind(answer: Answer) -> u64 {
+pub fn race_kind(answer: Answer) -> u64
+    ensures { λ r. ⌜ r ≡ kindOf answer ⌝ }
+{
     match answer {
-        Answer::Stopped(fault) => match fault {
-            Fault::Race { kind, other: _ } => kind as u64,
-            _ => 0,
-        },
-        _ => 0,
+        Answer::Exhausted => 0,
+        Answer::Spent => 0,
+        Answer::BadSettings => 0,
+        Answer::BadPath => 0,
+        Answer::BadTrace => 0,
+        Answer::BadTable { thread: _, row: _ } => 0,
+        Answer::Stopped(fault) => fault_kind(fault),
+    }
+}
+
+fn fault_kind(fault: Fault) -> u64
+    ensures { λ r. ⌜ r ≡ raceKind (faultOf fault) ⌝ }
+{
+    match fault {
+        Fault::Deadlock => 0,
+        Fault::Full => 0,
+        Fault::Rows => 0,
+        Fault::Equal => 0,
+        Fault::Race { kind, other: _ } => kind as u64,
+        Fault::Check => 0,
+        Fault::Flags => 0,
+        Fault::Preempted => 0,
+        Fault::Impossible => 0,
     }
 }
 
 // The race's other thread, or 255.
-pub fn other_thread(answer: Answer) -> u64 {
+pub fn other_thread(answer: Answer) -> u64
+    ensures { λ r. ⌜ r ≡ otherOf answer ⌝ }
+{
     match answer {
-        Answer::Stopped(fault) => match fault {
-            Fault::Race { kind: _, other } => other as u64,
-            _ => 255,
-        },
-        _ => 255,
+        Answer::Exhausted => 255,
+        Answer::Spent => 255,
+        Answer::BadSettings => 255,
+        Answer::BadPath => 255,
+        Answer::BadTrace => 255,
+        Answer::BadTable { thread: _, row: _ } => 255,
+        Answer::Stopped(fault) => fault_other(fault),
+    }
+}
+
+fn fault_other(fault: Fault) -> u64
+    ensures { λ r. ⌜ r ≡ otherThread (faultOf fault) ⌝ }
+{
+    match fault {
+        Fault::Deadlock => 255,
+        Fault::Full => 255,
+        Fault::Rows => 255,
+        Fault::Equal => 255,
+        Fault::Race { kind: _, other } => other as u64,
+        Fault::Check => 255,
+        Fault::Flags => 255,
+        Fault::Preempted => 255,
+        Fault::Impossible => 255,
     }
 }
