@@ -219,19 +219,19 @@ fn compare_speed(rounds: u64, out: &mut impl Write) -> Outcome {
         }
     }
     writeln!(out, "{:<18} {:>10} {:>10} {:>7}", "program", "plain ms", "library ms", "ratio")?;
-    let mut total = Times { plain: Duration::ZERO, library: Duration::ZERO };
+    let mut total = Times { plain: Duration::ZERO, proved: Duration::ZERO };
     for (timed, times) in fifty.iter().zip(times) {
         print_times(timed.name, times, out)?;
         total.plain += times.plain;
-        total.library += times.library;
+        total.proved += times.proved;
     }
     print_times("total", total, out)?;
     Ok(true)
 }
 
 fn print_times(name: &str, times: Times, out: &mut impl Write) -> io::Result<()> {
-    let [plain, library] = [times.plain, times.library].map(|time| time.as_secs_f64() * 1e3);
-    writeln!(out, "{name:<18} {plain:>10.2} {library:>10.2} {:>7.2}", times.ratio())
+    let [plain, proved] = [times.plain, times.proved].map(|time| time.as_secs_f64() * 1e3);
+    writeln!(out, "{name:<18} {plain:>10.2} {proved:>10.2} {:>7.2}", times.ratio())
 }
 
 fn print_fifty(out: &mut impl Write) -> Outcome {

@@ -12,16 +12,16 @@ use terms::NUMBERS;
 #[derive(Clone, Copy)]
 pub struct Times {
     pub plain: Duration,
-    pub library: Duration,
+    pub proved: Duration,
 }
 
 impl Times {
     /// No time yet.
-    pub const NONE: Times = Times { plain: Duration::MAX, library: Duration::MAX };
+    pub const NONE: Times = Times { plain: Duration::MAX, proved: Duration::MAX };
 
     /// The library's time over plain's.
     pub fn ratio(self) -> f64 {
-        self.library.as_secs_f64() / self.plain.as_secs_f64()
+        self.proved.as_secs_f64() / self.plain.as_secs_f64()
     }
 }
 
@@ -58,7 +58,7 @@ pub fn measure(timed: &Timed, plain_first: bool, times: &mut Times) {
             times.plain = times.plain.min(took);
         } else {
             let took = clock(timed.runs, || by_library(&mut path, &mut trace));
-            times.library = times.library.min(took);
+            times.proved = times.proved.min(took);
         }
     }
 }
