@@ -1,6 +1,7 @@
 //! Cases for the explorers: a seeded generator, hand-built ones, their text, and the comparison of
 //! answers. The binary `cases` makes commands of them; FORMAT.md describes the text.
 
+pub mod command;
 pub mod compare;
 mod damage;
 mod draw;

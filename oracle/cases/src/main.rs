@@ -1,5 +1,6 @@
 //! Commands over cases. See `USAGE`.
 
+use cases::command::{self, number, wrong, Outcome, Stop};
 use cases::format::{read_answered, read_case};
 use cases::lines::{Lines, Refused};
 use cases::pick::{self, Answered};
@@ -9,7 +10,7 @@ use cases::state::definition::Definition;
 use cases::state::{self, Part};
 use cases::{compare, list, tally};
 use std::fs::File;
-use std::io::{self, BufRead, BufReader, BufWriter, ErrorKind, Write};
+use std::io::{self, BufRead, BufReader, Write};
 use std::path::Path;
 use std::process::ExitCode;
 
@@ -32,53 +33,8 @@ explorer (which is never an answer)
 /// How many differences are shown.
 const SHOWN: usize = 5;
 
-/// Why a command stops early.
-enum Stop {
-    /// Bad arguments or input.
-    Input(String),
-    /// An explorer panicked or broke its word.
-    Explorer(String),
-    Output(io::Error),
-}
-
-impl From<io::Error> for Stop {
-    fn from(error: io::Error) -> Stop {
-        Stop::Output(error)
-    }
-}
-
-impl From<Refused> for Stop {
-    fn from(refused: Refused) -> Stop {
-        Stop::Input(refused.to_string())
-    }
-}
-
-/// True where everything was as it should be.
-type Outcome = Result<bool, Stop>;
-
 fn main() -> ExitCode {
-    // An argument that is no text is no command or number either, and is refused as such.
-    let arguments = std::env::args_os().skip(1);
-    let arguments: Vec<String> = arguments.map(|a| a.to_string_lossy().into_owned()).collect();
-    let mut out = BufWriter::new(io::stdout().lock());
-    let outcome = run(&arguments, &mut out).and_then(|well| {
-        out.flush()?;
-        Ok(well)
-    });
-    match outcome {
-        Ok(true) => ExitCode::SUCCESS,
-        Ok(false) => ExitCode::from(1),
-        // Whoever read our output has had enough.
-        Err(Stop::Output(error)) if error.kind() == ErrorKind::BrokenPipe => ExitCode::SUCCESS,
-        Err(Stop::Output(error)) => fail(2, &format!("standard output: {error}")),
-        Err(Stop::Input(what)) => fail(2, &what),
-        Err(Stop::Explorer(what)) => fail(3, &what),
-    }
-}
-
-fn fail(status: u8, what: &str) -> ExitCode {
-    eprintln!("cases: {what}");
-    ExitCode::from(status)
+    command::status("cases", |arguments, out| run(arguments, out))
 }
 
 fn run(arguments: &[String], out: &mut impl Write) -> Outcome {
@@ -110,28 +66,7 @@ fn run(arguments: &[String], out: &mut impl Write) -> Outcome {
             Ok(true)
         }
         [] => Err(Stop::Input("no command; try 'cases help'".to_string())),
-        [command, ..] => Err(Stop::Input(wrong(command))),
-    }
-}
-
-/// What to say of a command that was not understood: its usage, if there is such a command.
-fn wrong(command: &str) -> String {
-    let known = USAGE
-        .lines()
-        .filter_map(|line| line.split_once("cases "))
-        .map(|(_, rest)| rest.split("  ").next().unwrap_or(rest))
-        .find(|rest| rest.split(' ').next() == Some(command));
-    match known {
-        Some(usage) => format!("usage: cases {usage}"),
-        None => format!("unknown command '{command}'; try 'cases help'"),
-    }
-}
-
-fn number(text: &str) -> Result<u64, Stop> {
-    let digits = text.bytes().all(|b| b.is_ascii_digit());
-    match text.parse() {
-        Ok(number) if digits => Ok(number),
-        _ => Err(Stop::Input(format!("'{text}' is not a number from 0 to 2^64-1"))),
+        [command, ..] => Err(Stop::Input(wrong("cases", USAGE, command))),
     }
 }
 

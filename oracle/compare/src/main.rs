@@ -8,11 +8,12 @@ mod judge;
 mod library;
 mod speed;
 
+use cases::command::{self, number, wrong, Outcome, Stop};
 use library::Call;
 use speed::Times;
 use std::collections::BTreeMap;
 use std::fmt::Display;
-use std::io::{self, BufWriter, ErrorKind, Write};
+use std::io::{self, Write};
 use std::process::ExitCode;
 use std::time::Duration;
 
@@ -30,46 +31,8 @@ const SHOWN: u64 = 5;
 /// Rounds of a speed measurement, at least and if nothing is said.
 const ROUNDS: u64 = 5;
 
-/// Why a command stops early.
-enum Stop {
-    Arguments(String),
-    /// An explorer in Rust panicked.
-    Explorer(String),
-    Output(io::Error),
-}
-
-impl From<io::Error> for Stop {
-    fn from(error: io::Error) -> Stop {
-        Stop::Output(error)
-    }
-}
-
-/// True where everything was as it should be.
-type Outcome = Result<bool, Stop>;
-
 fn main() -> ExitCode {
-    // An argument that is no text is no command or number either, and is refused as such.
-    let arguments = std::env::args_os().skip(1);
-    let arguments: Vec<String> = arguments.map(|a| a.to_string_lossy().into_owned()).collect();
-    let mut out = BufWriter::new(io::stdout().lock());
-    let outcome = run(&arguments, &mut out).and_then(|well| {
-        out.flush()?;
-        Ok(well)
-    });
-    match outcome {
-        Ok(true) => ExitCode::SUCCESS,
-        Ok(false) => ExitCode::from(1),
-        // Whoever read our output has had enough.
-        Err(Stop::Output(error)) if error.kind() == ErrorKind::BrokenPipe => ExitCode::SUCCESS,
-        Err(Stop::Output(error)) => fail(2, &format!("standard output: {error}")),
-        Err(Stop::Arguments(what)) => fail(2, &what),
-        Err(Stop::Explorer(what)) => fail(3, &what),
-    }
-}
-
-fn fail(status: u8, what: &str) -> ExitCode {
-    eprintln!("compare: {what}");
-    ExitCode::from(status)
+    command::status("compare", |arguments, out| run(arguments, out))
 }
 
 fn run(arguments: &[String], out: &mut impl Write) -> Outcome {
@@ -84,33 +47,12 @@ fn run(arguments: &[String], out: &mut impl Write) -> Outcome {
         ["limits"] => compare_limits(out),
         ["speed"] => compare_speed(ROUNDS, out),
         ["speed", rounds] => match number(rounds)? {
-            0..ROUNDS => Err(Stop::Arguments(format!("at least {ROUNDS} rounds"))),
+            0..ROUNDS => Err(Stop::Input(format!("at least {ROUNDS} rounds"))),
             rounds => compare_speed(rounds, out),
         },
         ["fifty"] => print_fifty(out),
-        [] => Err(Stop::Arguments("no command; try 'compare help'".to_string())),
-        [command, ..] => Err(Stop::Arguments(wrong(command))),
-    }
-}
-
-/// What to say of a command that was not understood: its usage, if there is such a command.
-fn wrong(command: &str) -> String {
-    let known = USAGE
-        .lines()
-        .filter_map(|line| line.split_once("compare "))
-        .map(|(_, rest)| rest.split("  ").next().unwrap_or(rest))
-        .find(|rest| rest.split(' ').next() == Some(command));
-    match known {
-        Some(usage) => format!("usage: compare {usage}"),
-        None => format!("unknown command '{command}'; try 'compare help'"),
-    }
-}
-
-fn number(text: &str) -> Result<u64, Stop> {
-    let digits = text.bytes().all(|b| b.is_ascii_digit());
-    match text.parse() {
-        Ok(number) if digits => Ok(number),
-        _ => Err(Stop::Arguments(format!("'{text}' is not a number from 0 to 2^64-1"))),
+        [] => Err(Stop::Input("no command; try 'compare help'".to_string())),
+        [command, ..] => Err(Stop::Input(wrong("compare", USAGE, command))),
     }
 }
 
