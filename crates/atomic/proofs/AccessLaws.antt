@@ -9,7 +9,7 @@ use mathlib.Core.Path.{_≡_, ap, sym, _∙_}
 use lib.ListN.{set}
 use Rattle.rules.specs.Vector.{oneMore}
 use Rattle.rules.specs.Seen.{touched, unseens}
-use Rattle.rules.specs.State.{State, Clocks, Marks, Values, Small, vector, marksOf, withMarks, value, withValue, number, withNumber, storeAt, threads, causality, sync, ofStore, count, isSeqCst}
+use Rattle.rules.specs.State.{State, Clocks, Marks, Values, Numbers, vector, marksOf, withMarks, value, withValue, number, withNumber, storeAt, threads, causality, sync, ofStore, count, isSeqCst}
 use Rattle.rules.specs.Cell as rules
 use Rattle.rules.specs.Cell.{slotOf, withStore, version, seqCstFlag, storeOrder, storeSynced, storeDone, Access, raced, read}
 use Rattle.rules.specs.Cell.{noRace, raceOf, loadRace, loadTracked, storeRace, storeTracked, coherent, touchDone, loadSynced}
@@ -22,13 +22,13 @@ use Rattle.atomic.specs.Changes.{changedOf}
 pub changing : (r s : Changed) (x : rules.Changed) → r ≡ s → changedOf r ≡ x → changedOf s ≡ x
 changing r s x e f = sym (ap changedOf e) ∙ f
 
-module _ (clocks : Clocks) (marks : Marks) (values : Values) (small : Small) (t c : ℕ) where
+module _ (clocks : Clocks) (marks : Marks) (values : Values) (numbers : Numbers) (t c : ℕ) where
   -- the slot and the number of the new store, and what is written of it
   pub stored : (from : List ℕ) (v o slot store more flag : ℕ) (so s row : List ℕ) →
-      slot ≡ slotOf (number small (count c)) →
+      slot ≡ slotOf (number numbers (count c)) →
       store ≡ storeAt c slot →
-      more ≡ oneMore (number small (count c)) →
-      so ≡ storeOrder clocks (marksOf marks c) (number small (count c)) t c →
+      more ≡ oneMore (number numbers (count c)) →
+      so ≡ storeOrder clocks (marksOf marks c) (number numbers (count c)) t c →
       s ≡ storeSynced clocks t from o →
       row ≡ touched (unseens threads) t (version clocks t) →
       flag ≡ seqCstFlag o →
@@ -36,56 +36,56 @@ module _ (clocks : Clocks) (marks : Marks) (values : Values) (small : Small) (t 
       (withStore clocks store (vector clocks (causality t)) so s)
       (withMarks marks c (set (marksOf marks c) slot row))
       (withValue values (ofStore store) v)
-      (withNumber (withNumber small (count c) more) (isSeqCst store) flag)
-      ≡ storeDone (state clocks marks values small) t c from v o
+      (withNumber (withNumber numbers (count c) more) (isSeqCst store) flag)
+      ≡ storeDone (state clocks marks values numbers) t c from v o
   unfolding storeDone
   stored from v o slot store more flag so s row a b d e f g h = rw (h, g, f, e, d, b, a)
 
   -- after the tracking of a load: the clocks are as it left them
   module _ (slot : ℕ) (tracked : Clocks) (left : tracked ≡ loadTracked clocks t c) where
     module _ (kind other : ℕ) (answer : raceOf kind other ≡ loadRace clocks t c) where
-      pub load-raced : (o : ℕ) → raced kind other (state tracked marks values small) ≡ loadDone (state clocks marks values small) t c slot o
+      pub load-raced : (o : ℕ) → raced kind other (state tracked marks values numbers) ≡ loadDone (state clocks marks values numbers) t c slot o
       unfolding loadDone loadTracked
       load-raced o = rw (left, ← answer)
 
-      pub rmw-raced : (change : Change) (o f : ℕ) → raced kind other (state tracked marks values small) ≡ rmwDone (state clocks marks values small) t c slot change o f
+      pub rmw-raced : (change : Change) (o f : ℕ) → raced kind other (state tracked marks values numbers) ≡ rmwDone (state clocks marks values numbers) t c slot change o f
       unfolding rmwDone loadTracked
       rmw-raced change o f = rw (left, ← answer)
 
     -- with no race, coherence and touch
     module _ (answer : noRace ≡ loadRace clocks t c) (store : ℕ) (at : store ≡ storeAt c slot)
-        (ordered : Clocks) (coherence : ordered ≡ coherent tracked (marksOf marks c) small t c slot)
+        (ordered : Clocks) (coherence : ordered ≡ coherent tracked (marksOf marks c) numbers t c slot)
         (marked : Marks) (touch : marked ≡ touchDone ordered marks t c slot) where
-      in-sight : state ordered marked values small ≡ sighted (state clocks marks values small) t c slot
+      in-sight : state ordered marked values numbers ≡ sighted (state clocks marks values numbers) t c slot
       unfolding sighted
       in-sight = rw (touch, coherence, left)
 
       pub load-done : (o : ℕ) (synced : Clocks) → synced ≡ loadSynced ordered t store o →
-          read (value values (ofStore store)) (state synced marked values small) ≡ loadDone (state clocks marks values small) t c slot o
+          read (value values (ofStore store)) (state synced marked values numbers) ≡ loadDone (state clocks marks values numbers) t c slot o
       unfolding loadDone
       load-done o synced e = rw (← answer, ← at, ← in-sight, e)
 
       module _ (change : Change) (o f : ℕ) where
         pub rmw-failed : failure ≡ applied change (value values (ofStore store)) → (synced : Clocks) → synced ≡ loadSynced ordered t store f →
-            read (value values (ofStore store)) (state synced marked values small) ≡ rmwDone (state clocks marks values small) t c slot change o f
+            read (value values (ofStore store)) (state synced marked values numbers) ≡ rmwDone (state clocks marks values numbers) t c slot change o f
         unfolding rmwDone
         rmw-failed e synced g = rw (← answer, ← at, ← in-sight, ← e, g)
 
         pub rmw-succeeded : (next : ℕ) → success next ≡ applied change (value values (ofStore store)) → (done : Access) →
-            done ≡ succeeded (state ordered marked values small) t c store (value values (ofStore store)) next o →
-            done ≡ rmwDone (state clocks marks values small) t c slot change o f
+            done ≡ succeeded (state ordered marked values numbers) t c store (value values (ofStore store)) next o →
+            done ≡ rmwDone (state clocks marks values numbers) t c slot change o f
         unfolding rmwDone
         rmw-succeeded next e done g = rw (← answer, ← at, ← in-sight, ← e) g
 
   -- the rest of a read-modify-write, after the tracking of a store
   module _ (store v next o : ℕ) (tracked : Clocks) (left : tracked ≡ storeTracked clocks t c) where
     pub then-raced : (kind other : ℕ) → raceOf kind other ≡ storeRace clocks t c →
-        raced kind other (state tracked marks values small) ≡ succeeded (state clocks marks values small) t c store v next o
+        raced kind other (state tracked marks values numbers) ≡ succeeded (state clocks marks values numbers) t c store v next o
     unfolding succeeded storeTracked
     then-raced kind other answer = rw (left, ← answer)
 
     pub then-stored : noRace ≡ storeRace clocks t c → (synced : Clocks) → synced ≡ loadSynced tracked t store o → (st : State) →
-        st ≡ storeDone (state synced marks values small) t c (vector synced (sync store)) next o →
-        read v st ≡ succeeded (state clocks marks values small) t c store v next o
+        st ≡ storeDone (state synced marks values numbers) t c (vector synced (sync store)) next o →
+        read v st ≡ succeeded (state clocks marks values numbers) t c store v next o
     unfolding succeeded
     then-stored answer synced e st f = rw (← answer, f, e, left)

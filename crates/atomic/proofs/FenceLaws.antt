@@ -12,7 +12,7 @@ use mathlib.Core.Logic.{_≢_}
 use native.Mathlib.Omega.{arith}
 use borrow.Author.Tests.{lt-ltb, le-ltb, ne-eqb}
 use Rattle.rules.specs.Cell.{kthOldest, seenBy, loadSynced, acquiredFrom, cellAcquired, cellsAcquired, fenceAcquired, fenceReleased, fenceSeqCst, fenced, liveStores, joinInto}
-use Rattle.rules.specs.State.{Clocks, Marks, Small, marksOf, vector, withVector, number, count, storeAt, causality, released, seqCst, sync}
+use Rattle.rules.specs.State.{Clocks, Marks, Numbers, marksOf, vector, withVector, number, count, storeAt, causality, released, seqCst, sync}
 use Rattle.atomic.specs.Fences.{Oldest}
 
 module _ (n k : ℕ) (within : k < 7) where
@@ -57,17 +57,17 @@ module _ (clocks : Clocks) (rows : List (List ℕ)) (cnt t c : ℕ) where
     pub stores-unseen : b ≡ false → acquiredFrom clocks rows cnt t c (live - (k + 1)) (k + 1) ≡ acquiredFrom clocks rows cnt t c (live - k) k
     stores-unseen f = rw (one-left live k more, acquired-on, here, f)
 
-module _ (clocks : Clocks) (marks : Marks) (small : Small) (t : ℕ) where
-  pub cells-start : (n : ℕ) → cellsAcquired clocks marks small t (n - 0) 0 ≡ fenceAcquired clocks marks small t n
+module _ (clocks : Clocks) (marks : Marks) (numbers : Numbers) (t : ℕ) where
+  pub cells-start : (n : ℕ) → cellsAcquired clocks marks numbers t (n - 0) 0 ≡ fenceAcquired clocks marks numbers t n
   unfolding fenceAcquired
   cells-start n = let z : n - 0 ≡ n = omega arith in rw z
 
-  pub cells-on : (n c : ℕ) → c < n → (left : Clocks) → left ≡ cellAcquired clocks (marksOf marks c) (number small (count c)) t c →
-      cellsAcquired left marks small t (n - (c + 1)) (c + 1) ≡ cellsAcquired clocks marks small t (n - c) c
+  pub cells-on : (n c : ℕ) → c < n → (left : Clocks) → left ≡ cellAcquired clocks (marksOf marks c) (number numbers (count c)) t c →
+      cellsAcquired left marks numbers t (n - (c + 1)) (c + 1) ≡ cellsAcquired clocks marks numbers t (n - c) c
   unfolding cellsAcquired
   cells-on n c h left e = rw (one-left n c h, e)
 
-  pub cells-end : (n c : ℕ) → n ≤ c → cellsAcquired clocks marks small t (n - c) c ≡ clocks
+  pub cells-end : (n c : ℕ) → n ≤ c → cellsAcquired clocks marks numbers t (n - c) c ≡ clocks
   unfolding cellsAcquired
   cells-end n c h = rw (none-left n c h)
 
@@ -81,10 +81,10 @@ module _ (clocks before : Clocks) (t : ℕ) (so : before ≡ clocks) where
   unfolding fenceSeqCst
   then-both first left e f = rw (← so, ← e) f
 
-module _ (clocks : Clocks) (marks : Marks) (small : Small) (t cells : ℕ) where
-  pub fence-as : (o k : ℕ) (left : Clocks) → o ≡ k → left ≡ fenced clocks marks small t cells k → left ≡ fenced clocks marks small t cells o
-  fence-as o k left e f = f ∙ ap (fenced clocks marks small t cells) (sym e)
+module _ (clocks : Clocks) (marks : Marks) (numbers : Numbers) (t cells : ℕ) where
+  pub fence-as : (o k : ℕ) (left : Clocks) → o ≡ k → left ≡ fenced clocks marks numbers t cells k → left ≡ fenced clocks marks numbers t cells o
+  fence-as o k left e f = f ∙ ap (fenced clocks marks numbers t cells) (sym e)
 
-  pub fence-none : (o : ℕ) → (o ≢ 1) → (o ≢ 2) → (o ≢ 3) → (o ≢ 4) → clocks ≡ fenced clocks marks small t cells o
+  pub fence-none : (o : ℕ) → (o ≢ 1) → (o ≢ 2) → (o ≢ 3) → (o ≢ 4) → clocks ≡ fenced clocks marks numbers t cells o
   unfolding fenced
   fence-none o a b c d = rw (ne-eqb o 1 a, ne-eqb o 2 b, ne-eqb o 3 c, ne-eqb o 4 d)

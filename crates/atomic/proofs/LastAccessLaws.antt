@@ -16,18 +16,18 @@ use lib.ListN.{getD}
 use borrow.Author.Tests.{eq-eqb, ne-eqb}
 use Rattle.rules.specs.Event.{nowhere, branch}
 use Rattle.rules.specs.Machine.{aLoad, noOperation, dependentBranch, dependentVector, operationOf, cellOf, conflict, accessMade}
-use Rattle.rules.specs.State.{State, Clocks, Marks, Values, Small, vector, withVector, vectorAt, withNumber, numberAt, scheduleOf, lastAccess, lastNonLoad, accessBranch, nonLoadBranch, none}
+use Rattle.rules.specs.State.{State, Clocks, Marks, Values, Numbers, vector, withVector, vectorAt, withNumber, numberAt, scheduleOf, lastAccess, lastNonLoad, accessBranch, nonLoadBranch, none}
 use Rattle.rules.specs.Vector.{joined, raised, atMost}
 use Rattle.atomic.specs.Access.{state}
 use Rattle.atomic.specs.LastAccess.{grown, accessed}
 use Rattle.atomic.proofs.SeenLaws.{or-or}
 
 module _ (op c at : ℕ) where
-  pub branch-load : (small : Small) → op ≡ aLoad → at + c ≡ numberAt (nonLoadBranch c) → getD small (at + c) 0 ≡ dependentBranch small op c
-  branch-load small e f = rw (eq-eqb op aLoad e, f)
+  pub branch-load : (numbers : Numbers) → op ≡ aLoad → at + c ≡ numberAt (nonLoadBranch c) → getD numbers (at + c) 0 ≡ dependentBranch numbers op c
+  branch-load numbers e f = rw (eq-eqb op aLoad e, f)
 
-  pub branch-other : (small : Small) → op ≢ aLoad → at + c ≡ numberAt (accessBranch c) → getD small (at + c) 0 ≡ dependentBranch small op c
-  branch-other small n f = rw (ne-eqb op aLoad n, f)
+  pub branch-other : (numbers : Numbers) → op ≢ aLoad → at + c ≡ numberAt (accessBranch c) → getD numbers (at + c) 0 ≡ dependentBranch numbers op c
+  branch-other numbers n f = rw (ne-eqb op aLoad n, f)
 
   pub vector-load : (clocks : Clocks) → op ≡ aLoad → at + c ≡ vectorAt (lastNonLoad c) → getD clocks (at + c) [] ≡ dependentVector clocks op c
   vector-load clocks e f = rw (eq-eqb op aLoad e, f)
@@ -42,7 +42,7 @@ module _ (at k : ℕ) (xs ys vs : List ℕ) (b : Bool) (met : k ≡ at) where
   pub conflict-asked : k ≢ none → vs ≡ xs → b ≡ atMost vs ys → not b ≡ not (eqb at none || atMost xs ys)
   conflict-asked n e f = rw (← met, ne-eqb k none n, ← e, f)
 
-module _ (st : State) (t op c k : ℕ) (own row : List ℕ) (met : k ≡ dependentBranch (st .small) op c) (raise : row ≡ raised own t) where
+module _ (st : State) (t op c k : ℕ) (own row : List ℕ) (met : k ≡ dependentBranch (st .numbers) op c) (raise : row ≡ raised own t) where
   pub grown-none : k ≡ none → own ≡ vector (st .clocks) (scheduleOf t) → row ≡ grown st t op c
   unfolding grown
   grown-none e f = rw (← met, eq-eqb k none e, ← f) raise
@@ -52,16 +52,16 @@ module _ (st : State) (t op c k : ℕ) (own row : List ℕ) (met : k ≡ depende
   unfolding grown
   grown-joined n version e f = rw (← met, ne-eqb k none n, ← e, ← f) raise
 
-module _ (clocks : Clocks) (marks : Marks) (values : Values) (small : Small) (t op c at : ℕ) (row : List ℕ) (grew : row ≡ grown (state clocks marks values small) t op c) where
+module _ (clocks : Clocks) (marks : Marks) (values : Values) (numbers : Numbers) (t op c at : ℕ) (row : List ℕ) (grew : row ≡ grown (state clocks marks values numbers) t op c) where
   pub recorded-load : op ≡ aLoad →
-      state (withVector (withVector clocks (scheduleOf t) row) (lastAccess c) row) marks values (withNumber small (accessBranch c) at)
-      ≡ accessed (state clocks marks values small) t op c at
+      state (withVector (withVector clocks (scheduleOf t) row) (lastAccess c) row) marks values (withNumber numbers (accessBranch c) at)
+      ≡ accessed (state clocks marks values numbers) t op c at
   unfolding accessed
   recorded-load e = rw (← grew, eq-eqb op aLoad e)
 
   pub recorded-other : op ≢ aLoad →
-      state (withVector (withVector (withVector clocks (scheduleOf t) row) (lastAccess c) row) (lastNonLoad c) row) marks values (withNumber (withNumber small (accessBranch c) at) (nonLoadBranch c) at)
-      ≡ accessed (state clocks marks values small) t op c at
+      state (withVector (withVector (withVector clocks (scheduleOf t) row) (lastAccess c) row) (lastNonLoad c) row) marks values (withNumber (withNumber numbers (accessBranch c) at) (nonLoadBranch c) at)
+      ≡ accessed (state clocks marks values numbers) t op c at
   unfolding accessed
   recorded-other n = rw (← grew, ne-eqb op aLoad n)
 
@@ -73,9 +73,9 @@ turned false false x y = refl
 
 module _ (st : State) (t : ℕ) where
   pub conflict-is : (b : Bool) →
-      b ≡ not (eqb (dependentBranch (st .small) (operationOf st t) (cellOf st t)) none || atMost (dependentVector (st .clocks) (operationOf st t) (cellOf st t)) (vector (st .clocks) (scheduleOf t))) →
+      b ≡ not (eqb (dependentBranch (st .numbers) (operationOf st t) (cellOf st t)) none || atMost (dependentVector (st .clocks) (operationOf st t) (cellOf st t)) (vector (st .clocks) (scheduleOf t))) →
       conflict st t
-      ≡ cond (eqb (operationOf st t) noOperation) nowhere (cond b (branch (dependentBranch (st .small) (operationOf st t) (cellOf st t))) nowhere)
+      ≡ cond (eqb (operationOf st t) noOperation) nowhere (cond b (branch (dependentBranch (st .numbers) (operationOf st t) (cellOf st t))) nowhere)
   unfolding conflict
   conflict-is b e = rw (or-or, turned, e)
 

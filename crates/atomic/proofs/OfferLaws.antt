@@ -16,7 +16,7 @@ use borrow.Author.Tests.{eq-eqb, ne-eqb}
 use Rattle.rules.specs.Vector as Vectors
 use Rattle.rules.proofs.VectorLaws.{atMost-refl, equal-true}
 use Rattle.rules.specs.Seen.{seenBeforeYield, seenSlots}
-use Rattle.rules.specs.State.{Clocks, Small, vector, number, storeAt, causality, order, isSeqCst, lastYield}
+use Rattle.rules.specs.State.{Clocks, Numbers, vector, number, storeAt, causality, order, isSeqCst, lastYield}
 use Rattle.rules.specs.Cell as rules
 use Rattle.rules.specs.Cell.{allSeqCst, fateFrom, loadFate, liveIn, matchedFrom, orderOf}
 use Rattle.rules.specs.Event as Event
@@ -67,9 +67,9 @@ module _ (clocks : Clocks) (c i j first second : ℕ) (at : first ≡ storeAt c 
       pub compared-less : same ≡ false → Orders.Less ≡ compared (orderOf clocks c i) (orderOf clocks c j)
       compared-less h = less-of _ _ (of-orders Vectors.atMost most true e f) (of-orders Vectors.equal same false g h)
 
-pub all-seq-cst : (small : Small) (c i j o first second : ℕ) → first ≡ storeAt c i → second ≡ storeAt c j →
-    eqb o 4 && eqb (number small (isSeqCst first)) 1 && eqb (number small (isSeqCst second)) 1 ≡ allSeqCst small c i j o
-all-seq-cst small c i j o first second e f = rw (e, f)
+pub all-seq-cst : (numbers : Numbers) (c i j o first second : ℕ) → first ≡ storeAt c i → second ≡ storeAt c j →
+    eqb o 4 && eqb (number numbers (isSeqCst first)) 1 && eqb (number numbers (isSeqCst second)) 1 ≡ allSeqCst numbers c i j o
+all-seq-cst numbers c i j o first second e f = rw (e, f)
 
 -- A store's fate
 
@@ -138,15 +138,15 @@ pub drops-none : (a b c : Bool) → a ≡ false → b ≡ false → c ≡ false 
 drops-none a b c e f g = rw (e, f, g)
 
 -- by which stores are seen, all asked at once
-pub fate-load : (clocks : Clocks) (rows : List (List ℕ)) (small : Small) (t c o i : ℕ) (seen : List Bool) (beforeYield : Bool) →
+pub fate-load : (clocks : Clocks) (rows : List (List ℕ)) (numbers : Numbers) (t c o i : ℕ) (seen : List Bool) (beforeYield : Bool) →
     seen ≡ seenSlots rows (vector clocks (causality t)) →
-    beforeYield ≡ seenBeforeYield (getD rows i []) t (number small (lastYield t)) →
-    fateFrom clocks c i (drops seen beforeYield small c o i) (liveIn small c) 0 ≡ loadFate clocks rows small t c o i
+    beforeYield ≡ seenBeforeYield (getD rows i []) t (number numbers (lastYield t)) →
+    fateFrom clocks c i (drops seen beforeYield numbers c o i) (liveIn numbers c) 0 ≡ loadFate clocks rows numbers t c o i
 unfolding loadFate
-fate-load clocks rows small t c o i seen beforeYield e f =
-    let same : (j : ℕ) → drops seen beforeYield small c o i j ≡ rules.loadDrops clocks rows small t c o i j =
+fate-load clocks rows numbers t c o i seen beforeYield e f =
+    let same : (j : ℕ) → drops seen beforeYield numbers c o i j ≡ rules.loadDrops clocks rows numbers t c o i j =
     λ j. rw (e, f, seenSlots-at rows (vector clocks (causality t)) j) in
-    ap (λ (d : ℕ → Bool). fateFrom clocks c i d (liveIn small c) 0) (λ k j. same j k)
+    ap (λ (d : ℕ → Bool). fateFrom clocks c i d (liveIn numbers c) 0) (λ k j. same j k)
 
 -- Offers
 

@@ -11,7 +11,7 @@ use lib.ListN.{getD}
 use borrow.Author.Tests.{eq-eqb, ne-eqb}
 use Rattle.rules.specs.Vector.{joined, less}
 use Rattle.rules.specs.Seen.{seen}
-use Rattle.rules.specs.State.{Clocks, Small, vector, withVector, storeAt, causality, happensBefore, order}
+use Rattle.rules.specs.State.{Clocks, Numbers, vector, withVector, storeAt, causality, happensBefore, order}
 use Rattle.rules.specs.Cell.{coheres, coherentFrom, coherent, liveIn, liveStores, orderOf, seenBy, storeOrderFrom, storeOrder}
 
 -- An order that is made from slot to slot: `made so n i` is made of `so` by the n slots from i on, `one so i` by slot i alone
@@ -51,11 +51,11 @@ module _ (clocks : Clocks) (rows : List (List ℕ)) (t c slot : ℕ) where
   cohere-start so store l live at e f =
       made-start (coherentFrom clocks rows t c slot) so (orderOf clocks c slot) l live (e ∙ ap (λ (s : ℕ). vector clocks (order s)) at) f
 
-  pub cohere-done : (small : Small) (store : ℕ) (so : List ℕ) → store ≡ storeAt c slot →
-      so ≡ coherentFrom clocks rows t c slot (orderOf clocks c slot) (liveIn small c) 0 →
-      withVector clocks (order store) so ≡ coherent clocks rows small t c slot
+  pub cohere-done : (numbers : Numbers) (store : ℕ) (so : List ℕ) → store ≡ storeAt c slot →
+      so ≡ coherentFrom clocks rows t c slot (orderOf clocks c slot) (liveIn numbers c) 0 →
+      withVector clocks (order store) so ≡ coherent clocks rows numbers t c slot
   unfolding coherent
-  cohere-done small store so at e = rw (at, e)
+  cohere-done numbers store so at e = rw (at, e)
 
   -- the order so far, with the slots from i to l still to be joined
   module _ (l i : ℕ) (so whole : List ℕ) (left : coherentFrom clocks rows t c slot so (l - i) i ≡ whole) where

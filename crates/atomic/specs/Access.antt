@@ -1,11 +1,11 @@
 -- The state as its four tables, and what the answer of an access stands for. Assumes nothing.
 use Rattle.rules.specs.Cell as rules
-use Rattle.rules.specs.State.{State, Clocks, Marks, Values, Small}
+use Rattle.rules.specs.State.{State, Clocks, Marks, Values, Numbers}
 use Rattle.atomic.specs.declared.Loaded.{Loaded}
 use Rattle.atomic.specs.declared.Loaded.the-variants.{Value, Raced}
 
-abbrev pub state : Clocks → Marks → Values → Small → State
-state clocks marks values small = record { clocks = clocks; marks = marks; values = values; small = small }
+abbrev pub state : Clocks → Marks → Values → Numbers → State
+state clocks marks values numbers = record { clocks = clocks; marks = marks; values = values; numbers = numbers }
 
 -- the value read or the race, with the state that is left
 abbrev pub accessOf : Loaded → State → rules.Access

@@ -13,7 +13,7 @@ use Rattle.rules.specs.Vector.{joined, raised}
 unfoldable pub grown : State → ℕ → ℕ → ℕ → List ℕ
 grown st t op c =
     let own = vector (st .clocks) (scheduleOf t) in
-    raised (cond (eqb (dependentBranch (st .small) op c) none) own (joined own (dependentVector (st .clocks) op c))) t
+    raised (cond (eqb (dependentBranch (st .numbers) op c) none) own (joined own (dependentVector (st .clocks) op c))) t
 
 -- "record access with this branch and vector"
 unfoldable pub accessed : State → ℕ → ℕ → ℕ → ℕ → State

@@ -11,7 +11,7 @@ use Rattle.rules.specs.Vector as Vectors
 use Rattle.rules.specs.Cell as rules
 use Rattle.rules.specs.Event as Event
 use Rattle.rules.specs.Event.{slotsOf}
-use Rattle.rules.specs.State.{Small}
+use Rattle.rules.specs.State.{Numbers}
 use Rattle.atomic.specs.declared.matches.Order.{Order}
 use Rattle.atomic.specs.declared.matches.Order.the-variants as Orders
 use Rattle.atomic.specs.declared.matches.Fate.{Fate}
@@ -29,8 +29,8 @@ fateOf Fates.Dropped = rules.dropped
 fateOf Fates.Equal = rules.equalMet
 
 -- whether store i is dropped at a newer store j, by which stores are seen and whether i was seen before the yield
-abbrev pub drops : List Bool → Bool → Small → ℕ → ℕ → ℕ → ℕ → Bool
-drops seen beforeYield small c o i j = getD seen j false || beforeYield || rules.allSeqCst small c i j o
+abbrev pub drops : List Bool → Bool → Numbers → ℕ → ℕ → ℕ → ℕ → Bool
+drops seen beforeYield numbers c o i j = getD seen j false || beforeYield || rules.allSeqCst numbers c i j o
 
 -- how many slots are offered and the list that they are written to, or that equal orders were met
 pub data Scan : Type 0 where

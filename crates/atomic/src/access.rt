@@ -15,7 +15,7 @@ use crate::state::LAST_NON_LOAD_ACCESS;
 use crate::state::NON_LOAD_BRANCH;
 use crate::state::NONE;
 use crate::state::SCHEDULE;
-use crate::state::Small;
+use crate::state::Numbers;
 use vv::VersionVec;
 
 // The operation that a thread is about to take, as a number: none, load, store, read-modify-write.
@@ -28,16 +28,16 @@ pub const STORE: u16 = 2;
 pub const RMW: u16 = 3;
 
 // The branch of the access that this operation depends on, or NONE: a load does not depend on loads.
-pub fn last_dependent_branch(small: &Small, action: u16, cell: usize) -> u16
+pub fn last_dependent_branch(numbers: &Numbers, action: u16, cell: usize) -> u16
     requires { ⌜ cell < 4 ⌝ }
-    ensures { λ r. ⌜ r ≡ dependentBranch (now (small .entry)) action cell ⌝ }
+    ensures { λ r. ⌜ r ≡ dependentBranch (now (numbers .entry)) action cell ⌝ }
 {
     let at = if action == LOAD {
         NON_LOAD_BRANCH
     } else {
         ACCESS_BRANCH
     };
-    small[at + cell]
+    numbers[at + cell]
 }
 
 // That access's vector.
@@ -56,15 +56,15 @@ pub fn last_dependent_version(clocks: &Clocks, action: u16, cell: usize) -> [u16
 // Whether a dependent access is there that did not happen before what the thread has scheduled so far.
 pub fn is_concurrent(
     clocks: &Clocks,
-    small: &Small,
+    numbers: &Numbers,
     thread: usize,
     action: u16,
     cell: usize,
 ) -> bool
     requires { ⌜ (thread < 5) × (cell < 4) ⌝ }
-    ensures { λ r. ⌜ r ≡ not (eqb (dependentBranch (now (small .entry)) action cell) rules.none || atMost (dependentVector (now (clocks .entry)) action cell) (rules.vector (now (clocks .entry)) (rules.scheduleOf thread))) ⌝ }
+    ensures { λ r. ⌜ r ≡ not (eqb (dependentBranch (now (numbers .entry)) action cell) rules.none || atMost (dependentVector (now (clocks .entry)) action cell) (rules.vector (now (clocks .entry)) (rules.scheduleOf thread))) ⌝ }
 {
-    if last_dependent_branch(small, action, cell) == NONE {
+    if last_dependent_branch(numbers, action, cell) == NONE {
         return false;
     }
     let version = last_dependent_version(clocks, action, cell);
@@ -76,18 +76,18 @@ pub fn is_concurrent(
 // The chosen thread's operation becomes the last access, at this branch, after all that it depends on.
 pub fn set_last_access(
     clocks: &mut Clocks,
-    small: &mut Small,
+    numbers: &mut Numbers,
     thread: usize,
     action: u16,
     cell: usize,
     branch: u16,
 )
     requires { ⌜ (thread < 5) × (cell < 4) ⌝ }
-    ensures { λ _. ⌜ ((marks : rules.Marks) (values : rules.Values) → state (now (clocks .exit)) marks values (now (small .exit)) ≡ accessed (state (now (clocks .entry)) marks values (now (small .entry))) thread action cell branch) ⌝ }
+    ensures { λ _. ⌜ ((marks : rules.Marks) (values : rules.Values) → state (now (clocks .exit)) marks values (now (numbers .exit)) ≡ accessed (state (now (clocks .entry)) marks values (now (numbers .entry))) thread action cell branch) ⌝ }
 {
     let row = clocks[SCHEDULE + thread];
     let mut schedule = VersionVec { versions: row };
-    if last_dependent_branch(small, action, cell) != NONE {
+    if last_dependent_branch(numbers, action, cell) != NONE {
         let version = last_dependent_version(clocks, action, cell);
         schedule = schedule.join(VersionVec { versions: version });
     }
@@ -95,9 +95,9 @@ pub fn set_last_access(
     let row = schedule.versions;
     clocks[SCHEDULE + thread] = row;
     clocks[LAST_ACCESS + cell] = row;
-    small[ACCESS_BRANCH + cell] = branch;
+    numbers[ACCESS_BRANCH + cell] = branch;
     if action != LOAD {
         clocks[LAST_NON_LOAD_ACCESS + cell] = row;
-        small[NON_LOAD_BRANCH + cell] = branch;
+        numbers[NON_LOAD_BRANCH + cell] = branch;
     }
 }

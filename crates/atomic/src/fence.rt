@@ -13,7 +13,7 @@ use crate::state::Clocks;
 use crate::state::Marks;
 use crate::state::RELEASED;
 use crate::state::SEQ_CST_CAUSALITY;
-use crate::state::Small;
+use crate::state::Numbers;
 use crate::synchronize::ACQ_REL;
 use crate::synchronize::ACQUIRE;
 use crate::synchronize::RELEASE;
@@ -25,31 +25,31 @@ use crate::synchronize::sync_load;
 pub fn fence(
     clocks: &mut Clocks,
     marks: &Marks,
-    small: &Small,
+    numbers: &Numbers,
     thread: usize,
     cells: usize,
     order: u8,
 )
     requires { ⌜ (thread < 5) × (cells ≤ 4) ⌝ }
-    ensures { λ _. ⌜ now (clocks .exit) ≡ fenced (now (clocks .entry)) (now (marks .entry)) (now (small .entry)) thread cells order ⌝ }
+    ensures { λ _. ⌜ now (clocks .exit) ≡ fenced (now (clocks .entry)) (now (marks .entry)) (now (numbers .entry)) thread cells order ⌝ }
 {
     match order {
-        ACQUIRE => fence_acq(clocks, marks, small, thread, cells),
+        ACQUIRE => fence_acq(clocks, marks, numbers, thread, cells),
         RELEASE => fence_rel(clocks, thread),
-        ACQ_REL => fence_acqrel(clocks, marks, small, thread, cells),
-        SEQ_CST => fence_seqcst(clocks, marks, small, thread, cells),
+        ACQ_REL => fence_acqrel(clocks, marks, numbers, thread, cells),
+        SEQ_CST => fence_seqcst(clocks, marks, numbers, thread, cells),
         _ => {}
     }
 }
 
 // Acquires from each seen store of each cell, cells in order.
-pub fn fence_acq(clocks: &mut Clocks, marks: &Marks, small: &Small, thread: usize, cells: usize)
+pub fn fence_acq(clocks: &mut Clocks, marks: &Marks, numbers: &Numbers, thread: usize, cells: usize)
     requires { ⌜ (thread < 5) × (cells ≤ 4) ⌝ }
-    ensures { λ _. ⌜ now (clocks .exit) ≡ fenceAcquired (now (clocks .entry)) (now (marks .entry)) (now (small .entry)) thread cells ⌝ }
+    ensures { λ _. ⌜ now (clocks .exit) ≡ fenceAcquired (now (clocks .entry)) (now (marks .entry)) (now (numbers .entry)) thread cells ⌝ }
 {
     let mut cell = 0;
     while cell < cells {
-        let count = small[COUNT + cell];
+        let count = numbers[COUNT + cell];
         fence_acq_cell(clocks, marks, count, thread, cell);
         cell += 1;
     }
@@ -92,20 +92,20 @@ pub fn fence_rel(clocks: &mut Clocks, thread: usize)
     clocks[RELEASED + thread] = causality;
 }
 
-pub fn fence_acqrel(clocks: &mut Clocks, marks: &Marks, small: &Small, thread: usize, cells: usize)
+pub fn fence_acqrel(clocks: &mut Clocks, marks: &Marks, numbers: &Numbers, thread: usize, cells: usize)
     requires { ⌜ (thread < 5) × (cells ≤ 4) ⌝ }
-    ensures { λ _. ⌜ now (clocks .exit) ≡ fenceReleased (fenceAcquired (now (clocks .entry)) (now (marks .entry)) (now (small .entry)) thread cells) thread ⌝ }
+    ensures { λ _. ⌜ now (clocks .exit) ≡ fenceReleased (fenceAcquired (now (clocks .entry)) (now (marks .entry)) (now (numbers .entry)) thread cells) thread ⌝ }
 {
-    fence_acq(clocks, marks, small, thread, cells);
+    fence_acq(clocks, marks, numbers, thread, cells);
     fence_rel(clocks, thread);
 }
 
 // Acquire, release, then the thread and the vector of all SeqCst fences take each other in.
-pub fn fence_seqcst(clocks: &mut Clocks, marks: &Marks, small: &Small, thread: usize, cells: usize)
+pub fn fence_seqcst(clocks: &mut Clocks, marks: &Marks, numbers: &Numbers, thread: usize, cells: usize)
     requires { ⌜ (thread < 5) × (cells ≤ 4) ⌝ }
-    ensures { λ _. ⌜ now (clocks .exit) ≡ fenceSeqCst (fenceReleased (fenceAcquired (now (clocks .entry)) (now (marks .entry)) (now (small .entry)) thread cells) thread) thread ⌝ }
+    ensures { λ _. ⌜ now (clocks .exit) ≡ fenceSeqCst (fenceReleased (fenceAcquired (now (clocks .entry)) (now (marks .entry)) (now (numbers .entry)) thread cells) thread) thread ⌝ }
 {
-    fence_acqrel(clocks, marks, small, thread, cells);
+    fence_acqrel(clocks, marks, numbers, thread, cells);
     join_into(clocks, CAUSALITY + thread, SEQ_CST_CAUSALITY);
     join_into(clocks, SEQ_CST_CAUSALITY, CAUSALITY + thread);
 }

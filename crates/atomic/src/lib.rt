@@ -21,7 +21,7 @@ use state::HAPPENS_BEFORE;
 use state::MODIFICATION_ORDER;
 use state::Marks;
 use state::SYNC;
-use state::Small;
+use state::Numbers;
 use state::VALUE;
 use state::Values;
 use synchronize::join;
@@ -77,19 +77,19 @@ pub fn load(
     clocks: &mut Clocks,
     marks: &mut Marks,
     values: &Values,
-    small: &Small,
+    numbers: &Numbers,
     thread: usize,
     cell: usize,
     slot: usize,
     order: u8,
 ) -> Loaded
     requires { ⌜ (thread < 5) × (cell < 4) × (slot < 7) ⌝ }
-    ensures { λ r. ⌜ accessOf r (state (now (clocks .exit)) (now (marks .exit)) (now (values .entry)) (now (small .entry))) ≡ loadDone (state (now (clocks .entry)) (now (marks .entry)) (now (values .entry)) (now (small .entry))) thread cell slot order ⌝ }
+    ensures { λ r. ⌜ accessOf r (state (now (clocks .exit)) (now (marks .exit)) (now (values .entry)) (now (numbers .entry))) ≡ loadDone (state (now (clocks .entry)) (now (marks .entry)) (now (values .entry)) (now (numbers .entry))) thread cell slot order ⌝ }
 {
     if let Race::With { kind, other } = track::track_load(clocks, thread, cell) {
         return Loaded::Raced { kind, other };
     }
-    apply_load_coherence(clocks, marks, small, thread, cell, slot);
+    apply_load_coherence(clocks, marks, numbers, thread, cell, slot);
     touch(clocks, marks, thread, cell, slot);
     let store = state::store_at(cell, slot);
     sync_load(clocks, thread, store, order);
@@ -101,7 +101,7 @@ pub fn store(
     clocks: &mut Clocks,
     marks: &mut Marks,
     values: &mut Values,
-    small: &mut Small,
+    numbers: &mut Numbers,
     thread: usize,
     cell: usize,
     sync: [u16; 5],
@@ -109,12 +109,12 @@ pub fn store(
     order: u8,
 )
     requires { ⌜ (thread < 5) × (cell < 4) ⌝ }
-    ensures { λ _. ⌜ state (now (clocks .exit)) (now (marks .exit)) (now (values .exit)) (now (small .exit)) ≡ storeDone (state (now (clocks .entry)) (now (marks .entry)) (now (values .entry)) (now (small .entry))) thread cell sync value order ⌝ }
+    ensures { λ _. ⌜ state (now (clocks .exit)) (now (marks .exit)) (now (values .exit)) (now (numbers .exit)) ≡ storeDone (state (now (clocks .entry)) (now (marks .entry)) (now (values .entry)) (now (numbers .entry))) thread cell sync value order ⌝ }
 {
-    let count = small[COUNT + cell];
+    let count = numbers[COUNT + cell];
     let slot = index(count);
     let at = state::store_at(cell, slot);
-    small[COUNT + cell] = vv::one_more(count);
+    numbers[COUNT + cell] = vv::one_more(count);
     let causality = clocks[CAUSALITY + thread];
     // The slot that is replaced still counts here, so its order is joined before it is overwritten.
     let modification_order = store_order(clocks, marks, count, thread, cell);
@@ -124,7 +124,7 @@ pub fn store(
     clocks[SYNC + at] = sync;
     marks[cell][slot] = first_marked(thread, causality[thread]);
     values[VALUE + at] = value;
-    small[state::SEQ_CST + at] = is_seq_cst(order);
+    numbers[state::SEQ_CST + at] = is_seq_cst(order);
 }
 
 // Reads a slot and, if the change succeeds, stores what it makes of the value.
@@ -132,7 +132,7 @@ pub fn rmw(
     clocks: &mut Clocks,
     marks: &mut Marks,
     values: &mut Values,
-    small: &mut Small,
+    numbers: &mut Numbers,
     thread: usize,
     cell: usize,
     slot: usize,
@@ -141,12 +141,12 @@ pub fn rmw(
     failure: u8,
 ) -> Loaded
     requires { ⌜ (thread < 5) × (cell < 4) × (slot < 7) ⌝ }
-    ensures { λ r. ⌜ accessOf r (state (now (clocks .exit)) (now (marks .exit)) (now (values .exit)) (now (small .exit))) ≡ rmwDone (state (now (clocks .entry)) (now (marks .entry)) (now (values .entry)) (now (small .entry))) thread cell slot (changeMeant change) success failure ⌝ }
+    ensures { λ r. ⌜ accessOf r (state (now (clocks .exit)) (now (marks .exit)) (now (values .exit)) (now (numbers .exit))) ≡ rmwDone (state (now (clocks .entry)) (now (marks .entry)) (now (values .entry)) (now (numbers .entry))) thread cell slot (changeMeant change) success failure ⌝ }
 {
     if let Race::With { kind, other } = track::track_load(clocks, thread, cell) {
         return Loaded::Raced { kind, other };
     }
-    apply_load_coherence(clocks, marks, small, thread, cell, slot);
+    apply_load_coherence(clocks, marks, numbers, thread, cell, slot);
     touch(clocks, marks, thread, cell, slot);
     let at = state::store_at(cell, slot);
     let prev = values[VALUE + at];
@@ -158,7 +158,7 @@ pub fn rmw(
         clocks,
         marks,
         values,
-        small,
+        numbers,
         thread,
         cell,
         at,
@@ -173,7 +173,7 @@ fn rmw_store(
     clocks: &mut Clocks,
     marks: &mut Marks,
     values: &mut Values,
-    small: &mut Small,
+    numbers: &mut Numbers,
     thread: usize,
     cell: usize,
     at: usize,
@@ -182,7 +182,7 @@ fn rmw_store(
     success: u8,
 ) -> Loaded
     requires { ⌜ (thread < 5) × (cell < 4) × (at < 28) ⌝ }
-    ensures { λ r. ⌜ accessOf r (state (now (clocks .exit)) (now (marks .exit)) (now (values .exit)) (now (small .exit))) ≡ succeeded (state (now (clocks .entry)) (now (marks .entry)) (now (values .entry)) (now (small .entry))) thread cell at prev next success ⌝ }
+    ensures { λ r. ⌜ accessOf r (state (now (clocks .exit)) (now (marks .exit)) (now (values .exit)) (now (numbers .exit))) ≡ succeeded (state (now (clocks .entry)) (now (marks .entry)) (now (values .entry)) (now (numbers .entry))) thread cell at prev next success ⌝ }
 {
     if let Race::With { kind, other } = track::track_store(clocks, thread, cell) {
         return Loaded::Raced { kind, other };
@@ -194,7 +194,7 @@ fn rmw_store(
         clocks,
         marks,
         values,
-        small,
+        numbers,
         thread,
         cell,
         sync,
@@ -208,17 +208,17 @@ fn rmw_store(
 pub fn unsync_load(
     clocks: &mut Clocks,
     values: &Values,
-    small: &Small,
+    numbers: &Numbers,
     thread: usize,
     cell: usize,
 ) -> Loaded
     requires { ⌜ (thread < 5) × (cell < 4) ⌝ }
-    ensures { λ r. ⌜ ((marks : rules.Marks) → accessOf r (state (now (clocks .exit)) marks (now (values .entry)) (now (small .entry))) ≡ unsyncLoadDone (state (now (clocks .entry)) marks (now (values .entry)) (now (small .entry))) thread cell) ⌝ }
+    ensures { λ r. ⌜ ((marks : rules.Marks) → accessOf r (state (now (clocks .exit)) marks (now (values .entry)) (now (numbers .entry))) ≡ unsyncLoadDone (state (now (clocks .entry)) marks (now (values .entry)) (now (numbers .entry))) thread cell) ⌝ }
 {
     if let Race::With { kind, other } = track::track_unsync_load(clocks, thread, cell) {
         return Loaded::Raced { kind, other };
     }
-    let slot = newest(small[COUNT + cell]);
+    let slot = newest(numbers[COUNT + cell]);
     Loaded::Value(values[VALUE + state::store_at(cell, slot)])
 }
 
@@ -226,18 +226,18 @@ pub fn unsync_load(
 pub fn with_mut(
     clocks: &mut Clocks,
     values: &mut Values,
-    small: &Small,
+    numbers: &Numbers,
     thread: usize,
     cell: usize,
     change: Change,
 ) -> Mutated
     requires { ⌜ (thread < 5) × (cell < 4) ⌝ }
-    ensures { λ r. ⌜ Mutates r (now (clocks .entry)) (now (clocks .exit)) (now (values .entry)) (now (values .exit)) (now (small .entry)) thread cell (changeMeant change) ⌝ }
+    ensures { λ r. ⌜ Mutates r (now (clocks .entry)) (now (clocks .exit)) (now (values .entry)) (now (values .exit)) (now (numbers .entry)) thread cell (changeMeant change) ⌝ }
 {
     if let Race::With { kind, other } = track::track_unsync_mut(clocks, thread, cell) {
         return Mutated::Raced { kind, other };
     }
-    let slot = newest(small[COUNT + cell]);
+    let slot = newest(numbers[COUNT + cell]);
     let at = VALUE + state::store_at(cell, slot);
     let read = values[at];
     let changed = change::apply(change, read);
@@ -252,17 +252,17 @@ pub fn with_mut(
 pub fn apply_load_coherence(
     clocks: &mut Clocks,
     marks: &Marks,
-    small: &Small,
+    numbers: &Numbers,
     thread: usize,
     cell: usize,
     slot: usize,
 )
     requires { ⌜ (thread < 5) × (cell < 4) × (slot < 7) ⌝ }
-    ensures { λ _. ⌜ now (clocks .exit) ≡ coherent (now (clocks .entry)) (marksOf (now (marks .entry)) cell) (now (small .entry)) thread cell slot ⌝ }
+    ensures { λ _. ⌜ now (clocks .exit) ≡ coherent (now (clocks .entry)) (marksOf (now (marks .entry)) cell) (now (numbers .entry)) thread cell slot ⌝ }
 {
     let causality = clocks[CAUSALITY + thread];
     let chosen = MODIFICATION_ORDER + state::store_at(cell, slot);
-    let live = live_stores(small[COUNT + cell]);
+    let live = live_stores(numbers[COUNT + cell]);
     let mut order = clocks[chosen];
     let mut i = 0;
     while i < live {

@@ -12,7 +12,7 @@ use crate::state::COUNT;
 use crate::state::Clocks;
 use crate::state::LAST_YIELD;
 use crate::state::MODIFICATION_ORDER;
-use crate::state::Small;
+use crate::state::Numbers;
 use crate::synchronize::SEQ_CST;
 use vv::VersionVec;
 
@@ -40,26 +40,26 @@ pub enum Order {
 pub fn match_load_to_stores(
     clocks: &Clocks,
     marks: [[u16; 5]; 7],
-    small: &Small,
+    numbers: &Numbers,
     thread: usize,
     cell: usize,
     order: u8,
     dst: &mut [u8; 7],
 ) -> Matched
     requires { ⌜ (thread < 5) × (cell < 4) ⌝ }
-    ensures { λ r. ⌜ scanned r (now (dst .exit)) ≡ offered (matchedLoad (now (clocks .entry)) marks (now (small .entry)) thread cell order) (now (dst .entry)) ⌝ }
+    ensures { λ r. ⌜ scanned r (now (dst .exit)) ≡ offered (matchedLoad (now (clocks .entry)) marks (now (numbers .entry)) thread cell order) (now (dst .entry)) ⌝ }
 {
     let causality = clocks[CAUSALITY + thread];
     let seen = seen_slots(marks, causality);
-    let last_yield = small[LAST_YIELD + thread];
-    let live = live_stores(small[COUNT + cell]);
+    let last_yield = numbers[LAST_YIELD + thread];
+    let live = live_stores(numbers[COUNT + cell]);
     let mut n = 0;
     let mut i = 0;
     while i < live {
         let row = marks[i];
         let first = FirstSeen { versions: row };
         let before_yield = first.is_seen_before_yield(thread, last_yield);
-        match load_fate(clocks, small, cell, i, order, seen, before_yield) {
+        match load_fate(clocks, numbers, cell, i, order, seen, before_yield) {
             Fate::Kept => {
                 dst[n] = i as u8;
                 n += 1;
@@ -76,7 +76,7 @@ pub fn match_load_to_stores(
 // both stores are SeqCst. Equal orders count only if they are met before that.
 fn load_fate(
     clocks: &Clocks,
-    small: &Small,
+    numbers: &Numbers,
     cell: usize,
     i: usize,
     order: u8,
@@ -84,16 +84,16 @@ fn load_fate(
     before_yield: bool,
 ) -> Fate
     requires { ⌜ (cell < 4) × (i < 7) ⌝ }
-    ensures { λ r. ⌜ fateOf r ≡ fateFrom (now (clocks .entry)) cell i (drops seen «before_yield» (now (small .entry)) cell order i) (liveIn (now (small .entry)) cell) 0 ⌝ }
+    ensures { λ r. ⌜ fateOf r ≡ fateFrom (now (clocks .entry)) cell i (drops seen «before_yield» (now (numbers .entry)) cell order i) (liveIn (now (numbers .entry)) cell) 0 ⌝ }
 {
-    let live = live_stores(small[COUNT + cell]);
+    let live = live_stores(numbers[COUNT + cell]);
     let mut j = 0;
     while j < live {
         if j != i {
             match compare_orders(clocks, cell, i, j) {
                 Order::Equal => return Fate::Equal,
                 Order::Less => {
-                    if seen[j] || before_yield || all_seq_cst(small, cell, i, j, order) {
+                    if seen[j] || before_yield || all_seq_cst(numbers, cell, i, j, order) {
                         return Fate::Dropped;
                     }
                 }
@@ -108,18 +108,18 @@ fn load_fate(
 // Find all stores that a read-modify-write could read: those below no other.
 pub fn match_rmw_to_stores(
     clocks: &Clocks,
-    small: &Small,
+    numbers: &Numbers,
     cell: usize,
     dst: &mut [u8; 7],
 ) -> Matched
     requires { ⌜ cell < 4 ⌝ }
-    ensures { λ r. ⌜ scanned r (now (dst .exit)) ≡ offered (matchedRmw (now (clocks .entry)) (now (small .entry)) cell) (now (dst .entry)) ⌝ }
+    ensures { λ r. ⌜ scanned r (now (dst .exit)) ≡ offered (matchedRmw (now (clocks .entry)) (now (numbers .entry)) cell) (now (dst .entry)) ⌝ }
 {
-    let live = live_stores(small[COUNT + cell]);
+    let live = live_stores(numbers[COUNT + cell]);
     let mut n = 0;
     let mut i = 0;
     while i < live {
-        match rmw_fate(clocks, small, cell, i) {
+        match rmw_fate(clocks, numbers, cell, i) {
             Fate::Kept => {
                 dst[n] = i as u8;
                 n += 1;
@@ -133,11 +133,11 @@ pub fn match_rmw_to_stores(
 }
 
 // Store i is dropped at the first newer live one.
-fn rmw_fate(clocks: &Clocks, small: &Small, cell: usize, i: usize) -> Fate
+fn rmw_fate(clocks: &Clocks, numbers: &Numbers, cell: usize, i: usize) -> Fate
     requires { ⌜ (cell < 4) × (i < 7) ⌝ }
-    ensures { λ r. ⌜ fateOf r ≡ rmwFate (now (clocks .entry)) (now (small .entry)) cell i ⌝ }
+    ensures { λ r. ⌜ fateOf r ≡ rmwFate (now (clocks .entry)) (now (numbers .entry)) cell i ⌝ }
 {
-    let live = live_stores(small[COUNT + cell]);
+    let live = live_stores(numbers[COUNT + cell]);
     let mut j = 0;
     while j < live {
         if j != i {
@@ -171,11 +171,11 @@ fn compare_orders(clocks: &Clocks, cell: usize, i: usize, j: usize) -> Order
 }
 
 // Whether the load and both stores are SeqCst.
-fn all_seq_cst(small: &Small, cell: usize, i: usize, j: usize, order: u8) -> bool
+fn all_seq_cst(numbers: &Numbers, cell: usize, i: usize, j: usize, order: u8) -> bool
     requires { ⌜ (cell < 4) × (i < 7) × (j < 7) ⌝ }
-    ensures { λ r. ⌜ r ≡ allSeqCst (now (small .entry)) cell i j order ⌝ }
+    ensures { λ r. ⌜ r ≡ allSeqCst (now (numbers .entry)) cell i j order ⌝ }
 {
-    let a = small[state::SEQ_CST + state::store_at(cell, i)];
-    let b = small[state::SEQ_CST + state::store_at(cell, j)];
+    let a = numbers[state::SEQ_CST + state::store_at(cell, i)];
+    let b = numbers[state::SEQ_CST + state::store_at(cell, j)];
     (order == SEQ_CST) & (a == 1) & (b == 1)
 }

@@ -1,5 +1,5 @@
 // Where each part of the machine's state stands. The state is four tables that the caller lends: vectors (clocks), marks
-// of first sight, values and small numbers. A part is found at its constant plus the number of its thread, cell or store;
+// of first sight, values and numbers. A part is found at its constant plus the number of its thread, cell or store;
 // nothing else does arithmetic on positions.
 ghost use mathlib.Core.Path.{_≡_};
 ghost use Prim.Native.Nat.{_+_, _*_, _<_};
@@ -20,7 +20,7 @@ pub type Marks = [[[u16; 5]; 7]; 4];
 
 pub type Values = [u64; 48];
 
-pub type Small = [u16; 89];
+pub type Numbers = [u16; 89];
 
 // clocks, by thread: what it has observed, its latest release fence, its schedule vector.
 pub const CAUSALITY: usize = 0;
@@ -54,7 +54,7 @@ pub const VALUE: usize = 0;
 
 pub const REGISTER: usize = 28;
 
-// small, by thread: state, next row, rows begun, yields, version at the last yield, pending operation and its cell, and
+// numbers, by thread: state, next row, rows begun, yields, version at the last yield, pending operation and its cell, and
 // how far the present row is.
 pub const STATE: usize = 0;
 
@@ -106,7 +106,7 @@ pub fn register_at(thread: usize, register: usize) -> usize
     4 * thread + register
 }
 
-// A small number among those that count and index.
+// A number among those that count and index.
 pub fn wide(n: u16) -> usize
     ensures { λ r. ⌜ (r ≡ n) × (r < 65536) ⌝ }
 {

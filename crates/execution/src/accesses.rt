@@ -14,7 +14,7 @@ use atomic::state::Clocks;
 use atomic::state::MAX_CELLS;
 use atomic::state::Marks;
 use atomic::state::REGISTER;
-use atomic::state::Small;
+use atomic::state::Numbers;
 use atomic::state::Values;
 use atomic::track::Race;
 use table::Row;
@@ -27,7 +27,7 @@ pub fn access_row(
     clocks: &mut Clocks,
     marks: &mut Marks,
     values: &mut Values,
-    small: &mut Small,
+    numbers: &mut Numbers,
 ) -> Event
     requires { ⌜ (thread < 5) × (register < 4) ⌝ }
 {
@@ -37,13 +37,13 @@ pub fn access_row(
     }
     let opcode = row.opcode;
     match opcode {
-        1 => store_row(row.a, row.order, cell, thread, clocks, marks, values, small),
+        1 => store_row(row.a, row.order, cell, thread, clocks, marks, values, numbers),
         2 => {
             let value = values[REGISTER + state::register_at(thread, register)];
-            store_row(value, row.order, cell, thread, clocks, marks, values, small)
+            store_row(value, row.order, cell, thread, clocks, marks, values, numbers)
         }
-        5 => unsync_load_row(register, cell, thread, clocks, values, small),
-        _ => with_mut_row(row, register, cell, thread, clocks, values, small),
+        5 => unsync_load_row(register, cell, thread, clocks, values, numbers),
+        _ => with_mut_row(row, register, cell, thread, clocks, values, numbers),
     }
 }
 
@@ -55,7 +55,7 @@ fn store_row(
     clocks: &mut Clocks,
     marks: &mut Marks,
     values: &mut Values,
-    small: &mut Small,
+    numbers: &mut Numbers,
 ) -> Event
     requires { ⌜ (thread < 5) × (cell < 4) ⌝ }
 {
@@ -63,19 +63,19 @@ fn store_row(
     if let Race::With { kind, other } = atomic::track::track_store(clocks, thread, cell) {
         return Event::Stops(Fault::Race { kind, other });
     }
-    let slot = atomic::index(small[COUNT + cell]);
+    let slot = atomic::index(numbers[COUNT + cell]);
     atomic::store(
         clocks,
         marks,
         values,
-        small,
+        numbers,
         thread,
         cell,
         [0; 5],
         value,
         order,
     );
-    threads::complete_row(small, thread);
+    threads::complete_row(numbers, thread);
     Event::Done {
         slot: slot as u8,
         value,
@@ -88,16 +88,16 @@ fn unsync_load_row(
     thread: usize,
     clocks: &mut Clocks,
     values: &mut Values,
-    small: &mut Small,
+    numbers: &mut Numbers,
 ) -> Event
     requires { ⌜ (thread < 5) × (cell < 4) × (register < 4) ⌝ }
 {
-    match atomic::unsync_load(clocks, values, small, thread, cell) {
+    match atomic::unsync_load(clocks, values, numbers, thread, cell) {
         Loaded::Raced { kind, other } => Event::Stops(Fault::Race { kind, other }),
         Loaded::Value(value) => {
             values[REGISTER + state::register_at(thread, register)] = value;
-            let slot = atomic::newest(small[COUNT + cell]);
-            threads::complete_row(small, thread);
+            let slot = atomic::newest(numbers[COUNT + cell]);
+            threads::complete_row(numbers, thread);
             Event::Done {
                 slot: slot as u8,
                 value,
@@ -114,17 +114,17 @@ fn with_mut_row(
     thread: usize,
     clocks: &mut Clocks,
     values: &mut Values,
-    small: &mut Small,
+    numbers: &mut Numbers,
 ) -> Event
     requires { ⌜ (thread < 5) × (cell < 4) × (register < 4) ⌝ }
 {
     let change = change_of(row.kind, row.a, row.b);
-    match atomic::with_mut(clocks, values, small, thread, cell, change) {
+    match atomic::with_mut(clocks, values, numbers, thread, cell, change) {
         Mutated::Raced { kind, other } => Event::Stops(Fault::Race { kind, other }),
         Mutated::Values { read, left } => {
             values[REGISTER + state::register_at(thread, register)] = read;
-            let slot = atomic::newest(small[COUNT + cell]);
-            threads::complete_row(small, thread);
+            let slot = atomic::newest(numbers[COUNT + cell]);
+            threads::complete_row(numbers, thread);
             Event::Done {
                 slot: slot as u8,
                 value: left,
@@ -139,7 +139,7 @@ pub fn offers(
     thread: usize,
     clocks: &Clocks,
     marks: &Marks,
-    small: &Small,
+    numbers: &Numbers,
     dst: &mut [u8; 7],
 ) -> Matched
     requires { ⌜ thread < 5 ⌝ }
@@ -149,9 +149,9 @@ pub fn offers(
         return Matched::Offers(0);
     }
     if row.opcode == 0 {
-        matches::match_load_to_stores(clocks, marks[cell], small, thread, cell, row.order, dst)
+        matches::match_load_to_stores(clocks, marks[cell], numbers, thread, cell, row.order, dst)
     } else {
-        matches::match_rmw_to_stores(clocks, small, cell, dst)
+        matches::match_rmw_to_stores(clocks, numbers, cell, dst)
     }
 }
 
@@ -163,7 +163,7 @@ pub fn load_from(
     clocks: &mut Clocks,
     marks: &mut Marks,
     values: &mut Values,
-    small: &mut Small,
+    numbers: &mut Numbers,
 ) -> Event
     requires { ⌜ (thread < 5) × (slot < 7) ⌝ }
 {
@@ -175,14 +175,14 @@ pub fn load_from(
     if 4 <= register {
         return Event::Stops(Fault::Impossible);
     }
-    if state::wide(small[COUNT + cell]) <= slot {
+    if state::wide(numbers[COUNT + cell]) <= slot {
         return Event::Stops(Fault::Impossible);
     }
-    match read_from(row, slot, cell, thread, clocks, marks, values, small) {
+    match read_from(row, slot, cell, thread, clocks, marks, values, numbers) {
         Loaded::Raced { kind, other } => Event::Stops(Fault::Race { kind, other }),
         Loaded::Value(value) => {
             values[REGISTER + state::register_at(thread, register)] = value;
-            threads::complete_row(small, thread);
+            threads::complete_row(numbers, thread);
             Event::Done {
                 slot: slot as u8,
                 value,
@@ -199,19 +199,19 @@ fn read_from(
     clocks: &mut Clocks,
     marks: &mut Marks,
     values: &mut Values,
-    small: &mut Small,
+    numbers: &mut Numbers,
 ) -> Loaded
     requires { ⌜ (thread < 5) × (cell < 4) × (slot < 7) ⌝ }
 {
     if row.opcode == 0 {
-        return atomic::load(clocks, marks, values, small, thread, cell, slot, row.order);
+        return atomic::load(clocks, marks, values, numbers, thread, cell, slot, row.order);
     }
     let change = change_of(row.kind, row.a, row.b);
     atomic::rmw(
         clocks,
         marks,
         values,
-        small,
+        numbers,
         thread,
         cell,
         slot,

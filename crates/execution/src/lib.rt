@@ -5,7 +5,7 @@ use atomic::state;
 use atomic::state::Clocks;
 use atomic::state::Marks;
 use atomic::state::NEXT_ROW;
-use atomic::state::Small;
+use atomic::state::Numbers;
 use atomic::state::Values;
 use table::Row;
 
@@ -81,16 +81,16 @@ pub fn tick(
     clocks: &mut Clocks,
     marks: &mut Marks,
     values: &mut Values,
-    small: &mut Small,
+    numbers: &mut Numbers,
 ) -> Event
     requires { ⌜ thread < 5 ⌝ }
 {
-    if threads::is_fresh(small, thread) {
-        if shape[COUNTS + thread] <= small[NEXT_ROW + thread] {
-            threads::end(small, thread);
+    if threads::is_fresh(numbers, thread) {
+        if shape[COUNTS + thread] <= numbers[NEXT_ROW + thread] {
+            threads::end(numbers, thread);
             return Event::Switches { yielded: false };
         }
-        return rows::begin(row, limit, small, thread);
+        return rows::begin(row, limit, numbers, thread);
     }
-    rows::act(row, shape, thread, clocks, marks, values, small)
+    rows::act(row, shape, thread, clocks, marks, values, numbers)
 }

@@ -22,7 +22,7 @@ use atomic::state::REGISTER;
 use atomic::state::ROWS;
 use atomic::state::SCHEDULE;
 use atomic::state::SKIPPING;
-use atomic::state::Small;
+use atomic::state::Numbers;
 use atomic::state::Values;
 use atomic::synchronize::join_into;
 use table::Row;
@@ -31,15 +31,15 @@ use table::Row;
 const NO_SLOT: u8 = 255;
 
 // Begins a row, if fewer than the limit have begun. Opcodes 0 to 3 set their operation and call the scheduling first.
-pub fn begin(row: Row, limit: u16, small: &mut Small, thread: usize) -> Event
+pub fn begin(row: Row, limit: u16, numbers: &mut Numbers, thread: usize) -> Event
     requires { ⌜ thread < 5 ⌝ }
 {
-    if limit <= small[BEGUN] {
+    if limit <= numbers[BEGUN] {
         return Event::Stops(Fault::Rows);
     }
-    small[BEGUN] = vv::one_more(small[BEGUN]);
-    small[ROWS + thread] = vv::one_more(small[ROWS + thread]);
-    small[PHASE + thread] = threads::BEGUN;
+    numbers[BEGUN] = vv::one_more(numbers[BEGUN]);
+    numbers[ROWS + thread] = vv::one_more(numbers[ROWS + thread]);
+    numbers[PHASE + thread] = threads::BEGUN;
     let opcode = row.opcode;
     let action = match opcode {
         0 => LOAD,
@@ -47,8 +47,8 @@ pub fn begin(row: Row, limit: u16, small: &mut Small, thread: usize) -> Event
         3 => RMW,
         _ => return Event::Moves,
     };
-    small[OPERATION + thread] = action;
-    small[OBJECT + thread] = row.object as u16;
+    numbers[OPERATION + thread] = action;
+    numbers[OBJECT + thread] = row.object as u16;
     Event::Switches { yielded: false }
 }
 
@@ -60,7 +60,7 @@ pub fn act(
     clocks: &mut Clocks,
     marks: &mut Marks,
     values: &mut Values,
-    small: &mut Small,
+    numbers: &mut Numbers,
 ) -> Event
     requires { ⌜ thread < 5 ⌝ }
 {
@@ -81,26 +81,26 @@ pub fn act(
             clocks,
             marks,
             values,
-            small,
+            numbers,
         ),
-        4 => fence_row(row, shape, thread, clocks, marks, small),
-        7 => yield_row(thread, clocks, small),
-        8 => join_row(row, thread, clocks, small),
-        9 | 10 | 11 => jump_row(row, register, thread, values, small),
-        12 => check_row(row, register, thread, values, small),
-        13 => critical(thread, small),
-        14 => explore_state(thread, small),
-        15 => skip_branch(thread, small),
+        4 => fence_row(row, shape, thread, clocks, marks, numbers),
+        7 => yield_row(thread, clocks, numbers),
+        8 => join_row(row, thread, clocks, numbers),
+        9 | 10 | 11 => jump_row(row, register, thread, values, numbers),
+        12 => check_row(row, register, thread, values, numbers),
+        13 => critical(thread, numbers),
+        14 => explore_state(thread, numbers),
+        15 => skip_branch(thread, numbers),
         16 => Event::Chances,
         _ => Event::Stops(Fault::Impossible),
     }
 }
 
 // A row that leaves neither slot nor value in the trace.
-fn done(small: &mut Small, thread: usize) -> Event
+fn done(numbers: &mut Numbers, thread: usize) -> Event
     requires { ⌜ thread < 5 ⌝ }
 {
-    threads::complete_row(small, thread);
+    threads::complete_row(numbers, thread);
     Event::Done {
         slot: NO_SLOT,
         value: 0,
@@ -113,7 +113,7 @@ fn fence_row(
     thread: usize,
     clocks: &mut Clocks,
     marks: &Marks,
-    small: &mut Small,
+    numbers: &mut Numbers,
 ) -> Event
     requires { ⌜ thread < 5 ⌝ }
 {
@@ -122,39 +122,39 @@ fn fence_row(
         return Event::Stops(Fault::Impossible);
     }
     threads::raise(clocks, thread);
-    fence::fence(clocks, marks, small, thread, cells, row.order);
-    done(small, thread)
+    fence::fence(clocks, marks, numbers, thread, cells, row.order);
+    done(numbers, thread)
 }
 
 // The row is complete before its scheduling, which alone can fault.
-fn yield_row(thread: usize, clocks: &Clocks, small: &mut Small) -> Event
+fn yield_row(thread: usize, clocks: &Clocks, numbers: &mut Numbers) -> Event
     requires { ⌜ thread < 5 ⌝ }
 {
-    threads::set_yield(clocks, small, thread);
-    threads::complete_row(small, thread);
+    threads::set_yield(clocks, numbers, thread);
+    threads::complete_row(numbers, thread);
     Event::Switches { yielded: true }
 }
 
 // Goes through if the target has ended, and takes its causality and schedule vector; else blocks within the row.
-fn join_row(row: Row, thread: usize, clocks: &mut Clocks, small: &mut Small) -> Event
+fn join_row(row: Row, thread: usize, clocks: &mut Clocks, numbers: &mut Numbers) -> Event
     requires { ⌜ thread < 5 ⌝ }
 {
     let target = row.object as usize;
     if 5 <= target {
         return Event::Stops(Fault::Impossible);
     }
-    if threads::is_ended(small, target) {
+    if threads::is_ended(numbers, target) {
         threads::raise(clocks, thread);
         join_into(clocks, state::CAUSALITY + thread, state::CAUSALITY + target);
         join_into(clocks, SCHEDULE + thread, SCHEDULE + target);
-        return done(small, thread);
+        return done(numbers, thread);
     }
-    threads::set_blocked(small, thread, target);
+    threads::set_blocked(numbers, thread, target);
     Event::Switches { yielded: false }
 }
 
 // Opcode 9 always jumps, 10 where the register equals a, 11 where it does not.
-fn jump_row(row: Row, register: usize, thread: usize, values: &Values, small: &mut Small) -> Event
+fn jump_row(row: Row, register: usize, thread: usize, values: &Values, numbers: &mut Numbers) -> Event
     requires { ⌜ (thread < 5) × (register < 4) ⌝ }
 {
     let equal = values[REGISTER + state::register_at(thread, register)] == row.a;
@@ -165,61 +165,61 @@ fn jump_row(row: Row, register: usize, thread: usize, values: &Values, small: &m
         _ => !equal,
     };
     if jumps {
-        threads::complete(small, thread, row.target);
+        threads::complete(numbers, thread, row.target);
         return Event::Done {
             slot: NO_SLOT,
             value: 0,
         };
     }
-    done(small, thread)
+    done(numbers, thread)
 }
 
-fn check_row(row: Row, register: usize, thread: usize, values: &Values, small: &mut Small) -> Event
+fn check_row(row: Row, register: usize, thread: usize, values: &Values, numbers: &mut Numbers) -> Event
     requires { ⌜ (thread < 5) × (register < 4) ⌝ }
 {
     if values[REGISTER + state::register_at(thread, register)] != row.a {
         return Event::Stops(Fault::Check);
     }
-    done(small, thread)
+    done(numbers, thread)
 }
 
 // Stops exploring, if it was on. While skipping it does nothing.
-fn critical(thread: usize, small: &mut Small) -> Event
+fn critical(thread: usize, numbers: &mut Numbers) -> Event
     requires { ⌜ thread < 5 ⌝ }
 {
-    if small[SKIPPING] == 0 {
-        if small[EXPLORING] == 0 {
+    if numbers[SKIPPING] == 0 {
+        if numbers[EXPLORING] == 0 {
             return Event::Stops(Fault::Flags);
         }
-        small[EXPLORING] = 0;
+        numbers[EXPLORING] = 0;
     }
-    done(small, thread)
+    done(numbers, thread)
 }
 
 // Explores again, if it was off. While skipping it does nothing.
-fn explore_state(thread: usize, small: &mut Small) -> Event
+fn explore_state(thread: usize, numbers: &mut Numbers) -> Event
     requires { ⌜ thread < 5 ⌝ }
 {
-    if small[SKIPPING] == 0 {
-        if small[EXPLORING] == 1 {
+    if numbers[SKIPPING] == 0 {
+        if numbers[EXPLORING] == 1 {
             return Event::Stops(Fault::Flags);
         }
-        small[EXPLORING] = 1;
+        numbers[EXPLORING] = 1;
     }
-    done(small, thread)
+    done(numbers, thread)
 }
 
 // Explores no more in this execution.
-fn skip_branch(thread: usize, small: &mut Small) -> Event
+fn skip_branch(thread: usize, numbers: &mut Numbers) -> Event
     requires { ⌜ thread < 5 ⌝ }
 {
-    small[EXPLORING] = 0;
-    small[SKIPPING] = 1;
-    done(small, thread)
+    numbers[EXPLORING] = 0;
+    numbers[SKIPPING] = 1;
+    done(numbers, thread)
 }
 
 // Goes on with the bit that was answered for `branch_spurious`.
-pub fn chance(row: Row, bit: bool, thread: usize, values: &mut Values, small: &mut Small) -> Event
+pub fn chance(row: Row, bit: bool, thread: usize, values: &mut Values, numbers: &mut Numbers) -> Event
     requires { ⌜ thread < 5 ⌝ }
 {
     let register = row.register as usize;
@@ -228,7 +228,7 @@ pub fn chance(row: Row, bit: bool, thread: usize, values: &mut Values, small: &m
     }
     let value = if bit { 1 } else { 0 };
     values[REGISTER + state::register_at(thread, register)] = value;
-    threads::complete_row(small, thread);
+    threads::complete_row(numbers, thread);
     Event::Done {
         slot: NO_SLOT,
         value,

@@ -15,7 +15,7 @@ use atomic::state::NONE;
 use atomic::state::OBJECT;
 use atomic::state::OPERATION;
 use atomic::state::STATE;
-use atomic::state::Small;
+use atomic::state::Numbers;
 use atomic::state::YIELDS;
 
 // The states of a seed that this file makes, by document 01's numbers.
@@ -29,38 +29,38 @@ pub const CHOSEN: u8 = 4;
 
 // Rule (a): the branch of the access that a thread's pending operation is concurrent with, or NONE. That branch is to be
 // backtracked from.
-pub fn conflict(clocks: &Clocks, small: &Small, thread: usize) -> u16
+pub fn conflict(clocks: &Clocks, numbers: &Numbers, thread: usize) -> u16
     requires { ⌜ thread < 5 ⌝ }
 {
-    let action = small[OPERATION + thread];
-    let cell = state::wide(small[OBJECT + thread]);
+    let action = numbers[OPERATION + thread];
+    let cell = state::wide(numbers[OBJECT + thread]);
     if action == NO_ACTION || MAX_CELLS <= cell {
         return NONE;
     }
-    if access::is_concurrent(clocks, small, thread, action, cell) {
-        return access::last_dependent_branch(small, action, cell);
+    if access::is_concurrent(clocks, numbers, thread, action, cell) {
+        return access::last_dependent_branch(numbers, action, cell);
     }
     NONE
 }
 
 // Rule (b): the active thread if it is runnable, else the runnable one with fewest yields, the lowest on a tie; 5 if none.
-pub fn initial(small: &Small) -> usize {
-    let active = state::wide(small[ACTIVE]);
+pub fn initial(numbers: &Numbers) -> usize {
+    let active = state::wide(numbers[ACTIVE]);
     if active < MAX_THREADS {
-        if small[STATE + active] == RUNNABLE {
+        if numbers[STATE + active] == RUNNABLE {
             return active;
         }
     }
-    fewest_yields(small)
+    fewest_yields(numbers)
 }
 
-fn fewest_yields(small: &Small) -> usize {
+fn fewest_yields(numbers: &Numbers) -> usize {
     let mut best = MAX_THREADS;
     let mut fewest = NONE;
     let mut t = 0;
     while t < MAX_THREADS {
-        if small[STATE + t] == RUNNABLE {
-            let yields = small[YIELDS + t];
+        if numbers[STATE + t] == RUNNABLE {
+            let yields = numbers[YIELDS + t];
             if best == MAX_THREADS || yields < fewest {
                 best = t;
                 fewest = yields;
@@ -72,12 +72,12 @@ fn fewest_yields(small: &Small) -> usize {
 }
 
 // Rule (c): the states that a new schedule branch starts from.
-pub fn seed(small: &Small) -> [u8; 5] {
-    let first = initial(small);
+pub fn seed(numbers: &Numbers) -> [u8; 5] {
+    let first = initial(numbers);
     let mut states = [DISABLED; 5];
     let mut t = 0;
     while t < MAX_THREADS {
-        states[t] = seed_of(small[STATE + t], t == first);
+        states[t] = seed_of(numbers[STATE + t], t == first);
         t += 1;
     }
     states
@@ -96,14 +96,14 @@ fn seed_of(state: u16, first: bool) -> u8 {
 
 // Rules (d) and (e): the chosen thread is active, its operation becomes its cell's last access at this branch, and every
 // yielded thread is runnable again.
-pub fn choose(clocks: &mut Clocks, small: &mut Small, chosen: usize, branch: u16)
+pub fn choose(clocks: &mut Clocks, numbers: &mut Numbers, chosen: usize, branch: u16)
     requires { ⌜ chosen < 5 ⌝ }
 {
-    small[ACTIVE] = chosen as u16;
-    let action = small[OPERATION + chosen];
-    let cell = state::wide(small[OBJECT + chosen]);
+    numbers[ACTIVE] = chosen as u16;
+    let action = numbers[OPERATION + chosen];
+    let cell = state::wide(numbers[OBJECT + chosen]);
     if action != NO_ACTION && cell < MAX_CELLS {
-        access::set_last_access(clocks, small, chosen, action, cell, branch);
+        access::set_last_access(clocks, numbers, chosen, action, cell, branch);
     }
-    threads::reactivate(small);
+    threads::reactivate(numbers);
 }

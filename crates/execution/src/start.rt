@@ -14,7 +14,7 @@ use atomic::state::Marks;
 use atomic::state::NON_LOAD_BRANCH;
 use atomic::state::NONE;
 use atomic::state::STATE;
-use atomic::state::Small;
+use atomic::state::Numbers;
 use atomic::state::UNSYNC_MUT_AT;
 use atomic::state::Values;
 use atomic::synchronize::RELEASE;
@@ -29,23 +29,23 @@ pub fn start(
     clocks: &mut Clocks,
     marks: &mut Marks,
     values: &mut Values,
-    small: &mut Small,
+    numbers: &mut Numbers,
 )
     requires { ⌜ (threads ≤ 5) × (cells ≤ 4) ⌝ }
 {
     clear_clocks(clocks);
     clear_marks(marks);
     clear_values(values);
-    clear_small(small);
-    small[EXPLORING] = if exploring { 1 } else { 0 };
+    clear_numbers(numbers);
+    numbers[EXPLORING] = if exploring { 1 } else { 0 };
     clocks[CAUSALITY] = [1, 0, 0, 0, 0];
     let mut cell = 0;
     while cell < cells {
         let value = table::start_value(table, cell);
-        make_cell(clocks, marks, values, small, cell, value);
+        make_cell(clocks, marks, values, numbers, cell, value);
         cell += 1;
     }
-    start_threads(clocks, small, threads);
+    start_threads(clocks, numbers, threads);
 }
 
 // A cell takes thread 0's vector as its exclusive one, and a Release store of its start value.
@@ -53,7 +53,7 @@ fn make_cell(
     clocks: &mut Clocks,
     marks: &mut Marks,
     values: &mut Values,
-    small: &mut Small,
+    numbers: &mut Numbers,
     cell: usize,
     value: u64,
 )
@@ -64,7 +64,7 @@ fn make_cell(
         clocks,
         marks,
         values,
-        small,
+        numbers,
         0,
         cell,
         [0; 5],
@@ -74,13 +74,13 @@ fn make_cell(
 }
 
 // Thread 0 is at (2,0,0,0,0), each other has seen its first version and is at 1 itself.
-fn start_threads(clocks: &mut Clocks, small: &mut Small, threads: usize)
+fn start_threads(clocks: &mut Clocks, numbers: &mut Numbers, threads: usize)
     requires { ⌜ threads ≤ 5 ⌝ }
 {
     let mut t = 0;
     while t < threads {
         clocks[CAUSALITY + t] = first_causality(t);
-        small[STATE + t] = RUNNABLE;
+        numbers[STATE + t] = RUNNABLE;
         t += 1;
     }
 }
@@ -121,30 +121,30 @@ fn clear_values(values: &mut Values) {
     }
 }
 
-// All small numbers are 0, but those that stand for none.
-fn clear_small(small: &mut Small) {
+// All numbers are 0, but those that stand for none.
+fn clear_numbers(numbers: &mut Numbers) {
     let mut i = 0;
     while i < 89 {
-        small[i] = 0;
+        numbers[i] = 0;
         i += 1;
     }
-    clear_yields(small);
-    clear_branches(small);
+    clear_yields(numbers);
+    clear_branches(numbers);
 }
 
-fn clear_yields(small: &mut Small) {
+fn clear_yields(numbers: &mut Numbers) {
     let mut t = 0;
     while t < MAX_THREADS {
-        small[LAST_YIELD + t] = NONE;
+        numbers[LAST_YIELD + t] = NONE;
         t += 1;
     }
 }
 
-fn clear_branches(small: &mut Small) {
+fn clear_branches(numbers: &mut Numbers) {
     let mut cell = 0;
     while cell < MAX_CELLS {
-        small[ACCESS_BRANCH + cell] = NONE;
-        small[NON_LOAD_BRANCH + cell] = NONE;
+        numbers[ACCESS_BRANCH + cell] = NONE;
+        numbers[NON_LOAD_BRANCH + cell] = NONE;
         cell += 1;
     }
 }

@@ -11,7 +11,7 @@ use atomic::state::NEXT_ROW;
 use atomic::state::OPERATION;
 use atomic::state::PHASE;
 use atomic::state::STATE;
-use atomic::state::Small;
+use atomic::state::Numbers;
 use atomic::state::YIELDS;
 use vv::VersionVec;
 
@@ -31,32 +31,32 @@ pub const FRESH: u16 = 0;
 
 pub const BEGUN: u16 = 1;
 
-pub fn is_fresh(small: &Small, thread: usize) -> bool
+pub fn is_fresh(numbers: &Numbers, thread: usize) -> bool
     requires { ⌜ thread < 5 ⌝ }
 {
-    small[PHASE + thread] == FRESH
+    numbers[PHASE + thread] == FRESH
 }
 
-pub fn is_ended(small: &Small, thread: usize) -> bool
+pub fn is_ended(numbers: &Numbers, thread: usize) -> bool
     requires { ⌜ thread < 5 ⌝ }
 {
-    small[STATE + thread] == ENDED
+    numbers[STATE + thread] == ENDED
 }
 
 // The thread's row is complete, and the row with this number is next.
-pub fn complete(small: &mut Small, thread: usize, next: u16)
+pub fn complete(numbers: &mut Numbers, thread: usize, next: u16)
     requires { ⌜ thread < 5 ⌝ }
 {
-    small[NEXT_ROW + thread] = next;
-    small[PHASE + thread] = FRESH;
+    numbers[NEXT_ROW + thread] = next;
+    numbers[PHASE + thread] = FRESH;
 }
 
 // The row after the present one is next.
-pub fn complete_row(small: &mut Small, thread: usize)
+pub fn complete_row(numbers: &mut Numbers, thread: usize)
     requires { ⌜ thread < 5 ⌝ }
 {
-    let next = vv::one_more(small[NEXT_ROW + thread]);
-    complete(small, thread, next);
+    let next = vv::one_more(numbers[NEXT_ROW + thread]);
+    complete(numbers, thread, next);
 }
 
 // The own version, raised by one: what opcodes 0 to 4 and a join that goes through do before they act.
@@ -78,55 +78,55 @@ pub fn version(clocks: &Clocks, thread: usize) -> u16
 }
 
 // Yields: the version of this moment is remembered, so that what was seen before is not offered again.
-pub fn set_yield(clocks: &Clocks, small: &mut Small, thread: usize)
+pub fn set_yield(clocks: &Clocks, numbers: &mut Numbers, thread: usize)
     requires { ⌜ thread < 5 ⌝ }
 {
-    small[STATE + thread] = YIELDED;
-    small[LAST_YIELD + thread] = version(clocks, thread);
-    small[YIELDS + thread] = vv::one_more(small[YIELDS + thread]);
-    small[OPERATION + thread] = NO_ACTION;
+    numbers[STATE + thread] = YIELDED;
+    numbers[LAST_YIELD + thread] = version(clocks, thread);
+    numbers[YIELDS + thread] = vv::one_more(numbers[YIELDS + thread]);
+    numbers[OPERATION + thread] = NO_ACTION;
 }
 
 // Blocks until the target has ended.
-pub fn set_blocked(small: &mut Small, thread: usize, target: usize)
+pub fn set_blocked(numbers: &mut Numbers, thread: usize, target: usize)
     requires { ⌜ (thread < 5) × (target < 5) ⌝ }
 {
-    small[STATE + thread] = BLOCKED;
-    small[AWAITS + thread] = target as u16;
-    small[OPERATION + thread] = NO_ACTION;
+    numbers[STATE + thread] = BLOCKED;
+    numbers[AWAITS + thread] = target as u16;
+    numbers[OPERATION + thread] = NO_ACTION;
 }
 
 // Ends a thread, which frees the joins on it before the scheduling that follows.
-pub fn end(small: &mut Small, thread: usize)
+pub fn end(numbers: &mut Numbers, thread: usize)
     requires { ⌜ thread < 5 ⌝ }
 {
-    small[STATE + thread] = ENDED;
-    small[OPERATION + thread] = NO_ACTION;
+    numbers[STATE + thread] = ENDED;
+    numbers[OPERATION + thread] = NO_ACTION;
     let mut t = 0;
     while t < MAX_THREADS {
-        if small[STATE + t] == BLOCKED && state::wide(small[AWAITS + t]) == thread {
-            small[STATE + t] = RUNNABLE;
+        if numbers[STATE + t] == BLOCKED && state::wide(numbers[AWAITS + t]) == thread {
+            numbers[STATE + t] = RUNNABLE;
         }
         t += 1;
     }
 }
 
 // Rule (e): every yielded thread is runnable again.
-pub fn reactivate(small: &mut Small) {
+pub fn reactivate(numbers: &mut Numbers) {
     let mut t = 0;
     while t < MAX_THREADS {
-        if small[STATE + t] == YIELDED {
-            small[STATE + t] = RUNNABLE;
+        if numbers[STATE + t] == YIELDED {
+            numbers[STATE + t] = RUNNABLE;
         }
         t += 1;
     }
 }
 
 // Whether every present thread has ended.
-pub fn all_ended(small: &Small) -> bool {
+pub fn all_ended(numbers: &Numbers) -> bool {
     let mut t = 0;
     while t < MAX_THREADS {
-        let state = small[STATE + t];
+        let state = numbers[STATE + t];
         if state != ENDED && state != ABSENT {
             return false;
         }

@@ -7,7 +7,7 @@ use atomic::state::BEGUN;
 use atomic::state::Clocks;
 use atomic::state::ROWS;
 use atomic::state::STATE;
-use atomic::state::Small;
+use atomic::state::Numbers;
 use atomic::state::YIELDS;
 use execution::Fault;
 use execution::threads;
@@ -74,27 +74,27 @@ pub fn refused(answer: Answer) -> Report {
 }
 
 // The summary of one thread.
-pub fn summary(clocks: &Clocks, small: &Small, thread: usize) -> ThreadRecord
+pub fn summary(clocks: &Clocks, numbers: &Numbers, thread: usize) -> ThreadRecord
     requires { ⌜ thread < 5 ⌝ }
 {
-    let state = small[STATE + thread];
+    let state = numbers[STATE + thread];
     if state == threads::ABSENT {
         return absent();
     }
     ThreadRecord {
         state,
-        rows: small[ROWS + thread],
-        yields: small[YIELDS + thread],
+        rows: numbers[ROWS + thread],
+        yields: numbers[YIELDS + thread],
         version: threads::version(clocks, thread),
     }
 }
 
-pub fn summaries(clocks: &Clocks, small: &Small) -> [ThreadRecord; 5] {
-    let a = summary(clocks, small, 0);
-    let b = summary(clocks, small, 1);
-    let c = summary(clocks, small, 2);
-    let d = summary(clocks, small, 3);
-    let e = summary(clocks, small, 4);
+pub fn summaries(clocks: &Clocks, numbers: &Numbers) -> [ThreadRecord; 5] {
+    let a = summary(clocks, numbers, 0);
+    let b = summary(clocks, numbers, 1);
+    let c = summary(clocks, numbers, 2);
+    let d = summary(clocks, numbers, 3);
+    let e = summary(clocks, numbers, 4);
     [a, b, c, d, e]
 }
 

@@ -17,7 +17,7 @@ use atomic::state::BEGUN;
 use atomic::state::Clocks;
 use atomic::state::Marks;
 use atomic::state::NONE;
-use atomic::state::Small;
+use atomic::state::Numbers;
 use atomic::state::Values;
 use execution::CELLS;
 use execution::Fault;
@@ -45,7 +45,7 @@ pub fn run(table: &[u8], settings: Settings, path: &mut [u8], trace: &mut [u8]) 
     let mut clocks = [[0u16; 5]; 124];
     let mut marks = [[[NONE; 5]; 7]; 4];
     let mut values = [0u64; 48];
-    let mut small = [0u16; 89];
+    let mut numbers = [0u16; 89];
     let mut ledger = nothing();
     let mut longest = 0;
     let mut begun = 0;
@@ -58,7 +58,7 @@ pub fn run(table: &[u8], settings: Settings, path: &mut [u8], trace: &mut [u8]) 
             &mut clocks,
             &mut marks,
             &mut values,
-            &mut small,
+            &mut numbers,
             path,
             trace,
             ledger,
@@ -73,7 +73,7 @@ pub fn run(table: &[u8], settings: Settings, path: &mut [u8], trace: &mut [u8]) 
             ledger.len,
             begun == settings.executions,
         ) {
-            return finish(answer, begun, ledger, longest, path, trace, &clocks, &small);
+            return finish(answer, begun, ledger, longest, path, trace, &clocks, &numbers);
         }
         ledger.len = step(path, ledger.len);
     }
@@ -88,7 +88,7 @@ fn once(
     clocks: &mut Clocks,
     marks: &mut Marks,
     values: &mut Values,
-    small: &mut Small,
+    numbers: &mut Numbers,
     path: &mut [u8],
     trace: &mut [u8],
     mut ledger: Ledger,
@@ -111,7 +111,7 @@ fn once(
         clocks,
         marks,
         values,
-        small,
+        numbers,
     );
     execute(
         table,
@@ -120,7 +120,7 @@ fn once(
         clocks,
         marks,
         values,
-        small,
+        numbers,
         path,
         trace,
         ledger,
@@ -136,10 +136,10 @@ fn finish(
     path: &[u8],
     trace: &mut [u8],
     clocks: &Clocks,
-    small: &Small,
+    numbers: &Numbers,
 ) -> Report {
     clear_entries(trace, ledger.entries, longest);
-    finished(answer, begun, ledger, path, clocks, small)
+    finished(answer, begun, ledger, path, clocks, numbers)
 }
 
 fn nothing() -> Ledger {
@@ -182,7 +182,7 @@ fn execute(
     clocks: &mut Clocks,
     marks: &mut Marks,
     values: &mut Values,
-    small: &mut Small,
+    numbers: &mut Numbers,
     path: &mut [u8],
     trace: &mut [u8],
     ledger: Ledger,
@@ -206,7 +206,7 @@ fn execute(
             clocks,
             marks,
             values,
-            small,
+            numbers,
             path,
             trace,
             now,
@@ -229,7 +229,7 @@ fn finished(
     ledger: Ledger,
     path: &[u8],
     clocks: &Clocks,
-    small: &Small,
+    numbers: &Numbers,
 ) -> Report {
     let mut thread = 255;
     let mut row = 255;
@@ -237,8 +237,8 @@ fn finished(
         thread = ledger.thread as u64;
         row = ledger.row as u64;
     }
-    let threads = report::summaries(clocks, small);
-    let rows = state::wide(small[BEGUN]);
+    let threads = report::summaries(clocks, numbers);
+    let rows = state::wide(numbers[BEGUN]);
     let len = ledger.len;
     let open = open_choices(path, len);
     Report {

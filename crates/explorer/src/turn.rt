@@ -12,7 +12,7 @@ use atomic::state::MAX_THREADS;
 use atomic::state::Marks;
 use atomic::state::NEXT_ROW;
 use atomic::state::STATE;
-use atomic::state::Small;
+use atomic::state::Numbers;
 use atomic::state::Values;
 use execution::Event;
 use execution::Fault;
@@ -81,29 +81,29 @@ pub fn take_turn(
     clocks: &mut Clocks,
     marks: &mut Marks,
     values: &mut Values,
-    small: &mut Small,
+    numbers: &mut Numbers,
     path: &mut [u8],
     trace: &mut [u8],
     mut ledger: Ledger,
 ) -> Turned {
-    let thread = state::wide(small[ACTIVE]);
+    let thread = state::wide(numbers[ACTIVE]);
     if MAX_THREADS <= thread {
         return stops(Fault::Impossible, ledger);
     }
-    let number = small[NEXT_ROW + thread];
+    let number = numbers[NEXT_ROW + thread];
     ledger.thread = thread;
     ledger.row = number;
     let row = execution::row_of(table, shape, thread, number);
-    let event = execution::tick(row, shape, limit, thread, clocks, marks, values, small);
+    let event = execution::tick(row, shape, limit, thread, clocks, marks, values, numbers);
     match event {
         Event::Moves => goes(ledger),
         Event::Done { slot, value } => note(trace, ledger, row.opcode, slot, 0, value),
         Event::Switches { yielded } => {
             let ledger = if_yielded(yielded, trace, ledger, row.opcode);
-            choose_thread(shape, bound, clocks, small, path, ledger)
+            choose_thread(shape, bound, clocks, numbers, path, ledger)
         }
-        Event::Loads => choose_slot(row, clocks, marks, values, small, path, trace, ledger),
-        Event::Chances => choose_bit(row, values, small, path, trace, ledger),
+        Event::Loads => choose_slot(row, clocks, marks, values, numbers, path, trace, ledger),
+        Event::Chances => choose_bit(row, values, numbers, path, trace, ledger),
         Event::Stops(fault) => stops(fault, ledger),
     }
 }
@@ -184,7 +184,7 @@ pub fn plus(a: u64, b: u64) -> u64 {
 fn mark(
     shape: &Shape,
     clocks: &Clocks,
-    small: &Small,
+    numbers: &Numbers,
     path: &mut [u8],
     len: usize,
     bound: Bound,
@@ -195,7 +195,7 @@ fn mark(
     let mut opened = 0;
     let mut t = 0;
     while t < threads {
-        let point = schedule::conflict(clocks, small, t);
+        let point = schedule::conflict(clocks, numbers, t);
         opened += mark_from(path, len, point, t, bounded, most);
         t += 1;
     }
@@ -221,24 +221,24 @@ fn choose_thread(
     shape: &Shape,
     bound: Bound,
     clocks: &mut Clocks,
-    small: &mut Small,
+    numbers: &mut Numbers,
     path: &mut [u8],
     mut ledger: Ledger,
 ) -> Turned {
     let len = ledger.len;
-    let marked = mark(shape, clocks, small, path, len, bound);
+    let marked = mark(shape, clocks, numbers, path, len, bound);
     ledger.opened = plus(ledger.opened, marked);
-    let asked = ask_thread(small, path, ledger);
+    let asked = ask_thread(numbers, path, ledger);
     let turn = asked.turn;
     let Turn::Goes = turn else {
         return asked;
     };
     let ledger = asked.ledger;
-    follow_thread(clocks, small, path, ledger)
+    follow_thread(clocks, numbers, path, ledger)
 }
 
 // Adds the schedule branch, if it is new.
-fn ask_thread(small: &Small, path: &mut [u8], ledger: Ledger) -> Turned {
+fn ask_thread(numbers: &Numbers, path: &mut [u8], ledger: Ledger) -> Turned {
     let len = ledger.len;
     if ledger.pos != len {
         return goes(ledger);
@@ -246,8 +246,8 @@ fn ask_thread(small: &Small, path: &mut [u8], ledger: Ledger) -> Turned {
     if path.len() / RECORD < len {
         return stops(Fault::Impossible, ledger);
     }
-    let seed = schedule::seed(small);
-    let pushed = path::push_thread(path, len, small[EXPLORING] == 1, seed);
+    let seed = schedule::seed(numbers);
+    let pushed = path::push_thread(path, len, numbers[EXPLORING] == 1, seed);
     added(pushed, ledger)
 }
 
@@ -276,35 +276,35 @@ fn one_longer(len: usize) -> usize {
 }
 
 // The thread that the branch chooses goes on.
-fn follow_thread(clocks: &mut Clocks, small: &mut Small, path: &[u8], ledger: Ledger) -> Turned {
+fn follow_thread(clocks: &mut Clocks, numbers: &mut Numbers, path: &[u8], ledger: Ledger) -> Turned {
     let pos = ledger.pos;
     if path.len() / RECORD <= pos {
         return stops(Fault::Impossible, ledger);
     }
     match path::branch_thread(path, pos) {
-        Chosen::Thread(chosen) => switch(clocks, small, chosen, ledger),
-        Chosen::Nobody => nobody(small, passed(ledger)),
+        Chosen::Thread(chosen) => switch(clocks, numbers, chosen, ledger),
+        Chosen::Nobody => nobody(numbers, passed(ledger)),
         Chosen::Unexpected => stops(Fault::Impossible, ledger),
     }
 }
 
 // The chosen thread goes on, unless it cannot.
-fn switch(clocks: &mut Clocks, small: &mut Small, chosen: usize, ledger: Ledger) -> Turned {
+fn switch(clocks: &mut Clocks, numbers: &mut Numbers, chosen: usize, ledger: Ledger) -> Turned {
     if MAX_THREADS <= chosen {
         return stops(Fault::Impossible, ledger);
     }
-    let state = small[STATE + chosen];
+    let state = numbers[STATE + chosen];
     if state != threads::RUNNABLE && state != threads::YIELDED {
         return stops(Fault::Impossible, ledger);
     }
     let branch = (ledger.pos % 65536) as u16;
-    schedule::choose(clocks, small, chosen, branch);
+    schedule::choose(clocks, numbers, chosen, branch);
     goes(passed(ledger))
 }
 
 // No thread can run: the execution has ended, or it is a deadlock.
-fn nobody(small: &Small, ledger: Ledger) -> Turned {
-    if threads::all_ended(small) {
+fn nobody(numbers: &Numbers, ledger: Ledger) -> Turned {
+    if threads::all_ended(numbers) {
         return Turned {
             turn: Turn::Ends,
             ledger,
@@ -319,18 +319,18 @@ fn choose_slot(
     clocks: &mut Clocks,
     marks: &mut Marks,
     values: &mut Values,
-    small: &mut Small,
+    numbers: &mut Numbers,
     path: &mut [u8],
     trace: &mut [u8],
     ledger: Ledger,
 ) -> Turned {
-    let asked = ask_slot(row, clocks, marks, small, path, ledger);
+    let asked = ask_slot(row, clocks, marks, numbers, path, ledger);
     let turn = asked.turn;
     let Turn::Goes = turn else {
         return asked;
     };
     let ledger = asked.ledger;
-    follow_slot(row, clocks, marks, values, small, path, trace, ledger)
+    follow_slot(row, clocks, marks, values, numbers, path, trace, ledger)
 }
 
 // Adds the load's branch, if it is new, with what is offered there.
@@ -338,7 +338,7 @@ fn ask_slot(
     row: Row,
     clocks: &Clocks,
     marks: &Marks,
-    small: &Small,
+    numbers: &Numbers,
     path: &mut [u8],
     ledger: Ledger,
 ) -> Turned {
@@ -351,13 +351,13 @@ fn ask_slot(
         return stops(Fault::Impossible, ledger);
     }
     let mut seed = [0u8; 7];
-    let Matched::Offers(n) = accesses::offers(row, thread, clocks, marks, small, &mut seed) else {
+    let Matched::Offers(n) = accesses::offers(row, thread, clocks, marks, numbers, &mut seed) else {
         return stops(Fault::Equal, ledger);
     };
     if 7 < n {
         return stops(Fault::Impossible, ledger);
     }
-    let pushed = path::push_load(path, len, small[EXPLORING] == 1, seed, n);
+    let pushed = path::push_load(path, len, numbers[EXPLORING] == 1, seed, n);
     added(pushed, ledger)
 }
 
@@ -367,7 +367,7 @@ fn follow_slot(
     clocks: &mut Clocks,
     marks: &mut Marks,
     values: &mut Values,
-    small: &mut Small,
+    numbers: &mut Numbers,
     path: &[u8],
     trace: &mut [u8],
     ledger: Ledger,
@@ -383,7 +383,7 @@ fn follow_slot(
     if HISTORY <= slot {
         return stops(Fault::Impossible, ledger);
     }
-    let event = accesses::load_from(row, slot, thread, clocks, marks, values, small);
+    let event = accesses::load_from(row, slot, thread, clocks, marks, values, numbers);
     conclude(event, trace, passed(ledger), row.opcode, mask)
 }
 
@@ -391,22 +391,22 @@ fn follow_slot(
 fn choose_bit(
     row: Row,
     values: &mut Values,
-    small: &mut Small,
+    numbers: &mut Numbers,
     path: &mut [u8],
     trace: &mut [u8],
     ledger: Ledger,
 ) -> Turned {
-    let asked = ask_bit(small, path, ledger);
+    let asked = ask_bit(numbers, path, ledger);
     let turn = asked.turn;
     let Turn::Goes = turn else {
         return asked;
     };
     let ledger = asked.ledger;
-    follow_bit(row, values, small, path, trace, ledger)
+    follow_bit(row, values, numbers, path, trace, ledger)
 }
 
 // Adds the spurious branch, if it is new.
-fn ask_bit(small: &Small, path: &mut [u8], ledger: Ledger) -> Turned {
+fn ask_bit(numbers: &Numbers, path: &mut [u8], ledger: Ledger) -> Turned {
     let len = ledger.len;
     if ledger.pos != len {
         return goes(ledger);
@@ -414,7 +414,7 @@ fn ask_bit(small: &Small, path: &mut [u8], ledger: Ledger) -> Turned {
     if path.len() / RECORD < len {
         return stops(Fault::Impossible, ledger);
     }
-    let pushed = path::push_spurious(path, len, small[EXPLORING] == 1);
+    let pushed = path::push_spurious(path, len, numbers[EXPLORING] == 1);
     added(pushed, ledger)
 }
 
@@ -422,7 +422,7 @@ fn ask_bit(small: &Small, path: &mut [u8], ledger: Ledger) -> Turned {
 fn follow_bit(
     row: Row,
     values: &mut Values,
-    small: &mut Small,
+    numbers: &mut Numbers,
     path: &[u8],
     trace: &mut [u8],
     ledger: Ledger,
@@ -435,7 +435,7 @@ fn follow_bit(
     let Spurious::Bit(bit) = path::branch_spurious(path, pos) else {
         return stops(Fault::Impossible, ledger);
     };
-    let event = execution::rows::chance(row, bit, thread, values, small);
+    let event = execution::rows::chance(row, bit, thread, values, numbers);
     conclude(event, trace, passed(ledger), row.opcode, 0)
 }
 

@@ -1,4 +1,4 @@
--- The balance: a ledger is level with the executions that are over, and every turn, every execution and every step keeps it so.
+-- The balance: a ledger is level with the executions that are over, and every tick, every execution and every step keeps it so.
 -- Assumes nothing.
 --     Level            what was opened is what has been turned to, one choice an execution over, together with what is open
 --     ..-level         each way a walk goes on keeps it
@@ -19,7 +19,7 @@ use Rattle.rules.specs.Path.{threadAdded, loadAdded, spuriousAdded, openedBy, o
 use Rattle.rules.specs.Event as Event
 use Rattle.rules.specs.Event.{Fault, Place, nowhere, branch, Matched, offers, Standing, Question, whichThread, whichSlot, whichBit, Machine, moves, asks, stops, ends, slotsOf}
 use Rattle.rules.specs.Explorer.{Limits, Ledger, allMarked, backtrackFrom, firstMarked, seedOf, Pushed, pushes, faults, orFault, loadPushed, pushed, withBranch, Reply, says, unexpected, reply}
-use Rattle.rules.specs.Explorer.{Walk, Turn, goes, over, faulted, withLedger, onward, noted, fits, followed, replied, newBranch, met, taken, turn, walked, fresh, execution}
+use Rattle.rules.specs.Explorer.{Walk, Tick, goes, over, faulted, withLedger, onward, noted, fits, followed, replied, newBranch, met, taken, tick, walked, fresh, execution}
 use Rattle.rules.specs.Explorer.{Execution, executionOf, Verdict, exhausted, spent, stopped, stop, After, stopsHere, goesOn, nextLedger, after, runFrom, run}
 use Rattle.ledger.specs.Balance.{Balance, Balanced, Quiet, opened}
 use Rattle.ledger.proofs.Counts.{pendings-seedOf, openIn-added, stepped-open}
@@ -91,9 +91,9 @@ pushed-fair B bs exploring whichBit = cond-both FairAdded (leb B (length bs)) _ 
 withBranch-level : (past : ℕ) (l : Ledger) (b : Branch) → openAt b ≡ openedBy b → Level past l → Level past (withBranch l b)
 withBranch-level past l b f e = omega (arith, openIn-added (l .path) b)
 
--- A turn, an execution
+-- A tick, an execution
 
-abbrev pub LevelAfter : {S : Type 0} → ℕ → Turn S → Type 0
+abbrev pub LevelAfter : {S : Type 0} → ℕ → Tick S → Type 0
 LevelAfter past (goes w) = Level past (w .ledger)
 LevelAfter past (over w) = Level past (w .ledger)
 LevelAfter past (faulted f s w) = Level past (w .ledger)
@@ -133,11 +133,11 @@ module _ (M : Machine) (limits : Limits) (past : ℕ) where
   taken-level w (stops s f) l = l
   taken-level w (ends s) l = l
 
-  pub turn-level : (w : Walk (M .State)) → Level past (w .ledger) → LevelAfter past (turn M limits w)
-  unfolding turn
-  turn-level w l = taken-level w (M .next (w .state)) l
+  pub tick-level : (w : Walk (M .State)) → Level past (w .ledger) → LevelAfter past (tick M limits w)
+  unfolding tick
+  tick-level w l = taken-level w (M .next (w .state)) l
 
-  walked-step : (n : ℕ) → ((v : Walk (M .State)) → Level past (v .ledger) → LevelAfter past (walked M limits n v)) → (t : Turn (M .State)) → LevelAfter past t →
+  walked-step : (n : ℕ) → ((v : Walk (M .State)) → Level past (v .ledger) → LevelAfter past (walked M limits n v)) → (t : Tick (M .State)) → LevelAfter past t →
       LevelAfter {S = M .State} past (elim t [ goes v ↦ walked M limits n v | over v ↦ over v | faulted f s v ↦ faulted f s v ])
   walked-step n more (goes v) l = more v l
   walked-step n more (over v) l = l
@@ -146,11 +146,11 @@ module _ (M : Machine) (limits : Limits) (past : ℕ) where
   pub walked-level : (n : ℕ) (w : Walk (M .State)) → Level past (w .ledger) → LevelAfter past (walked M limits n w)
   unfolding walked
   walked-level zero w l = l
-  walked-level (suc n) w l = walked-step n (λ v k. walked-level n v k) (turn M limits w) (turn-level w l)
+  walked-level (suc n) w l = walked-step n (λ v k. walked-level n v k) (tick M limits w) (tick-level w l)
 
   pub execution-level : (l : Ledger) → Level past l → LevelAfter past (execution M limits l)
   unfolding execution
-  execution-level l e = walked-level (limits .turns) (fresh M limits l) e
+  execution-level l e = walked-level (limits .ticks) (fresh M limits l) e
 
 -- A run
 
@@ -209,7 +209,7 @@ over-onward n past w l false false e f =
     let m = one-more past w in
     (omega (arith, stepped-open (w .ledger .path) (omega arith)), m, omega arith)
 
-after-onward : {S : Type 0} (n : ℕ) (past : List Execution) (t : Turn S) → LevelAfter (length past) t → Onward (length past) n (after (eqb n 0) past t)
+after-onward : {S : Type 0} (n : ℕ) (past : List Execution) (t : Tick S) → LevelAfter (length past) t → Onward (length past) n (after (eqb n 0) past t)
 unfolding after
 after-onward n past (goes w) l = faulted-onward n past Event.impossible (w .state) w l
 after-onward n past (over w) l = over-onward n past w l (eqb (openIn (w .ledger .path)) 0) (eqb n 0) refl refl

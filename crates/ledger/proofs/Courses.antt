@@ -1,4 +1,4 @@
--- The executions of a run, turn by turn, are those of its history.
+-- The executions of a run, tick by tick, are those of its history.
 use Prim.Native.Nat.{ℕ, zero, suc}
 use mathlib.Core.List.{List, [], _∷_, _++_, map, append-assoc}
 use mathlib.Core.Bool.{Bool, true, false, true≢false}
@@ -6,7 +6,7 @@ use mathlib.Core.Path.{_≡_, refl, ap, sym}
 use lib.Dec.{eqb}
 use Rattle.rules.specs.Path.{openIn}
 use Rattle.rules.specs.Event.{Machine}
-use Rattle.rules.specs.Explorer.{Limits, Ledger, Walk, Turn, goes, over, faulted, fresh, execution, Execution, executionOf, Verdict, spent, exhausted, Stop, stop, stopsHere, goesOn, nextLedger, after, runFrom, run}
+use Rattle.rules.specs.Explorer.{Limits, Ledger, Walk, Tick, goes, over, faulted, fresh, execution, Execution, executionOf, Verdict, spent, exhausted, Stop, stop, stopsHere, goesOn, nextLedger, after, runFrom, run}
 use Rattle.ledger.specs.Course.{Course, courseOf, coursesFrom, courses, lastLeft, executed, Records}
 use Rattle.ledger.specs.History.{leftBy}
 use Rattle.ledger.proofs.Runs.{afterOver}
@@ -30,7 +30,7 @@ module _ (M : Machine) (limits : Limits) where
   further : (last : Bool) (l : Ledger) (past : List Execution) (d : Walk (M .State))
       (k : Ledger → List Execution → List (Course (M .State))) (h : Ledger → List Execution → Stop (M .State)) →
       ((m : Ledger) (more : List Execution) (v : Walk (M .State)) → last ≡ false → Matches more v (k m more) (h m more)) →
-      (t : Turn (M .State)) → execution M limits l ≡ t →
+      (t : Tick (M .State)) → execution M limits l ≡ t →
       Matches past d (courseOf M limits l ∷ elim (after last past t) [ stopsHere r ↦ [] | goesOn m more ↦ k m more ])
       (elim (after last past t) [ stopsHere r ↦ r | goesOn m more ↦ h m more ])
   unfolding after

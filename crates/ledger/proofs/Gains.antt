@@ -1,5 +1,5 @@
--- What turns and executions do to the path, whatever the machine asks: marks, and fresh records.
---     turn-gained             a turn
+-- What ticks and executions do to the path, whatever the machine asks: marks, and fresh records.
+--     tick-gained             a tick
 --     course-open             what an execution opens and what it leaves open
 use Prim.Native.Nat.{ℕ, zero, suc}
 use mathlib.Core.List.{List, [], _∷_, _++_, append-assoc, Perm, Perm·refl, Perm·trans, Perm·symm, Perm·append-left}
@@ -10,10 +10,10 @@ use lib.ListN.{length, getD}
 use Rattle.rules.specs.Path.{Branch, noBranch}
 use Rattle.rules.specs.Event as Event
 use Rattle.rules.specs.Event.{Machine, moves, asks, stops, ends, Question}
-use Rattle.rules.specs.Explorer.{Limits, Ledger, Walk, Turn, goes, over, faulted, Reply, says, unexpected, reply, Pushed, pushes, faults, pushed, withBranch, withLedger, withState, noted, onward, firstMarked, followed, replied, newBranch, met, asked, taken, turn, fits, walked, fresh, execution}
-use Rattle.ledger.specs.Course.{Every, turnsFrom, courseOf}
+use Rattle.rules.specs.Explorer.{Limits, Ledger, Walk, Tick, goes, over, faulted, Reply, says, unexpected, reply, Pushed, pushes, faults, pushed, withBranch, withLedger, withState, noted, onward, firstMarked, followed, replied, newBranch, met, asked, taken, tick, fits, walked, fresh, execution}
+use Rattle.ledger.specs.Course.{Every, ticksFrom, courseOf}
 use Rattle.ledger.specs.History.{leftBy}
-use Rattle.ledger.specs.Turning.{Name, openNames, openedNames, joinedOver, openedTurn}
+use Rattle.ledger.specs.Turning.{Name, openNames, openedNames, joinedOver, openedTick}
 use Rattle.ledger.proofs.Marking.{AllMarking, all-refl, firstMarked-marks}
 use Rattle.ledger.proofs.Growth.{Grown, grown-refl, grown-trans}
 use Rattle.ledger.proofs.Proper.{Proper, pushed-fresh}
@@ -21,9 +21,9 @@ use Rattle.ledger.proofs.Opened.{Gained, gained-grown, gained-proper, m
 use Rattle.ledger.proofs.Lists.{left-comm}
 
 module _ (M : Machine) (limits : Limits) where
-  -- A turn
+  -- A tick
 
-  abbrev pathLeft : Turn (M .State) → List Branch
+  abbrev pathLeft : Tick (M .State) → List Branch
   pathLeft t = leftBy t .ledger .path
 
   followed-path : (began : M .State) (w : Walk (M .State)) (e : Event.Event (M .State)) →
@@ -77,16 +77,16 @@ module _ (M : Machine) (limits : Limits) where
   taken-gained w (stops s f) = idle w
   taken-gained w (ends s) = idle w
 
-  pub turn-gained : (w : Walk (M .State)) → Gained (w .ledger .path) (pathLeft (turn M limits w))
-  unfolding turn
-  turn-gained w = taken-gained w (M .next (w .state))
+  pub tick-gained : (w : Walk (M .State)) → Gained (w .ledger .path) (pathLeft (tick M limits w))
+  unfolding tick
+  tick-gained w = taken-gained w (M .next (w .state))
 
   -- An execution
 
   pub record Gains (w : Walk (M .State)) (ws : List (Walk (M .State))) (v : Walk (M .State)) : Type 0 where
     pub grown : Grown (w .ledger .path) (v .ledger .path)
     pub proper : Every Proper (w .ledger .path) → Every Proper (v .ledger .path)
-    pub opens : Perm (joinedOver (openedTurn M limits) ws ++ openNames (w .ledger .path)) (openNames (v .ledger .path))
+    pub opens : Perm (joinedOver (openedTick M limits) ws ++ openNames (w .ledger .path)) (openNames (v .ledger .path))
 
   -- put together: what was opened later, what was opened first, and what was open
   combined : (news rest were mids lasts : List Name) → Perm mids (news ++ were) → Perm (rest ++ mids) lasts →
@@ -96,35 +96,35 @@ module _ (M : Machine) (limits : Limits) where
       (Perm·trans {l₂ = rest ++ (news ++ were)} (left-comm news rest were)
       (Perm·trans {l₂ = rest ++ mids} (Perm·append-left {t₁ = news ++ were} {t₂ = mids} rest (Perm·symm p)) q))
 
-  one-turn : (w v : Walk (M .State)) → Gained (w .ledger .path) (v .ledger .path) →
-      openedTurn M limits w ≡ openedNames (w .ledger .path) (v .ledger .path) →
+  one-tick : (w v : Walk (M .State)) → Gained (w .ledger .path) (v .ledger .path) →
+      openedTick M limits w ≡ openedNames (w .ledger .path) (v .ledger .path) →
       (ws : List (Walk (M .State))) (u : Walk (M .State)) → Gains v ws u → Gains w (w ∷ ws) u
   unfolding joinedOver
-  one-turn w v g e ws u r =
+  one-tick w v g e ws u r =
       record {
         grown = grown-trans (w .ledger .path) (v .ledger .path) (u .ledger .path) (gained-grown (w .ledger .path) (v .ledger .path) g) (r .grown);
         proper = λ p. r .proper (gained-proper (w .ledger .path) (v .ledger .path) g p);
-        opens = rw e (combined (openedNames (w .ledger .path) (v .ledger .path)) (joinedOver (openedTurn M limits) ws) (openNames (w .ledger .path)) (openNames (v .ledger .path)) (openNames (u .ledger .path))
+        opens = rw e (combined (openedNames (w .ledger .path) (v .ledger .path)) (joinedOver (openedTick M limits) ws) (openNames (w .ledger .path)) (openNames (v .ledger .path)) (openNames (u .ledger .path))
             (opened-open (w .ledger .path) (v .ledger .path) g) (r .opens));
       }
 
-  no-turn : (w : Walk (M .State)) → Gains w [] w
+  no-tick : (w : Walk (M .State)) → Gains w [] w
   unfolding joinedOver
-  no-turn w = record { grown = grown-refl (w .ledger .path); proper = λ p. p; opens = Perm·refl (openNames (w .ledger .path)) }
+  no-tick w = record { grown = grown-refl (w .ledger .path); proper = λ p. p; opens = Perm·refl (openNames (w .ledger .path)) }
 
-  pub walk-gains : (n : ℕ) (w : Walk (M .State)) → Gains w (turnsFrom M limits n w) (leftBy (walked M limits n w))
-  unfolding turnsFrom walked
-  walk-gains zero w = no-turn w
-  walk-gains (suc n) w = go (turn M limits w) refl (λ v. walk-gains n v)
+  pub walk-gains : (n : ℕ) (w : Walk (M .State)) → Gains w (ticksFrom M limits n w) (leftBy (walked M limits n w))
+  unfolding ticksFrom walked
+  walk-gains zero w = no-tick w
+  walk-gains (suc n) w = go (tick M limits w) refl (λ v. walk-gains n v)
     where
-      go : (t : Turn (M .State)) → turn M limits w ≡ t →
-          ((v : Walk (M .State)) → Gains v (turnsFrom M limits n v) (leftBy (walked M limits n v))) →
-          Gains w (w ∷ elim t [ goes v ↦ turnsFrom M limits n v | over v ↦ [] | faulted f s v ↦ [] ])
+      go : (t : Tick (M .State)) → tick M limits w ≡ t →
+          ((v : Walk (M .State)) → Gains v (ticksFrom M limits n v) (leftBy (walked M limits n v))) →
+          Gains w (w ∷ elim t [ goes v ↦ ticksFrom M limits n v | over v ↦ [] | faulted f s v ↦ [] ])
           (leftBy (elim t [ goes v ↦ walked M limits n v | over v ↦ over v | faulted f s v ↦ faulted f s v ]))
-      go (goes v) e h = one-turn w v (rw e at (turn-gained w)) (rw e) (turnsFrom M limits n v) (leftBy (walked M limits n v)) (h v)
-      go (over v) e h = one-turn w v (rw e at (turn-gained w)) (rw e) [] v (no-turn v)
-      go (faulted f s v) e h = one-turn w v (rw e at (turn-gained w)) (rw e) [] v (no-turn v)
+      go (goes v) e h = one-tick w v (rw e at (tick-gained w)) (rw e) (ticksFrom M limits n v) (leftBy (walked M limits n v)) (h v)
+      go (over v) e h = one-tick w v (rw e at (tick-gained w)) (rw e) [] v (no-tick v)
+      go (faulted f s v) e h = one-tick w v (rw e at (tick-gained w)) (rw e) [] v (no-tick v)
 
-  pub course-gains : (l : Ledger) → Gains (fresh M limits l) (courseOf M limits l .turns) (courseOf M limits l .end)
+  pub course-gains : (l : Ledger) → Gains (fresh M limits l) (courseOf M limits l .ticks) (courseOf M limits l .end)
   unfolding courseOf execution
-  course-gains l = walk-gains (limits .turns) (fresh M limits l)
+  course-gains l = walk-gains (limits .ticks) (fresh M limits l)

@@ -11,7 +11,7 @@ use borrow.Author.Tests.{eqb-false}
 use Rattle.rules.specs.Path.{openIn}
 use Rattle.rules.specs.Event as Event
 use Rattle.rules.specs.Event.{Machine}
-use Rattle.rules.specs.Explorer.{Limits, Ledger, Walk, Turn, goes, over, faulted, execution, Execution, executionOf, Verdict, exhausted, spent, stopped, Stop, stop, After, stopsHere, goesOn, nextLedger, after, runFrom, run}
+use Rattle.rules.specs.Explorer.{Limits, Ledger, Walk, Tick, goes, over, faulted, execution, Execution, executionOf, Verdict, exhausted, spent, stopped, Stop, stop, After, stopsHere, goesOn, nextLedger, after, runFrom, run}
 use Rattle.ledger.specs.History.{leftBy, empty, Made, lastly, andOn, Real}
 
 module _ (M : Machine) (limits : Limits) where
@@ -53,7 +53,7 @@ module _ (M : Machine) (limits : Limits) where
       let k : n ≢ 0 = eqb-false n 0 g in
       (w, e, omega arith, refl, refl, omega arith)
 
-  after-follows : (n : ℕ) (l : Ledger) (past : List Execution) (t : Turn (M .State)) → execution M limits l ≡ t → Follows n l past (after (eqb n 0) past t)
+  after-follows : (n : ℕ) (l : Ledger) (past : List Execution) (t : Tick (M .State)) → execution M limits l ≡ t → Follows n l past (after (eqb n 0) past t)
   unfolding after
   after-follows n l past (goes w) e = stop-goes l past (stopped Event.impossible) (w .state) w (ap leftBy e)
   after-follows n l past (over w) e = over-follows n l past w e (eqb (openIn (w .ledger .path)) 0) (eqb n 0) refl refl

@@ -1,6 +1,6 @@
 -- A known path leads: from a state of the machine, with the trace so far, each question asked on the way meets the next of
 -- these records, which agrees with it and answers, and nothing else happens before the last of them has answered.
---     Leads                     the relation, within a number of turns
+--     Leads                     the relation, within a number of ticks
 --     leads-marking             marks keep it
 --     leads-stepped             so does the step to the next path
 --     leads-sound               every record of such a path is sound
@@ -23,7 +23,7 @@ module _ (M : Machine) (limits : Limits) where
   abbrev pub room : List Entry → List Entry → Bool
   room tr es = leb (length tr + length es) (limits .operations)
 
-  -- what must come after, with one turn less
+  -- what must come after, with one tick less
   abbrev pub Ahead : Type 1
   Ahead = M .State → List Entry → ℕ → List Branch → Type 0
 
@@ -40,7 +40,7 @@ module _ (M : Machine) (limits : Limits) where
   Replies F s tr k bs (says a) = Onward F tr (k + 1) bs (M .answered s a)
   Replies F s tr k bs unexpected = ⊥
 
-  -- at a turn
+  -- at a tick
   abbrev pub Asks : Ahead → List Entry → ℕ → List Branch → Event (M .State) → Type 0
   Asks F tr k [] e = Unit {0}
   Asks F tr k (b ∷ bs) (moves s es) = (room tr es ≡ true) × F s (tr ++ es) k (b ∷ bs)

@@ -27,6 +27,6 @@ pub mod Small
 pub mod States
 pub mod Tree
 pub mod Turning
-pub mod Turns
+pub mod Ticks
 pub mod Wrong
 pub mod WrongTree

@@ -1,4 +1,4 @@
--- What is open after a turn is what was open, and what the turn has opened.
+-- What is open after a tick is what was open, and what the tick has opened.
 --     Gained                  records marked, and fresh ones added after them
 --     opened-open             the names
 use Prim.Native.Nat.{ℕ, _+_}

@@ -1,6 +1,6 @@
--- How a turn along a path that leads may come out.
+-- How a tick along a path that leads may come out.
 --     pushed-agrees                  a new record agrees with the question that it is added for
---     Stays, Overs, Ends, Fine       the turn goes on, the execution is over, or it has met a fault
+--     Stays, Overs, Ends, Fine       the tick goes on, the execution is over, or it has met a fault
 use Prim.Native.Nat.{ℕ, _≤_, _<_}
 use mathlib.Core.List.{List, _++_}
 use mathlib.Core.Bool.{Bool, true, false, cond, and-eq-true-iff}
@@ -12,7 +12,7 @@ use borrow.Author.Tests.{ltb-true}
 use Rattle.rules.specs.Path.{Branch, load, noBranch, Added, added, threadAdded, loadAdded, spuriousAdded, lastSchedule, preemptionsAfter}
 use Rattle.rules.specs.Event as Event
 use Rattle.rules.specs.Event.{Machine, asks, Entry, Question, whichThread, whichSlot, whichBit, offers, slotsOf, Answer}
-use Rattle.rules.specs.Explorer.{Limits, Walk, Turn, goes, over, faulted, says, unexpected, reply}
+use Rattle.rules.specs.Explorer.{Limits, Walk, Tick, goes, over, faulted, says, unexpected, reply}
 use Rattle.rules.specs.Explorer.{pushes, orFault, pushed, loadPushed}
 use Rattle.ledger.specs.Replay.{Agrees, seeded}
 use Rattle.ledger.proofs.Marking.{AllMarking}
@@ -53,7 +53,7 @@ pushed-agrees B bs x (whichSlot (offers slots)) b k e h = load-agrees B bs x slo
 pushed-agrees B bs x (whichSlot Event.equal) b k e h = let z : _≡_ {A = ℕ} 0 1 = cc in absurd (omega arith)
 pushed-agrees B bs x whichBit b k e h = let z = just-branch (leb B (length bs)) _ b e in rw (← z) refl
 
--- How a turn comes out
+-- How a tick comes out
 
 module _ (M : Machine) (limits : Limits) where
   -- a branch that is passed has been asked for, and its record agrees
@@ -63,7 +63,7 @@ module _ (M : Machine) (limits : Limits) where
       (s : M .State) × (es : List Entry) × (x : Bool) × (q : Question) × (e ≡ asks s es x q) ×
       Agrees x (getD (v .ledger .path) (w .pos) noBranch) q
 
-  -- the path left, from the place where this turn began, leads from there
+  -- the path left, from the place where this tick began, leads from there
   abbrev pub Back : ℕ → Walk (M .State) → List Branch → Event.Event (M .State) → List Branch → Type 0
   Back n w pre e whole =
       (pre′ : List Branch) × (rest : List Branch) × (whole ≡ pre′ ++ rest) × AllMarking pre pre′ ×
@@ -94,7 +94,7 @@ module _ (M : Machine) (limits : Limits) where
     pub grown : Grown (w .ledger .path) (take (v .pos) (v .ledger .path))
     pub passed : Passed e w v
 
-  abbrev pub Fine : ℕ → Walk (M .State) → List Branch → Event.Event (M .State) → Turn (M .State) → Type 0
+  abbrev pub Fine : ℕ → Walk (M .State) → List Branch → Event.Event (M .State) → Tick (M .State) → Type 0
   Fine n w pre e (goes v) = Stays n w pre e v
   Fine n w pre e (over v) = Overs n w pre e v
   Fine n w pre e (faulted f s v) = Ends w e v

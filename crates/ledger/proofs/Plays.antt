@@ -1,6 +1,6 @@
 -- An execution along a path that leads is the machine played with its choices.
 --     agreed-answer           a record that agrees answers as its choice does
---     turn-plays              one turn
+--     tick-plays              one tick
 --     walk-plays              an execution
 use Prim.Native.Nat.{ℕ, zero, suc, _+_}
 use mathlib.Core.List.{List, [], _∷_, _++_, map, map-append, append-assoc, append-nil}
@@ -14,16 +14,16 @@ use borrow.Author.Tests.{eq-eqb, ne-eqb}
 use Rattle.rules.specs.Path.{Branch, schedule, load, spurious, Choice, choiceOf, noBranch}
 use Rattle.rules.specs.Event as Event
 use Rattle.rules.specs.Event.{Machine, moves, asks, stops, ends, Entry, Question, whichThread, whichSlot, whichBit, offers, Answer, readSlot}
-use Rattle.rules.specs.Explorer.{Limits, Ledger, Walk, Turn, goes, over, faulted, Reply, says, unexpected, reply, Pushed, pushes, faults, pushed, withBranch, withState, noted, allBelow, maxSlots, firstMarked, followed, replied, newBranch, met, asked, taken, turn, walked}
+use Rattle.rules.specs.Explorer.{Limits, Ledger, Walk, Tick, goes, over, faulted, Reply, says, unexpected, reply, Pushed, pushes, faults, pushed, withBranch, withState, noted, allBelow, maxSlots, firstMarked, followed, replied, newBranch, met, asked, taken, tick, walked}
 use Rattle.ledger.specs.History.{leftBy}
 use Rattle.ledger.specs.Replay.{Agrees}
-use Rattle.ledger.specs.Play.{finalOf, answerTo, afterAnswer, atTurn, played}
+use Rattle.ledger.specs.Play.{finalOf, answerTo, afterAnswer, atTick, played}
 use Rattle.ledger.proofs.Marking.{AllMarking, all-length, all-split, marking-choice, firstMarked-marks}
 use Rattle.ledger.proofs.Growth.{Grown, grown-append, marking-grown}
 use Rattle.ledger.proofs.Records.{Answers}
 use Rattle.ledger.proofs.Leads.{room, Asks, Leads, asks-marking, leads-marking}
 use Rattle.ledger.proofs.Outcomes.{pushed-agrees, Stays, Fine}
-use Rattle.ledger.proofs.Turns.{Passing, turn-fine}
+use Rattle.ledger.proofs.Ticks.{Passing, tick-fine}
 
 -- A record's answer and its choice's
 
@@ -59,27 +59,27 @@ all-choices [] (c ∷ cs) m = absurd m
 all-choices (b ∷ bs) [] m = absurd m
 all-choices (b ∷ bs) (c ∷ cs) m = let e = marking-choice (m .0) in let f = all-choices bs cs (m .1) in cc
 
--- One turn
+-- One tick
 
 -- the choices of the branches passed
 abbrev pub made : {S : Type 0} → Walk S → List Choice
 made w = map choiceOf (take (w .pos) (w .ledger .path))
 
 module _ (M : Machine) (limits : Limits) where
-  -- it goes on, and so does the play, with the choices made in this turn used up
+  -- it goes on, and so does the play, with the choices made in this tick used up
   pub record Along (n : ℕ) (w : Walk (M .State)) (pre : List Branch) (e : Event.Event (M .State)) (v : Walk (M .State)) : Type 0 where
     pub used : List Choice
     pub made-is : made v ≡ map choiceOf pre ++ used
     pub plays : (ds : List Choice) →
-        atTurn M limits (played M limits n) (w .trace) (w .pos) (used ++ ds) e ≡ played M limits n (v .state) (v .trace) (v .pos) ds
+        atTick M limits (played M limits n) (w .trace) (w .pos) (used ++ ds) e ≡ played M limits n (v .state) (v .trace) (v .pos) ds
 
   -- it stops, and so does the play
   pub record There (n : ℕ) (w : Walk (M .State)) (pre : List Branch) (e : Event.Event (M .State)) (v : Walk (M .State)) : Type 0 where
     pub used : List Choice
     pub made-is : made v ≡ map choiceOf pre ++ used
-    pub plays : atTurn M limits (played M limits n) (w .trace) (w .pos) used e ≡ finalOf v
+    pub plays : atTick M limits (played M limits n) (w .trace) (w .pos) used e ≡ finalOf v
 
-  abbrev pub Plays : ℕ → Walk (M .State) → List Branch → Event.Event (M .State) → Turn (M .State) → Type 0
+  abbrev pub Plays : ℕ → Walk (M .State) → List Branch → Event.Event (M .State) → Tick (M .State) → Type 0
   Plays n w pre e (goes v) = Along n w pre e v
   Plays n w pre e (over v) = There n w pre e v
   Plays n w pre e (faulted f s v) = There n w pre e v
@@ -106,7 +106,7 @@ module _ (M : Machine) (limits : Limits) (n : ℕ) (w : Walk (M .State)) (pre : 
   -- the play at this question, with this record's choice first
   at-answer : (l : Ledger) (bs : List Branch) (a : Answer) (p : Pass l bs a) (ds : List Choice) (ev : Event.Event (M .State)) →
       M .answered s a ≡ ev →
-      atTurn M limits (played M limits n) (w .trace) (w .pos) (choiceOf (p .b) ∷ ds) (asks s es x q)
+      atTick M limits (played M limits n) (w .trace) (w .pos) (choiceOf (p .b) ∷ ds) (asks s es x q)
       ≡ afterAnswer M limits (played M limits n) (w .trace ++ es) (w .pos + 1) ds ev
   at-answer l bs a p ds ev e =
       let r : answerTo (w .pos) (choiceOf (p .b)) q ≡ says a =
@@ -209,7 +209,7 @@ module _ (M : Machine) (limits : Limits) (n : ℕ) (w : Walk (M .State)) (pre : 
       met-plays began l (r .0) (r .1) (r .2) (r .3) (marking-grown (w .ledger .path) (l .path) m)
       (asks-marking M limits (Leads M limits n) (leads-marking M limits n) (w .trace) (w .pos) rest (r .1) (asks s es x q) (r .4) o)
 
--- A turn
+-- A tick
 
 module _ (M : Machine) (limits : Limits) (n : ℕ) (w : Walk (M .State)) (pre rest : List Branch) (pos-is : w .pos ≡ length pre) (path-is : w .ledger .path ≡ pre ++ rest) where
   so-far : made w ≡ map choiceOf pre ++ []
@@ -232,10 +232,10 @@ module _ (M : Machine) (limits : Limits) (n : ℕ) (w : Walk (M .State)) (pre re
   taken-plays (stops s f) o = record { used = []; made-is = so-far; plays = refl }
   taken-plays (ends s) o = record { used = []; made-is = so-far; plays = refl }
 
-  pub turn-plays : Leads M limits (suc n) (w .state) (w .trace) (w .pos) rest →
-      Plays M limits n w pre (M .next (w .state)) (turn M limits w)
-  unfolding turn Leads
-  turn-plays o = taken-plays (M .next (w .state)) o
+  pub tick-plays : Leads M limits (suc n) (w .state) (w .trace) (w .pos) rest →
+      Plays M limits n w pre (M .next (w .state)) (tick M limits w)
+  unfolding tick Leads
+  tick-plays o = taken-plays (M .next (w .state)) o
 
 -- An execution
 
@@ -244,7 +244,7 @@ module _ (M : Machine) (limits : Limits) where
   abbrev pub Whole : ℕ → Walk (M .State) → List Branch → Walk (M .State) → Type 0
   Whole n w pre v = (ds : List Choice) × (made v ≡ map choiceOf pre ++ ds) × (played M limits n (w .state) (w .trace) (w .pos) ds ≡ finalOf v)
 
-  on-from : (n : ℕ) (w : Walk (M .State)) (pre : List Branch) (t : Turn (M .State)) → Fine M limits n w pre (M .next (w .state)) t →
+  on-from : (n : ℕ) (w : Walk (M .State)) (pre : List Branch) (t : Tick (M .State)) → Fine M limits n w pre (M .next (w .state)) t →
       Plays M limits n w pre (M .next (w .state)) t →
       ((v : Walk (M .State)) (r : Stays M limits n w pre (M .next (w .state)) v) → Whole n v (r .done) (leftBy (walked M limits n v))) →
       Whole (suc n) w pre (leftBy (elim t [ goes v ↦ walked M limits n v | over v ↦ over v | faulted f s v ↦ faulted f s v ]))
@@ -264,5 +264,5 @@ module _ (M : Machine) (limits : Limits) where
   unfolding walked played
   walk-plays zero w pre rest k e o = ([], rw (e, take-at pre rest (w .pos) (sym k), append-nil), refl)
   walk-plays (suc n) w pre rest k e o =
-      on-from n w pre (turn M limits w) (turn-fine M limits n w pre k rest e o) (turn-plays M limits n w pre rest k e o)
+      on-from n w pre (tick M limits w) (tick-fine M limits n w pre k rest e o) (tick-plays M limits n w pre rest k e o)
       (λ v r. walk-plays n v (r .done) (r .rest) (r .pos-is) (r .path-is) (r .ahead))

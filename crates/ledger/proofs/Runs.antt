@@ -12,12 +12,12 @@ use lib.ListN.{length, take}
 use lib.Seq.{take-all}
 use Rattle.rules.specs.Path.{Branch, openIn}
 use Rattle.rules.specs.Event.{Machine, Fault}
-use Rattle.rules.specs.Explorer.{Limits, Ledger, Walk, Turn, goes, over, faulted, turn, walked, fresh, execution, Execution, executionOf, stopped, spent, exhausted, Stop, stop, After, stopsHere, goesOn, nextLedger, after, runFrom}
+use Rattle.rules.specs.Explorer.{Limits, Ledger, Walk, Tick, goes, over, faulted, tick, walked, fresh, execution, Execution, executionOf, stopped, spent, exhausted, Stop, stop, After, stopsHere, goesOn, nextLedger, after, runFrom}
 use Rattle.ledger.proofs.Marking.{AllMarking}
 use Rattle.ledger.proofs.Growth.{Grown, grown-refl, grown-trans}
 use Rattle.ledger.proofs.Leads.{Leads}
 use Rattle.ledger.proofs.Outcomes.{Stays, Fine}
-use Rattle.ledger.proofs.Turns.{turn-fine}
+use Rattle.ledger.proofs.Ticks.{tick-fine}
 
 -- An execution
 
@@ -37,14 +37,14 @@ module _ (M : Machine) (limits : Limits) where
     pub within : v .pos ≤ length (v .ledger .path)
     pub grown : Grown (w .ledger .path) (take (v .pos) (v .ledger .path))
 
-  abbrev pub Walked : ℕ → Walk (M .State) → List Branch → Turn (M .State) → Type 0
+  abbrev pub Walked : ℕ → Walk (M .State) → List Branch → Tick (M .State) → Type 0
   Walked n w pre (goes v) = ⊥
   Walked n w pre (over v) = Completed n w pre v
   Walked n w pre (faulted f s v) = Broken w v
 
-  -- one turn before
+  -- one tick before
   earlier : (n : ℕ) (w : Walk (M .State)) (pre : List Branch) (v : Walk (M .State)) (r : Stays M limits n w pre (M .next (w .state)) v) →
-      (t : Turn (M .State)) → Walked n v (r .done) t → Walked (suc n) w pre t
+      (t : Tick (M .State)) → Walked n v (r .done) t → Walked (suc n) w pre t
   unfolding Leads
   earlier n w pre v r (goes u) c = absurd c
   earlier n w pre v r (over u) c =
@@ -64,12 +64,12 @@ module _ (M : Machine) (limits : Limits) where
         grown = grown-trans (w .ledger .path) (v .ledger .path) (take (u .pos) (u .ledger .path)) (r .grown) (c .grown);
       }
 
-  last-turn : (n : ℕ) (w : Walk (M .State)) (pre : List Branch) (t : Turn (M .State)) → Fine M limits n w pre (M .next (w .state)) t →
+  last-tick : (n : ℕ) (w : Walk (M .State)) (pre : List Branch) (t : Tick (M .State)) → Fine M limits n w pre (M .next (w .state)) t →
       ((v : Walk (M .State)) (r : Stays M limits n w pre (M .next (w .state)) v) → Walked n v (r .done) (walked M limits n v)) →
       Walked (suc n) w pre (elim t [ goes v ↦ walked M limits n v | over v ↦ over v | faulted f s v ↦ faulted f s v ])
   unfolding Leads
-  last-turn n w pre (goes v) r h = earlier n w pre v r (walked M limits n v) (h v r)
-  last-turn n w pre (over v) r h =
+  last-tick n w pre (goes v) r h = earlier n w pre v r (walked M limits n v) (h v r)
+  last-tick n w pre (over v) r h =
       record {
         at-end = r .at-end;
         grown = r .grown;
@@ -79,34 +79,34 @@ module _ (M : Machine) (limits : Limits) where
         marking = r .back .3;
         ahead = r .back .4;
       }
-  last-turn n w pre (faulted f s v) r h = record { within = r .within; grown = r .grown }
+  last-tick n w pre (faulted f s v) r h = record { within = r .within; grown = r .grown }
 
-  spent-turns : (w : Walk (M .State)) (pre rest : List Branch) → w .pos ≡ length pre → w .ledger .path ≡ pre ++ rest →
+  spent-ticks : (w : Walk (M .State)) (pre rest : List Branch) → w .pos ≡ length pre → w .ledger .path ≡ pre ++ rest →
       Leads M limits zero (w .state) (w .trace) (w .pos) rest → Broken w w
   unfolding Leads
-  spent-turns w pre [] k e o =
+  spent-ticks w pre [] k e o =
       let i : length (w .ledger .path) ≡ w .pos = rw (e, append-nil) (sym k) in
       record { within = omega arith; grown = rw (take-all (w .pos) (w .ledger .path) (omega arith)) (grown-refl (w .ledger .path)) }
-  spent-turns w pre (b ∷ bs) k e o = absurd o
+  spent-ticks w pre (b ∷ bs) k e o = absurd o
 
   pub walk-fine : (n : ℕ) (w : Walk (M .State)) (pre rest : List Branch) → w .pos ≡ length pre → w .ledger .path ≡ pre ++ rest →
       Leads M limits n (w .state) (w .trace) (w .pos) rest → Walked n w pre (walked M limits n w)
   unfolding walked
-  walk-fine zero w pre rest k e o = spent-turns w pre rest k e o
+  walk-fine zero w pre rest k e o = spent-ticks w pre rest k e o
   walk-fine (suc n) w pre rest k e o =
-      last-turn n w pre (turn M limits w) (turn-fine M limits n w pre k rest e o)
+      last-tick n w pre (tick M limits w) (tick-fine M limits n w pre k rest e o)
       (λ v r. walk-fine n v (r .done) (r .rest) (r .pos-is) (r .path-is) (r .ahead))
 
   -- that a path leads from the start of an execution
   abbrev pub Known : List Branch → Type 0
-  Known bs = Leads M limits (limits .turns) (M .start) [] 0 bs
+  Known bs = Leads M limits (limits .ticks) (M .start) [] 0 bs
 
-  pub execution-fine : (l : Ledger) → Known (l .path) → Walked (limits .turns) (fresh M limits l) [] (execution M limits l)
+  pub execution-fine : (l : Ledger) → Known (l .path) → Walked (limits .ticks) (fresh M limits l) [] (execution M limits l)
   unfolding execution
-  execution-fine l o = walk-fine (limits .turns) (fresh M limits l) [] (l .path) refl refl o
+  execution-fine l o = walk-fine (limits .ticks) (fresh M limits l) [] (l .path) refl refl o
 
   -- the path that a completed execution leaves is known
-  pub completed-known : (l : Ledger) (v : Walk (M .State)) → Completed (limits .turns) (fresh M limits l) [] v → Known (v .ledger .path)
+  pub completed-known : (l : Ledger) (v : Walk (M .State)) → Completed (limits .ticks) (fresh M limits l) [] v → Known (v .ledger .path)
   completed-known l v c = go (c .pre′) (c .marking) (c .path-is)
     where
       go : (pre : List Branch) → AllMarking [] pre → v .ledger .path ≡ pre ++ c .rest′ → Known (v .ledger .path)
@@ -135,7 +135,7 @@ module _ (M : Machine) (limits : Limits) (I : Ledger → List Execution → Type
   -- the step from one execution to what comes after it
   further : (last : Bool) (l : Ledger) (past : List Execution) → I l past → (k : Ledger → List Execution → Stop (M .State)) →
       (last ≡ false → (m : Ledger) (more : List Execution) → I m more → Q (k m more)) →
-      (t : Turn (M .State)) → execution M limits l ≡ t →
+      (t : Tick (M .State)) → execution M limits l ≡ t →
       Q (elim (after last past t) [ stopsHere r ↦ r | goesOn m more ↦ k m more ])
   unfolding after
   further last l past i k h (goes w) e = absurd (never l past i w e)

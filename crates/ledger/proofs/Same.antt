@@ -9,8 +9,8 @@ use Rattle.rules.specs.Path.{Branch, Bound, unbounded, atMost, Last, none, at, 
 use Rattle.rules.specs.Path.{scheduleMarked, scheduleOpened, markedAt, markedBefore, exploringBelow, before, switchFrom, both, backtracked}
 use Rattle.rules.specs.Event as Event
 use Rattle.rules.specs.Event.{Place, nowhere, branch, Question, whichThread, whichSlot, whichBit, Machine, moves, asks, stops, ends}
-use Rattle.rules.specs.Explorer.{Limits, Ledger, Walk, Turn, goes, over, faulted, Execution, Stop, After, stopsHere, goesOn}
-use Rattle.rules.specs.Explorer.{fresh, backtrackFrom, allMarked, firstMarked, taken, turn, walked, execution, after, runFrom, run}
+use Rattle.rules.specs.Explorer.{Limits, Ledger, Walk, Tick, goes, over, faulted, Execution, Stop, After, stopsHere, goesOn}
+use Rattle.rules.specs.Explorer.{fresh, backtrackFrom, allMarked, firstMarked, taken, tick, walked, execution, after, runFrom, run}
 use Rattle.ledger.specs.Wrong.{right, markedAtBy, markedBeforeBy, backtrackedBy, backtrackFromBy, allMarkedBy, firstMarkedBy, afterBy, takenBy, walkedBy, runFromBy, runBy, Same}
 
 markedAt-same : (bound : Bound) (bs : List Branch) (l : Last) (t : ℕ) → markedAtBy right bound bs l t ≡ markedAt bound bs l t
@@ -47,7 +47,7 @@ firstMarked-same bound l (whichThread points initial standings) = allMarked-same
 firstMarked-same bound l (whichSlot m) = refl
 firstMarked-same bound l whichBit = refl
 
-after-same : {S : Type 0} (last : Bool) (past : List Execution) (t : Turn S) → afterBy right last past t ≡ after last past t
+after-same : {S : Type 0} (last : Bool) (past : List Execution) (t : Tick S) → afterBy right last past t ≡ after last past t
 unfolding afterBy after
 after-same last past (goes w) = refl
 after-same last past (over w) = refl
@@ -60,12 +60,12 @@ module _ (M : Machine) (limits : Limits) where
   taken-same w (stops s f) = refl
   taken-same w (ends s) = refl
 
-  turn-same : (w : Walk (M .State)) → takenBy right M limits w (M .next (w .state)) ≡ turn M limits w
-  unfolding turn
-  turn-same w = taken-same w (M .next (w .state))
+  tick-same : (w : Walk (M .State)) → takenBy right M limits w (M .next (w .state)) ≡ tick M limits w
+  unfolding tick
+  tick-same w = taken-same w (M .next (w .state))
 
-  walked-step : (n : ℕ) → ((v : Walk (M .State)) → walkedBy right M limits n v ≡ walked M limits n v) → (t : Turn (M .State)) →
-      _≡_ {A = Turn (M .State)} (elim t [ goes v ↦ walkedBy right M limits n v | over v ↦ over v | faulted f s v ↦ faulted f s v ])
+  walked-step : (n : ℕ) → ((v : Walk (M .State)) → walkedBy right M limits n v ≡ walked M limits n v) → (t : Tick (M .State)) →
+      _≡_ {A = Tick (M .State)} (elim t [ goes v ↦ walkedBy right M limits n v | over v ↦ over v | faulted f s v ↦ faulted f s v ])
       (elim t [ goes v ↦ walked M limits n v | over v ↦ over v | faulted f s v ↦ faulted f s v ])
   walked-step n more (goes v) = more v
   walked-step n more (over v) = refl
@@ -76,11 +76,11 @@ module _ (M : Machine) (limits : Limits) where
   walked-same zero w = refl
   walked-same (suc n) w =
       walked-step n (λ v. walked-same n v) (takenBy right M limits w (M .next (w .state)))
-      ∙ ap (λ (t : Turn (M .State)). elim t [ goes v ↦ walked M limits n v | over v ↦ over v | faulted f s v ↦ faulted f s v ]) (turn-same w)
+      ∙ ap (λ (t : Tick (M .State)). elim t [ goes v ↦ walked M limits n v | over v ↦ over v | faulted f s v ↦ faulted f s v ]) (tick-same w)
 
-  execution-same : (l : Ledger) → walkedBy right M limits (limits .turns) (fresh M limits l) ≡ execution M limits l
+  execution-same : (l : Ledger) → walkedBy right M limits (limits .ticks) (fresh M limits l) ≡ execution M limits l
   unfolding execution
-  execution-same l = walked-same (limits .turns) (fresh M limits l)
+  execution-same l = walked-same (limits .ticks) (fresh M limits l)
 
   run-step : (n : ℕ) → ((l : Ledger) (past : List Execution) → runFromBy right M limits n l past ≡ runFrom M limits n l past) → (a : After (M .State)) →
       _≡_ {A = Stop (M .State)} (elim a [ stopsHere r ↦ r | goesOn m more ↦ runFromBy right M limits n m more ])
@@ -92,7 +92,7 @@ module _ (M : Machine) (limits : Limits) where
   unfolding runFromBy runFrom
   runFrom-same zero l past = refl
   runFrom-same (suc n) l past =
-      let t = walkedBy right M limits (limits .turns) (fresh M limits l) in
+      let t = walkedBy right M limits (limits .ticks) (fresh M limits l) in
       run-step n (λ m more. runFrom-same n m more) (afterBy right (eqb n 0) past t)
       ∙ ap (λ (a : After (M .State)). elim a [ stopsHere r ↦ r | goesOn m more ↦ runFrom M limits n m more ])
       (after-same (eqb n 0) past t ∙ ap (after (eqb n 0) past) (execution-same l))

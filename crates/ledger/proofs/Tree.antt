@@ -10,7 +10,7 @@ use lib.Seq.{getD-at, take-all}
 use borrow.Author.Tests.{ltb-true, ltb-false}
 use Rattle.rules.specs.Path.{stepped, openIn}
 use Rattle.rules.specs.Event.{Machine}
-use Rattle.rules.specs.Explorer.{Limits, Ledger, Walk, Turn, goes, over, faulted, fresh, execution, Execution, executionOf, nextLedger, runFrom, run}
+use Rattle.rules.specs.Explorer.{Limits, Ledger, Walk, Tick, goes, over, faulted, fresh, execution, Execution, executionOf, nextLedger, runFrom, run}
 use Rattle.ledger.specs.Course.{Every}
 use Rattle.ledger.specs.Tree.{Parted, noExecution, Tree}
 use Rattle.ledger.proofs.Growth.{Grown}
@@ -55,14 +55,14 @@ module _ (M : Machine) (limits : Limits) where
   parts l past i w g =
       pairs-snoc past (executionOf w) (i .pairs)
       (every-map (λ h. Behind (l .path) (h .choices)) (λ h. Parted (h .choices) (executionOf w .choices)) past
-      (λ h b. behind-parted (l .path) (take (w .pos) (w .ledger .path)) (h .choices) (leads-sound M limits (limits .turns) (M .start) [] 0 (l .path) (i .known)) g b)
+      (λ h b. behind-parted (l .path) (take (w .pos) (w .ledger .path)) (h .choices) (leads-sound M limits (limits .ticks) (M .start) [] 0 (l .path) (i .known)) g b)
       (i .behind))
 
-  fine : (l : Ledger) (past : List Execution) → Kept l past → (t : Turn (M .State)) → execution M limits l ≡ t →
-      Walked M limits (limits .turns) (fresh M limits l) [] t
+  fine : (l : Ledger) (past : List Execution) → Kept l past → (t : Tick (M .State)) → execution M limits l ≡ t →
+      Walked M limits (limits .ticks) (fresh M limits l) [] t
   fine l past i t e = rw e at (execution-fine M limits l (i .known))
 
-  whole : (l : Ledger) (w : Walk (M .State)) → Completed M limits (limits .turns) (fresh M limits l) [] w →
+  whole : (l : Ledger) (w : Walk (M .State)) → Completed M limits (limits .ticks) (fresh M limits l) [] w →
       take (w .pos) (w .ledger .path) ≡ w .ledger .path
   whole l w c = take-all (w .pos) (w .ledger .path) (omega (arith, c .at-end))
 
@@ -77,7 +77,7 @@ module _ (M : Machine) (limits : Limits) where
       let n = some-open (w .ledger .path) o in
       let bs = w .ledger .path in
       record {
-        known = leads-stepped M limits (limits .turns) (M .start) [] 0 bs (completed-known M limits l w c);
+        known = leads-stepped M limits (limits .ticks) (M .start) [] 0 bs (completed-known M limits l w c);
         behind = every-append (λ h. Behind (stepped bs) (h .choices)) past (executionOf w ∷ [])
             (every-map (λ h. Behind (l .path) (h .choices)) (λ h. Behind (stepped bs) (h .choices)) past
             (λ h b. behind-stepped bs (h .choices) n (behind-grown (l .path) bs (h .choices) (c .grown) b)) (i .behind))
@@ -96,5 +96,5 @@ tree M limits (suc n) i j h k =
     (λ l past p w e o. parts-over M limits l past p w e)
     (λ l past p f s w e. parts M limits l past p w (fine M limits l past p (faulted f s w) e .grown))
     n (record { path = []; opened = 0 }) []
-    (record { known = leads-nil M limits (limits .turns) (M .start) [] 0; behind = tt; pairs = λ a b c d. absurd (omega arith) })
+    (record { known = leads-nil M limits (limits .ticks) (M .start) [] 0; behind = tt; pairs = λ a b c d. absurd (omega arith) })
     i j h k

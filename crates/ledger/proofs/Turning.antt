@@ -13,7 +13,7 @@ use lib.Seq.{take-all}
 use borrow.Author.Tests.{eqb-true}
 use Rattle.rules.specs.Path.{choiceOf, stepped, openIn}
 use Rattle.rules.specs.Event.{Machine, Fault}
-use Rattle.rules.specs.Explorer.{Limits, Ledger, Walk, Turn, goes, over, faulted, fresh, execution, Execution, executionOf, Verdict, stopped, spent, exhausted, Stop, stop, stopsHere, goesOn, nextLedger, after, runFrom, run}
+use Rattle.rules.specs.Explorer.{Limits, Ledger, Walk, Tick, goes, over, faulted, fresh, execution, Execution, executionOf, Verdict, stopped, spent, exhausted, Stop, stop, stopsHere, goesOn, nextLedger, after, runFrom, run}
 use Rattle.ledger.specs.Course.{Every, Course, courseOf, coursesFrom, courses, executed, Records}
 use Rattle.ledger.specs.Balance.{begun, opened}
 use Rattle.ledger.specs.History.{leftBy}
@@ -28,7 +28,7 @@ use Rattle.ledger.proofs.Gains.{Gains, course-gains}
 use Rattle.ledger.proofs.Balance.{run-balance}
 use Rattle.ledger.proofs.Courses.{records}
 use Rattle.ledger.proofs.Partings.{turns-part}
-use Rattle.ledger.proofs.Points.{turn-place, grown-choices}
+use Rattle.ledger.proofs.Points.{tick-place, grown-choices}
 use Rattle.ledger.proofs.Lists.{perm-length, every-map, every-append, every-mem, disjoint-by, left-comm}
 
 not-spent : spent ≡ exhausted → ⊥
@@ -57,7 +57,7 @@ module _ (M : Machine) (limits : Limits) where
   endOf : Ledger → Walk (M .State)
   endOf l = courseOf M limits l .end
 
-  end-is : (l : Ledger) (t : Turn (M .State)) → execution M limits l ≡ t → endOf l ≡ leftBy t
+  end-is : (l : Ledger) (t : Tick (M .State)) → execution M limits l ≡ t → endOf l ≡ leftBy t
   unfolding endOf courseOf
   end-is l t e = ap leftBy e
 
@@ -65,7 +65,7 @@ module _ (M : Machine) (limits : Limits) where
   unfolding endOf courseOf
   grown-end l k = go (execution M limits l) (execution-fine M limits l k)
     where
-      go : (t : Turn (M .State)) → Walked M limits (limits .turns) (fresh M limits l) [] t →
+      go : (t : Tick (M .State)) → Walked M limits (limits .ticks) (fresh M limits l) [] t →
           Grown (l .path) (take (leftBy t .pos) (leftBy t .ledger .path))
       go (goes w) c = absurd c
       go (over w) c = rw (take-all (w .pos) (w .ledger .path) (omega (arith, c .at-end))) (c .grown)
@@ -76,7 +76,7 @@ module _ (M : Machine) (limits : Limits) where
       List·Nodup (past ++ openNames (w .ledger .path))
   unfolding endOf
   once-open l past i w e =
-      let g = subst (λ v. Gains M limits (fresh M limits l) (courseOf M limits l .turns) v) e (course-gains M limits l) in
+      let g = subst (λ v. Gains M limits (fresh M limits l) (courseOf M limits l .ticks) v) e (course-gains M limits l) in
       let p = g .proper (i .proper) in
       (nodup-append {l₁ = past} {l₂ = openNames (w .ledger .path)}) .1 (
         i .once,
@@ -92,7 +92,7 @@ module _ (M : Machine) (limits : Limits) where
       (v ≡ exhausted → openNames (w .ledger .path) ≡ []) → Tale l past [] (stop v s w hs)
   unfolding endOf joinedOver
   stops l past i w e v s hs x =
-      let g = subst (λ u. Gains M limits (fresh M limits l) (courseOf M limits l .turns) u) e (course-gains M limits l) in
+      let g = subst (λ u. Gains M limits (fresh M limits l) (courseOf M limits l .ticks) u) e (course-gains M limits l) in
       record {
         opens = rw append-nil (g .opens);
         once = rw append-nil (once-open l past i w e);
@@ -110,14 +110,14 @@ module _ (M : Machine) (limits : Limits) where
   unfolding next-name endOf
   kept-on l past i w e n =
       let bs = w .ledger .path in
-      let g = subst (λ v. Gains M limits (fresh M limits l) (courseOf M limits l .turns) v) (end-is l (over w) e) (course-gains M limits l) in
+      let g = subst (λ v. Gains M limits (fresh M limits l) (courseOf M limits l .ticks) v) (end-is l (over w) e) (course-gains M limits l) in
       let p = g .proper (i .proper) in
       let q = every-map (Reached (l .path)) (Reached bs) past (λ c h. reached-grown (l .path) bs c (g .grown) h) (i .reached) in
       let m : List·Mem (map choiceOf (stepped bs)) (openNames bs) = Perm·mem-iff (stepped-open bs p n) .1 mem-cons-self in
       let u : Reached bs (map choiceOf (stepped bs)) →
       ⊥ = ∥∥₁-elim m ¬-prop (λ d. every-mem (λ c. Reached bs c → ⊥) (openNames bs) (unreached bs p) (map choiceOf (stepped bs)) d) in
       record {
-        known = leads-stepped M limits (limits .turns) (M .start) [] 0 bs (completed-known M limits l w (rw e at (execution-fine M limits l (i .known))));
+        known = leads-stepped M limits (limits .ticks) (M .start) [] 0 bs (completed-known M limits l w (rw e at (execution-fine M limits l (i .known))));
         proper = proper-stepped bs p;
         reached = every-append (Reached (stepped bs)) past (map choiceOf (stepped bs) ∷ [])
             (every-map (Reached bs) (Reached (stepped bs)) past (λ c h. reached-stepped bs c n h) q) (reached-all (stepped bs), tt);
@@ -134,10 +134,10 @@ module _ (M : Machine) (limits : Limits) where
   turns-here l past i w e n =
       let bs = w .ledger .path in
       let m = nextLedger (w .ledger) in
-      let g = subst (λ v. Gains M limits (fresh M limits l) (courseOf M limits l .turns) v) (end-is l (over w) e) (course-gains M limits l) in
-      let r = turn-place bs (g .proper (i .proper)) n in
+      let g = subst (λ v. Gains M limits (fresh M limits l) (courseOf M limits l .ticks) v) (end-is l (over w) e) (course-gains M limits l) in
+      let r = tick-place bs (g .proper (i .proper)) n in
       let c = rw e at (execution-fine M limits l (i .known)) in
-      let k : Known M limits (stepped bs) = leads-stepped M limits (limits .turns) (M .start) [] 0 bs (completed-known M limits l w c) in
+      let k : Known M limits (stepped bs) = leads-stepped M limits (limits .ticks) (M .start) [] 0 bs (completed-known M limits l w c) in
       let z : executionOf (leftBy (execution M limits l)) .choices ≡ map choiceOf bs =
       ap (λ t. executionOf (leftBy t) .choices) e ∙ ap (map choiceOf) (take-all (w .pos) bs (omega (arith, c .at-end))) in
       record {
@@ -167,7 +167,7 @@ module _ (M : Machine) (limits : Limits) where
   unfolding endOf joinedOver next-name courseOf
   goes-on l past i w e n rest r h =
       let bs = w .ledger .path in
-      let g = subst (λ v. Gains M limits (fresh M limits l) (courseOf M limits l .turns) v) (end-is l (over w) e) (course-gains M limits l) in
+      let g = subst (λ v. Gains M limits (fresh M limits l) (courseOf M limits l .ticks) v) (end-is l (over w) e) (course-gains M limits l) in
       record {
         opens = onwards (openedCourse M limits (courseOf M limits l)) (joinedOver (openedCourse M limits) (courseOf M limits (nextLedger (w .ledger)) ∷ rest))
             (openNames (l .path)) (openNames bs) (openNames (stepped bs)) (map turningPoint rest) (openNames (r .walk .ledger .path)) (map choiceOf (stepped bs))
@@ -183,7 +183,7 @@ module _ (M : Machine) (limits : Limits) where
       (k : Ledger → List Execution → List (Course (M .State))) (h : Ledger → List Execution → Stop (M .State)) →
       (last ≡ false → (m : Ledger) (more : List Name) (hs : List Execution) → Kept m more →
       (rest : List (Course (M .State))) × (k m hs ≡ courseOf M limits m ∷ rest) × Tale m more rest (h m hs)) →
-      (t : Turn (M .State)) → execution M limits l ≡ t →
+      (t : Tick (M .State)) → execution M limits l ≡ t →
       Tale l names (elim (after last past t) [ stopsHere r ↦ [] | goesOn m more ↦ k m more ])
       (elim (after last past t) [ stopsHere r ↦ r | goesOn m more ↦ h m more ])
   unfolding after
@@ -224,7 +224,7 @@ module _ (M : Machine) (limits : Limits) where
   unfolding run
   turned-by n =
       told n (record { path = []; opened = 0 }) [] []
-      (record { known = leads-nil M limits (limits .turns) (M .start) [] 0; proper = tt; reached = tt; once = Pairwise·nil })
+      (record { known = leads-nil M limits (limits .ticks) (M .start) [] 0; proper = tt; reached = tt; once = Pairwise·nil })
 
 others-length : {A : Type 0} (xs : List A) → 1 ≤ length xs → suc (length (others xs)) ≡ length xs
 others-length [] h = absurd (omega arith)

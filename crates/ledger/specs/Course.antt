@@ -1,5 +1,5 @@
--- The executions of a run, each from its beginning to its end, turn by turn, as the definition's run makes them.
---     Course, courseOf       an execution: the path that it began with, its turns, and how it was left
+-- The executions of a run, each from its beginning to its end, tick by tick, as the definition's run makes them.
+--     Course, courseOf       an execution: the path that it began with, its ticks, and how it was left
 --     courses                all executions of a run
 --     Every                  that each of a list has a property
 --     Records                they are the executions of the run's history
@@ -9,29 +9,29 @@ use mathlib.Core.Path.{_≡_}
 use lib.Dec.{eqb}
 use Rattle.rules.specs.Path.{Branch}
 use Rattle.rules.specs.Event.{Machine}
-use Rattle.rules.specs.Explorer.{Walk, goes, over, faulted, turn, fresh, execution, Ledger, Limits, Execution, executionOf, after, stopsHere, goesOn, run}
+use Rattle.rules.specs.Explorer.{Walk, goes, over, faulted, tick, fresh, execution, Ledger, Limits, Execution, executionOf, after, stopsHere, goesOn, run}
 use Rattle.ledger.specs.History.{leftBy, empty}
 
 abbrev pub Every : {A : Type 0} → (A → Type 0) → List A → Type 0
 Every P [] = Unit {0}
 Every P (x ∷ xs) = P x × Every P xs
 
--- an execution: the path known when it began, the walks from which its turns were made, and the walk that was left
+-- an execution: the path known when it began, the walks from which its ticks were made, and the walk that was left
 pub record Course (S : Type 0) : Type 0 where
   pub known : List Branch
-  pub turns : List (Walk S)
+  pub ticks : List (Walk S)
   pub end : Walk S
 
 module _ (M : Machine) (limits : Limits) where
-  -- the walks from which an execution's turns are made, at most n
-  unfoldable pub turnsFrom : ℕ → Walk (M .State) → List (Walk (M .State))
-  turnsFrom zero w = []
-  turnsFrom (suc n) w = w ∷ elim (turn M limits w) [ goes v ↦ turnsFrom n v | over v ↦ [] | faulted f s v ↦ [] ]
+  -- the walks from which an execution's ticks are made, at most n
+  unfoldable pub ticksFrom : ℕ → Walk (M .State) → List (Walk (M .State))
+  ticksFrom zero w = []
+  ticksFrom (suc n) w = w ∷ elim (tick M limits w) [ goes v ↦ ticksFrom n v | over v ↦ [] | faulted f s v ↦ [] ]
 
   unfoldable pub courseOf : Ledger → Course (M .State)
   courseOf l = record {
     known = l .path;
-    turns = turnsFrom (limits .turns) (fresh M limits l);
+    ticks = ticksFrom (limits .ticks) (fresh M limits l);
     end = leftBy (execution M limits l);
   }
 

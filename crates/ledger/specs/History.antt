@@ -5,10 +5,10 @@ use mathlib.Core.List.{List, [], _∷_}
 use mathlib.Core.Path.{_≡_}
 use Rattle.rules.specs.Path.{openIn}
 use Rattle.rules.specs.Event.{Machine}
-use Rattle.rules.specs.Explorer.{Limits, Ledger, Walk, Turn, goes, over, faulted, execution, Execution, executionOf, nextLedger, run}
+use Rattle.rules.specs.Explorer.{Limits, Ledger, Walk, Tick, goes, over, faulted, execution, Execution, executionOf, nextLedger, run}
 
 -- the walk that an execution left, however it ended
-abbrev pub leftBy : {S : Type 0} → Turn S → Walk S
+abbrev pub leftBy : {S : Type 0} → Tick S → Walk S
 leftBy (goes w) = w
 leftBy (over w) = w
 leftBy (faulted f s w) = w

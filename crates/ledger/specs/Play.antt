@@ -58,14 +58,14 @@ module _ (M : Machine) (limits : Limits) where
   atQuestion F s tr k [] q = final s tr
   atQuestion F s tr k (c ∷ cs) q = atReply F s tr k cs (answerTo k c q)
 
-  abbrev pub atTurn : Going → List Entry → ℕ → List Choice → Event (M .State) → Final (M .State)
-  atTurn F tr k cs (moves s es) = onto F tr k cs s es
-  atTurn F tr k cs (asks s es x q) =
+  abbrev pub atTick : Going → List Entry → ℕ → List Choice → Event (M .State) → Final (M .State)
+  atTick F tr k cs (moves s es) = onto F tr k cs s es
+  atTick F tr k cs (asks s es x q) =
       cond (leb (length tr + length es) (limits .operations)) (atQuestion F s (tr ++ es) k cs q) (final s tr)
-  atTurn F tr k cs (stops s f) = final s tr
-  atTurn F tr k cs (ends s) = final s tr
+  atTick F tr k cs (stops s f) = final s tr
+  atTick F tr k cs (ends s) = final s tr
 
-  -- at most n turns
+  -- at most n ticks
   unfoldable pub played : ℕ → Going
   played zero s tr k cs = final s tr
-  played (suc n) s tr k cs = atTurn (played n) tr k cs (M .next s)
+  played (suc n) s tr k cs = atTick (played n) tr k cs (M .next s)

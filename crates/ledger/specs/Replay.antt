@@ -9,7 +9,7 @@ use mathlib.Core.Path.{_≡_}
 use lib.ListN.{length, getD}
 use Rattle.rules.specs.Path.{Branch, schedule, load, spurious, toggled, marked, turned, pendings, noBranch}
 use Rattle.rules.specs.Event.{Machine, Entry, Question, whichThread, whichSlot, whichBit, offers, slotsOf, asks}
-use Rattle.rules.specs.Explorer.{Limits, Walk, turn, seedOf}
+use Rattle.rules.specs.Explorer.{Limits, Walk, tick, seedOf}
 use Rattle.ledger.specs.Course.{Every, Course, courses, executed}
 use Rattle.ledger.specs.History.{leftBy}
 use Rattle.ledger.specs.Play.{finalOf, played}
@@ -42,23 +42,23 @@ Agrees exploring (spurious u) (whichSlot m) = ⊥
 Agrees exploring (spurious u) whichBit = u .exploring ≡ exploring
 
 module _ (M : Machine) (limits : Limits) where
-  -- a turn that passes a branch: it has asked, and the record there, which has answered, agrees with the question
+  -- a tick that passes a branch: it has asked, and the record there, which has answered, agrees with the question
   unfoldable pub Answered : Walk (M .State) → Type 0
   Answered w =
-      w .pos < leftBy (turn M limits w) .pos →
+      w .pos < leftBy (tick M limits w) .pos →
       (s : M .State) ×
       (es : List Entry) ×
       (exploring : Bool) ×
       (q : Question) ×
       (M .next (w .state) ≡ asks s es exploring q) ×
-      Agrees exploring (getD (leftBy (turn M limits w) .ledger .path) (w .pos) noBranch) q
+      Agrees exploring (getD (leftBy (tick M limits w) .ledger .path) (w .pos) noBranch) q
 
   -- an execution: each branch is answered by a record that agrees; the known path has been gone through whenever it is over or
   -- has met a fault; and how it is left is a function of its choices
   pub record Follows (c : Course (M .State)) : Type 0 where
-    pub answered : Every Answered (c .turns)
+    pub answered : Every Answered (c .ticks)
     pub gone-through : length (c .known) ≤ c .end .pos
-    pub by-choices : finalOf (c .end) ≡ played M limits (limits .turns) (M .start) [] 0 (executed c .choices)
+    pub by-choices : finalOf (c .end) ≡ played M limits (limits .ticks) (M .start) [] 0 (executed c .choices)
 
 -- "At every branch of every execution the record that answers agrees with the question asked there .. So an execution is a
 -- function of its choices, and a fault never comes before the known path has been gone through."

@@ -165,7 +165,7 @@ small = record { State = Small; start = start; next = next; answered = answered 
 
 -- with a branch limit, a preemption bound and an execution budget; its two rows fit
 abbrev pub limitsOf : ℕ → Bound → Limits
-limitsOf B bound = record { branches = B; operations = 2; bound = bound; turns = 32 }
+limitsOf B bound = record { branches = B; operations = 2; bound = bound; ticks = 32 }
 
 abbrev pub runOf : ℕ → Bound → ℕ → Stop Small
 runOf B bound n = run small (limitsOf B bound) n

@@ -14,7 +14,7 @@ use lib.ListN.{length, take, drop, getD}
 use Rattle.rules.specs.Vector.{Whom, nobody, thread}
 use Rattle.rules.specs.Path.{Branch, schedule, load, spurious, Choice, runs, reads, choiceOf, skip, pending}
 use Rattle.rules.specs.Event.{Machine}
-use Rattle.rules.specs.Explorer.{Limits, Walk, turn, run, exhausted, Execution, executionOf}
+use Rattle.rules.specs.Explorer.{Limits, Walk, tick, run, exhausted, Execution, executionOf}
 use Rattle.ledger.specs.Course.{Course, courses}
 use Rattle.ledger.specs.History.{leftBy}
 use Rattle.ledger.specs.Tree.{noChoice}
@@ -85,7 +85,7 @@ unfoldable pub joinedOver : {A B : Type 0} → (A → List B) → List A → Lis
 joinedOver f [] = []
 joinedOver f (x ∷ xs) = f x ++ joinedOver f xs
 
--- where an execution turns: the choices of the path that it began with, of which the last is new
+-- where an execution ticks: the choices of the path that it began with, of which the last is new
 abbrev pub turningPoint : {S : Type 0} → Course S → Name
 turningPoint c = map choiceOf (c .known)
 
@@ -129,12 +129,12 @@ others [] = []
 others (x ∷ xs) = xs
 
 module _ (M : Machine) (limits : Limits) where
-  -- at a turn, in an execution, in a run
-  abbrev pub openedTurn : Walk (M .State) → List Name
-  openedTurn w = openedNames (w .ledger .path) (leftBy (turn M limits w) .ledger .path)
+  -- at a tick, in an execution, in a run
+  abbrev pub openedTick : Walk (M .State) → List Name
+  openedTick w = openedNames (w .ledger .path) (leftBy (tick M limits w) .ledger .path)
 
   abbrev pub openedCourse : Course (M .State) → List Name
-  openedCourse c = joinedOver openedTurn (c .turns)
+  openedCourse c = joinedOver openedTick (c .ticks)
 
   unfoldable pub openedOf : ℕ → List Name
   openedOf n = joinedOver openedCourse (courses M limits n)

@@ -15,7 +15,7 @@ use Rattle.rules.specs.Path.{Branch, schedule, Schedule, Bound, unbounded, atMo
 use Rattle.rules.specs.Path.{marked, openedAt, stepped, takesMarks, withStates, exploringBelow, before, switchFrom, openAt, openIn, turnedBranch}
 use Rattle.rules.specs.Event as Event
 use Rattle.rules.specs.Event.{Place, nowhere, branch, Question, whichThread, whichSlot, whichBit, Machine, moves, asks, stops, ends}
-use Rattle.rules.specs.Explorer.{Limits, Ledger, Walk, Turn, goes, over, faulted, Execution, executionOf, Stop, stop, stopped, exhausted, spent, After, stopsHere, goesOn}
+use Rattle.rules.specs.Explorer.{Limits, Ledger, Walk, Tick, goes, over, faulted, Execution, executionOf, Stop, stop, stopped, exhausted, spent, After, stopsHere, goesOn}
 use Rattle.rules.specs.Explorer.{withState, withLedger, noted, fits, met, fresh, run}
 use Rattle.ledger.specs.Balance.{begun, opened, open-in}
 use Rattle.ledger.specs.Small.{Small, small, limitsOf}
@@ -73,7 +73,7 @@ module _ (P : Parts) where
   abbrev pub nextLedgerBy : Ledger → Ledger
   nextLedgerBy l = record { path = P .step (l .path); opened = l .opened }
 
-  unfoldable pub afterBy : {S : Type 0} → Bool → List Execution → Turn S → After S
+  unfoldable pub afterBy : {S : Type 0} → Bool → List Execution → Tick S → After S
   afterBy last past (goes w) = stopsHere (stop (stopped Event.impossible) (w .state) w past)
   afterBy last past (over w) =
       cond (eqb (openIn (w .ledger .path)) 0) (stopsHere (stop exhausted (w .state) w past))
@@ -82,24 +82,24 @@ module _ (P : Parts) where
   afterBy last past (faulted f began w) = stopsHere (stop (stopped f) began w past)
 
 module _ (P : Parts) (M : Machine) (limits : Limits) where
-  abbrev pub askedBy : M .State → Walk (M .State) → Bool → Question → Turn (M .State)
+  abbrev pub askedBy : M .State → Walk (M .State) → Bool → Question → Tick (M .State)
   askedBy began w exploring q = met M limits began (withLedger w (firstMarkedBy P (limits .bound) (w .ledger) q)) exploring q
 
-  abbrev pub takenBy : Walk (M .State) → Event.Event (M .State) → Turn (M .State)
+  abbrev pub takenBy : Walk (M .State) → Event.Event (M .State) → Tick (M .State)
   takenBy w (moves s es) = cond (fits M limits w es) (goes (noted w s es)) (faulted Event.impossible (w .state) (withState w s))
   takenBy w (asks s es exploring q) =
       cond (fits M limits w es) (askedBy (w .state) (noted w s es) exploring q) (faulted Event.impossible (w .state) (withState w s))
   takenBy w (stops s f) = faulted f (w .state) (withState w s)
   takenBy w (ends s) = over (withState w s)
 
-  unfoldable pub walkedBy : ℕ → Walk (M .State) → Turn (M .State)
+  unfoldable pub walkedBy : ℕ → Walk (M .State) → Tick (M .State)
   walkedBy zero w = faulted Event.impossible (w .state) w
   walkedBy (suc n) w = elim (takenBy w (M .next (w .state))) [ goes v ↦ walkedBy n v | over v ↦ over v | faulted f s v ↦ faulted f s v ]
 
   unfoldable pub runFromBy : ℕ → Ledger → List Execution → Stop (M .State)
   runFromBy zero l past = record { verdict = stopped Event.impossible; began = M .start; walk = fresh M limits l; history = past }
   runFromBy (suc n) l past =
-      elim (afterBy P (eqb n 0) past (walkedBy (limits .turns) (fresh M limits l))) [ stopsHere r ↦ r | goesOn m more ↦ runFromBy n m more ]
+      elim (afterBy P (eqb n 0) past (walkedBy (limits .ticks) (fresh M limits l))) [ stopsHere r ↦ r | goesOn m more ↦ runFromBy n m more ]
 
   unfoldable pub runBy : ℕ → Stop (M .State)
   runBy n = runFromBy n (record { path = []; opened = 0 }) []
@@ -110,7 +110,7 @@ Same = (M : Machine) (limits : Limits) (n : ℕ) → runBy right M limits n ≡ 
 
 -- A part changed
 
--- a step that drops a record with something open: it turns the first branch with an open choice, and drops what stands after
+-- a step that drops a record with something open: it ticks the first branch with an open choice, and drops what stands after
 unfoldable pub steppedFirst : List Branch → List Branch
 steppedFirst [] = []
 steppedFirst (b ∷ bs) = cond (ltb 0 (openAt b)) (turnedBranch b ∷ []) (b ∷ steppedFirst bs)
@@ -149,5 +149,5 @@ pub record Wrong : Type 0 where
   pub dropping : Unbalanced droppingStep 4 4 0
   -- the five executions of P3, and only the loads' choices counted
   pub silent : Unbalanced uncounted 5 2 0
-  -- the two threads of the second branch take turns for ever
+  -- the two threads of the second branch take ticks for ever
   pub again : Unbalanced reopening 10 6 2

@@ -4,7 +4,7 @@ pub mod MeasureAccepted
 pub mod MeasureLoops
 pub mod MeasureStart
 pub mod MeasureSteps
-pub mod MeasureTurns
+pub mod MeasureTicks
 pub mod MeasureWalk
 pub mod RecordLaws
 pub mod StateLaws

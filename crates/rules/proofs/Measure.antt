@@ -1,7 +1,7 @@
--- How writes to the small numbers change the measure. Assumes nothing.
+-- How writes to the numbers change the measure. Assumes nothing.
 --     Is                  the active thread's state and phase, the rows begun, and the other threads' work
 --     seen, toActive      so it is in any state that is whole, also where another thread becomes the active one
---     aside               a write that neither the measure nor what every turn needs reads
+--     aside               a write that neither the measure nor what every tick needs reads
 --     toState, toPhase, toBegun, toCell, otherState       the writes that they read
 use Prim.Native.Nat.{ℕ, zero, suc, _+_, _-_, _≤_, _<_}
 use mathlib.Core.Path.{_≡_, refl, ap₂, _∙_}
@@ -10,8 +10,8 @@ use native.Mathlib.Omega.{arith}
 use native.Mathlib.Decide.{ℕ-discrete}
 use lib.ListN.{length}
 use Rattle.rules.specs.State as State
-use Rattle.rules.specs.State.{State, Small, Number, number, withNumber, numberAt, numbers, threads, cells, operatesOn, phase, activeThread, begun}
-use Rattle.rules.specs.Measure.{turnsLeft, turnsLeftOf, work, Whole}
+use Rattle.rules.specs.State.{State, Numbers, Number, number, withNumber, numberAt, numbersHeld, threads, cells, operatesOn, phase, activeThread, begun}
+use Rattle.rules.specs.Measure.{ticksLeft, ticksLeftOf, work, Whole}
 use Rattle.rules.proofs.StateLaws.{number-same, number-other, number-kept}
 
 -- Five threads
@@ -43,13 +43,13 @@ five-has f (suc (suc (suc (suc zero)))) h = omega arith
 five-has f (suc (suc (suc (suc (suc t))))) h = absurd (omega arith)
 
 -- The active thread t stands so, its row is in this phase, so many rows have begun, and the other threads' work is m
-pub record Is (t s ph b m : ℕ) (a : Small) : Type 0 where
+pub record Is (t s ph b m : ℕ) (a : Numbers) : Type 0 where
   pub whole : Whole a
   pub runs : number a activeThread ≡ t
   pub stands : number a (State.state t) ≡ s
   pub inPhase : number a (phase t) ≡ ph
   pub rows : number a begun ≡ b
-  pub worth : work a ≡ m + turnsLeft s ph
+  pub worth : work a ≡ m + ticksLeft s ph
 
 -- what the measure and `Whole` do not read
 abbrev pub Aside : ℕ → Type 0
@@ -58,23 +58,23 @@ Aside n =
     × (numberAt begun ≢ n)
     × ((i : ℕ) → i < threads → (numberAt (State.state i) ≢ n) × (numberAt (operatesOn i) ≢ n) × (numberAt (phase i) ≢ n))
 
-module _ {t s ph b m : ℕ} {a : Small} (below : t < threads) (is : Is t s ph b m a) where
-  long-with : (k : Number) (v : ℕ) → length (withNumber a k v) ≡ numbers
+module _ {t s ph b m : ℕ} {a : Numbers} (below : t < threads) (is : Is t s ph b m a) where
+  long-with : (k : Number) (v : ℕ) → length (withNumber a k v) ≡ numbersHeld
   long-with k v = number-kept a k v ∙ is .whole .long
 
   -- what a change of the active thread's own state and phase makes of the work
-  worth-with : (c : Small) (x y : ℕ) → number c (State.state t) ≡ x → number c (phase t) ≡ y →
-      ((i : ℕ) → i < threads → i ≢ t → turnsLeftOf c i ≡ turnsLeftOf a i) → work c ≡ m + turnsLeft x y
+  worth-with : (c : Numbers) (x y : ℕ) → number c (State.state t) ≡ x → number c (phase t) ≡ y →
+      ((i : ℕ) → i < threads → i ≢ t → ticksLeftOf c i ≡ ticksLeftOf a i) → work c ≡ m + ticksLeft x y
   worth-with c x y e f same =
-      let was = ap₂ turnsLeft (is .stands) (is .inPhase) in
-      let becomes = ap₂ turnsLeft e f in
-      omega (arith, is .worth, five-one (turnsLeftOf a) (turnsLeftOf c) t below same)
+      let was = ap₂ ticksLeft (is .stands) (is .inPhase) in
+      let becomes = ap₂ ticksLeft e f in
+      omega (arith, is .worth, five-one (ticksLeftOf a) (ticksLeftOf c) t below same)
 
   -- the parts of every thread stand as they stood
-  worth-kept : (c : Small) → ((i : ℕ) → i < threads → number c (State.state i) ≡ number a (State.state i)) →
-      ((i : ℕ) → i < threads → number c (phase i) ≡ number a (phase i)) → work c ≡ m + turnsLeft s ph
+  worth-kept : (c : Numbers) → ((i : ℕ) → i < threads → number c (State.state i) ≡ number a (State.state i)) →
+      ((i : ℕ) → i < threads → number c (phase i) ≡ number a (phase i)) → work c ≡ m + ticksLeft s ph
   worth-kept c stood phased =
-      worth-with c s ph (stood t below ∙ is .stands) (phased t below ∙ is .inPhase) (λ i h d. ap₂ turnsLeft (stood i h) (phased i h))
+      worth-with c s ph (stood t below ∙ is .stands) (phased t below ∙ is .inPhase) (λ i h d. ap₂ ticksLeft (stood i h) (phased i h))
 
   pub aside : (k : Number) (v : ℕ) → Aside (numberAt k) → Is t s ph b m (withNumber a k v)
   aside k v off =
@@ -110,7 +110,7 @@ module _ {t s ph b m : ℕ} {a : Small} (below : t < threads) (is : Is t s ph b 
         inPhase = phased t below ∙ is .inPhase;
         rows = number-other a k begun v (omega arith) ∙ is .rows;
         worth = worth-with c v ph now (phased t below ∙ is .inPhase)
-            (λ i h d. ap₂ turnsLeft (number-other a k (State.state i) v (omega arith)) (phased i h));
+            (λ i h d. ap₂ ticksLeft (number-other a k (State.state i) v (omega arith)) (phased i h));
       }
 
   pub toPhase : (v : ℕ) → Is t s v b m (withNumber a (phase t) v)
@@ -130,7 +130,7 @@ module _ {t s ph b m : ℕ} {a : Small} (below : t < threads) (is : Is t s ph b 
         inPhase = now;
         rows = number-other a k begun v (omega arith) ∙ is .rows;
         worth = worth-with c s v (stood t below ∙ is .stands) now
-            (λ i h d. ap₂ turnsLeft (stood i h) (number-other a k (phase i) v (omega arith)));
+            (λ i h d. ap₂ ticksLeft (stood i h) (number-other a k (phase i) v (omega arith)));
       }
 
   pub toBegun : (v : ℕ) → Is t s ph v m (withNumber a begun v)
@@ -167,7 +167,7 @@ module _ {t s ph b m : ℕ} {a : Small} (below : t < threads) (is : Is t s ph b 
       onCell i h (no d) = rw (number-other a (operatesOn t) (operatesOn i) v (omega arith)) (is .whole .onCell i h)
 
   -- another thread's state: its part of the work changes
-  pub otherState : (i v n : ℕ) → i < threads → i ≢ t → n + turnsLeftOf a i ≡ m + turnsLeft v (number a (phase i)) →
+  pub otherState : (i v n : ℕ) → i < threads → i ≢ t → n + ticksLeftOf a i ≡ m + ticksLeft v (number a (phase i)) →
       Is t s ph b n (withNumber a (State.state i) v)
   otherState i v n h d e =
       let k = State.state i in
@@ -186,22 +186,22 @@ module _ {t s ph b m : ℕ} {a : Small} (below : t < threads) (is : Is t s ph b 
           arith,
           is .worth,
           e,
-          five-one (turnsLeftOf a) (turnsLeftOf c) i h (λ j l u. ap₂ turnsLeft (number-other a k (State.state j) v (omega arith)) (phased j l)),
-          ap₂ turnsLeft (number-same a k v (omega (arith, is .whole .long))) (phased i h),
+          five-one (ticksLeftOf a) (ticksLeftOf c) i h (λ j l u. ap₂ ticksLeft (number-other a k (State.state j) v (omega arith)) (phased j l)),
+          ap₂ ticksLeft (number-same a k v (omega (arith, is .whole .long))) (phased i h),
         );
       }
 
 -- any thread can be looked at
-abbrev pub otherWork : Small → ℕ → ℕ
-otherWork a t = work a - turnsLeftOf a t
+abbrev pub otherWork : Numbers → ℕ → ℕ
+otherWork a t = work a - ticksLeftOf a t
 
-module _ (a : Small) (t : ℕ) (below : t < threads) (whole : Whole a) where
-  pub has-part : work a ≡ otherWork a t + turnsLeftOf a t
-  has-part = omega (arith, five-has (turnsLeftOf a) t below)
+module _ (a : Numbers) (t : ℕ) (below : t < threads) (whole : Whole a) where
+  pub has-part : work a ≡ otherWork a t + ticksLeftOf a t
+  has-part = omega (arith, five-has (ticksLeftOf a) t below)
 
   pub seen : {s ph : ℕ} → number a activeThread ≡ t → number a (State.state t) ≡ s → number a (phase t) ≡ ph →
       Is t s ph (number a begun) (otherWork a t) a
-  seen e f g = record { whole = whole; runs = e; stands = f; inPhase = g; rows = refl; worth = omega (arith, has-part, ap₂ turnsLeft f g) }
+  seen e f g = record { whole = whole; runs = e; stands = f; inPhase = g; rows = refl; worth = omega (arith, has-part, ap₂ ticksLeft f g) }
 
   pub toActive : Is t (number a (State.state t)) (number a (phase t)) (number a begun) (otherWork a t) (withNumber a activeThread t)
   toActive =
@@ -222,7 +222,7 @@ module _ (a : Small) (t : ℕ) (below : t < threads) (whole : Whole a) where
         worth = omega (
           arith,
           has-part,
-          ap₂ turnsLeft (stood t below) (phased t below),
-          five-one (turnsLeftOf a) (turnsLeftOf (withNumber a k t)) t below (λ i h d. ap₂ turnsLeft (stood i h) (phased i h)),
+          ap₂ ticksLeft (stood t below) (phased t below),
+          five-one (ticksLeftOf a) (ticksLeftOf (withNumber a k t)) t below (λ i h d. ap₂ ticksLeft (stood i h) (phased i h)),
         );
       }

@@ -1,8 +1,8 @@
--- No execution of an accepted table runs out of turns: every row of such a table can act, and its start is ready for its first
--- turn. Assumes nothing.
+-- No execution of an accepted table runs out of ticks: every row of such a table can act, and its start is ready for its first
+-- tick. Assumes nothing.
 --     rows-fit             every row of an accepted table can act
---     execution-enough     more turns than an execution is given would change nothing
---     execution-last       it comes out as its last turn does
+--     execution-enough     more ticks than an execution is given would change nothing
+--     execution-last       it comes out as its last tick does
 use Prim.Native.Nat.{ℕ, zero, suc, _+_, _≤_, _<_}
 use mathlib.Core.List.{List, [], _∷_}
 use mathlib.Core.Bool.{Bool, true, false, cond, not, _&&_, _||_}
@@ -18,12 +18,12 @@ use Rattle.rules.specs.Table.{Row, Verdict, good, badHeader, badRow, jud
 use Rattle.rules.specs.State.{State, threads, cells}
 use Rattle.rules.specs.Machine
 use Rattle.rules.specs.Machine.{machine, fitting}
-use Rattle.rules.specs.Explorer.{Ledger, Walk, turn, walked, fresh, execution}
-use Rattle.rules.specs.Explored.{Settings, settingsFine, within, programOf, limitsOf, turnsOf}
+use Rattle.rules.specs.Explorer.{Ledger, Walk, tick, walked, fresh, execution}
+use Rattle.rules.specs.Explored.{Settings, settingsFine, within, programOf, limitsOf, ticksOf}
 use Rattle.rules.specs.Measure.{measure, Ready, RowsFit}
 use Rattle.rules.proofs.MeasureLoops.{both-left, both-right}
 use Rattle.rules.proofs.MeasureStart.{start-ready, start-measure}
-use Rattle.rules.proofs.MeasureWalk.{turns-enough, last-turn}
+use Rattle.rules.proofs.MeasureWalk.{ticks-enough, last-tick}
 
 both : {x y : Bool} → x ≡ true → y ≡ true → (x && y) ≡ true
 both {x} {y} e f = rw (e, f)
@@ -140,25 +140,25 @@ module _ (table : List ℕ) (accepted : judged table ≡ good) where
         (both-right (leb 1 (s .operations)) (leb (s .operations) 4096) (both-right b o (both-left (b && o) (within (s .executions) 65535) e))) in
         omega arith
 
-    -- No execution of an accepted table runs out of turns: with any larger number of turns it comes out the same
-    pub execution-enough : settingsFine s ≡ true → (l : Ledger) (n : ℕ) → turnsOf (s .operations) ≤ n →
+    -- No execution of an accepted table runs out of ticks: with any larger number of ticks it comes out the same
+    pub execution-enough : settingsFine s ≡ true → (l : Ledger) (n : ℕ) → ticksOf (s .operations) ≤ n →
         execution (machine (programOf table s)) (limitsOf s) l
         ≡ walked (machine (programOf table s)) (limitsOf s) n (fresh (machine (programOf table s)) (limitsOf s) l)
     unfolding execution
     execution-enough e l n h =
         let p = programOf table s in
         let d = header-within in
-        let less : measure p (Machine.start p) < turnsOf (s .operations) = start-measure p (d .0) (d .1) (d .2) in
-        turns-enough p (limitsOf s) (operations-within e) rows-fit (turnsOf (s .operations)) n (fresh (machine p) (limitsOf s) l)
+        let less : measure p (Machine.start p) < ticksOf (s .operations) = start-measure p (d .0) (d .1) (d .2) in
+        ticks-enough p (limitsOf s) (operations-within e) rows-fit (ticksOf (s .operations)) n (fresh (machine p) (limitsOf s) l)
         (start-ready p (d .0) (d .1) (d .2)) less (omega arith)
 
-    -- and it comes out as its last turn does
+    -- and it comes out as its last tick does
     pub execution-last : settingsFine s ≡ true → (l : Ledger) →
         (u : Walk State) × Ready (u .state)
-        × (turn (machine (programOf table s)) (limitsOf s) u ≡ execution (machine (programOf table s)) (limitsOf s) l)
+        × (tick (machine (programOf table s)) (limitsOf s) u ≡ execution (machine (programOf table s)) (limitsOf s) l)
     unfolding execution
     execution-last e l =
         let p = programOf table s in
         let d = header-within in
-        last-turn p (limitsOf s) (operations-within e) rows-fit (turnsOf (s .operations)) (fresh (machine p) (limitsOf s) l)
+        last-tick p (limitsOf s) (operations-within e) rows-fit (ticksOf (s .operations)) (fresh (machine p) (limitsOf s) l)
         (start-ready p (d .0) (d .1) (d .2)) (start-measure p (d .0) (d .1) (d .2))

@@ -9,9 +9,9 @@ use native.Mathlib.Decide.{ℕ-discrete}
 use lib.Dec.{eqb}
 use borrow.Author.Tests.{eqb-true, eqb-false}
 use Rattle.rules.specs.State as State
-use Rattle.rules.specs.State.{Small, number, withNumber, threads, phase, awaits}
+use Rattle.rules.specs.State.{Numbers, number, withNumber, threads, phase, awaits}
 use Rattle.rules.specs.Machine.{forThreads, awake, freed, isIn, runnable, blocked, yielded, ended, toBegin}
-use Rattle.rules.specs.Measure.{turnsLeft, turnsLeftOf}
+use Rattle.rules.specs.Measure.{ticksLeft, ticksLeftOf}
 use Rattle.rules.proofs.Measure.{Is, toState, otherState}
 
 -- what holds of both sides of a test holds of what it picks
@@ -28,14 +28,14 @@ both-right true y e = e
 both-right false true e = refl
 both-right false false e = e
 
--- a thread that has yielded has as many turns left as a runnable one
-pub yielded-same : (row : ℕ) → turnsLeft yielded row ≡ turnsLeft runnable row
-unfolding turnsLeft
+-- a thread that has yielded has as many ticks left as a runnable one
+pub yielded-same : (row : ℕ) → ticksLeft yielded row ≡ ticksLeft runnable row
+unfolding ticksLeft
 yielded-same row = refl
 
 -- one that is blocked has at most one less
-blocked-less : (row : ℕ) → (turnsLeft blocked row ≤ turnsLeft runnable row) × (turnsLeft runnable row ≤ turnsLeft blocked row + 1)
-unfolding turnsLeft
+blocked-less : (row : ℕ) → (ticksLeft blocked row ≤ ticksLeft runnable row) × (ticksLeft runnable row ≤ ticksLeft blocked row + 1)
+unfolding ticksLeft
 blocked-less row = by (eqb row toBegin)
   where
     by : (b : Bool) → (cond b 0 1 + 5 ≤ cond b 0 2 + 5) × (cond b 0 2 + 5 ≤ cond b 0 1 + 5 + 1)
@@ -51,7 +51,7 @@ wakes-on d (inl f) = inl f
 wakes-on d (inr f) = inr (f .0, omega (arith, f .1))
 
 module _ {t ph b : ℕ} (below : t < threads) where
-  awake-own : {s m : ℕ} {a : Small} → Is t s ph b m a → Wakes t s t → Is t runnable ph b m (awake t a)
+  awake-own : {s m : ℕ} {a : Numbers} → Is t s ph b m a → Wakes t s t → Is t runnable ph b m (awake t a)
   awake-own {s} {m} {a} is w =
       pick (Is t runnable ph b m) (isIn a yielded t) (λ e. toState below is runnable) (λ e. still e w)
     where
@@ -59,15 +59,15 @@ module _ {t ph b : ℕ} (below : t < threads) where
       still e (inl f) = rw f at is
       still e (inr f) = absurd (eqb-false _ _ e (is .stands ∙ f .0))
 
-  awake-other : {s m : ℕ} {a : Small} (i : ℕ) → i < threads → i ≢ t → Is t s ph b m a → Is t s ph b m (awake i a)
+  awake-other : {s m : ℕ} {a : Numbers} (i : ℕ) → i < threads → i ≢ t → Is t s ph b m a → Is t s ph b m (awake i a)
   awake-other {s} {m} {a} i h d is =
       pick (Is t s ph b m) (isIn a yielded i)
       (λ e. otherState below is i runnable m h d
-      (ap (λ (x : ℕ). m + x) (ap (λ (x : ℕ). turnsLeft x (number a (phase i))) (eqb-true _ _ e) ∙ yielded-same (number a (phase i)))))
+      (ap (λ (x : ℕ). m + x) (ap (λ (x : ℕ). ticksLeft x (number a (phase i))) (eqb-true _ _ e) ∙ yielded-same (number a (phase i)))))
       (λ e. is)
 
   -- "(e) Every yielded thread is then runnable again.": the n threads from i on
-  pub awake-all : {s m : ℕ} (n i : ℕ) (a : Small) → i + n ≡ threads → Is t s ph b m a → Wakes t s i →
+  pub awake-all : {s m : ℕ} (n i : ℕ) (a : Numbers) → i + n ≡ threads → Is t s ph b m a → Wakes t s i →
       Is t runnable ph b m (forThreads awake n i a)
   unfolding forThreads
   awake-all zero i a e is (inl f) = rw f at is
@@ -81,11 +81,11 @@ module _ {t ph b : ℕ} (below : t < threads) where
       own : i ≡ t → Is t runnable ph b m (awake i a)
       own q = rw q (awake-own is (rw q at w))
 
-  -- a thread that is freed has at most one turn more; the thread that has ended is not freed
-  freed-one : {m : ℕ} {a : Small} (i : ℕ) → i < threads → Is t ended ph b m a →
+  -- a thread that is freed has at most one tick more; the thread that has ended is not freed
+  freed-one : {m : ℕ} {a : Numbers} (i : ℕ) → i < threads → Is t ended ph b m a →
       (n : ℕ) × Is t ended ph b n (freed t i a) × (n ≤ m + 1) × (i ≡ t → n ≤ m)
   freed-one {m} {a} i h is =
-      pick (λ (c : Small). (n : ℕ) × Is t ended ph b n c × (n ≤ m + 1) × (i ≡ t → n ≤ m)) (isIn a blocked i && eqb (number a (awaits i)) t)
+      pick (λ (c : Numbers). (n : ℕ) × Is t ended ph b n c × (n ≤ m + 1) × (i ≡ t → n ≤ m)) (isIn a blocked i && eqb (number a (awaits i)) t)
       (λ e. free (eqb-true _ _ (both-left _ _ e)))
       (λ e. (m, is, omega arith, λ q. omega arith))
     where
@@ -95,15 +95,15 @@ module _ {t ph b : ℕ} (below : t < threads) where
           let row = number a (phase i) in
           let d : i ≢ t = λ q. let z : _≡_ {A = ℕ} blocked ended = sym e ∙ (ap (λ (x : ℕ). number a (State.state x)) q ∙ is .stands) in omega arith in
           let l = blocked-less row in
-          let was : turnsLeftOf a i ≡ turnsLeft blocked row = ap (λ (x : ℕ). turnsLeft x row) e in (
-            m + (turnsLeft runnable row - turnsLeft blocked row),
-            otherState below is i runnable (m + (turnsLeft runnable row - turnsLeft blocked row)) h d (omega arith),
+          let was : ticksLeftOf a i ≡ ticksLeft blocked row = ap (λ (x : ℕ). ticksLeft x row) e in (
+            m + (ticksLeft runnable row - ticksLeft blocked row),
+            otherState below is i runnable (m + (ticksLeft runnable row - ticksLeft blocked row)) h d (omega arith),
             omega arith,
             λ q. absurd (d q),
           )
 
   -- "until the target's end makes it runnable": of the n threads from i on, all but the one that has ended
-  pub freed-all : {m : ℕ} (n i : ℕ) (a : Small) → i + n ≡ threads → Is t ended ph b m a →
+  pub freed-all : {m : ℕ} (n i : ℕ) (a : Numbers) → i + n ≡ threads → Is t ended ph b m a →
       (k : ℕ) × Is t ended ph b k (forThreads (freed t) n i a) × (k ≤ m + n) × (i ≤ t → k < m + n)
   unfolding forThreads
   freed-all {m} zero i a e is = (m, is, omega arith, λ h. absurd (omega arith))

@@ -19,19 +19,19 @@ use Rattle.rules.specs.State.{State, number, withNumber, threads, cells,
 use Rattle.rules.specs.Cell.{changeOf, newestOf, unsyncLoadRace, unsyncLoadTracked, leaves, mutRace, mutTracked, withValues, version, loadRace, loadSynced, storeDone, slotOf, Access, raced, read, Race, noRace, raceOf, unlessRace, sighted, loadDone, Changed, success, failure, byChange, succeeded, applied, Change, rmwDone, unsyncLoadDone, mutDone, storeRace, storeTracked, withClocks}
 use Rattle.rules.specs.Machine
 use Rattle.rules.specs.Machine.{Program, active, activeRow, rowOf, runnable, blocked, yielded, ended, toBegin, toAct, completed, fitting}
-use Rattle.rules.specs.Measure.{turnsLeft, turnsLeftOf, measure, Whole, Ready}
+use Rattle.rules.specs.Measure.{ticksLeft, ticksLeftOf, measure, Whole, Ready}
 use Rattle.rules.proofs.Measure.{Is, aside, toState, toPhase, seen, otherWork, has-part}
 use Rattle.rules.proofs.MeasureLoops.{pick, both-left, both-right}
 
 -- the active thread's row is to act
 pub record Acting (p : Program) (n : ℕ) (st : State) : Type 0 where
   pub ready : Ready st
-  pub acts : eqb (number (st .small) (phase (active st))) toBegin ≡ false
+  pub acts : eqb (number (st .numbers) (phase (active st))) toBegin ≡ false
   pub most : measure p st ≤ n
 
 -- what is known when the machine asks: a scheduling has lowered the measure, a row that reads a slot or takes a bit will
 abbrev pub Asked : Program → ℕ → State → Question → Type 0
-Asked p n st (whichThread points initial standings) = Whole (st .small) × (measure p st < n)
+Asked p n st (whichThread points initial standings) = Whole (st .numbers) × (measure p st < n)
 Asked p n st (whichSlot offered) = Acting p n st × (rowOf p (active st) (activeRow st) .object < cells)
 Asked p n st whichBit = Acting p n st
 
@@ -43,41 +43,41 @@ pub data Lower (p : Program) (n : ℕ) : Event.Event State → Type 0 where
   ending : {st : State} → Lower p n (ends st)
 
 -- the measure by the active thread's part, and by any thread's
-pub measure-is : {t s ph b m : ℕ} (p : Program) (st : State) → Is t s ph b m (st .small) →
-    measure p st ≡ 3 * (p .operations - b) + (m + turnsLeft s ph)
+pub measure-is : {t s ph b m : ℕ} (p : Program) (st : State) → Is t s ph b m (st .numbers) →
+    measure p st ≡ 3 * (p .operations - b) + (m + ticksLeft s ph)
 unfolding measure
 measure-is p st is = omega (arith, is .worth, ap (λ (x : ℕ). 3 * (p .operations - x)) (is .rows))
 
-pub measure-part : (p : Program) (st : State) (t : ℕ) → t < threads → Whole (st .small) →
-    measure p st ≡ 3 * (p .operations - number (st .small) begun) + (otherWork (st .small) t + turnsLeftOf (st .small) t)
+pub measure-part : (p : Program) (st : State) (t : ℕ) → t < threads → Whole (st .numbers) →
+    measure p st ≡ 3 * (p .operations - number (st .numbers) begun) + (otherWork (st .numbers) t + ticksLeftOf (st .numbers) t)
 unfolding measure
-measure-part p st t below whole = omega (arith, has-part (st .small) t below whole)
+measure-part p st t below whole = omega (arith, has-part (st .numbers) t below whole)
 
-pub ready-is : {t ph b m : ℕ} (st : State) → t < threads → Is t runnable ph b m (st .small) → Ready st
+pub ready-is : {t ph b m : ℕ} (st : State) → t < threads → Is t runnable ph b m (st .numbers) → Ready st
 ready-is st below is = record {
   whole = is .whole;
   below = rw (is .runs) below;
-  runs = ap (λ (x : ℕ). number (st .small) (State.state x)) (is .runs) ∙ is .stands;
+  runs = ap (λ (x : ℕ). number (st .numbers) (State.state x)) (is .runs) ∙ is .stands;
 }
 
--- the turns that are left where a row is to begin, and where it is to act
-pub at-begin : (turnsLeft runnable toBegin ≡ 5) × (turnsLeft ended toBegin ≡ 0) × (turnsLeft yielded toBegin ≡ 5)
-    × (turnsLeft runnable toAct ≡ 7)
-unfolding turnsLeft
+-- the ticks that are left where a row is to begin, and where it is to act
+pub at-begin : (ticksLeft runnable toBegin ≡ 5) × (ticksLeft ended toBegin ≡ 0) × (ticksLeft yielded toBegin ≡ 5)
+    × (ticksLeft runnable toAct ≡ 7)
+unfolding ticksLeft
 at-begin = (refl, refl, refl, refl)
 
-pub at-act : (row : ℕ) → eqb row toBegin ≡ false → (turnsLeft runnable row ≡ 7) × (turnsLeft blocked row ≡ 6)
-unfolding turnsLeft
+pub at-act : (row : ℕ) → eqb row toBegin ≡ false → (ticksLeft runnable row ≡ 7) × (ticksLeft blocked row ≡ 6)
+unfolding ticksLeft
 at-act row e = rw e (refl, refl)
 
 -- the active thread, where its row is to act
 module _ (p : Program) (n : ℕ) (st : State) (h : Acting p n st) where
-  pub acting-is : Is (active st) runnable (number (st .small) (phase (active st))) (number (st .small) begun)
-      (otherWork (st .small) (active st)) (st .small)
-  acting-is = seen (st .small) (active st) (h .ready .below) (h .ready .whole) refl (h .ready .runs) refl
+  pub acting-is : Is (active st) runnable (number (st .numbers) (phase (active st))) (number (st .numbers) begun)
+      (otherWork (st .numbers) (active st)) (st .numbers)
+  acting-is = seen (st .numbers) (active st) (h .ready .below) (h .ready .whole) refl (h .ready .runs) refl
 
-  pub acting-most : 3 * (p .operations - number (st .small) begun) + (otherWork (st .small) (active st) + 7) ≤ n
-  acting-most = omega (arith, h .most, measure-is p st acting-is, at-act (number (st .small) (phase (active st))) (h .acts))
+  pub acting-most : 3 * (p .operations - number (st .numbers) begun) + (otherWork (st .numbers) (active st) + 7) ≤ n
+  acting-most = omega (arith, h .most, measure-is p st acting-is, at-act (number (st .numbers) (phase (active st))) (h .acts))
 
 -- a row that can act and uses a cell names one
 pub fitting-cell : (row : Row) → fitting row ≡ true → usesCell (row .opcode) ≡ true → row .object < cells
@@ -93,7 +93,7 @@ fitting-cell row f u =
 module _ (p : Program) (t ph b m n : ℕ) (below : t < threads) (acts : eqb ph toBegin ≡ false)
     (most : 3 * (p .operations - b) + (m + 7) ≤ n) where
   abbrev pub At : State → Type 0
-  At st = Is t runnable ph b m (st .small)
+  At st = Is t runnable ph b m (st .numbers)
 
   -- the row is complete
   finished : (st : State) (k : ℕ) (es : List Entry) → At st → Lower p n (moves (completed st t k) es)
@@ -112,7 +112,7 @@ module _ (p : Program) (t ph b m n : ℕ) (below : t < threads) (acts : eqb ph t
   store-at : (st : State) (u c : ℕ) (from : List ℕ) (v o : ℕ) → c < cells → At st → At (storeDone st u c from v o)
   unfolding storeDone
   store-at st u c from v o h is =
-      let store = storeAt c (slotOf (number (st .small) (count c))) in
+      let store = storeAt c (slotOf (number (st .numbers) (count c))) in
       aside below (aside below is (count c) _ (omega arith)) (isSeqCst store) _ (omega arith)
 
   -- what an access leaves, where no race stops it
@@ -152,13 +152,13 @@ module _ (p : Program) (t ph b m n : ℕ) (below : t < threads) (acts : eqb ph t
   unsync-at : (st : State) (c : ℕ) → At st → AtRead (unsyncLoadDone st t c)
   unfolding unsyncLoadDone
   unsync-at st c is =
-      let v = value (st .values) (ofStore (newestOf (st .small) c)) in
+      let v = value (st .values) (ofStore (newestOf (st .numbers) c)) in
       unless-race (unsyncLoadRace (st .clocks) t c) st (read v (withClocks st (unsyncLoadTracked (st .clocks) t c))) is
 
   mut-at : (st : State) (c : ℕ) (change : Change) → At st → AtRead (mutDone st t c change)
   unfolding mutDone
   mut-at st c change is =
-      let store = newestOf (st .small) c in
+      let store = newestOf (st .numbers) c in
       let v = value (st .values) (ofStore store) in
       let values = withValue (st .values) (ofStore store) (leaves (applied change v) v) in
       unless-race (mutRace (st .clocks) t c) st (read v (withValues (withClocks st (mutTracked (st .clocks) t c)) values)) is
@@ -183,19 +183,19 @@ module _ (p : Program) (t ph b m n : ℕ) (below : t < threads) (acts : eqb ph t
       stores-unless (storeRace (up .clocks) t (row .object)) up (withClocks up (storeTracked (up .clocks) t (row .object))) k row v h is
 
   -- a scheduling, where a row or a thread's state has lowered the measure
-  schedules-lower : {s x : ℕ} (st : State) (es : List Entry) → Is t s x b m (st .small) → turnsLeft s x < 7 →
+  schedules-lower : {s x : ℕ} (st : State) (es : List Entry) → Is t s x b m (st .numbers) → ticksLeft s x < 7 →
       Lower p n (Machine.schedules st es)
   unfolding Machine.schedules
   schedules-lower st es is less =
-      let low : Whole (st .small) × (measure p st < n) = (is .whole, omega (arith, measure-is p st is)) in
+      let low : Whole (st .numbers) × (measure p st < n) = (is .whole, omega (arith, measure-is p st is)) in
       asking low
 
   -- "7 yield": the row is complete, the thread has yielded
   yield-lower : (st : State) (k : ℕ) (es : List Entry) → At st → Lower p n (Machine.schedules (completed (Machine.yieldDone st t) t k) es)
   yield-lower st k es is =
       let y1 = aside below (toState below is yielded) (lastYield t) (version (st .clocks) t) (omega arith) in
-      let small = withNumber (withNumber (st .small) (State.state t) yielded) (lastYield t) (version (st .clocks) t) in
-      let y2 = aside below y1 (yields t) (oneMore (number small (yields t))) (omega arith) in
+      let numbers = withNumber (withNumber (st .numbers) (State.state t) yielded) (lastYield t) (version (st .clocks) t) in
+      let y2 = aside below y1 (yields t) (oneMore (number numbers (yields t))) (omega arith) in
       let y3 = aside below y2 (operation t) Machine.noOperation (omega arith) in
       schedules-lower (completed (Machine.yieldDone st t) t k) es (toPhase below (aside below y3 (nextRow t) k (omega arith)) toBegin)
       (omega (arith, at-begin))
@@ -204,7 +204,7 @@ module _ (p : Program) (t ph b m n : ℕ) (below : t < threads) (acts : eqb ph t
   joins-lower : (st : State) (k : ℕ) (row : Row) → At st → Lower p n (Machine.joins st t k row)
   unfolding Machine.joins
   joins-lower st k row is =
-      pick (Lower p n) (Machine.isIn (st .small) ended (row .object))
+      pick (Lower p n) (Machine.isIn (st .numbers) ended (row .object))
       (λ e. finished (Machine.joinedWith st t (row .object)) (oneMore k) _ is)
       (λ e. schedules-lower (Machine.blockedOn st t (row .object)) []
       (aside below (aside below (toState below is blocked) (awaits t) (row .object) (omega arith)) (operation t) Machine.noOperation (omega arith))
@@ -214,9 +214,9 @@ module _ (p : Program) (t ph b m n : ℕ) (below : t < threads) (acts : eqb ph t
   explores-lower : (st : State) (k : ℕ) (row : Row) (on : Bool) → At st → Lower p n (Machine.explores st t k row on)
   explores-lower st k row on is =
       let v : ℕ = cond on 1 0 in
-      pick (Lower p n) (Machine.isSkipping (st .small)) (λ e. finished st (oneMore k) _ is)
-      (λ e. pick (Lower p n) (eqb (number (st .small) exploring) v) (λ f. stopping)
-      (λ f. finished (Machine.withSmall st (withNumber (st .small) exploring v)) (oneMore k) _ (aside below is exploring v (omega arith))))
+      pick (Lower p n) (Machine.isSkipping (st .numbers)) (λ e. finished st (oneMore k) _ is)
+      (λ e. pick (Lower p n) (eqb (number (st .numbers) exploring) v) (λ f. stopping)
+      (λ f. finished (Machine.withNumbers st (withNumber (st .numbers) exploring v)) (oneMore k) _ (aside below is exploring v (omega arith))))
 
   -- a load or an RMW asks for a slot
   slot-lower : (st : State) (row : Row) (explores : Bool) (offered : Event.Matched) → rowOf p (active st) (activeRow st) ≡ row →
@@ -256,7 +256,7 @@ module _ (p : Program) (t ph b m n : ℕ) (below : t < threads) (acts : eqb ph t
       Lower p n (Machine.readFrom p st t k row slot mask)
   unfolding Machine.readFrom
   read-lower st k row slot mask h is =
-      pick (Lower p n) (fitting row && ltb slot (number (st .small) (count (row .object))))
+      pick (Lower p n) (fitting row && ltb slot (number (st .numbers) (count (row .object))))
       (λ e. pick (Lower p n) (eqb (row .opcode) 0)
       (λ f. reads-lower (loadDone st t (row .object) slot (row .order)) k row slot mask (load-at st (row .object) slot (row .order) is))
       (λ f.

@@ -1,8 +1,8 @@
--- Every turn lowers the measure, so an execution that is given more turns than its measure comes out the same however many more
+-- Every tick lowers the measure, so an execution that is given more ticks than its measure comes out the same however many more
 -- it is given. Assumes nothing.
---     turn-lowers       a turn
---     turns-enough      the turns of an execution
---     last-turn         how it comes out
+--     tick-lowers       a tick
+--     ticks-enough      the ticks of an execution
+--     last-tick         how it comes out
 use Prim.Native.Nat.{ℕ, zero, suc, _≤_, _<_}
 use mathlib.Core.Bool.{Bool, true, false, cond, _&&_}
 use mathlib.Core.Path.{_≡_, refl, subst}
@@ -16,11 +16,11 @@ use Rattle.rules.specs.Event.{Question, whichThread, whichSlot, whichBit
 use Rattle.rules.specs.State.{State}
 use Rattle.rules.specs.Machine.{Program, machine}
 use Rattle.rules.specs.Explorer as Explorer
-use Rattle.rules.specs.Explorer.{Limits, Walk, Turn, goes, over, faulted, Reply, says, unexpected, reply, Pushed, pushes, faults, pushed, turn, walked}
+use Rattle.rules.specs.Explorer.{Limits, Walk, Tick, goes, over, faulted, Reply, says, unexpected, reply, Pushed, pushes, faults, pushed, tick, walked}
 use Rattle.rules.specs.Measure.{measure, Ready, RowsFit}
 use Rattle.rules.proofs.MeasureLoops.{pick}
 use Rattle.rules.proofs.MeasureSteps.{Asked, Lower, lowered, asking, stopping, ending}
-use Rattle.rules.proofs.MeasureTurns.{Fits, answered-lower, next-lower}
+use Rattle.rules.proofs.MeasureTicks.{Fits, answered-lower, next-lower}
 
 -- The record answers in the question's kind
 abbrev FitsReply : Question → Reply → Type 0
@@ -44,8 +44,8 @@ reply-fits pos (spurious u) (whichThread points initial standings) = tt
 reply-fits pos (spurious u) (whichSlot m) = tt
 reply-fits pos (spurious u) whichBit = tt
 
--- a turn that goes on has lowered the measure below n
-data Lowers (p : Program) (n : ℕ) : Turn State → Type 0 where
+-- a tick that goes on has lowered the measure below n
+data Lowers (p : Program) (n : ℕ) : Tick State → Type 0 where
   going : {w : Walk State} → Ready (w .state) → measure p (w .state) < n → Lowers p n (goes w)
   isOver : {w : Walk State} → Lowers p n (over w)
   isFaulted : {f : Event.Fault} {s : State} {w : Walk State} → Lowers p n (faulted f s w)
@@ -95,45 +95,45 @@ module _ (p : Program) (limits : Limits) where
     taken-lowers w ending = isOver
 
   module _ (limited : p .operations ≤ largest) (fits : RowsFit p) where
-    lowers : (w : Walk State) → Ready (w .state) → Lowers p (measure p (w .state)) (turn (machine p) limits w)
-    unfolding turn
+    lowers : (w : Walk State) → Ready (w .state) → Lowers p (measure p (w .state)) (tick (machine p) limits w)
+    unfolding tick
     lowers w r = taken-lowers (measure p (w .state)) w (next-lower p limited fits (w .state) r)
 
-    -- The measure falls at every turn. Rows begun is a counted number, so L is at most the largest
-    pub turn-lowers : (w v : Walk State) → Ready (w .state) → turn (machine p) limits w ≡ goes v →
+    -- The measure falls at every tick. Rows begun is a counted number, so L is at most the largest
+    pub tick-lowers : (w v : Walk State) → Ready (w .state) → tick (machine p) limits w ≡ goes v →
         Ready (v .state) × (measure p (v .state) < measure p (w .state))
-    turn-lowers w v r e = gone (subst (Lowers p (measure p (w .state))) e (lowers w r))
+    tick-lowers w v r e = gone (subst (Lowers p (measure p (w .state))) e (lowers w r))
 
-    -- More turns than the measure are enough: how many more does not matter
-    pub turns-enough : (n m : ℕ) (w : Walk State) → Ready (w .state) → measure p (w .state) < n → measure p (w .state) < m →
+    -- More ticks than the measure are enough: how many more does not matter
+    pub ticks-enough : (n m : ℕ) (w : Walk State) → Ready (w .state) → measure p (w .state) < n → measure p (w .state) < m →
         walked (machine p) limits n w ≡ walked (machine p) limits m w
     unfolding walked
-    turns-enough zero m w r h l = absurd (omega arith)
-    turns-enough (suc n) zero w r h l = absurd (omega arith)
-    turns-enough (suc n) (suc m) w r h l = same (turn (machine p) limits w) (lowers w r) (λ v. turns-enough n m v)
+    ticks-enough zero m w r h l = absurd (omega arith)
+    ticks-enough (suc n) zero w r h l = absurd (omega arith)
+    ticks-enough (suc n) (suc m) w r h l = same (tick (machine p) limits w) (lowers w r) (λ v. ticks-enough n m v)
       where
-        same : (x : Turn State) → Lowers p (measure p (w .state)) x →
+        same : (x : Tick State) → Lowers p (measure p (w .state)) x →
             ((v : Walk State) → Ready (v .state) → measure p (v .state) < n → measure p (v .state) < m →
             walked (machine p) limits n v ≡ walked (machine p) limits m v) →
-            _≡_ {A = Turn State}
+            _≡_ {A = Tick State}
             (elim x [ goes v ↦ walked (machine p) limits n v | over v ↦ over v | faulted f s v ↦ faulted f s v ])
             (elim x [ goes v ↦ walked (machine p) limits m v | over v ↦ over v | faulted f s v ↦ faulted f s v ])
         same (goes v) (going k j) more = more v k (omega arith) (omega arith)
         same (over v) k more = refl
         same (faulted f s v) k more = refl
 
-    -- An execution comes out as its last turn does: it never runs out of turns
-    pub last-turn : (n : ℕ) (w : Walk State) → Ready (w .state) → measure p (w .state) < n →
-        (u : Walk State) × Ready (u .state) × (turn (machine p) limits u ≡ walked (machine p) limits n w)
+    -- An execution comes out as its last tick does: it never runs out of ticks
+    pub last-tick : (n : ℕ) (w : Walk State) → Ready (w .state) → measure p (w .state) < n →
+        (u : Walk State) × Ready (u .state) × (tick (machine p) limits u ≡ walked (machine p) limits n w)
     unfolding walked
-    last-turn zero w r h = absurd (omega arith)
-    last-turn (suc n) w r h = last (turn (machine p) limits w) refl (lowers w r) (λ v. last-turn n v)
+    last-tick zero w r h = absurd (omega arith)
+    last-tick (suc n) w r h = last (tick (machine p) limits w) refl (lowers w r) (λ v. last-tick n v)
       where
-        last : (x : Turn State) → turn (machine p) limits w ≡ x → Lowers p (measure p (w .state)) x →
+        last : (x : Tick State) → tick (machine p) limits w ≡ x → Lowers p (measure p (w .state)) x →
             ((v : Walk State) → Ready (v .state) → measure p (v .state) < n →
-            (u : Walk State) × Ready (u .state) × (turn (machine p) limits u ≡ walked (machine p) limits n v)) →
+            (u : Walk State) × Ready (u .state) × (tick (machine p) limits u ≡ walked (machine p) limits n v)) →
             (u : Walk State) × Ready (u .state)
-            × (turn (machine p) limits u ≡ elim x [ goes v ↦ walked (machine p) limits n v | over v ↦ over v | faulted f s v ↦ faulted f s v ])
+            × (tick (machine p) limits u ≡ elim x [ goes v ↦ walked (machine p) limits n v | over v ↦ over v | faulted f s v ↦ faulted f s v ])
         last (goes v) e (going k j) more = more v k (omega arith)
         last (over v) e k more = (w, r, e)
         last (faulted f s v) e k more = (w, r, e)

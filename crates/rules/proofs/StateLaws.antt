@@ -38,16 +38,16 @@ value-other values v w n d = getD-set-other values (State.valueAt v) (State.valu
 pub value-kept : (values : State.Values) (v : State.Value) (n : ℕ) → length (State.withValue values v n) ≡ length values
 value-kept values v n = length-set values (State.valueAt v) n
 
-pub number-same : (small : State.Small) (k : State.Number) (n : ℕ) → State.numberAt k < length small →
-    State.number (State.withNumber small k n) k ≡ n
-number-same small k n h = getD-set-same small (State.numberAt k) n 0 h
+pub number-same : (numbers : State.Numbers) (k : State.Number) (n : ℕ) → State.numberAt k < length numbers →
+    State.number (State.withNumber numbers k n) k ≡ n
+number-same numbers k n h = getD-set-same numbers (State.numberAt k) n 0 h
 
-pub number-other : (small : State.Small) (k j : State.Number) (n : ℕ) → State.numberAt j ≢ State.numberAt k →
-    State.number (State.withNumber small k n) j ≡ State.number small j
-number-other small k j n d = getD-set-other small (State.numberAt k) (State.numberAt j) n 0 d
+pub number-other : (numbers : State.Numbers) (k j : State.Number) (n : ℕ) → State.numberAt j ≢ State.numberAt k →
+    State.number (State.withNumber numbers k n) j ≡ State.number numbers j
+number-other numbers k j n d = getD-set-other numbers (State.numberAt k) (State.numberAt j) n 0 d
 
-pub number-kept : (small : State.Small) (k : State.Number) (n : ℕ) → length (State.withNumber small k n) ≡ length small
-number-kept small k n = length-set small (State.numberAt k) n
+pub number-kept : (numbers : State.Numbers) (k : State.Number) (n : ℕ) → length (State.withNumber numbers k n) ≡ length numbers
+number-kept numbers k n = length-set numbers (State.numberAt k) n
 
 pub marks-same : (marks : State.Marks) (c : ℕ) (rows : List (List ℕ)) → c < length marks →
     State.marksOf (State.withMarks marks c rows) c ≡ rows
@@ -201,7 +201,7 @@ pub numberAt-apart : (v w : State.Number) → inNumbers v → inNumbers w → St
 numberAt-apart v w h k e = sym (number-found v h) ∙ (ap numberNamed e ∙ number-found w k)
 
 -- every name is within its table
-pub vectorAt-within : (v : State.Vector) → inVectors v → State.vectorAt v < State.vectors
+pub vectorAt-within : (v : State.Vector) → inVectors v → State.vectorAt v < State.vectorsHeld
 vectorAt-within (State.causality t) h = omega arith
 vectorAt-within (State.released t) h = omega arith
 vectorAt-within (State.scheduleOf t) h = omega arith
@@ -220,7 +220,7 @@ pub valueAt-within : (v : State.Value) → inValues v → State.valueAt v < Stat
 valueAt-within (State.ofStore s) h = omega arith
 valueAt-within (State.ofRegister r) h = omega arith
 
-pub numberAt-within : (k : State.Number) → inNumbers k → State.numberAt k < State.numbers
+pub numberAt-within : (k : State.Number) → inNumbers k → State.numberAt k < State.numbersHeld
 numberAt-within (State.state t) h = omega arith
 numberAt-within (State.nextRow t) h = omega arith
 numberAt-within (State.rowsOf t) h = omega arith

@@ -14,7 +14,7 @@ use Rattle.rules.specs.Vector.{joined, less, ahead, Whom, nobody, thread
 use Rattle.rules.specs.Seen.{seen, seenBeforeYield, touchedAt, touched, unseens}
 use Rattle.rules.specs.Event.{Matched, offers}
 use Rattle.rules.specs.Event as Event
-use Rattle.rules.specs.State.{State, Clocks, Marks, Values, Small, Vector, Number, vector, withVector, marksOf, withMarks, value, withValue, number, withNumber, storeAt, history, threads}
+use Rattle.rules.specs.State.{State, Clocks, Marks, Values, Numbers, Vector, Number, vector, withVector, marksOf, withMarks, value, withValue, number, withNumber, storeAt, history, threads}
 use Rattle.rules.specs.State.{causality, released, seqCst, loaded, unsyncLoaded, stored, mutated, happensBefore, order, sync, ofStore, count, isSeqCst, lastYield}
 
 -- Orders
@@ -54,8 +54,8 @@ storeSynced clocks t s o =
 abbrev pub liveStores : ℕ → ℕ
 liveStores n = cond (ltb n history) n history
 
-abbrev pub liveIn : Small → ℕ → ℕ
-liveIn small c = liveStores (number small (count c))
+abbrev pub liveIn : Numbers → ℕ → ℕ
+liveIn numbers c = liveStores (number numbers (count c))
 
 abbrev pub orderOf : Clocks → ℕ → ℕ → List ℕ
 orderOf clocks c i = vector clocks (order (storeAt c i))
@@ -65,11 +65,11 @@ abbrev pub seenBy : Clocks → List (List ℕ) → ℕ → ℕ → Bool
 seenBy clocks rows t i = seen (getD rows i []) (vector clocks (causality t))
 
 -- "order, i and j all SeqCst"
-abbrev pub allSeqCst : Small → ℕ → ℕ → ℕ → ℕ → Bool
-allSeqCst small c i j o =
+abbrev pub allSeqCst : Numbers → ℕ → ℕ → ℕ → ℕ → Bool
+allSeqCst numbers c i j o =
     eqb o seqCstOrder
-    && eqb (number small (isSeqCst (storeAt c i))) 1
-    && eqb (number small (isSeqCst (storeAt c j))) 1
+    && eqb (number numbers (isSeqCst (storeAt c i))) 1
+    && eqb (number numbers (isSeqCst (storeAt c j))) 1
 
 -- what a scan says of a store
 pub data Fate : Type 0 where
@@ -94,19 +94,19 @@ fateFrom clocks c i drops (suc n) j =
     ]
 
 -- "(j seen, or i seen by this thread no later than its last yield, or order, i and j all SeqCst)"
-abbrev pub loadDrops : Clocks → List (List ℕ) → Small → ℕ → ℕ → ℕ → ℕ → ℕ → Bool
-loadDrops clocks rows small t c o i j =
+abbrev pub loadDrops : Clocks → List (List ℕ) → Numbers → ℕ → ℕ → ℕ → ℕ → ℕ → Bool
+loadDrops clocks rows numbers t c o i j =
     seenBy clocks rows t j
-    || seenBeforeYield (getD rows i []) t (number small (lastYield t))
-    || allSeqCst small c i j o
+    || seenBeforeYield (getD rows i []) t (number numbers (lastYield t))
+    || allSeqCst numbers c i j o
 
 -- "Match for load"
-unfoldable pub loadFate : Clocks → List (List ℕ) → Small → ℕ → ℕ → ℕ → ℕ → Fate
-loadFate clocks rows small t c o i = fateFrom clocks c i (loadDrops clocks rows small t c o i) (liveIn small c) 0
+unfoldable pub loadFate : Clocks → List (List ℕ) → Numbers → ℕ → ℕ → ℕ → ℕ → Fate
+loadFate clocks rows numbers t c o i = fateFrom clocks c i (loadDrops clocks rows numbers t c o i) (liveIn numbers c) 0
 
 -- "RMW drops at any greater j."
-unfoldable pub rmwFate : Clocks → Small → ℕ → ℕ → Fate
-rmwFate clocks small c i = fateFrom clocks c i (λ (j : ℕ). true) (liveIn small c) 0
+unfoldable pub rmwFate : Clocks → Numbers → ℕ → ℕ → Fate
+rmwFate clocks numbers c i = fateFrom clocks c i (λ (j : ℕ). true) (liveIn numbers c) 0
 
 abbrev pub alsoOffered : Bool → Matched → Matched
 alsoOffered b (offers more) = offers (b ∷ more)
@@ -122,11 +122,11 @@ unfoldable pub matchedFrom : (ℕ → Fate) → ℕ → ℕ → Matched
 matchedFrom fate zero i = offers []
 matchedFrom fate (suc n) i = byFate (fate i) (matchedFrom fate n (i + 1))
 
-unfoldable pub matchedLoad : Clocks → List (List ℕ) → Small → ℕ → ℕ → ℕ → Matched
-matchedLoad clocks rows small t c o = matchedFrom (loadFate clocks rows small t c o) (liveIn small c) 0
+unfoldable pub matchedLoad : Clocks → List (List ℕ) → Numbers → ℕ → ℕ → ℕ → Matched
+matchedLoad clocks rows numbers t c o = matchedFrom (loadFate clocks rows numbers t c o) (liveIn numbers c) 0
 
-unfoldable pub matchedRmw : Clocks → Small → ℕ → Matched
-matchedRmw clocks small c = matchedFrom (rmwFate clocks small c) (liveIn small c) 0
+unfoldable pub matchedRmw : Clocks → Numbers → ℕ → Matched
+matchedRmw clocks numbers c = matchedFrom (rmwFate clocks numbers c) (liveIn numbers c) 0
 
 -- Races
 
@@ -198,9 +198,9 @@ coherentFrom clocks rows t c slot so (suc n) i =
     coherentFrom clocks rows t c slot (cond (coheres clocks rows t c slot i) (joined so (orderOf clocks c i)) so) n (i + 1)
 
 -- the chosen store's order
-unfoldable pub coherent : Clocks → List (List ℕ) → Small → ℕ → ℕ → ℕ → Clocks
-coherent clocks rows small t c slot =
-    withVector clocks (order (storeAt c slot)) (coherentFrom clocks rows t c slot (orderOf clocks c slot) (liveIn small c) 0)
+unfoldable pub coherent : Clocks → List (List ℕ) → Numbers → ℕ → ℕ → ℕ → Clocks
+coherent clocks rows numbers t c slot =
+    withVector clocks (order (storeAt c slot)) (coherentFrom clocks rows t c slot (orderOf clocks c slot) (liveIn numbers c) 0)
 
 -- "A thread's version is its own part."
 abbrev pub version : Clocks → ℕ → ℕ
@@ -244,7 +244,7 @@ seqCstFlag o = cond (eqb o seqCstOrder) 1 0
 -- a store of a value in the cell's next slot, with the sync vector that it starts from
 unfoldable pub storeDone : State → ℕ → ℕ → List ℕ → ℕ → ℕ → State
 storeDone st t c from v o =
-    let n = number (st .small) (count c) in
+    let n = number (st .numbers) (count c) in
     let store = storeAt c (slotOf n) in
     let rows = marksOf (st .marks) c in
     record {
@@ -252,7 +252,7 @@ storeDone st t c from v o =
           (storeOrder (st .clocks) rows n t c) (storeSynced (st .clocks) t from o);
       marks = withMarks (st .marks) c (firstMarked (st .clocks) rows t (slotOf n));
       values = withValue (st .values) (ofStore store) v;
-      small = withNumber (withNumber (st .small) (count c) (oneMore n)) (isSeqCst store) (seqCstFlag o);
+      numbers = withNumber (withNumber (st .numbers) (count c) (oneMore n)) (isSeqCst store) (seqCstFlag o);
     }
 
 -- Accesses
@@ -263,18 +263,18 @@ pub data Access : Type 0 where
   read : ℕ → State → Access
 
 abbrev pub withClocks : State → Clocks → State
-withClocks st clocks = record { clocks = clocks; marks = st .marks; values = st .values; small = st .small }
+withClocks st clocks = record { clocks = clocks; marks = st .marks; values = st .values; numbers = st .numbers }
 
 abbrev pub withBoth : State → Clocks → Marks → State
-withBoth st clocks marks = record { clocks = clocks; marks = marks; values = st .values; small = st .small }
+withBoth st clocks marks = record { clocks = clocks; marks = marks; values = st .values; numbers = st .numbers }
 
 abbrev pub withValues : State → Values → State
-withValues st values = record { clocks = st .clocks; marks = st .marks; values = values; small = st .small }
+withValues st values = record { clocks = st .clocks; marks = st .marks; values = values; numbers = st .numbers }
 
 -- "race (14); coherence; touch": a slot that is read, where there is no race
 unfoldable pub sighted : State → ℕ → ℕ → ℕ → State
 sighted st t c slot =
-    let clocks = coherent (loadTracked (st .clocks) t c) (marksOf (st .marks) c) (st .small) t c slot in
+    let clocks = coherent (loadTracked (st .clocks) t c) (marksOf (st .marks) c) (st .numbers) t c slot in
     withBoth st clocks (touchDone clocks (st .marks) t c slot)
 
 abbrev pub unlessRace : Race → State → Access → Access
@@ -386,14 +386,14 @@ rmwDone st t c slot change o f =
 
 -- Accesses without synchronisation, of the newest store
 
-abbrev pub newestOf : Small → ℕ → ℕ
-newestOf small c = storeAt c (newest (number small (count c)))
+abbrev pub newestOf : Numbers → ℕ → ℕ
+newestOf numbers c = storeAt c (newest (number numbers (count c)))
 
 -- "5 unsynchronised load"
 unfoldable pub unsyncLoadDone : State → ℕ → ℕ → Access
 unsyncLoadDone st t c =
     unlessRace (unsyncLoadRace (st .clocks) t c) st
-    (read (value (st .values) (ofStore (newestOf (st .small) c))) (withClocks st (unsyncLoadTracked (st .clocks) t c)))
+    (read (value (st .values) (ofStore (newestOf (st .numbers) c))) (withClocks st (unsyncLoadTracked (st .clocks) t c)))
 
 -- the value that a change leaves: "also on failure"
 abbrev pub leaves : Changed → ℕ → ℕ
@@ -403,7 +403,7 @@ leaves failure v = v
 -- "6 exclusive change (`with_mut`)": only the newest store's value changes. A failing one still tracks
 unfoldable pub mutDone : State → ℕ → ℕ → Change → Access
 mutDone st t c change =
-    let store = newestOf (st .small) c in
+    let store = newestOf (st .numbers) c in
     let v = value (st .values) (ofStore store) in
     unlessRace (mutRace (st .clocks) t c) st
     (read v (withValues (withClocks st (mutTracked (st .clocks) t c)) (withValue (st .values) (ofStore store) (leaves (applied change v) v))))
@@ -427,13 +427,13 @@ unfoldable pub cellAcquired : Clocks → List (List ℕ) → ℕ → ℕ → ℕ
 cellAcquired clocks rows cnt t c = acquiredFrom clocks rows cnt t c (liveStores cnt) 0
 
 -- "cells in order": n more cells, from cell c on
-unfoldable pub cellsAcquired : Clocks → Marks → Small → ℕ → ℕ → ℕ → Clocks
-cellsAcquired clocks marks small t zero c = clocks
-cellsAcquired clocks marks small t (suc n) c =
-    cellsAcquired (cellAcquired clocks (marksOf marks c) (number small (count c)) t c) marks small t n (c + 1)
+unfoldable pub cellsAcquired : Clocks → Marks → Numbers → ℕ → ℕ → ℕ → Clocks
+cellsAcquired clocks marks numbers t zero c = clocks
+cellsAcquired clocks marks numbers t (suc n) c =
+    cellsAcquired (cellAcquired clocks (marksOf marks c) (number numbers (count c)) t c) marks numbers t n (c + 1)
 
-unfoldable pub fenceAcquired : Clocks → Marks → Small → ℕ → ℕ → Clocks
-fenceAcquired clocks marks small t cells = cellsAcquired clocks marks small t cells 0
+unfoldable pub fenceAcquired : Clocks → Marks → Numbers → ℕ → ℕ → Clocks
+fenceAcquired clocks marks numbers t cells = cellsAcquired clocks marks numbers t cells 0
 
 -- a release fence sets released to the causality
 unfoldable pub fenceReleased : Clocks → ℕ → Clocks
@@ -444,10 +444,10 @@ unfoldable pub fenceSeqCst : Clocks → ℕ → Clocks
 fenceSeqCst clocks t = joinInto (joinInto clocks (causality t) seqCst) seqCst (causality t)
 
 -- "Orders: .. 1 Release, 2 Acquire, 3 AcqRel, 4 SeqCst."
-unfoldable pub fenced : Clocks → Marks → Small → ℕ → ℕ → ℕ → Clocks
-fenced clocks marks small t cells o =
+unfoldable pub fenced : Clocks → Marks → Numbers → ℕ → ℕ → ℕ → Clocks
+fenced clocks marks numbers t cells o =
     cond (eqb o 1) (fenceReleased clocks t)
-    (cond (eqb o 2) (fenceAcquired clocks marks small t cells)
-    (cond (eqb o 3) (fenceReleased (fenceAcquired clocks marks small t cells) t)
-    (cond (eqb o 4) (fenceSeqCst (fenceReleased (fenceAcquired clocks marks small t cells) t) t)
+    (cond (eqb o 2) (fenceAcquired clocks marks numbers t cells)
+    (cond (eqb o 3) (fenceReleased (fenceAcquired clocks marks numbers t cells) t)
+    (cond (eqb o 4) (fenceSeqCst (fenceReleased (fenceAcquired clocks marks numbers t cells) t) t)
     clocks)))

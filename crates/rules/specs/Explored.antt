@@ -55,11 +55,11 @@ noSummary = record { state = 0; rows = 0; yields = 0; version = 0 }
 
 unfoldable pub summary : State → ℕ → Summary
 summary st t =
-    cond (isIn (st .small) absent t) noSummary
+    cond (isIn (st .numbers) absent t) noSummary
     (record {
-      state = number (st .small) (State.state t);
-      rows = number (st .small) (rowsOf t);
-      yields = number (st .small) (yields t);
+      state = number (st .numbers) (State.state t);
+      rows = number (st .numbers) (rowsOf t);
+      yields = number (st .numbers) (yields t);
       version = version (st .clocks) t;
     })
 
@@ -107,7 +107,7 @@ reported r = record {
   begun = length (r .history);
   opened = r .walk .ledger .opened;
   stillOpen = openIn (r .walk .ledger .path);
-  rows = number (r .walk .state .small) begun;
+  rows = number (r .walk .state .numbers) begun;
   thread = cond (namesPlace (r .verdict)) (active (r .began)) 255;
   row = cond (namesPlace (r .verdict)) (activeRow (r .began)) 255;
   kind = verdictKind (r .verdict);
@@ -123,17 +123,17 @@ entriesBytes (e ∷ es) = entryBytes e ++ entriesBytes es
 unfoldable pub noted : ℕ → List Entry → List ℕ
 noted n es = entriesBytes es ++ replicate (n - recordBytes * length es) 0
 
--- more turns than an execution can take: each row that begins takes at most three (it begins, may block once, acts), each
+-- more ticks than an execution can take: each row that begins takes at most three (it begins, may block once, acts), each
 -- thread's end one, and each end may free the joins of four others
-abbrev pub turnsOf : ℕ → ℕ
-turnsOf operations = 3 * operations + 26
+abbrev pub ticksOf : ℕ → ℕ
+ticksOf operations = 3 * operations + 26
 
 abbrev pub limitsOf : Settings → Limits
 limitsOf s = record {
   branches = s .branches;
   operations = s .operations;
   bound = s .bound;
-  turns = turnsOf (s .operations);
+  ticks = ticksOf (s .operations);
 }
 
 abbrev pub programOf : List ℕ → Settings → Program

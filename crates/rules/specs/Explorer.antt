@@ -1,6 +1,6 @@
--- How an event meets the path, an execution as turns, a run as executions, over any machine: document 01, "Settings, buffers,
+-- How an event meets the path, an execution as ticks, a run as executions, over any machine: document 01, "Settings, buffers,
 -- answers" and "Explorer". Assumes nothing.
---     Walk, turn        an execution under way, and its next turn
+--     Walk, tick        an execution under way, and its next tick
 --     Execution         what is left of one that is over: its choices and its trace
 --     run               one execution after another, with their history
 use Prim.Native.Nat.{ℕ, zero, suc, _+_}
@@ -16,12 +16,12 @@ use Rattle.rules.specs.Event as Event
 use Rattle.rules.specs.Event.{Standing, yielded, cannotRun, other, slotsOf}
 use Rattle.rules.specs.Event.{Fault, Entry, Place, nowhere, branch, Matched, offers, Question, whichThread, whichSlot, whichBit, Answer, runThread, readSlot, takeBit, Machine, moves, asks, stops, ends}
 
--- "Branch limit B", "operation limit L", the preemption bound, and how many turns an execution may take
+-- "Branch limit B", "operation limit L", the preemption bound, and how many ticks an execution may take
 pub record Limits : Type 0 where
   pub branches : ℕ
   pub operations : ℕ
   pub bound : Bound
-  pub turns : ℕ
+  pub ticks : ℕ
 
 -- A question meets the path
 
@@ -119,11 +119,11 @@ pub record Walk (S : Type 0) : Type 0 where
   pub pos : ℕ
   pub trace : List Entry
 
--- how a turn comes out; a fault is kept with the state that its turn began in, which says where it was met
-pub data Turn (S : Type 0) : Type 0 where
-  goes : Walk S → Turn S
-  over : Walk S → Turn S
-  faulted : Fault → S → Walk S → Turn S
+-- how a tick comes out; a fault is kept with the state that its tick began in, which says where it was met
+pub data Tick (S : Type 0) : Type 0 where
+  goes : Walk S → Tick S
+  over : Walk S → Tick S
+  faulted : Fault → S → Walk S → Tick S
 
 abbrev pub withState : {S : Type 0} → Walk S → S → Walk S
 withState w s = record { state = s; ledger = w .ledger; pos = w .pos; trace = w .trace }
@@ -144,52 +144,52 @@ module _ (M : Machine) (limits : Limits) where
   fits w es = leb (length (w .trace) + length es) (limits .operations)
 
   -- what follows an answer; a machine that asks again before it has moved has no place here
-  abbrev pub followed : M .State → Walk (M .State) → Event.Event (M .State) → Turn (M .State)
+  abbrev pub followed : M .State → Walk (M .State) → Event.Event (M .State) → Tick (M .State)
   followed began w (moves s es) = cond (fits w es) (goes (noted w s es)) (faulted Event.impossible began (withState w s))
   followed began w (asks s es exploring q) = faulted Event.impossible began (withState w s)
   followed began w (stops s f) = faulted f began (withState w s)
   followed began w (ends s) = over (withState w s)
 
-  abbrev pub replied : M .State → Walk (M .State) → Reply → Turn (M .State)
+  abbrev pub replied : M .State → Walk (M .State) → Reply → Tick (M .State)
   replied began w (says a) = followed began (onward w) (M .answered (w .state) a)
   replied began w unexpected = faulted Event.impossible began w
 
-  abbrev pub newBranch : M .State → Walk (M .State) → Question → Pushed → Turn (M .State)
+  abbrev pub newBranch : M .State → Walk (M .State) → Question → Pushed → Tick (M .State)
   newBranch began w q (pushes b) = replied began (withLedger w (withBranch (w .ledger) b)) (reply (w .pos) b q)
   newBranch began w q (faults f) = faulted f began w
 
   -- past the known path the question adds a branch; before its end the branch there answers
-  abbrev pub met : M .State → Walk (M .State) → Bool → Question → Turn (M .State)
+  abbrev pub met : M .State → Walk (M .State) → Bool → Question → Tick (M .State)
   met began w exploring q =
       cond (eqb (w .pos) (length (w .ledger .path)))
       (newBranch began w q (pushed (limits .branches) (w .ledger .path) exploring q))
       (replied began w (reply (w .pos) (getD (w .ledger .path) (w .pos) noBranch) q))
 
   -- marks are made first: "In a run the first fault stops everything; marks made before it stay."
-  abbrev pub asked : M .State → Walk (M .State) → Bool → Question → Turn (M .State)
+  abbrev pub asked : M .State → Walk (M .State) → Bool → Question → Tick (M .State)
   asked began w exploring q = met began (withLedger w (firstMarked (limits .bound) (w .ledger) q)) exploring q
 
-  abbrev pub taken : Walk (M .State) → Event.Event (M .State) → Turn (M .State)
+  abbrev pub taken : Walk (M .State) → Event.Event (M .State) → Tick (M .State)
   taken w (moves s es) = cond (fits w es) (goes (noted w s es)) (faulted Event.impossible (w .state) (withState w s))
   taken w (asks s es exploring q) =
       cond (fits w es) (asked (w .state) (noted w s es) exploring q) (faulted Event.impossible (w .state) (withState w s))
   taken w (stops s f) = faulted f (w .state) (withState w s)
   taken w (ends s) = over (withState w s)
 
-  unfoldable pub turn : Walk (M .State) → Turn (M .State)
-  turn w = taken w (M .next (w .state))
+  unfoldable pub tick : Walk (M .State) → Tick (M .State)
+  tick w = taken w (M .next (w .state))
 
-  -- the turns of an execution, at most n
-  unfoldable pub walked : ℕ → Walk (M .State) → Turn (M .State)
+  -- the ticks of an execution, at most n
+  unfoldable pub walked : ℕ → Walk (M .State) → Tick (M .State)
   walked zero w = faulted Event.impossible (w .state) w
-  walked (suc n) w = elim (turn w) [ goes v ↦ walked n v | over v ↦ over v | faulted f s v ↦ faulted f s v ]
+  walked (suc n) w = elim (tick w) [ goes v ↦ walked n v | over v ↦ over v | faulted f s v ↦ faulted f s v ]
 
   -- "Start of each execution": the path is what was left, the trace begins anew
   abbrev pub fresh : Ledger → Walk (M .State)
   fresh l = record { state = M .start; ledger = l; pos = 0; trace = [] }
 
-  unfoldable pub execution : Ledger → Turn (M .State)
-  execution l = walked (limits .turns) (fresh l)
+  unfoldable pub execution : Ledger → Tick (M .State)
+  execution l = walked (limits .ticks) (fresh l)
 
 -- A run
 
@@ -207,7 +207,7 @@ pub data Verdict : Type 0 where
   spent : Verdict
   stopped : Fault → Verdict
 
--- where a run stops: the last execution as it was left, the state that its last turn began in, and all executions
+-- where a run stops: the last execution as it was left, the state that its last tick began in, and all executions
 pub record Stop (S : Type 0) : Type 0 where
   pub verdict : Verdict
   pub began : S
@@ -226,7 +226,7 @@ abbrev pub nextLedger : Ledger → Ledger
 nextLedger l = record { path = stepped (l .path); opened = l .opened }
 
 -- "0 an execution ended, no choice open": also at the Nth. "After answer 0 or 1 no `step` is made."
-unfoldable pub after : {S : Type 0} → Bool → List Execution → Turn S → After S
+unfoldable pub after : {S : Type 0} → Bool → List Execution → Tick S → After S
 after last past (goes w) = stopsHere (stop (stopped Event.impossible) (w .state) w past)
 after last past (over w) =
     cond (eqb (openIn (w .ledger .path)) 0) (stopsHere (stop exhausted (w .state) w past))

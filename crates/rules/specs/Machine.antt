@@ -16,7 +16,7 @@ use Rattle.rules.specs.Table.{Row, rowAt, startValue, threadsOf, cellsOf
 use Rattle.rules.specs.Event as Event
 use Rattle.rules.specs.Event.{Fault, Entry, Place, nowhere, branch, Standing, Question, whichThread, whichSlot, whichBit, Answer, runThread, readSlot, takeBit, Machine, moves, asks, stops, ends}
 use Rattle.rules.specs.State as State
-use Rattle.rules.specs.State.{State, Clocks, Marks, Values, Small, Vector, Number, vector, withVector, value, withValue, number, withNumber, marksOf, storeAt, registerAt, vectors, valuesHeld, numbers, threads, cells, history, none}
+use Rattle.rules.specs.State.{State, Clocks, Marks, Values, Numbers, Vector, Number, vector, withVector, value, withValue, number, withNumber, marksOf, storeAt, registerAt, vectorsHeld, valuesHeld, numbersHeld, threads, cells, history, none}
 use Rattle.rules.specs.State.{causality, scheduleOf, mutated, lastAccess, lastNonLoad, ofRegister, ofStore, nextRow, rowsOf, yields, lastYield, operation, operatesOn, phase, awaits, count, accessBranch, nonLoadBranch, activeThread, begun, exploring, skipping}
 use Rattle.rules.specs.Cell.{joinInto, version, slotOf, newest, storeDone, storeRace, storeTracked, loadDone, rmwDone, unsyncLoadDone, mutDone, newestOf, changeOf, fenced, matchedLoad, matchedRmw, Access, raced, read, Race, noRace, raceOf, withClocks, withValues}
 
@@ -51,8 +51,8 @@ yielded = 3
 abbrev pub ended : ℕ
 ended = 4
 
-abbrev pub isIn : Small → ℕ → ℕ → Bool
-isIn small x t = eqb (number small (State.state t)) x
+abbrev pub isIn : Numbers → ℕ → ℕ → Bool
+isIn numbers x t = eqb (number numbers (State.state t)) x
 
 -- a thread's row is to begin, or has begun and is to act
 abbrev pub toBegin : ℕ
@@ -74,29 +74,29 @@ aStore = 2
 abbrev pub anRmw : ℕ
 anRmw = 3
 
-abbrev pub withSmall : State → Small → State
-withSmall st small = record { clocks = st .clocks; marks = st .marks; values = st .values; small = small }
+abbrev pub withNumbers : State → Numbers → State
+withNumbers st numbers = record { clocks = st .clocks; marks = st .marks; values = st .values; numbers = numbers }
 
 -- what is done for the n threads from t on
-unfoldable pub forThreads : (ℕ → Small → Small) → ℕ → ℕ → Small → Small
-forThreads f zero t small = small
-forThreads f (suc n) t small = forThreads f n (t + 1) (f t small)
+unfoldable pub forThreads : (ℕ → Numbers → Numbers) → ℕ → ℕ → Numbers → Numbers
+forThreads f zero t numbers = numbers
+forThreads f (suc n) t numbers = forThreads f n (t + 1) (f t numbers)
 
 -- Start of each execution
 
 -- "without operation or last yield", "have no last access", "registers 0", "Released, SeqCst and schedule vectors are zero."
-abbrev pub noYield : ℕ → Small → Small
-noYield t small = withNumber small (lastYield t) none
+abbrev pub noYield : ℕ → Numbers → Numbers
+noYield t numbers = withNumber numbers (lastYield t) none
 
-abbrev pub noAccess : ℕ → Small → Small
-noAccess c small = withNumber (withNumber small (accessBranch c) none) (nonLoadBranch c) none
+abbrev pub noAccess : ℕ → Numbers → Numbers
+noAccess c numbers = withNumber (withNumber numbers (accessBranch c) none) (nonLoadBranch c) none
 
 unfoldable pub blank : Bool → State
 blank explores = record {
-  clocks = replicate vectors (zeros threads);
+  clocks = replicate vectorsHeld (zeros threads);
   marks = replicate cells (replicate history (unseens threads));
   values = replicate valuesHeld 0;
-  small = withNumber (forThreads noAccess cells 0 (forThreads noYield threads 0 (replicate numbers 0))) exploring (cond explores 1 0);
+  numbers = withNumber (forThreads noAccess cells 0 (forThreads noYield threads 0 (replicate numbersHeld 0))) exploring (cond explores 1 0);
 }
 
 -- "cells take a Release store of their start value": a cell is made as the source makes it, its exclusive vector takes thread 0's
@@ -115,8 +115,8 @@ firstCausality t = cond (eqb t 0) (set (zeros threads) 0 2) (set (set (zeros thr
 -- "All are runnable"
 abbrev pub threadStarted : State → ℕ → State
 threadStarted st t =
-    withSmall (withClocks st (withVector (st .clocks) (causality t) (firstCausality t)))
-    (withNumber (st .small) (State.state t) runnable)
+    withNumbers (withClocks st (withVector (st .clocks) (causality t) (firstCausality t)))
+    (withNumber (st .numbers) (State.state t) runnable)
 
 unfoldable pub threadsStarted : State → ℕ → ℕ → State
 threadsStarted st zero t = st
@@ -136,47 +136,47 @@ start p =
 -- Scheduling
 
 -- the last dependent access: for a load that of the last store or RMW, else the last of any kind
-abbrev pub dependentBranch : Small → ℕ → ℕ → ℕ
-dependentBranch small op c = cond (eqb op aLoad) (number small (nonLoadBranch c)) (number small (accessBranch c))
+abbrev pub dependentBranch : Numbers → ℕ → ℕ → ℕ
+dependentBranch numbers op c = cond (eqb op aLoad) (number numbers (nonLoadBranch c)) (number numbers (accessBranch c))
 
 abbrev pub dependentVector : Clocks → ℕ → ℕ → List ℕ
 dependentVector clocks op c = cond (eqb op aLoad) (vector clocks (lastNonLoad c)) (vector clocks (lastAccess c))
 
 abbrev pub operationOf : State → ℕ → ℕ
-operationOf st t = number (st .small) (operation t)
+operationOf st t = number (st .numbers) (operation t)
 
 abbrev pub cellOf : State → ℕ → ℕ
-cellOf st t = number (st .small) (operatesOn t)
+cellOf st t = number (st .numbers) (operatesOn t)
 
 -- "(a) for each thread in order with a pending operation, if the cell's last dependent access has a vector not ≤ that thread's
 -- schedule vector, `backtrack` from that access's branch for that thread"
 unfoldable pub conflict : State → ℕ → Place
 conflict st t =
     let op = operationOf st t in
-    let at = dependentBranch (st .small) op (cellOf st t) in
+    let at = dependentBranch (st .numbers) op (cellOf st t) in
     cond (eqb op noOperation || eqb at none || atMost (dependentVector (st .clocks) op (cellOf st t)) (vector (st .clocks) (scheduleOf t)))
     nowhere
     (branch at)
 
 -- "the runnable thread with fewest yields, lowest number on a tie": the better of this one and the best so far
-abbrev pub yieldsLess : Small → ℕ → Whom → Bool
-yieldsLess small t nobody = true
-yieldsLess small t (thread best) = ltb (number small (yields t)) (number small (yields best))
+abbrev pub yieldsLess : Numbers → ℕ → Whom → Bool
+yieldsLess numbers t nobody = true
+yieldsLess numbers t (thread best) = ltb (number numbers (yields t)) (number numbers (yields best))
 
-unfoldable pub fewestFrom : Small → Whom → ℕ → ℕ → Whom
-fewestFrom small best zero t = best
-fewestFrom small best (suc n) t =
-    fewestFrom small (cond (isIn small runnable t && yieldsLess small t best) (thread t) best) n (t + 1)
+unfoldable pub fewestFrom : Numbers → Whom → ℕ → ℕ → Whom
+fewestFrom numbers best zero t = best
+fewestFrom numbers best (suc n) t =
+    fewestFrom numbers (cond (isIn numbers runnable t && yieldsLess numbers t best) (thread t) best) n (t + 1)
 
 -- "(b) initial is the current thread if runnable, else the runnable thread with fewest yields, lowest number on a tie"
-unfoldable pub initial : Small → Whom
-initial small =
-    cond (isIn small runnable (number small activeThread)) (thread (number small activeThread)) (fewestFrom small nobody threads 0)
+unfoldable pub initial : Numbers → Whom
+initial numbers =
+    cond (isIn numbers runnable (number numbers activeThread)) (thread (number numbers activeThread)) (fewestFrom numbers nobody threads 0)
 
 -- "(c) .. yielded Yield, not runnable or absent Disabled, others Skip"
-unfoldable pub standing : Small → ℕ → Standing
-standing small t =
-    cond (isIn small yielded t) Event.yielded (cond (isIn small runnable t) Event.other Event.cannotRun)
+unfoldable pub standing : Numbers → ℕ → Standing
+standing numbers t =
+    cond (isIn numbers yielded t) Event.yielded (cond (isIn numbers runnable t) Event.other Event.cannotRun)
 
 -- the five threads
 abbrev pub everyThread : List ℕ
@@ -184,22 +184,22 @@ everyThread = 0 ∷ 1 ∷ 2 ∷ 3 ∷ 4 ∷ []
 
 -- "Scheduling is called before opcodes 0, 1, 2, 3 act (pending operation set first), at yield, at a blocking join and at a
 -- thread's end."
-abbrev pub isExploring : Small → Bool
-isExploring small = eqb (number small exploring) 1
+abbrev pub isExploring : Numbers → Bool
+isExploring numbers = eqb (number numbers exploring) 1
 
 unfoldable pub schedules : State → List Entry → Event.Event State
 schedules st es =
-    asks st es (isExploring (st .small))
-    (whichThread (map (conflict st) everyThread) (initial (st .small)) (map (standing (st .small)) everyThread))
+    asks st es (isExploring (st .numbers))
+    (whichThread (map (conflict st) everyThread) (initial (st .numbers)) (map (standing (st .numbers)) everyThread))
 
 -- "record access with this branch and vector"; a load is no store or RMW
 abbrev pub accessRecorded : State → ℕ → ℕ → ℕ → List ℕ → State
 accessRecorded st op c at parts =
     let clocks = withVector (st .clocks) (lastAccess c) parts in
-    let small = withNumber (st .small) (accessBranch c) at in
+    let numbers = withNumber (st .numbers) (accessBranch c) at in
     cond (eqb op aLoad)
-    (withSmall (withClocks st clocks) small)
-    (withSmall (withClocks st (withVector clocks (lastNonLoad c) parts)) (withNumber small (nonLoadBranch c) at))
+    (withNumbers (withClocks st clocks) numbers)
+    (withNumbers (withClocks st (withVector clocks (lastNonLoad c) parts)) (withNumber numbers (nonLoadBranch c) at))
 
 -- "join the last dependent access's vector into its schedule vector, raise its own part"
 abbrev pub scheduleGrown : State → ℕ → List ℕ
@@ -207,7 +207,7 @@ scheduleGrown st t =
     let op = operationOf st t in
     let own = vector (st .clocks) (scheduleOf t) in
     raised
-    (cond (eqb (dependentBranch (st .small) op (cellOf st t)) none) own (joined own (dependentVector (st .clocks) op (cellOf st t))))
+    (cond (eqb (dependentBranch (st .numbers) op (cellOf st t)) none) own (joined own (dependentVector (st .clocks) op (cellOf st t))))
     t
 
 -- "If the chosen thread has an operation, .."
@@ -218,31 +218,31 @@ accessMade st t at =
     (accessRecorded (withClocks st (withVector (st .clocks) (scheduleOf t) parts)) (operationOf st t) (cellOf st t) at parts)
 
 -- "(e) Every yielded thread is then runnable again."
-abbrev pub awake : ℕ → Small → Small
-awake t small = cond (isIn small yielded t) (withNumber small (State.state t) runnable) small
+abbrev pub awake : ℕ → Numbers → Numbers
+awake t numbers = cond (isIn numbers yielded t) (withNumber numbers (State.state t) runnable) numbers
 
-unfoldable pub allAwake : Small → Small
-allAwake small = forThreads awake threads 0 small
+unfoldable pub allAwake : Numbers → Numbers
+allAwake numbers = forThreads awake threads 0 numbers
 
 -- the chosen thread runs
 unfoldable pub switched : State → ℕ → ℕ → State
 switched st t at =
-    let made = accessMade (withSmall st (withNumber (st .small) activeThread t)) t at in
-    withSmall made (allAwake (made .small))
+    let made = accessMade (withNumbers st (withNumber (st .numbers) activeThread t)) t at in
+    withNumbers made (allAwake (made .numbers))
 
 -- "if every present thread has ended, the execution ends, else 10"
-unfoldable pub allOver : Small → ℕ → ℕ → Bool
-allOver small zero t = true
-allOver small (suc n) t = (isIn small ended t || isIn small absent t) && allOver small n (t + 1)
+unfoldable pub allOver : Numbers → ℕ → ℕ → Bool
+allOver numbers zero t = true
+allOver numbers (suc n) t = (isIn numbers ended t || isIn numbers absent t) && allOver numbers n (t + 1)
 
 -- only a thread that is runnable or has yielded can be chosen
-abbrev pub canRun : Small → ℕ → Bool
-canRun small t = ltb t threads && (isIn small runnable t || isIn small yielded t)
+abbrev pub canRun : Numbers → ℕ → Bool
+canRun numbers t = ltb t threads && (isIn numbers runnable t || isIn numbers yielded t)
 
 -- "(d) the branch chooses. None: .."
 unfoldable pub scheduled : State → Whom → ℕ → Event.Event State
-scheduled st nobody at = cond (allOver (st .small) threads 0) (ends st) (stops st Event.deadlock)
-scheduled st (thread t) at = cond (canRun (st .small) t) (moves (switched st t at) []) (stops st Event.impossible)
+scheduled st nobody at = cond (allOver (st .numbers) threads 0) (ends st) (stops st Event.deadlock)
+scheduled st (thread t) at = cond (canRun (st .numbers) t) (moves (switched st t at) []) (stops st Event.impossible)
 
 -- Rows
 
@@ -256,7 +256,7 @@ entry t k row slot mask v =
 
 -- the row is complete, and this one is next
 abbrev pub completed : State → ℕ → ℕ → State
-completed st t k = withSmall st (withNumber (withNumber (st .small) (nextRow t) k) (phase t) toBegin)
+completed st t k = withNumbers st (withNumber (withNumber (st .numbers) (nextRow t) k) (phase t) toBegin)
 
 -- a row without slot and value
 abbrev pub done : State → ℕ → ℕ → Row → Event.Event State
@@ -277,7 +277,7 @@ abbrev pub storesUnless : Race → State → State → ℕ → ℕ → Row → �
 storesUnless (raceOf kind other) st tracked t k row v = stops st (Event.race kind other)
 storesUnless noRace st tracked t k row v =
     moves (completed (storeDone tracked t (row .object) (zeros threads) v (row .order)) t (oneMore k))
-    (entry t k row (slotOf (number (st .small) (count (row .object)))) 0 v)
+    (entry t k row (slotOf (number (st .numbers) (count (row .object)))) 0 v)
 
 unfoldable pub stores : State → ℕ → ℕ → Row → ℕ → Event.Event State
 stores st t k row v =
@@ -293,21 +293,21 @@ abbrev pub leavesIn : Access → ℕ → ℕ → Row → Event.Event State
 leavesIn (raced kind other st) t k row = stops st (Event.race kind other)
 leavesIn (read v st) t k row =
     moves (completed (withRegister st t row v) t (oneMore k))
-    (entry t k row (newest (number (st .small) (count (row .object)))) 0 (value (st .values) (ofStore (newestOf (st .small) (row .object)))))
+    (entry t k row (newest (number (st .numbers) (count (row .object)))) 0 (value (st .values) (ofStore (newestOf (st .numbers) (row .object)))))
 
 -- "4 fence"
 abbrev pub fences : Program → State → ℕ → Row → State
 fences p st t row =
     let up = versionRaised st t in
-    withClocks up (fenced (up .clocks) (up .marks) (up .small) t (cellsOf (p .table)) (row .order))
+    withClocks up (fenced (up .clocks) (up .marks) (up .numbers) t (cellsOf (p .table)) (row .order))
 
 -- "Yield: state yielded, last yield = own version, yields +1, pending operation none."
 abbrev pub yieldDone : State → ℕ → State
 yieldDone st t =
-    let small = withNumber (st .small) (State.state t) yielded in
-    let small = withNumber small (lastYield t) (version (st .clocks) t) in
-    let small = withNumber small (yields t) (oneMore (number small (yields t))) in
-    withSmall st (withNumber small (operation t) noOperation)
+    let numbers = withNumber (st .numbers) (State.state t) yielded in
+    let numbers = withNumber numbers (lastYield t) (version (st .clocks) t) in
+    let numbers = withNumber numbers (yields t) (oneMore (number numbers (yields t))) in
+    withNumbers st (withNumber numbers (operation t) noOperation)
 
 -- "Join: target ended, its causality and schedule vector are joined"
 abbrev pub joinedWith : State → ℕ → ℕ → State
@@ -318,11 +318,11 @@ joinedWith st t target =
 -- "else the thread blocks, with pending operation none, until the target's end makes it runnable"
 abbrev pub blockedOn : State → ℕ → ℕ → State
 blockedOn st t target =
-    withSmall st (withNumber (withNumber (withNumber (st .small) (State.state t) blocked) (awaits t) target) (operation t) noOperation)
+    withNumbers st (withNumber (withNumber (withNumber (st .numbers) (State.state t) blocked) (awaits t) target) (operation t) noOperation)
 
 unfoldable pub joins : State → ℕ → ℕ → Row → Event.Event State
 joins st t k row =
-    cond (isIn (st .small) ended (row .object)) (done (joinedWith st t (row .object)) t k row) (schedules (blockedOn st t (row .object)) [])
+    cond (isIn (st .numbers) ended (row .object)) (done (joinedWith st t (row .object)) t k row) (schedules (blockedOn st t (row .object)) [])
 
 -- "9 jump; 10 jump if register = a; 11 jump if not"
 unfoldable pub jumps : State → ℕ → Row → Bool
@@ -338,20 +338,20 @@ jumpDone st t k row =
 abbrev pub checks : State → ℕ → ℕ → Row → Event.Event State
 checks st t k row = cond (eqb (register st t row) (row .a)) (done st t k row) (stops st Event.check)
 
-abbrev pub isSkipping : Small → Bool
-isSkipping small = eqb (number small skipping) 1
+abbrev pub isSkipping : Numbers → Bool
+isSkipping numbers = eqb (number numbers skipping) 1
 
 -- "13 `critical`; 14 `explore_state`": "16 not skipping, and `critical` when not exploring or `explore_state` when exploring".
 -- When skipping they change nothing
 abbrev pub explores : State → ℕ → ℕ → Row → Bool → Event.Event State
 explores st t k row on =
-    cond (isSkipping (st .small)) (done st t k row)
-    (cond (eqb (number (st .small) exploring) (cond on 1 0)) (stops st Event.flags)
-    (done (withSmall st (withNumber (st .small) exploring (cond on 1 0))) t k row))
+    cond (isSkipping (st .numbers)) (done st t k row)
+    (cond (eqb (number (st .numbers) exploring) (cond on 1 0)) (stops st Event.flags)
+    (done (withNumbers st (withNumber (st .numbers) exploring (cond on 1 0))) t k row))
 
 -- "15 `skip_branch`"
 abbrev pub skipped : State → State
-skipped st = withSmall st (withNumber (withNumber (st .small) exploring 0) skipping 1)
+skipped st = withNumbers st (withNumber (withNumber (st .numbers) exploring 0) skipping 1)
 
 -- What stands in a row that can act: no row of an accepted table has other numbers
 unfoldable pub fitting : Row → Bool
@@ -368,15 +368,15 @@ unfoldable pub acts : Program → State → ℕ → ℕ → Row → Event.Event 
 acts p st t k row =
     let up = versionRaised st t in
     cond (eqb (row .opcode) 0)
-    (asks up [] (isExploring (st .small))
-    (whichSlot (matchedLoad (up .clocks) (marksOf (up .marks) (row .object)) (up .small) t (row .object) (row .order))))
+    (asks up [] (isExploring (st .numbers))
+    (whichSlot (matchedLoad (up .clocks) (marksOf (up .marks) (row .object)) (up .numbers) t (row .object) (row .order))))
     (cond (eqb (row .opcode) 1) (stores st t k row (row .a))
     (cond (eqb (row .opcode) 2) (stores st t k row (register st t row))
     (cond (eqb (row .opcode) 3)
-    (asks up [] (isExploring (st .small)) (whichSlot (matchedRmw (up .clocks) (up .small) (row .object))))
+    (asks up [] (isExploring (st .numbers)) (whichSlot (matchedRmw (up .clocks) (up .numbers) (row .object))))
     (cond (eqb (row .opcode) 4) (done (fences p st t row) t k row)
     (cond (eqb (row .opcode) 5)
-    (reads (unsyncLoadDone st t (row .object)) t k row (newest (number (st .small) (count (row .object)))) 0)
+    (reads (unsyncLoadDone st t (row .object)) t k row (newest (number (st .numbers) (count (row .object)))) 0)
     (cond (eqb (row .opcode) 6) (leavesIn (mutDone st t (row .object) (changeOf (row .kind) (row .a) (row .b))) t k row)
     (cond (eqb (row .opcode) 7) (schedules (completed (yieldDone st t) t (oneMore k)) (entry t k row noSlot 0 0))
     (cond (eqb (row .opcode) 8) (joins st t k row)
@@ -385,7 +385,7 @@ acts p st t k row =
     (cond (eqb (row .opcode) 13) (explores st t k row false)
     (cond (eqb (row .opcode) 14) (explores st t k row true)
     (cond (eqb (row .opcode) 15) (done (skipped st) t k row)
-    (asks st [] (isExploring (st .small)) whichBit))))))))))))))
+    (asks st [] (isExploring (st .numbers)) whichBit))))))))))))))
 
 -- A row begins
 
@@ -399,45 +399,45 @@ operationFor row =
 -- "rows begun is a counted number"
 abbrev pub rowBegun : State → ℕ → State
 rowBegun st t =
-    let small = withNumber (st .small) begun (oneMore (number (st .small) begun)) in
-    let small = withNumber small (rowsOf t) (oneMore (number small (rowsOf t))) in
-    withSmall st (withNumber small (phase t) toAct)
+    let numbers = withNumber (st .numbers) begun (oneMore (number (st .numbers) begun)) in
+    let numbers = withNumber numbers (rowsOf t) (oneMore (number numbers (rowsOf t))) in
+    withNumbers st (withNumber numbers (phase t) toAct)
 
 -- "pending operation set first"
 abbrev pub withOperation : State → ℕ → Row → State
 withOperation st t row =
-    withSmall st (withNumber (withNumber (st .small) (operation t) (operationFor row)) (operatesOn t) (row .object))
+    withNumbers st (withNumber (withNumber (st .numbers) (operation t) (operationFor row)) (operatesOn t) (row .object))
 
 -- "12 a row is to begin with L begun"; "Scheduling is called before opcodes 0, 1, 2, 3 act"
 unfoldable pub begins : Program → State → ℕ → Row → Event.Event State
 begins p st t row =
     let st′ = rowBegun st t in
-    cond (leb (p .operations) (number (st .small) begun)) (stops st Event.rows)
+    cond (leb (p .operations) (number (st .numbers) begun)) (stops st Event.rows)
     (cond (eqb (operationFor row) noOperation) (moves st′ []) (schedules (withOperation st′ t row) []))
 
 -- "Past its last row a thread ends, its pending operation none; only then are other threads' joins on it free.": "until the
 -- target's end makes it runnable (before that end's scheduling)"
-abbrev pub freed : ℕ → ℕ → Small → Small
-freed target t small =
-    cond (isIn small blocked t && eqb (number small (awaits t)) target) (withNumber small (State.state t) runnable) small
+abbrev pub freed : ℕ → ℕ → Numbers → Numbers
+freed target t numbers =
+    cond (isIn numbers blocked t && eqb (number numbers (awaits t)) target) (withNumber numbers (State.state t) runnable) numbers
 
 unfoldable pub threadEnded : State → ℕ → State
 threadEnded st t =
-    withSmall st
-    (forThreads (freed t) threads 0 (withNumber (withNumber (st .small) (State.state t) ended) (operation t) noOperation))
+    withNumbers st
+    (forThreads (freed t) threads 0 (withNumber (withNumber (st .numbers) (State.state t) ended) (operation t) noOperation))
 
 -- What the active thread does next
 
 abbrev pub active : State → ℕ
-active st = number (st .small) activeThread
+active st = number (st .numbers) activeThread
 
 -- the row that the active thread is at
 abbrev pub activeRow : State → ℕ
-activeRow st = number (st .small) (nextRow (active st))
+activeRow st = number (st .numbers) (nextRow (active st))
 
 unfoldable pub nextAt : Program → State → ℕ → ℕ → Event.Event State
 nextAt p st t k =
-    cond (eqb (number (st .small) (phase t)) toBegin)
+    cond (eqb (number (st .numbers) (phase t)) toBegin)
     (cond (leb (rowCount p t) k) (schedules (threadEnded st t) []) (begins p st t (rowOf p t k)))
     (cond (fitting (rowOf p t k)) (acts p st t k (rowOf p t k)) (stops st Event.impossible))
 
@@ -454,7 +454,7 @@ maskOf mask (i ∷ slots) = maskOf (bitOr mask (2 ^ i)) slots
 -- a load or an RMW reads a slot that is live
 unfoldable pub readFrom : Program → State → ℕ → ℕ → Row → ℕ → ℕ → Event.Event State
 readFrom p st t k row slot mask =
-    cond (fitting row && ltb slot (number (st .small) (count (row .object))))
+    cond (fitting row && ltb slot (number (st .numbers) (count (row .object))))
     (cond (eqb (row .opcode) 0)
     (reads (loadDone st t (row .object) slot (row .order)) t k row slot mask)
     (reads (rmwDone st t (row .object) slot (changeOf (row .kind) (row .a) (row .b)) (row .order) (row .failure)) t k row slot mask))

@@ -1,7 +1,7 @@
--- How many turns an execution may still take, and what every turn needs and keeps: no execution goes on for ever. Assumes
+-- How many ticks an execution may still take, and what every tick needs and keeps: no execution goes on for ever. Assumes
 -- nothing.
---     measure        falls at every turn
---     Ready          what a turn begins with
+--     measure        falls at every tick
+--     Ready          what a tick begins with
 --     RowsFit        what every row needs
 use Prim.Native.Nat.{ℕ, _+_, _-_, _*_, _<_}
 use mathlib.Core.Bool.{true, cond}
@@ -9,37 +9,37 @@ use mathlib.Core.Path.{_≡_}
 use lib.Dec.{eqb}
 use lib.ListN.{length}
 use Rattle.rules.specs.State as State
-use Rattle.rules.specs.State.{State, Small, number, numbers, threads, cells, operatesOn, phase, begun}
+use Rattle.rules.specs.State.{State, Numbers, number, numbersHeld, threads, cells, operatesOn, phase, begun}
 use Rattle.rules.specs.Machine.{Program, rowCount, rowOf, fitting, active, runnable, blocked, ended, toBegin}
 
--- what a thread in this state, with its row to begin or to act, may still take: no turn for a row that is to begin, one for a
+-- what a thread in this state, with its row to begin or to act, may still take: no tick for a row that is to begin, one for a
 -- row that is to act where the thread is blocked, else two, since it may block once; and five for its end, which may free the
 -- joins of four others
-unfoldable pub turnsLeft : ℕ → ℕ → ℕ
-turnsLeft standing row = cond (eqb row toBegin) 0 (cond (eqb standing blocked) 1 2) + cond (eqb standing ended) 0 5
+unfoldable pub ticksLeft : ℕ → ℕ → ℕ
+ticksLeft standing row = cond (eqb row toBegin) 0 (cond (eqb standing blocked) 1 2) + cond (eqb standing ended) 0 5
 
-abbrev pub turnsLeftOf : Small → ℕ → ℕ
-turnsLeftOf small t = turnsLeft (number small (State.state t)) (number small (phase t))
+abbrev pub ticksLeftOf : Numbers → ℕ → ℕ
+ticksLeftOf numbers t = ticksLeft (number numbers (State.state t)) (number numbers (phase t))
 
 -- of the five threads
-abbrev pub work : Small → ℕ
-work small = turnsLeftOf small 0 + turnsLeftOf small 1 + turnsLeftOf small 2 + turnsLeftOf small 3 + turnsLeftOf small 4
+abbrev pub work : Numbers → ℕ
+work numbers = ticksLeftOf numbers 0 + ticksLeftOf numbers 1 + ticksLeftOf numbers 2 + ticksLeftOf numbers 3 + ticksLeftOf numbers 4
 
--- "12 a row is to begin with L begun": so many rows may still begin, and each takes at most three turns
+-- "12 a row is to begin with L begun": so many rows may still begin, and each takes at most three ticks
 unfoldable pub measure : Program → State → ℕ
-measure p st = 3 * (p .operations - number (st .small) begun) + work (st .small)
+measure p st = 3 * (p .operations - number (st .numbers) begun) + work (st .numbers)
 
--- the small numbers are all there, and every pending operation is on a cell: the access that a scheduling records is then among
+-- the numbers are all there, and every pending operation is on a cell: the access that a scheduling records is then among
 -- that cell's numbers
-pub record Whole (small : Small) : Type 0 where
-  pub long : length small ≡ numbers
-  pub onCell : (t : ℕ) → t < threads → number small (operatesOn t) < cells
+pub record Whole (numbers : Numbers) : Type 0 where
+  pub long : length numbers ≡ numbersHeld
+  pub onCell : (t : ℕ) → t < threads → number numbers (operatesOn t) < cells
 
 -- and the active thread is one that can act
 pub record Ready (st : State) : Type 0 where
-  pub whole : Whole (st .small)
+  pub whole : Whole (st .numbers)
   pub below : active st < threads
-  pub runs : number (st .small) (State.state (active st)) ≡ runnable
+  pub runs : number (st .numbers) (State.state (active st)) ≡ runnable
 
 -- every row of every thread can act, as those of an accepted table can
 abbrev pub RowsFit : Program → Type 0

@@ -3,7 +3,7 @@
 --     vector, withVector     a vector of five parts, by its name
 --     marksOf, withMarks     a cell's marks of first sight
 --     value, withValue       a store's value or a register
---     number, withNumber     a small number
+--     number, withNumber     a number
 use Prim.Native.Nat.{ℕ, _+_, _*_}
 use mathlib.Core.List.{List, [], _∷_}
 use lib.ListN.{getD, set, replicate}
@@ -105,7 +105,7 @@ value values v = getD values (valueAt v) 0
 abbrev pub withValue : Values → Value → ℕ → Values
 withValue values v n = set values (valueAt v) n
 
--- Small numbers
+-- Numbers
 
 pub data Number : Type 0 where
   -- of a thread
@@ -150,14 +150,14 @@ numberAt exploring = 82
 numberAt skipping = 83
 numberAt (awaits t) = 84 + t
 
-abbrev pub Small : Type 0
-Small = List ℕ
+abbrev pub Numbers : Type 0
+Numbers = List ℕ
 
-abbrev pub number : Small → Number → ℕ
-number small n = getD small (numberAt n) 0
+abbrev pub number : Numbers → Number → ℕ
+number numbers n = getD numbers (numberAt n) 0
 
-abbrev pub withNumber : Small → Number → ℕ → Small
-withNumber small n k = set small (numberAt n) k
+abbrev pub withNumber : Numbers → Number → ℕ → Numbers
+withNumber numbers n k = set numbers (numberAt n) k
 
 -- The whole
 
@@ -165,14 +165,14 @@ pub record State : Type 0 where
   pub clocks : Clocks
   pub marks : Marks
   pub values : Values
-  pub small : Small
+  pub numbers : Numbers
 
 -- how long the tables are: every name is within
-abbrev pub vectors : ℕ
-vectors = 124
+abbrev pub vectorsHeld : ℕ
+vectorsHeld = 124
 
 abbrev pub valuesHeld : ℕ
 valuesHeld = 48
 
-abbrev pub numbers : ℕ
-numbers = 89
+abbrev pub numbersHeld : ℕ
+numbersHeld = 89

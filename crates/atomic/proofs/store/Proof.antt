@@ -21,14 +21,14 @@ store-at-requires c κs = search needs
 one-more-requires : tie.Need-one-more-requires
 one-more-requires c κs = search needs
 
-add-small : tie.Need-add-small
-add-small c = search needs
+add-numbers : tie.Need-add-numbers
+add-numbers c = search needs
 
-mul-small : tie.Need-mul-small
-mul-small c = search needs
+mul-numbers : tie.Need-mul-numbers
+mul-numbers c = search needs
 
-element-write-small : tie.Need-element-write-small
-element-write-small c = search needs
+element-write-numbers : tie.Need-element-write-numbers
+element-write-numbers c = search needs
 
 add-causality : tie.Need-add-causality
 add-causality c = search needs
@@ -105,14 +105,14 @@ element-write-values c = search needs
 is-seq-cst-requires : tie.Need-is-seq-cst-requires
 is-seq-cst-requires c κs = search needs
 
-add-small-2 : tie.Need-add-small-2
-add-small-2 c = search needs
+add-numbers-2 : tie.Need-add-numbers-2
+add-numbers-2 c = search needs
 
-mul-small-2 : tie.Need-mul-small-2
-mul-small-2 c = search needs
+mul-numbers-2 : tie.Need-mul-numbers-2
+mul-numbers-2 c = search needs
 
-element-write-small-2 : tie.Need-element-write-small-2
-element-write-small-2 c = search needs
+element-write-numbers-2 : tie.Need-element-write-numbers-2
+element-write-numbers-2 c = search needs
 
 returns : tie.Need-returns
 returns c =
@@ -123,7 +123,7 @@ returns c =
     (args .clocks .now)
     (args .marks .now)
     (args .values .now)
-    (args .small .now)
+    (args .numbers .now)
     (args .thread)
     (args .cell)
     (args .sync)
@@ -154,9 +154,9 @@ store-spec =
     index-requires
     store-at-requires
     one-more-requires
-    add-small
-    mul-small
-    element-write-small
+    add-numbers
+    mul-numbers
+    element-write-numbers
     add-causality
     mul-causality
     element-copy-out-causality
@@ -182,7 +182,7 @@ store-spec =
     mul-values
     element-write-values
     is-seq-cst-requires
-    add-small-2
-    mul-small-2
-    element-write-small-2
+    add-numbers-2
+    mul-numbers-2
+    element-write-numbers-2
     returns)

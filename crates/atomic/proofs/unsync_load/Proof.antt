@@ -15,7 +15,7 @@ returns c =
     let call = c .before .before .before in
     let args = call .before .before .args in
     λ marks.
-    unsync-raced _ (args .values .now) (args .small .now) (args .thread) (args .cell) marks _ (call .track-unsync-load .ensures .left) _ _
+    unsync-raced _ (args .values .now) (args .numbers .now) (args .thread) (args .cell) marks _ (call .track-unsync-load .ensures .left) _ _
     (answered _ _ _ (c .before .kind .given .1) (call .track-unsync-load .ensures .answer))
 
 enum-told : tie.Need-enum-told
@@ -52,9 +52,9 @@ returns-2 c =
     let call = told .before .before in
     let args = call .before .before .args in
     λ marks.
-    unsync-done _ (args .values .now) (args .small .now) (args .thread) (args .cell) marks _ (call .track-unsync-load .ensures .left)
+    unsync-done _ (args .values .now) (args .numbers .now) (args .thread) (args .cell) marks _ (call .track-unsync-load .ensures .left)
     (answered _ _ _ (told .enum-told .given .1) (call .track-unsync-load .ensures .answer)) _
-    (newest-at (args .small .now) (args .cell) _ _ (placed .before .newest .ensures .is) (placed .store-at .ensures))
+    (newest-at (args .numbers .now) (args .cell) _ _ (placed .before .newest .ensures .is) (placed .store-at .ensures))
 
 pub unsync-load-spec : {M : Type 1} → statement M
 unsync-load-spec =

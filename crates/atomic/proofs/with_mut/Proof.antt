@@ -16,7 +16,7 @@ returns : tie.Need-returns
 returns c =
     let call = c .before .before .before in
     let args = call .before .before .args in
-    mut-raced _ _ (args .small .now) (args .thread) (args .cell) (changeMeant (args .change)) _ (call .track-unsync-mut .ensures .left) _ _
+    mut-raced _ _ (args .numbers .now) (args .thread) (args .cell) (changeMeant (args .change)) _ (call .track-unsync-mut .ensures .left) _ _
     (answered _ _ _ (c .before .kind .given .1) (call .track-unsync-mut .ensures .answer))
 
 enum-told : tie.Need-enum-told
@@ -64,7 +64,7 @@ returns-2 c =
     let args = call .before .before .args in
     mut-failed _ _ _ (args .thread) (args .cell) (changeMeant (args .change)) _ (call .track-unsync-mut .ensures .left)
     (answered _ _ _ (told .enum-told .given .1) (call .track-unsync-mut .ensures .answer)) _
-    (newest-at (args .small .now) (args .cell) _ _ (placed .before .newest .ensures .is) (placed .store-at .ensures))
+    (newest-at (args .numbers .now) (args .cell) _ _ (placed .before .newest .ensures .is) (placed .store-at .ensures))
     (changing _ _ _ (c .enum-told2 .given .1) (applied .apply .ensures))
 
 mul-values : tie.Need-mul-values
@@ -82,7 +82,7 @@ returns-3 c =
     let args = call .before .before .args in
     mut-changed _ _ _ (args .thread) (args .cell) (changeMeant (args .change)) _ (call .track-unsync-mut .ensures .left)
     (answered _ _ _ (told .enum-told .given .1) (call .track-unsync-mut .ensures .answer)) _
-    (newest-at (args .small .now) (args .cell) _ _ (placed .before .newest .ensures .is) (placed .store-at .ensures))
+    (newest-at (args .numbers .now) (args .cell) _ _ (placed .before .newest .ensures .is) (placed .store-at .ensures))
     _ (changing _ _ _ (c .before .changed .given .1) (applied .apply .ensures))
 
 pub with-mut-spec : {M : Type 1} → statement M

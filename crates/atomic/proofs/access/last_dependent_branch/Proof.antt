@@ -17,8 +17,8 @@ returns : tie.Need-returns
 returns c =
     let args = c .before .before .before .args in
     ⊎-elim
-    (λ w. branch-load _ (args .cell) _ (args .small .now) (w .0 .taken) (rw (w .1)))
-    (λ w. branch-other _ (args .cell) _ (args .small .now) (w .0 .left) (rw (w .1)))
+    (λ w. branch-load _ (args .cell) _ (args .numbers .now) (w .0 .taken) (rw (w .1)))
+    (λ w. branch-other _ (args .cell) _ (args .numbers .now) (w .0 .left) (rw (w .1)))
     (c .before .before .if1 .came)
 
 pub last-dependent-branch-spec : {M : Type 1} → statement M

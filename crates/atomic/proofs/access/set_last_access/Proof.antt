@@ -47,14 +47,14 @@ mul-row-3 c = search needs
 element-set-from-row-2 : tie.Need-element-set-from-row-2
 element-set-from-row-2 c = search needs
 
-add-small : tie.Need-add-small
-add-small c = search needs
+add-numbers : tie.Need-add-numbers
+add-numbers c = search needs
 
-mul-small : tie.Need-mul-small
-mul-small c = search needs
+mul-numbers : tie.Need-mul-numbers
+mul-numbers c = search needs
 
-element-write-small : tie.Need-element-write-small
-element-write-small c = search needs
+element-write-numbers : tie.Need-element-write-numbers
+element-write-numbers c = search needs
 
 add-row-4 : tie.Need-add-row-4
 add-row-4 c = search needs
@@ -65,23 +65,23 @@ mul-row-4 c = search needs
 element-set-from-row-3 : tie.Need-element-set-from-row-3
 element-set-from-row-3 c = search needs
 
-add-small-2 : tie.Need-add-small-2
-add-small-2 c = search needs
+add-numbers-2 : tie.Need-add-numbers-2
+add-numbers-2 c = search needs
 
-mul-small-2 : tie.Need-mul-small-2
-mul-small-2 c = search needs
+mul-numbers-2 : tie.Need-mul-numbers-2
+mul-numbers-2 c = search needs
 
-element-write-small-2 : tie.Need-element-write-small-2
-element-write-small-2 c = search needs
+element-write-numbers-2 : tie.Need-element-write-numbers-2
+element-write-numbers-2 c = search needs
 
 grew : (c : tie.After-raise) (marks : Marks) (values : Values) →
     let args = c .before .before .before .before .before .args in
-    c .raise .result .versions ≡ grown (state (args .clocks .now) marks values (args .small .now)) (args .thread) (args .action) (args .cell)
+    c .raise .result .versions ≡ grown (state (args .clocks .now) marks values (args .numbers .now)) (args .thread) (args .action) (args .cell)
 grew c marks values =
     let joined = c .before in
     let found = joined .before in
     let args = found .before .before .before .args in
-    let st = state (args .clocks .now) marks values (args .small .now) in
+    let st = state (args .clocks .now) marks values (args .numbers .now) in
     ⊎-elim
     (λ w. grown-joined st (args .thread) (args .action) (args .cell) _ _ _ (found .last-dependent-branch .ensures) (c .raise .ensures) (w .0 .taken) _ (w .2 .ensures) (rw (w .4) (w .3 .ensures)))
     (λ w. grown-none st (args .thread) (args .action) (args .cell) _ _ _ (found .last-dependent-branch .ensures) (c .raise .ensures) (w .0 .left) (rw (w .1)))
@@ -110,14 +110,14 @@ set-last-access-spec =
     add-row-3
     mul-row-3
     element-set-from-row-2
-    add-small
-    mul-small
-    element-write-small
+    add-numbers
+    mul-numbers
+    element-write-numbers
     add-row-4
     mul-row-4
     element-set-from-row-3
-    add-small-2
-    mul-small-2
-    element-write-small-2
+    add-numbers-2
+    mul-numbers-2
+    element-write-numbers-2
     returns
     returns-2)

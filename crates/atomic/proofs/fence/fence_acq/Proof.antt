@@ -7,12 +7,12 @@ use Rattle.atomic.proofs.fence.fence_acq.Statement.{statement}
 use Rattle.atomic.proofs.fence.fence_acq.Tie as tie
 
 abbrev Inv-loop : tie.InvT-loop
-Inv-loop clocks₀ marks small thread cells cell₀ clocks cell =
+Inv-loop clocks₀ marks numbers thread cells cell₀ clocks cell =
     (cell ≤ cells)
-    × (cellsAcquired clocks marks small thread (cells - cell) cell ≡ fenceAcquired clocks₀ marks small thread cells)
+    × (cellsAcquired clocks marks numbers thread (cells - cell) cell ≡ fenceAcquired clocks₀ marks numbers thread cells)
 
 abbrev μ-loop : tie.MeasureT-loop
-μ-loop clocks₀ marks small thread cells cell₀ clocks cell = cells - cell
+μ-loop clocks₀ marks numbers thread cells cell₀ clocks cell = cells - cell
 
 loop-holds : tie.Need-loop-holds Inv-loop μ-loop
 loop-holds c = (search needs, cells-start _ _ _ (c .args .thread) (c .args .cells))
@@ -45,7 +45,7 @@ returns : tie.Need-returns Inv-loop μ-loop
 returns c =
     let at = c .before in
     let args = at .before .args in
-    sym (cells-end _ (args .marks .now) (args .small .now) (args .thread) _ (at .loop .cell) (c .loop-test .left)) ∙ at .loop .inv .1
+    sym (cells-end _ (args .marks .now) (args .numbers .now) (args .thread) _ (at .loop .cell) (c .loop-test .left)) ∙ at .loop .inv .1
 
 pub fence-acq-spec : {M : Type 1} → statement M
 fence-acq-spec =

@@ -13,11 +13,11 @@ abbrev anyone : ℕ → Bool
 anyone j = true
 
 abbrev Inv-loop : tie.InvT-loop
-Inv-loop clocks small cell i live j₀ j =
-    (j ≤ 7) × (fateFrom clocks cell i anyone (live - j) j ≡ fateFrom clocks cell i anyone (liveIn small cell) 0)
+Inv-loop clocks numbers cell i live j₀ j =
+    (j ≤ 7) × (fateFrom clocks cell i anyone (live - j) j ≡ fateFrom clocks cell i anyone (liveIn numbers cell) 0)
 
 abbrev μ-loop : tie.MeasureT-loop
-μ-loop clocks small cell i live j₀ j = 7 - j
+μ-loop clocks numbers cell i live j₀ j = 7 - j
 
 add-live-stores : tie.Need-add-live-stores Inv-loop μ-loop
 add-live-stores c = search needs

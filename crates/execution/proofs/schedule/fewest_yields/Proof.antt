@@ -5,10 +5,10 @@ use Rattle.execution.proofs.schedule.fewest_yields.Statement.{statement
 use Rattle.execution.proofs.schedule.fewest_yields.Tie as tie
 
 abbrev Inv-loop : tie.InvT-loop
-Inv-loop small best₀ fewest₀ t₀ best fewest t = t ≤ 5
+Inv-loop numbers best₀ fewest₀ t₀ best fewest t = t ≤ 5
 
 abbrev μ-loop : tie.MeasureT-loop
-μ-loop small best₀ fewest₀ t₀ best fewest t = 5 - t
+μ-loop numbers best₀ fewest₀ t₀ best fewest t = 5 - t
 
 loop-holds : tie.Need-loop-holds Inv-loop μ-loop
 loop-holds c = search needs

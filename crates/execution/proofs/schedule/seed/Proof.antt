@@ -6,10 +6,10 @@ use Rattle.execution.proofs.schedule.seed.Statement.{statement}
 use Rattle.execution.proofs.schedule.seed.Tie as tie
 
 abbrev Inv-loop : tie.InvT-loop
-Inv-loop small first states₀ t₀ states t = (t ≤ 5) × (length states ≡ 5)
+Inv-loop numbers first states₀ t₀ states t = (t ≤ 5) × (length states ≡ 5)
 
 abbrev μ-loop : tie.MeasureT-loop
-μ-loop small first states₀ t₀ states t = 5 - t
+μ-loop numbers first states₀ t₀ states t = 5 - t
 
 initial-requires : tie.Need-initial-requires Inv-loop μ-loop
 initial-requires c κs = search needs

@@ -5,31 +5,31 @@ use Rattle.execution.proofs.start.clear_branches.Statement.{statement}
 use Rattle.execution.proofs.start.clear_branches.Tie as tie
 
 abbrev Inv-loop : tie.InvT-loop
-Inv-loop small₀ cell₀ small cell = cell ≤ 4
+Inv-loop numbers₀ cell₀ numbers cell = cell ≤ 4
 
 abbrev μ-loop : tie.MeasureT-loop
-μ-loop small₀ cell₀ small cell = 4 - cell
+μ-loop numbers₀ cell₀ numbers cell = 4 - cell
 
 loop-holds : tie.Need-loop-holds Inv-loop μ-loop
 loop-holds c = search needs
 
-add-small : tie.Need-add-small Inv-loop μ-loop
-add-small c = search needs
+add-numbers : tie.Need-add-numbers Inv-loop μ-loop
+add-numbers c = search needs
 
-mul-small : tie.Need-mul-small Inv-loop μ-loop
-mul-small c = search needs
+mul-numbers : tie.Need-mul-numbers Inv-loop μ-loop
+mul-numbers c = search needs
 
-element-write-small : tie.Need-element-write-small Inv-loop μ-loop
-element-write-small c = search needs
+element-write-numbers : tie.Need-element-write-numbers Inv-loop μ-loop
+element-write-numbers c = search needs
 
-add-small-2 : tie.Need-add-small-2 Inv-loop μ-loop
-add-small-2 c = search needs
+add-numbers-2 : tie.Need-add-numbers-2 Inv-loop μ-loop
+add-numbers-2 c = search needs
 
-mul-small-2 : tie.Need-mul-small-2 Inv-loop μ-loop
-mul-small-2 c = search needs
+mul-numbers-2 : tie.Need-mul-numbers-2 Inv-loop μ-loop
+mul-numbers-2 c = search needs
 
-element-write-small-2 : tie.Need-element-write-small-2 Inv-loop μ-loop
-element-write-small-2 c = search needs
+element-write-numbers-2 : tie.Need-element-write-numbers-2 Inv-loop μ-loop
+element-write-numbers-2 c = search needs
 
 add-cell : tie.Need-add-cell Inv-loop μ-loop
 add-cell c = search needs
@@ -50,12 +50,12 @@ clear-branches-spec =
     Inv-loop
     μ-loop
     loop-holds
-    add-small
-    mul-small
-    element-write-small
-    add-small-2
-    mul-small-2
-    element-write-small-2
+    add-numbers
+    mul-numbers
+    element-write-numbers
+    add-numbers-2
+    mul-numbers-2
+    element-write-numbers-2
     add-cell
     loop-less
     loop-again

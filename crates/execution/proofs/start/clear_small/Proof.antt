@@ -1,22 +1,22 @@
 use borrow.Author.Needs.{needs}
 use Prim.Native.Nat.{_≤_, _-_}
-use Rattle.execution.proofs.start.clear_small.Statement.{statement}
-use Rattle.execution.proofs.start.clear_small.Tie as tie
+use Rattle.execution.proofs.start.clear_numbers.Statement.{statement}
+use Rattle.execution.proofs.start.clear_numbers.Tie as tie
 
 abbrev Inv-loop : tie.InvT-loop
-Inv-loop small₀ i₀ small i = i ≤ 90
+Inv-loop numbers₀ i₀ numbers i = i ≤ 90
 
 abbrev μ-loop : tie.MeasureT-loop
-μ-loop small₀ i₀ small i = 90 - i
+μ-loop numbers₀ i₀ numbers i = 90 - i
 
 loop-holds : tie.Need-loop-holds Inv-loop μ-loop
 loop-holds c = search needs
 
-mul-small : tie.Need-mul-small Inv-loop μ-loop
-mul-small c = search needs
+mul-numbers : tie.Need-mul-numbers Inv-loop μ-loop
+mul-numbers c = search needs
 
-element-write-small : tie.Need-element-write-small Inv-loop μ-loop
-element-write-small c = search needs
+element-write-numbers : tie.Need-element-write-numbers Inv-loop μ-loop
+element-write-numbers c = search needs
 
 add-i : tie.Need-add-i Inv-loop μ-loop
 add-i c = search needs
@@ -36,15 +36,15 @@ clear-branches-requires c κs = search needs
 returns : tie.Need-returns Inv-loop μ-loop
 returns c = search needs
 
-pub clear-small-spec : {M : Type 1} → statement M
-clear-small-spec =
+pub clear-numbers-spec : {M : Type 1} → statement M
+clear-numbers-spec =
     tie.close
     (tie.spec
     Inv-loop
     μ-loop
     loop-holds
-    mul-small
-    element-write-small
+    mul-numbers
+    element-write-numbers
     add-i
     loop-less
     loop-again

@@ -4,11 +4,11 @@ use Rattle.execution.proofs.start.start.Statement.{statement}
 use Rattle.execution.proofs.start.start.Tie as tie
 
 abbrev Inv-loop : tie.InvT-loop
-Inv-loop table threads cells exploring clocks₀ marks₀ values₀ small₀ cell₀ clocks marks values small cell =
+Inv-loop table threads cells exploring clocks₀ marks₀ values₀ numbers₀ cell₀ clocks marks values numbers cell =
     cell ≤ cells
 
 abbrev μ-loop : tie.MeasureT-loop
-μ-loop table threads cells exploring clocks₀ marks₀ values₀ small₀ cell₀ clocks marks values small cell =
+μ-loop table threads cells exploring clocks₀ marks₀ values₀ numbers₀ cell₀ clocks marks values numbers cell =
     cells - cell
 
 clear-clocks-requires : tie.Need-clear-clocks-requires Inv-loop μ-loop
@@ -20,11 +20,11 @@ clear-marks-requires c κs = search needs
 clear-values-requires : tie.Need-clear-values-requires Inv-loop μ-loop
 clear-values-requires c κs = search needs
 
-clear-small-requires : tie.Need-clear-small-requires Inv-loop μ-loop
-clear-small-requires c κs = search needs
+clear-numbers-requires : tie.Need-clear-numbers-requires Inv-loop μ-loop
+clear-numbers-requires c κs = search needs
 
-element-write-small : tie.Need-element-write-small Inv-loop μ-loop
-element-write-small c = search needs
+element-write-numbers : tie.Need-element-write-numbers Inv-loop μ-loop
+element-write-numbers c = search needs
 
 element-set-from-clocks : tie.Need-element-set-from-clocks Inv-loop μ-loop
 element-set-from-clocks c = search needs
@@ -62,8 +62,8 @@ start-spec =
     clear-clocks-requires
     clear-marks-requires
     clear-values-requires
-    clear-small-requires
-    element-write-small
+    clear-numbers-requires
+    element-write-numbers
     element-set-from-clocks
     loop-holds
     start-value-requires

@@ -5,10 +5,10 @@ use Rattle.execution.proofs.start.start_threads.Statement.{statement}
 use Rattle.execution.proofs.start.start_threads.Tie as tie
 
 abbrev Inv-loop : tie.InvT-loop
-Inv-loop clocks₀ small₀ threads t₀ clocks small t = t ≤ threads
+Inv-loop clocks₀ numbers₀ threads t₀ clocks numbers t = t ≤ threads
 
 abbrev μ-loop : tie.MeasureT-loop
-μ-loop clocks₀ small₀ threads t₀ clocks small t = threads - t
+μ-loop clocks₀ numbers₀ threads t₀ clocks numbers t = threads - t
 
 loop-holds : tie.Need-loop-holds Inv-loop μ-loop
 loop-holds c = search needs
@@ -25,14 +25,14 @@ mul-t8 c = search needs
 element-set-from-clocks : tie.Need-element-set-from-clocks Inv-loop μ-loop
 element-set-from-clocks c = search needs
 
-add-small : tie.Need-add-small Inv-loop μ-loop
-add-small c = search needs
+add-numbers : tie.Need-add-numbers Inv-loop μ-loop
+add-numbers c = search needs
 
-mul-small : tie.Need-mul-small Inv-loop μ-loop
-mul-small c = search needs
+mul-numbers : tie.Need-mul-numbers Inv-loop μ-loop
+mul-numbers c = search needs
 
-element-write-small : tie.Need-element-write-small Inv-loop μ-loop
-element-write-small c = search needs
+element-write-numbers : tie.Need-element-write-numbers Inv-loop μ-loop
+element-write-numbers c = search needs
 
 add-t : tie.Need-add-t Inv-loop μ-loop
 add-t c = search needs
@@ -57,9 +57,9 @@ start-threads-spec =
     add-t7
     mul-t8
     element-set-from-clocks
-    add-small
-    mul-small
-    element-write-small
+    add-numbers
+    mul-numbers
+    element-write-numbers
     add-t
     loop-less
     loop-again

@@ -5,10 +5,10 @@ use Rattle.execution.proofs.threads.all_ended.Statement.{statement}
 use Rattle.execution.proofs.threads.all_ended.Tie as tie
 
 abbrev Inv-loop : tie.InvT-loop
-Inv-loop small t₀ t = t ≤ 5
+Inv-loop numbers t₀ t = t ≤ 5
 
 abbrev μ-loop : tie.MeasureT-loop
-μ-loop small t₀ t = 5 - t
+μ-loop numbers t₀ t = 5 - t
 
 loop-holds : tie.Need-loop-holds Inv-loop μ-loop
 loop-holds c = search needs

@@ -5,28 +5,28 @@ use Rattle.execution.proofs.threads.end.Statement.{statement}
 use Rattle.execution.proofs.threads.end.Tie as tie
 
 abbrev Inv-loop : tie.InvT-loop
-Inv-loop small₀ thread t₀ small t = t ≤ 5
+Inv-loop numbers₀ thread t₀ numbers t = t ≤ 5
 
 abbrev μ-loop : tie.MeasureT-loop
-μ-loop small₀ thread t₀ small t = 5 - t
+μ-loop numbers₀ thread t₀ numbers t = 5 - t
 
-add-small : tie.Need-add-small Inv-loop μ-loop
-add-small c = search needs
+add-numbers : tie.Need-add-numbers Inv-loop μ-loop
+add-numbers c = search needs
 
-mul-small : tie.Need-mul-small Inv-loop μ-loop
-mul-small c = search needs
+mul-numbers : tie.Need-mul-numbers Inv-loop μ-loop
+mul-numbers c = search needs
 
-element-write-small : tie.Need-element-write-small Inv-loop μ-loop
-element-write-small c = search needs
+element-write-numbers : tie.Need-element-write-numbers Inv-loop μ-loop
+element-write-numbers c = search needs
 
-add-small-2 : tie.Need-add-small-2 Inv-loop μ-loop
-add-small-2 c = search needs
+add-numbers-2 : tie.Need-add-numbers-2 Inv-loop μ-loop
+add-numbers-2 c = search needs
 
-mul-small-2 : tie.Need-mul-small-2 Inv-loop μ-loop
-mul-small-2 c = search needs
+mul-numbers-2 : tie.Need-mul-numbers-2 Inv-loop μ-loop
+mul-numbers-2 c = search needs
 
-element-write-small-2 : tie.Need-element-write-small-2 Inv-loop μ-loop
-element-write-small-2 c = search needs
+element-write-numbers-2 : tie.Need-element-write-numbers-2 Inv-loop μ-loop
+element-write-numbers-2 c = search needs
 
 loop-holds : tie.Need-loop-holds Inv-loop μ-loop
 loop-holds c = search needs
@@ -52,14 +52,14 @@ element-copy-out-wide c = search needs
 wide-requires : tie.Need-wide-requires Inv-loop μ-loop
 wide-requires c κs = search needs
 
-add-small-3 : tie.Need-add-small-3 Inv-loop μ-loop
-add-small-3 c = search needs
+add-numbers-3 : tie.Need-add-numbers-3 Inv-loop μ-loop
+add-numbers-3 c = search needs
 
-mul-small-3 : tie.Need-mul-small-3 Inv-loop μ-loop
-mul-small-3 c = search needs
+mul-numbers-3 : tie.Need-mul-numbers-3 Inv-loop μ-loop
+mul-numbers-3 c = search needs
 
-element-write-small-3 : tie.Need-element-write-small-3 Inv-loop μ-loop
-element-write-small-3 c = search needs
+element-write-numbers-3 : tie.Need-element-write-numbers-3 Inv-loop μ-loop
+element-write-numbers-3 c = search needs
 
 add-t : tie.Need-add-t Inv-loop μ-loop
 add-t c = search needs
@@ -79,12 +79,12 @@ end-spec =
     (tie.spec
     Inv-loop
     μ-loop
-    add-small
-    mul-small
-    element-write-small
-    add-small-2
-    mul-small-2
-    element-write-small-2
+    add-numbers
+    mul-numbers
+    element-write-numbers
+    add-numbers-2
+    mul-numbers-2
+    element-write-numbers-2
     loop-holds
     add-if1
     mul-if1
@@ -93,9 +93,9 @@ end-spec =
     mul-wide
     element-copy-out-wide
     wide-requires
-    add-small-3
-    mul-small-3
-    element-write-small-3
+    add-numbers-3
+    mul-numbers-3
+    element-write-numbers-3
     add-t
     loop-less
     loop-again

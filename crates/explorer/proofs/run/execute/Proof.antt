@@ -6,11 +6,11 @@ use Rattle.explorer.proofs.run.execute.Statement.{statement}
 use Rattle.explorer.proofs.run.execute.Tie as tie
 
 abbrev Inv-loop : tie.InvT-loop
-Inv-loop table shape clocks₀ marks₀ values₀ small₀ path₀ trace₀ limit fuel bounded most now₀ tick₀ clocks marks values small path trace now tick =
+Inv-loop table shape clocks₀ marks₀ values₀ numbers₀ path₀ trace₀ limit fuel bounded most now₀ tick₀ clocks marks values numbers path trace now tick =
     (tick ≤ fuel) × (length path ≡ length path₀) × (length trace ≡ length trace₀)
 
 abbrev μ-loop : tie.MeasureT-loop
-μ-loop table shape clocks₀ marks₀ values₀ small₀ path₀ trace₀ limit fuel bounded most now₀ tick₀ clocks marks values small path trace now tick =
+μ-loop table shape clocks₀ marks₀ values₀ numbers₀ path₀ trace₀ limit fuel bounded most now₀ tick₀ clocks marks values numbers path trace now tick =
     fuel - tick
 
 cast-limit : tie.Need-cast-limit Inv-loop μ-loop

@@ -7,11 +7,11 @@ use Rattle.explorer.proofs.run.run.Statement.{statement}
 use Rattle.explorer.proofs.run.run.Tie as tie
 
 abbrev Inv-loop : tie.InvT-loop
-Inv-loop table settings path₀ trace₀ shape clocks₀ marks₀ values₀ small₀ ledger₀ longest₀ begun₀ path trace clocks marks values small ledger longest begun =
+Inv-loop table settings path₀ trace₀ shape clocks₀ marks₀ values₀ numbers₀ ledger₀ longest₀ begun₀ path trace clocks marks values numbers ledger longest begun =
     (begun ≤ settings .executions) × (length path ≡ length path₀) × (length trace ≡ length trace₀)
 
 abbrev μ-loop : tie.MeasureT-loop
-μ-loop table settings path₀ trace₀ shape clocks₀ marks₀ values₀ small₀ ledger₀ longest₀ begun₀ path trace clocks marks values small ledger longest begun =
+μ-loop table settings path₀ trace₀ shape clocks₀ marks₀ values₀ numbers₀ ledger₀ longest₀ begun₀ path trace clocks marks values numbers ledger longest begun =
     settings .executions - begun
 
 clear-all-requires : tie.Need-clear-all-requires Inv-loop μ-loop

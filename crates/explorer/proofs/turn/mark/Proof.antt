@@ -6,11 +6,11 @@ use Rattle.explorer.proofs.turn.mark.Statement.{statement}
 use Rattle.explorer.proofs.turn.mark.Tie as tie
 
 abbrev Inv-loop : tie.InvT-loop
-Inv-loop shape clocks small path₀ len bounded most threads opened₀ t₀ path opened t =
+Inv-loop shape clocks numbers path₀ len bounded most threads opened₀ t₀ path opened t =
     (t ≤ threads) × (opened ≤ 10 * t) × (length path ≡ length path₀)
 
 abbrev μ-loop : tie.MeasureT-loop
-μ-loop shape clocks small path₀ len bounded most threads opened₀ t₀ path opened t = threads - t
+μ-loop shape clocks numbers path₀ len bounded most threads opened₀ t₀ path opened t = threads - t
 
 threads-of-requires : tie.Need-threads-of-requires Inv-loop μ-loop
 threads-of-requires c κs = search needs

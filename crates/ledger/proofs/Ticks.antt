@@ -1,5 +1,5 @@
--- One turn along a path that leads: it goes on along the path, and whatever else comes has gone through all of it.
---     turn-fine                      every turn comes out so
+-- One tick along a path that leads: it goes on along the path, and whatever else comes has gone through all of it.
+--     tick-fine                      every tick comes out so
 use Prim.Native.Nat.{ℕ, suc, _+_}
 use mathlib.Core.List.{List, [], _∷_, _++_, append-assoc, append-nil}
 use mathlib.Core.Bool.{Bool, true, false, cond, true≢false}
@@ -12,7 +12,7 @@ use Rattle.rules.specs.Path.{Branch, noBranch}
 use Rattle.rules.specs.Event as Event
 use Rattle.rules.specs.Event.{Machine, moves, asks, stops, ends, Entry, Question, Answer}
 use Rattle.rules.specs.Explorer.{Limits, Ledger, Walk, goes, faulted, Reply, says, unexpected, reply}
-use Rattle.rules.specs.Explorer.{Pushed, pushes, faults, pushed, withBranch, noted, withState, firstMarked, followed, replied, newBranch, met, asked, taken, turn}
+use Rattle.rules.specs.Explorer.{Pushed, pushes, faults, pushed, withBranch, noted, withState, firstMarked, followed, replied, newBranch, met, asked, taken, tick}
 use Rattle.ledger.specs.Replay.{Agrees}
 use Rattle.ledger.proofs.Marking.{AllMarking, all-refl, all-trans, all-length, all-split, marking-reply, firstMarked-marks}
 use Rattle.ledger.proofs.Growth.{Grown, grown-refl, grown-append, marking-grown, all-snoc}
@@ -210,7 +210,7 @@ module _ (M : Machine) (limits : Limits) (n : ℕ) (w : Walk (M .State)) (pre : 
       met-fine began l (r .0) (r .1) (r .2) (r .3) (marking-grown (w .ledger .path) (l .path) m)
       (asks-marking M limits (Leads M limits n) (leads-marking M limits n) (w .trace) (w .pos) rest (r .1) (asks s es x q) (r .4) o)
 
--- A turn
+-- A tick
 
 module _ (M : Machine) (limits : Limits) (n : ℕ) (w : Walk (M .State)) (pre : List Branch) (pos-is : w .pos ≡ length pre) where
   -- where nothing is left of the path, and no branch is passed
@@ -289,7 +289,7 @@ module _ (M : Machine) (limits : Limits) (n : ℕ) (w : Walk (M .State)) (pre : 
       }
   taken-fine (ends s) (b ∷ bs) p o = absurd o
 
-  pub turn-fine : (rest : List Branch) → w .ledger .path ≡ pre ++ rest → Leads M limits (suc n) (w .state) (w .trace) (w .pos) rest →
-      Fine M limits n w pre (M .next (w .state)) (turn M limits w)
-  unfolding turn Leads
-  turn-fine rest p o = taken-fine (M .next (w .state)) rest p o
+  pub tick-fine : (rest : List Branch) → w .ledger .path ≡ pre ++ rest → Leads M limits (suc n) (w .state) (w .trace) (w .pos) rest →
+      Fine M limits n w pre (M .next (w .state)) (tick M limits w)
+  unfolding tick Leads
+  tick-fine rest p o = taken-fine (M .next (w .state)) rest p o
