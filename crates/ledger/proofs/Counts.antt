@@ -39,7 +39,7 @@ pendings-lower [] t v e = omega arith
 pendings-lower (x ∷ xs) zero v e = omega arith
 pendings-lower (x ∷ xs) (suc t) v e = omega (arith, pendings-lower xs t v e)
 
--- "`explore` ticks only Skip into Pending": the one that was Skip is counted
+-- "`explore` turns only Skip into Pending": the one that was Skip is counted
 pub explored-one : (s : ℕ) → isPending (explored s) ≡ isPending s + isSkip s
 explored-one s =
     ⊎-elim

@@ -1,4 +1,4 @@
--- What a mark is counted for: just the Skip that it ticks Pending. Assumes nothing.
+-- What a mark is counted for: just the Skip that it turns Pending. Assumes nothing.
 use Prim.Native.Nat.{ℕ, zero, suc}
 use mathlib.Core.List.{List, [], _∷_, map}
 use mathlib.Core.Bool.{true, false, cond, _&&_}

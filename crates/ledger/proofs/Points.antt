@@ -1,5 +1,5 @@
--- Where the next path ticks, and that an execution goes through its turning point.
---     Place, tick-place         the branch at which the next path parts from the path
+-- Where the next path turns, and that an execution goes through its turning point.
+--     Place, turn-place         the branch at which the next path parts from the path
 --     grown-choices             a path that grows begins with the same choices
 use Prim.Native.Nat.{ℕ, suc, _<_}
 use mathlib.Core.List.{List, [], _∷_, map}
@@ -26,10 +26,10 @@ pub record Place (bs ds : List Branch) : Type 0 where
   pub before : take place (map choiceOf bs) ≡ take place (map choiceOf ds)
   pub new : getD (map choiceOf bs) place noChoice ≢ getD (map choiceOf ds) place noChoice
 
-pub tick-place : (bs : List Branch) → Every Proper bs → stepped bs ≢ [] → Place bs (stepped bs)
+pub turn-place : (bs : List Branch) → Every Proper bs → stepped bs ≢ [] → Place bs (stepped bs)
 unfolding stepped
-tick-place [] p n = absurd (n refl)
-tick-place (b ∷ bs) p n = go (stepped bs) n (λ m. tick-place bs (p .1) m)
+turn-place [] p n = absurd (n refl)
+turn-place (b ∷ bs) p n = go (stepped bs) n (λ m. turn-place bs (p .1) m)
   where
     on : (y : Bool) → ltb 0 (openAt b) ≡ y → cond y (turnedBranch b ∷ []) [] ≢ [] → Place (b ∷ bs) (cond y (turnedBranch b ∷ []) [])
     on true e n =

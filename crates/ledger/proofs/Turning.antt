@@ -28,7 +28,7 @@ use Rattle.ledger.proofs.Gains.{Gains, course-gains}
 use Rattle.ledger.proofs.Balance.{run-balance}
 use Rattle.ledger.proofs.Courses.{records}
 use Rattle.ledger.proofs.Partings.{turns-part}
-use Rattle.ledger.proofs.Points.{tick-place, grown-choices}
+use Rattle.ledger.proofs.Points.{turn-place, grown-choices}
 use Rattle.ledger.proofs.Lists.{perm-length, every-map, every-append, every-mem, disjoint-by, left-comm}
 
 not-spent : spent ≡ exhausted → ⊥
@@ -135,7 +135,7 @@ module _ (M : Machine) (limits : Limits) where
       let bs = w .ledger .path in
       let m = nextLedger (w .ledger) in
       let g = subst (λ v. Gains M limits (fresh M limits l) (courseOf M limits l .ticks) v) (end-is l (over w) e) (course-gains M limits l) in
-      let r = tick-place bs (g .proper (i .proper)) n in
+      let r = turn-place bs (g .proper (i .proper)) n in
       let c = rw e at (execution-fine M limits l (i .known)) in
       let k : Known M limits (stepped bs) = leads-stepped M limits (limits .ticks) (M .start) [] 0 bs (completed-known M limits l w c) in
       let z : executionOf (leftBy (execution M limits l)) .choices ≡ map choiceOf bs =

@@ -63,7 +63,7 @@ madePending [] ys = 0
 madePending (x ∷ xs) [] = 0
 madePending (x ∷ xs) (y ∷ ys) = cond (eqb x skip && eqb y pending) 1 0 + madePending xs ys
 
--- "Opened: each Skip turned Pending": a mark is counted for just these, and it ticks no other state
+-- "Opened: each Skip turned Pending": a mark is counted for just these, and it turns no other state
 pub record Counted : Type 0 where
   pub each : (states : List ℕ) (t : ℕ) → openedAt states t ≡ madePending states (marked states t)
   pub only : (states : List ℕ) (t k : ℕ) → (getD states k visited ≡ skip → ⊥) → getD (marked states t) k visited ≡ getD states k visited

@@ -85,7 +85,7 @@ unfoldable pub joinedOver : {A B : Type 0} → (A → List B) → List A → Lis
 joinedOver f [] = []
 joinedOver f (x ∷ xs) = f x ++ joinedOver f xs
 
--- where an execution ticks: the choices of the path that it began with, of which the last is new
+-- where an execution turns: the choices of the path that it began with, of which the last is new
 abbrev pub turningPoint : {S : Type 0} → Course S → Name
 turningPoint c = map choiceOf (c .known)
 

@@ -110,7 +110,7 @@ Same = (M : Machine) (limits : Limits) (n : ℕ) → runBy right M limits n ≡ 
 
 -- A part changed
 
--- a step that drops a record with something open: it ticks the first branch with an open choice, and drops what stands after
+-- a step that drops a record with something open: it turns the first branch with an open choice, and drops what stands after
 unfoldable pub steppedFirst : List Branch → List Branch
 steppedFirst [] = []
 steppedFirst (b ∷ bs) = cond (ltb 0 (openAt b)) (turnedBranch b ∷ []) (b ∷ steppedFirst bs)
@@ -149,5 +149,5 @@ pub record Wrong : Type 0 where
   pub dropping : Unbalanced droppingStep 4 4 0
   -- the five executions of P3, and only the loads' choices counted
   pub silent : Unbalanced uncounted 5 2 0
-  -- the two threads of the second branch take ticks for ever
+  -- the two threads of the second branch take turns for ever
   pub again : Unbalanced reopening 10 6 2

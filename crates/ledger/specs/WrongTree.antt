@@ -63,7 +63,7 @@ pub record Repeated (P : Parts) (i j : ℕ) (point : Name) : Type 0 where
 pub record WrongTree : Type 0 where
   -- the third execution is the first again
   pub revisited : SameAgain revisiting 0 2
-  -- a backtrack that opens Visited: the sixth is the third again, and ticks where the fourth did
+  -- a backtrack that opens Visited: the sixth is the third again, and turns where the fourth did
   pub reopened : SameAgain reopening 2 5
   pub repeated : Repeated reopening 2 5 (running 1 ∷ running 0 ∷ [])
   -- a step that drops a record with something open: the load's second value is neither turned to nor open

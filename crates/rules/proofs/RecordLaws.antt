@@ -140,7 +140,7 @@ module _ (bytes : List ℕ) (k : ℕ) (fits : 16 * k + 16 ≤ length bytes) wher
   unfolding withRecord
   whole-put r e = rw (take-all 16 r (omega arith), append-assoc)
 
--- a tick of a loop that puts one byte after the other
+-- a step of a loop that puts one byte after the other
 pub put-on : (bytes : List ℕ) (p : ℕ) (s : List ℕ) (j v : ℕ) → p + j < length bytes → j < length s → v ≡ getD s j 0 → set (paste bytes p s j) (p + j) v ≡ paste bytes p s (j + 1)
 put-on bytes p s j v h l e = rw (e, add-one) (paste-suc bytes p s j 0 h l)
 

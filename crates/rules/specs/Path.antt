@@ -212,7 +212,7 @@ openedBy (spurious u) = cond (u .exploring) 1 0
 
 -- Marks
 
--- "`explore` ticks only Skip into Pending"
+-- "`explore` turns only Skip into Pending"
 abbrev pub explored : ℕ → ℕ
 explored s = cond (eqb s skip) pending s
 
