@@ -9,7 +9,7 @@ use mathlib.Core.Bool.{Bool, true, false, cond, not, _&&_, _||_}
 use lib.Dec.{ltb, leb, eqb}
 use lib.ListN.{length, getD, take}
 use Rattle.rules.specs.Path.{Branch, schedule, load, spurious, Schedule, Load, Spurious, Bound, Added, added, Marked, Choice}
-use Rattle.rules.specs.Path.{threadAdded, loadAdded, spuriousAdded, openedBy, backtracked, stepped, openIn, choiceOf, activeIn, noBranch}
+use Rattle.rules.specs.Path.{threadAdded, loadAdded, spuriousAdded, openAt, backtracked, stepped, openIn, choiceOf, activeIn, noBranch}
 use Rattle.rules.specs.Path.{disabled, skip, yield, toActive}
 use Rattle.rules.specs.Vector.{Whom}
 use Rattle.rules.specs.Event as Event
@@ -77,7 +77,7 @@ pushed B bs exploring (whichSlot m) = loadPushed B bs exploring m
 pushed B bs exploring whichBit = orFault (spuriousAdded B bs exploring)
 
 abbrev pub withBranch : Ledger → Branch → Ledger
-withBranch l b = record { path = l .path ++ (b ∷ []); opened = l .opened + openedBy b }
+withBranch l b = record { path = l .path ++ (b ∷ []); opened = l .opened + openAt b }
 
 -- The record's answer, where it is one of the question's kind
 

@@ -2,9 +2,10 @@
 -- document 01, "`Path`", "Path record", "Opened" and "Open". Assumes nothing: every function is defined on every list.
 --     Branch, encoded            a branch, and its 16 bytes
 --     threadAdded, loadAdded, spuriousAdded     a branch added at the end
---     backtracked                marks made from a point
+--     backtracked                marks made from a point, and what they open
+--     openAt, openIn             what is open
 --     stepped                    the next path to be tried
---     opened.., openIn           what is counted
+--     choiceOf                   what a branch chooses
 use Prim.Native.Nat.{ℕ, zero, suc, _+_, _-_, _*_, _/_, _%_}
 use mathlib.Core.List.{List, [], _∷_, _++_, map}
 use mathlib.Core.Bool.{Bool, true, false, cond, not, _&&_, _||_}
@@ -131,6 +132,7 @@ unfoldable pub toggled : List ℕ → List ℕ
 toggled seed = unlessActive (activeIn seed) seed
 
 -- the preemptions up to a schedule and with it: one more where it chooses another than the thread that was active at first
+-- (path.rs: Schedule::preemptions)
 unfoldable pub preemptionsWith : Schedule → ℕ
 preemptionsWith s =
     cond (eqb (s .initial) noThread || eqb (s .initial) (activeOf s)) (s .preemptions) (s .preemptions + 1)
@@ -161,7 +163,7 @@ abbrev pub preemptionsAfter : Last → ℕ
 preemptionsAfter none = 0
 preemptionsAfter (at k s) = preemptionsWith s
 
--- the Active of the new branch, unless the schedule before has another
+-- the Active of the new branch, unless the schedule before has another [Q20]
 abbrev pub initialAfter : Last → ℕ → ℕ
 initialAfter none now = now
 initialAfter (at k s) now = cond (eqb now (activeOf s)) now noThread
@@ -204,39 +206,28 @@ unfoldable pub spuriousAdded : ℕ → List Branch → Bool → Added
 spuriousAdded B bs exploring =
     cond (leb B (length bs)) full (added (spurious (record { exploring = exploring; bit = false })))
 
--- "Opened: .. len−1 at each exploring load added; 1 at each exploring spurious added."
-unfoldable pub openedBy : Branch → ℕ
-openedBy (schedule s) = 0
-openedBy (load l) = cond (l .exploring) (length (l .values) - 1) 0
-openedBy (spurious u) = cond (u .exploring) 1 0
-
 -- Marks
 
 -- "`explore` turns only Skip into Pending"
 abbrev pub explored : ℕ → ℕ
 explored s = cond (eqb s skip) pending s
 
-abbrev pub isSkip : ℕ → ℕ
-isSkip s = cond (eqb s skip) 1 0
-
-unfoldable pub skips : List ℕ → ℕ
-skips [] = 0
-skips (s ∷ states) = isSkip s + skips states
-
 -- "a disabled target explores all Skip". A thread that is none is no target
 unfoldable pub marked : List ℕ → ℕ → List ℕ
 marked states t = cond (eqb (getD states t visited) disabled) (map explored states) (set states t (explored (getD states t visited)))
 
--- "Opened: each Skip turned Pending"
-unfoldable pub openedAt : List ℕ → ℕ → ℕ
-openedAt states t = cond (eqb (getD states t visited) disabled) (skips states) (isSkip (getD states t visited))
+-- "Opened: each Skip turned Pending": how many are Skip in the first states and Pending in the second
+unfoldable pub madePending : List ℕ → List ℕ → ℕ
+madePending [] ys = 0
+madePending (x ∷ xs) [] = 0
+madePending (x ∷ xs) (y ∷ ys) = cond (eqb x skip && eqb y pending) 1 0 + madePending xs ys
 
 -- "preemption bound none or 0..255"
 pub data Bound : Type 0 where
   unbounded : Bound
   atMost : ℕ → Bound
 
--- a record whose preemptions equal the bound takes no marks
+-- a record whose preemptions equal the bound takes no marks [Q32; path.rs: Schedule::backtrack]
 unfoldable pub takesMarks : Bound → Schedule → Bool
 takesMarks unbounded s = true
 takesMarks (atMost n) s = not (eqb (s .preemptions) n)
@@ -253,9 +244,6 @@ withStates s states = record {
 unfoldable pub scheduleMarked : Bound → Schedule → ℕ → Schedule
 scheduleMarked bound s t = cond (takesMarks bound s) (withStates s (marked (s .states) t)) s
 
-unfoldable pub scheduleOpened : Bound → Schedule → ℕ → ℕ
-scheduleOpened bound s t = cond (takesMarks bound s) (openedAt (s .states) t) 0
-
 -- a path, and how many choices were opened in it
 pub record Marked : Type 0 where
   pub path : List Branch
@@ -269,7 +257,7 @@ abbrev pub markedAt : Bound → List Branch → Last → ℕ → Marked
 markedAt bound bs none t = unmarked bs
 markedAt bound bs (at k s) t = record {
   path = set bs k (schedule (scheduleMarked bound s t));
-  opened = scheduleOpened bound s t;
+  opened = madePending (s .states) (scheduleMarked bound s t .states);
 }
 
 -- the schedule at a position, if there is one
@@ -289,37 +277,47 @@ abbrev pub ifExploring : Last → Last → Last
 ifExploring none other = other
 ifExploring (at k s) other = cond (s .exploring) (at k s) other
 
--- `backtrack` from a point: the last exploring schedule that does not stand after it. The first n branches are looked at
+-- the last exploring schedule among the first n branches (path.rs: backtrack)
 unfoldable pub exploringBelow : List Branch → ℕ → Last
 exploringBelow bs zero = none
 exploringBelow bs (suc k) = let below = exploringBelow bs k in ifExploring (scheduleAt bs k) below
 
--- the schedule that a schedule's prev names. One that does not stand below it, which no path has, counts as none
-unfoldable pub before : List Branch → Last → Last
-before bs none = none
-before bs (at k s) = cond (ltb (s .prev) k) (scheduleAt bs (s .prev)) none
+-- a schedule, at its position among all branches
+pub record Placed : Type 0 where
+  pub place : ℕ
+  pub schedule : Schedule
 
--- "With a bound, the second backtrack walks `prev` as in the source": from a schedule down to the last exploring one whose
--- Active is not that of the schedule before it; the very first counts, if it is exploring. The walk takes at most n steps
-unfoldable pub switchFrom : List Branch → ℕ → Last → Last
-switchFrom bs n none = none
-switchFrom bs zero (at k s) = none
-switchFrom bs (suc n) (at k s) =
-    elim (before bs (at k s)) [
-      | none ↦ ifExploring (at k s) none
-      | at p q ↦ elim (s .exploring && not (eqb (activeOf s) (activeOf q))) [ true ↦ at k s | false ↦ switchFrom bs n (at p q) ]
-    ]
+abbrev pub andSchedule : ℕ → Branch → List Placed → List Placed
+andSchedule k (schedule s) more = record { place = k; schedule = s } ∷ more
+andSchedule k (load l) more = more
+andSchedule k (spurious u) more = more
+
+-- the schedules among the first n branches, newest first
+unfoldable pub schedulesBelow : List Branch → ℕ → List Placed
+schedulesBelow bs zero = []
+schedulesBelow bs (suc k) = andSchedule k (getD bs k noBranch) (schedulesBelow bs k)
+
+-- "With a bound, the second backtrack walks `prev` as in the source" (path.rs: backtrack): of these schedules, newest first,
+-- the first exploring one whose Active is not that of the schedule before it; the very first of all counts, if it is exploring
+unfoldable pub switchIn : List Placed → Last
+switchIn [] = none
+switchIn (a ∷ []) = ifExploring (at (a .place) (a .schedule)) none
+switchIn (a ∷ b ∷ more) =
+    cond (a .schedule .exploring && not (eqb (activeOf (a .schedule)) (activeOf (b .schedule))))
+    (at (a .place) (a .schedule))
+    (switchIn (b ∷ more))
 
 abbrev pub both : ℕ → Marked → Marked
 both n m = record { path = m .path; opened = n + m .opened }
 
--- the second mark, where the first was looked for at this schedule: "not where no exploring record was found, nor where that
--- record has no prev"
+-- the second mark, where the first was looked for at this schedule: not where no exploring schedule was found, nor where none
+-- stands before it [Q32]
 unfoldable pub markedBefore : Bound → Marked → Last → ℕ → Marked
-markedBefore bound m first t =
-    both (m .opened) (markedAt bound (m .path) (switchFrom (m .path) (length (m .path)) (before (m .path) first)) t)
+markedBefore bound m none t = m
+markedBefore bound m (at k s) t =
+    both (m .opened) (markedAt bound (m .path) (switchIn (schedulesBelow (m .path) k)) t)
 
--- `backtrack` from a branch for a thread
+-- `backtrack` from a branch for a thread. With a bound the second mark is made also where the first left none [Q22]
 unfoldable pub backtracked : Bound → List Branch → ℕ → ℕ → Marked
 backtracked unbounded bs point t = markedAt unbounded bs (exploringBelow bs (point + 1)) t
 backtracked (atMost n) bs point t =
@@ -334,7 +332,8 @@ unfoldable pub pendings : List ℕ → ℕ
 pendings [] = 0
 pendings (s ∷ states) = isPending s + pendings states
 
--- "Open: Pending marks, len−1−pos, unset bits, on exploring records"
+-- "Open: Pending marks, len−1−pos, unset bits, on exploring records". It is also what a branch opens that is just added: "len−1
+-- at each exploring load added; 1 at each exploring spurious added", and nothing at a schedule, whose seed has no Pending
 unfoldable pub openAt : Branch → ℕ
 openAt (schedule s) = cond (s .exploring) (pendings (s .states)) 0
 openAt (load l) = cond (l .exploring) (length (l .values) - 1 - l .pos) 0
@@ -351,7 +350,7 @@ toVisited (thread t) states = set states t visited
 abbrev pub left : List ℕ → List ℕ
 left states = toVisited (activeIn states) states
 
--- the Active becomes Visited, and the first Pending Active
+-- the Active becomes Visited, and the first Pending Active (path.rs: step)
 unfoldable pub turned : List ℕ → List ℕ
 turned states = toActive (firstIn pending (left states)) (left states)
 
@@ -361,8 +360,8 @@ turnedBranch (schedule s) = schedule (withStates s (turned (s .states)))
 turnedBranch (load l) = load (record { exploring = l .exploring; values = l .values; pos = l .pos + 1 })
 turnedBranch (spurious u) = spurious (record { exploring = u .exploring; bit = true })
 
--- `step`: the last branch with an open choice is set to its next one, and every branch after it is dropped. Nothing is left
--- where nothing is open
+-- the next path (path.rs: step): the last branch with an open choice is set to its next one, and every branch after it is
+-- dropped. Nothing is left where nothing is open
 abbrev pub orTurned : List Branch → Branch → List Branch
 orTurned [] b = cond (ltb 0 (openAt b)) (turnedBranch b ∷ []) []
 orTurned (c ∷ cs) b = b ∷ c ∷ cs
