@@ -3,14 +3,14 @@
 --     matchedLoad, matchedRmw        the offers, or that equal orders were met
 --     loadDone, rmwDone, storeDone, unsyncLoadDone, mutDone       the accesses
 --     fenced                         the fences
-use Prim.Native.Nat.{ℕ, zero, suc, _+_, _-_, _*_, _%_, _^_, max, min}
+use Prim.Native.Nat.{ℕ, zero, suc, _+_, _-_, _*_, _%_}
 use mathlib.Core.List.{List, [], _∷_, map}
 use mathlib.Core.Bool.{Bool, true, false, cond, not, _&&_, _||_}
 use lib.Dec.{ltb, leb, eqb}
-use lib.Bits.{bitAnd, bitOr, bitXor}
 use lib.ListN.{getD, set, replicate}
 use Rattle.rules.specs.Vector as Vectors
 use Rattle.rules.specs.Vector.{joined, less, ahead, Whom, nobody, thread, zeros, oneMore}
+use Rattle.rules.specs.Change.{Change, Changed, success, failure, applied}
 use Rattle.rules.specs.Seen.{seen, seenBeforeYield, touchedAt, touched, unseens}
 use Rattle.rules.specs.Event.{Matched, offers}
 use Rattle.rules.specs.Event as Event
@@ -289,76 +289,7 @@ loadDone st t c slot o =
     (read (value (st .values) (ofStore (storeAt c slot)))
     (withClocks seenIt (loadSynced (seenIt .clocks) t (storeAt c slot) o)))
 
--- Changes
-
--- "Changes (both in RMW and exclusive): 0 swap, 1 add, 2 subtract (both wrap at 2^64), 3 and, 4 or, 5 xor, 6 nand, 7 unsigned
--- max, 8 unsigned min, 9 signed max, 10 signed min, 11 compare a, write b, 12 decrement unless zero."
-pub data Change : Type 0 where
-  swap : ℕ → Change
-  add : ℕ → Change
-  subtract : ℕ → Change
-  and : ℕ → Change
-  or : ℕ → Change
-  xor : ℕ → Change
-  nand : ℕ → Change
-  greatest : ℕ → Change
-  least : ℕ → Change
-  signedGreatest : ℕ → Change
-  signedLeast : ℕ → Change
-  compare : ℕ → ℕ → Change
-  decrement : Change
-
--- the change that a row's kind and operands name
-unfoldable pub changeOf : ℕ → ℕ → ℕ → Change
-changeOf kind a b =
-    cond (eqb kind 0) (swap a)
-    (cond (eqb kind 1) (add a)
-    (cond (eqb kind 2) (subtract a)
-    (cond (eqb kind 3) (and a)
-    (cond (eqb kind 4) (or a)
-    (cond (eqb kind 5) (xor a)
-    (cond (eqb kind 6) (nand a)
-    (cond (eqb kind 7) (greatest a)
-    (cond (eqb kind 8) (least a)
-    (cond (eqb kind 9) (signedGreatest a)
-    (cond (eqb kind 10) (signedLeast a)
-    (cond (eqb kind 11) (compare a b)
-    decrement)))))))))))
-
--- "taken apart into success or failure with its value"
-pub data Changed : Type 0 where
-  success : ℕ → Changed
-  failure : Changed
-
--- "wrap at 2^64"
-abbrev pub word : ℕ
-word = 2 ^ 64
-
--- a number's place among the signed ones: the half from 2^63 on stands below the other
-abbrev pub signed : ℕ → ℕ
-signed n = (n + 2 ^ 63) % word
-
-abbrev pub greater : Bool → ℕ → ℕ → ℕ
-greater below v a = cond below a v
-
-abbrev pub lesser : Bool → ℕ → ℕ → ℕ
-lesser below v a = cond below v a
-
--- what a change makes of a value. "Only kinds 11 and 12 may fail"
-unfoldable pub applied : Change → ℕ → Changed
-applied (swap a) v = success a
-applied (add a) v = success ((v + a) % word)
-applied (subtract a) v = success ((v + (word - a)) % word)
-applied (and a) v = success (bitAnd v a)
-applied (or a) v = success (bitOr v a)
-applied (xor a) v = success (bitXor v a)
-applied (nand a) v = success (word - 1 - bitAnd v a)
-applied (greatest a) v = success (greater (ltb v a) v a)
-applied (least a) v = success (lesser (ltb v a) v a)
-applied (signedGreatest a) v = success (greater (ltb (signed v) (signed a)) v a)
-applied (signedLeast a) v = success (lesser (ltb (signed v) (signed a)) v a)
-applied (compare a b) v = cond (eqb v a) (success b) failure
-applied decrement v = cond (eqb v 0) failure (success (v - 1))
+-- RMW
 
 -- "failure syncs by the failure order only"
 abbrev pub failed : State → ℕ → ℕ → ℕ → ℕ → Access

@@ -119,18 +119,31 @@ pub data Answer : Type 0 where
   takeBit : Bool → Answer
 
 -- What a machine does next, with the trace entries of the rows that are now complete
-pub data Event (S : Type 0) : Type 0 where
+pub data Move (S : Type 0) : Type 0 where
   -- goes on
-  moves : S → List Entry → Event S
+  moves : S → List Entry → Move S
   -- asks, and says whether it is exploring
-  asks : S → List Entry → Bool → Question → Event S
+  asks : S → List Entry → Bool → Question → Move S
   -- meets a fault
-  stops : S → Fault → Event S
+  stops : S → Fault → Move S
   -- its execution has ended
-  ends : S → Event S
+  ends : S → Move S
+
+-- "thread and row at fault (from 11 on the current thread and its row, the row count if it is ending ..)": where it does so
+pub record Site : Type 0 where
+  pub thread : ℕ
+  pub row : ℕ
+
+-- "255, 255": no thread and no row
+abbrev pub noSite : Site
+noSite = record { thread = 255; row = 255 }
+
+pub record Event (S : Type 0) : Type 0 where
+  pub site : Site
+  pub move : Move S
 
 pub record Machine : Type 1 where
   pub State : Type 0
   pub start : State
   pub next : State → Event State
-  pub answered : State → Answer → Event State
+  pub answered : State → Answer → Move State

@@ -8,13 +8,15 @@ use lib.ListN.{length, replicate}
 use Rattle.rules.specs.Path.{Bound, openIn, written, recordBytes}
 use Rattle.rules.specs.Table.{judged, good, badHeader, badRow}
 use Rattle.rules.specs.Event as Event
-use Rattle.rules.specs.Event.{Fault, Entry, entryBytes, faultNumber, raceKind, otherThread}
+use Rattle.rules.specs.Event.{Fault, Site, noSite, Entry, entryBytes, faultNumber, raceKind, otherThread}
 use Rattle.rules.specs.State as State
 use Rattle.rules.specs.State.{State, number, rowsOf, yields, begun}
 use Rattle.rules.specs.Cell.{version}
-use Rattle.rules.specs.Machine.{Program, machine, active, activeRow, absent, isIn, everyThread}
+use Rattle.rules.specs.Machine.{Program, machine, absent, isIn, everyThread}
 use Rattle.rules.specs.Explorer.{Limits, Stop, Verdict, exhausted, spent, stopped, run}
 
+-- "Branch limit B ..; operation limit L ..; execution budget N ..; preemption bound none or 0..255; exploring on start yes or
+-- no.": a bound is a byte, so that one above 255 cannot be given
 pub record Settings : Type 0 where
   pub branches : ℕ
   pub operations : ℕ
@@ -85,31 +87,33 @@ refused answer t k path trace = record {
 abbrev pub verdictNumber : Verdict → ℕ
 verdictNumber exhausted = 0
 verdictNumber spent = 1
-verdictNumber (stopped f) = faultNumber f
+verdictNumber (stopped f site) = faultNumber f
 
 abbrev pub verdictKind : Verdict → ℕ
 verdictKind exhausted = 0
 verdictKind spent = 0
-verdictKind (stopped f) = raceKind f
+verdictKind (stopped f site) = raceKind f
 
 abbrev pub verdictOther : Verdict → ℕ
 verdictOther exhausted = 255
 verdictOther spent = 255
-verdictOther (stopped f) = otherThread f
+verdictOther (stopped f site) = otherThread f
 
 -- "255, 255 for 0 to 4 and 10", "from 11 on the current thread and its row, the row count if it is ending"
-unfoldable pub namesPlace : Verdict → Bool
-namesPlace v = leb 11 (verdictNumber v)
+unfoldable pub verdictSite : Verdict → Site
+verdictSite exhausted = noSite
+verdictSite spent = noSite
+verdictSite (stopped f site) = cond (leb 11 (faultNumber f)) site noSite
 
 unfoldable pub reported : Stop State → Report
 reported r = record {
   answer = verdictNumber (r .verdict);
-  begun = length (r .history);
+  begun = r .walk .ledger .begun;
   opened = r .walk .ledger .opened;
   stillOpen = openIn (r .walk .ledger .path);
   rows = number (r .walk .state .numbers) begun;
-  thread = cond (namesPlace (r .verdict)) (active (r .began)) 255;
-  row = cond (namesPlace (r .verdict)) (activeRow (r .began)) 255;
+  thread = verdictSite (r .verdict) .thread;
+  row = verdictSite (r .verdict) .row;
   kind = verdictKind (r .verdict);
   other = verdictOther (r .verdict);
   threads = map (summary (r .walk .state)) everyThread;
@@ -123,8 +127,8 @@ entriesBytes (e ∷ es) = entryBytes e ++ entriesBytes es
 unfoldable pub noted : ℕ → List Entry → List ℕ
 noted n es = entriesBytes es ++ replicate (n - recordBytes * length es) 0
 
--- more ticks than an execution can take: each row that begins takes at most three (it begins, may block once, acts), each
--- thread's end one, and each end may free the joins of four others
+-- more ticks than an execution can take: one more than the measure of its start (Measure). Each of L rows that begin takes at
+-- most three (it begins, may block once, acts); of five threads each ends, and may free the joins of four others: 3·L + 25
 abbrev pub ticksOf : ℕ → ℕ
 ticksOf operations = 3 * operations + 26
 

@@ -1,5 +1,7 @@
 -- How an event meets the path, an execution as ticks, a run as executions, over any machine: document 01, "Settings, buffers,
 -- answers" and "Explorer". Assumes nothing.
+--     Ledger            the path, and what is counted over the whole history
+--     met               a question meets the path
 --     Walk, tick        an execution under way, and its next tick
 --     Execution         what is left of one that is over: its choices and its trace
 --     run               one execution after another, with their history
@@ -14,7 +16,7 @@ use Rattle.rules.specs.Path.{disabled, skip, yield, toActive}
 use Rattle.rules.specs.Vector.{Whom}
 use Rattle.rules.specs.Event as Event
 use Rattle.rules.specs.Event.{Standing, yielded, cannotRun, other, slotsOf}
-use Rattle.rules.specs.Event.{Fault, Entry, Place, nowhere, branch, Matched, offers, Question, whichThread, whichSlot, whichBit, Answer, runThread, readSlot, takeBit, Machine, moves, asks, stops, ends}
+use Rattle.rules.specs.Event.{Fault, Entry, Place, nowhere, branch, Matched, offers, Question, whichThread, whichSlot, whichBit, Answer, runThread, readSlot, takeBit, Site, noSite, Move, Machine, moves, asks, stops, ends}
 
 -- "Branch limit B", "operation limit L", the preemption bound, and how many ticks an execution may take
 pub record Limits : Type 0 where
@@ -25,10 +27,11 @@ pub record Limits : Type 0 where
 
 -- A question meets the path
 
--- a path with the choices opened so far in the whole history
+-- "executions begun, choices opened", so far in the whole history, with the path
 pub record Ledger : Type 0 where
   pub path : List Branch
   pub opened : ℕ
+  pub begun : ℕ
 
 -- "(a) for each thread in order .. `backtrack` from that access's branch for that thread"
 abbrev pub backtrackFrom : Bound → Ledger → Place → ℕ → Ledger
@@ -36,6 +39,7 @@ backtrackFrom bound l nowhere t = l
 backtrackFrom bound l (branch point) t = record {
   path = backtracked bound (l .path) point t .path;
   opened = l .opened + backtracked bound (l .path) point t .opened;
+  begun = l .begun;
 }
 
 -- of the threads from this one on
@@ -76,8 +80,9 @@ pushed B bs exploring (whichThread points initial standings) = orFault (threadAd
 pushed B bs exploring (whichSlot m) = loadPushed B bs exploring m
 pushed B bs exploring whichBit = orFault (spuriousAdded B bs exploring)
 
+-- an added branch opens what it then has open
 abbrev pub withBranch : Ledger → Branch → Ledger
-withBranch l b = record { path = l .path ++ (b ∷ []); opened = l .opened + openAt b }
+withBranch l b = record { path = l .path ++ (b ∷ []); opened = l .opened + openAt b; begun = l .begun }
 
 -- The record's answer, where it is one of the question's kind
 
@@ -119,11 +124,11 @@ pub record Walk (S : Type 0) : Type 0 where
   pub pos : ℕ
   pub trace : List Entry
 
--- how a tick comes out; a fault is kept with the state that its tick began in, which says where it was met
+-- how a tick comes out: the execution goes on, is over, or has met a fault
 pub data Tick (S : Type 0) : Type 0 where
   goes : Walk S → Tick S
   over : Walk S → Tick S
-  faulted : Fault → S → Walk S → Tick S
+  faulted : Fault → Site → Walk S → Tick S
 
 abbrev pub withState : {S : Type 0} → Walk S → S → Walk S
 withState w s = record { state = s; ledger = w .ledger; pos = w .pos; trace = w .trace }
@@ -144,52 +149,56 @@ module _ (M : Machine) (limits : Limits) where
   fits w es = leb (length (w .trace) + length es) (limits .operations)
 
   -- what follows an answer; a machine that asks again before it has moved has no place here
-  abbrev pub followed : M .State → Walk (M .State) → Event.Event (M .State) → Tick (M .State)
-  followed began w (moves s es) = cond (fits w es) (goes (noted w s es)) (faulted Event.impossible began (withState w s))
-  followed began w (asks s es exploring q) = faulted Event.impossible began (withState w s)
-  followed began w (stops s f) = faulted f began (withState w s)
-  followed began w (ends s) = over (withState w s)
+  abbrev pub followed : Site → Walk (M .State) → Move (M .State) → Tick (M .State)
+  followed site w (moves s es) = cond (fits w es) (goes (noted w s es)) (faulted Event.impossible site (withState w s))
+  followed site w (asks s es exploring q) = faulted Event.impossible site (withState w s)
+  followed site w (stops s f) = faulted f site (withState w s)
+  followed site w (ends s) = over (withState w s)
 
-  abbrev pub replied : M .State → Walk (M .State) → Reply → Tick (M .State)
-  replied began w (says a) = followed began (onward w) (M .answered (w .state) a)
-  replied began w unexpected = faulted Event.impossible began w
+  abbrev pub replied : Site → Walk (M .State) → Reply → Tick (M .State)
+  replied site w (says a) = followed site (onward w) (M .answered (w .state) a)
+  replied site w unexpected = faulted Event.impossible site w
 
-  abbrev pub newBranch : M .State → Walk (M .State) → Question → Pushed → Tick (M .State)
-  newBranch began w q (pushes b) = replied began (withLedger w (withBranch (w .ledger) b)) (reply (w .pos) b q)
-  newBranch began w q (faults f) = faulted f began w
+  abbrev pub newBranch : Site → Walk (M .State) → Question → Pushed → Tick (M .State)
+  newBranch site w q (pushes b) = replied site (withLedger w (withBranch (w .ledger) b)) (reply (w .pos) b q)
+  newBranch site w q (faults f) = faulted f site w
 
   -- past the known path the question adds a branch; before its end the branch there answers
-  abbrev pub met : M .State → Walk (M .State) → Bool → Question → Tick (M .State)
-  met began w exploring q =
+  abbrev pub met : Site → Walk (M .State) → Bool → Question → Tick (M .State)
+  met site w exploring q =
       cond (eqb (w .pos) (length (w .ledger .path)))
-      (newBranch began w q (pushed (limits .branches) (w .ledger .path) exploring q))
-      (replied began w (reply (w .pos) (getD (w .ledger .path) (w .pos) noBranch) q))
+      (newBranch site w q (pushed (limits .branches) (w .ledger .path) exploring q))
+      (replied site w (reply (w .pos) (getD (w .ledger .path) (w .pos) noBranch) q))
 
-  -- marks are made first: "In a run the first fault stops everything; marks made before it stay."
-  abbrev pub asked : M .State → Walk (M .State) → Bool → Question → Tick (M .State)
-  asked began w exploring q = met began (withLedger w (firstMarked (limits .bound) (w .ledger) q)) exploring q
+  -- marks are made first: "In a run the first fault stops everything; marks made before it stay." [Q10]
+  abbrev pub asked : Site → Walk (M .State) → Bool → Question → Tick (M .State)
+  asked site w exploring q = met site (withLedger w (firstMarked (limits .bound) (w .ledger) q)) exploring q
 
-  abbrev pub taken : Walk (M .State) → Event.Event (M .State) → Tick (M .State)
-  taken w (moves s es) = cond (fits w es) (goes (noted w s es)) (faulted Event.impossible (w .state) (withState w s))
-  taken w (asks s es exploring q) =
-      cond (fits w es) (asked (w .state) (noted w s es) exploring q) (faulted Event.impossible (w .state) (withState w s))
-  taken w (stops s f) = faulted f (w .state) (withState w s)
-  taken w (ends s) = over (withState w s)
+  abbrev pub taken : Site → Walk (M .State) → Move (M .State) → Tick (M .State)
+  taken site w (moves s es) = cond (fits w es) (goes (noted w s es)) (faulted Event.impossible site (withState w s))
+  taken site w (asks s es exploring q) =
+      cond (fits w es) (asked site (noted w s es) exploring q) (faulted Event.impossible site (withState w s))
+  taken site w (stops s f) = faulted f site (withState w s)
+  taken site w (ends s) = over (withState w s)
 
   unfoldable pub tick : Walk (M .State) → Tick (M .State)
-  tick w = taken w (M .next (w .state))
+  tick w = taken (M .next (w .state) .site) w (M .next (w .state) .move)
 
   -- the ticks of an execution, at most n
   unfoldable pub walked : ℕ → Walk (M .State) → Tick (M .State)
-  walked zero w = faulted Event.impossible (w .state) w
+  walked zero w = faulted Event.impossible noSite w
   walked (suc n) w = elim (tick w) [ goes v ↦ walked n v | over v ↦ over v | faulted f s v ↦ faulted f s v ]
 
   -- "Start of each execution": the path is what was left, the trace begins anew
   abbrev pub fresh : Ledger → Walk (M .State)
   fresh l = record { state = M .start; ledger = l; pos = 0; trace = [] }
 
+  -- "Executions begun" counts each as it begins, also the one that faults [Q8]
+  abbrev pub oneBegun : Ledger → Ledger
+  oneBegun l = record { path = l .path; opened = l .opened; begun = l .begun + 1 }
+
   unfoldable pub execution : Ledger → Tick (M .State)
-  execution l = walked (limits .ticks) (fresh l)
+  execution l = walked (limits .ticks) (fresh (oneBegun l))
 
 -- A run
 
@@ -201,21 +210,20 @@ pub record Execution : Type 0 where
 abbrev pub executionOf : {S : Type 0} → Walk S → Execution
 executionOf w = record { choices = map choiceOf (take (w .pos) (w .ledger .path)); trace = w .trace }
 
--- "0 an execution ended, no choice open"; "1 N executions ended, some choice open"; the faults
+-- "0 an execution ended, no choice open"; "1 N executions ended, some choice open"; a fault, with where it was met
 pub data Verdict : Type 0 where
   exhausted : Verdict
   spent : Verdict
-  stopped : Fault → Verdict
+  stopped : Fault → Site → Verdict
 
--- where a run stops: the last execution as it was left, the state that its last tick began in, and all executions
+-- where a run stops: the last execution as it was left, and all executions
 pub record Stop (S : Type 0) : Type 0 where
   pub verdict : Verdict
-  pub began : S
   pub walk : Walk S
   pub history : List Execution
 
-abbrev pub stop : {S : Type 0} → Verdict → S → Walk S → List Execution → Stop S
-stop verdict began w past = record { verdict = verdict; began = began; walk = w; history = past ++ (executionOf w ∷ []) }
+abbrev pub stop : {S : Type 0} → Verdict → Walk S → List Execution → Stop S
+stop verdict w past = record { verdict = verdict; walk = w; history = past ++ (executionOf w ∷ []) }
 
 -- a run stops, or goes on with the next path
 pub data After (S : Type 0) : Type 0 where
@@ -223,25 +231,29 @@ pub data After (S : Type 0) : Type 0 where
   goesOn : Ledger → List Execution → After S
 
 abbrev pub nextLedger : Ledger → Ledger
-nextLedger l = record { path = stepped (l .path); opened = l .opened }
+nextLedger l = record { path = stepped (l .path); opened = l .opened; begun = l .begun }
 
--- "0 an execution ended, no choice open": also at the Nth. "After answer 0 or 1 no `step` is made."
+-- nothing known, nothing opened, nothing begun
+abbrev pub empty : Ledger
+empty = record { path = []; opened = 0; begun = 0 }
+
+-- "0 an execution ended, no choice open": also at the Nth [Q8]. "After answer 0 or 1 no `step` is made."
 unfoldable pub after : {S : Type 0} → Bool → List Execution → Tick S → After S
-after last past (goes w) = stopsHere (stop (stopped Event.impossible) (w .state) w past)
+after last past (goes w) = stopsHere (stop (stopped Event.impossible noSite) w past)
 after last past (over w) =
-    cond (eqb (openIn (w .ledger .path)) 0) (stopsHere (stop exhausted (w .state) w past))
-    (cond last (stopsHere (stop spent (w .state) w past))
+    cond (eqb (openIn (w .ledger .path)) 0) (stopsHere (stop exhausted w past))
+    (cond last (stopsHere (stop spent w past))
     (goesOn (nextLedger (w .ledger)) (past ++ (executionOf w ∷ []))))
-after last past (faulted f began w) = stopsHere (stop (stopped f) began w past)
+after last past (faulted f site w) = stopsHere (stop (stopped f site) w past)
 
 module _ (M : Machine) (limits : Limits) where
   -- at most n more executions, from this ledger, after these executions. With none allowed, which is refused before a run,
   -- nothing begins
   unfoldable pub runFrom : ℕ → Ledger → List Execution → Stop (M .State)
-  runFrom zero l past = record { verdict = stopped Event.impossible; began = M .start; walk = fresh M limits l; history = past }
+  runFrom zero l past = record { verdict = stopped Event.impossible noSite; walk = fresh M limits l; history = past }
   runFrom (suc n) l past =
       elim (after (eqb n 0) past (execution M limits l)) [ stopsHere r ↦ r | goesOn m more ↦ runFrom n m more ]
 
   -- "execution budget N"
   unfoldable pub run : ℕ → Stop (M .State)
-  run n = runFrom n (record { path = []; opened = 0 }) []
+  run n = runFrom n empty []

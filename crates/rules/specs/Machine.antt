@@ -12,13 +12,15 @@ use lib.Bits.{bitOr}
 use lib.ListN.{getD, set, replicate}
 use Rattle.rules.specs.Vector.{zeros, joined, atMost, raised, oneMore, Whom, nobody, thread}
 use Rattle.rules.specs.Seen.{unseens}
-use Rattle.rules.specs.Table.{Row, rowAt, startValue, threadsOf, cellsOf, countsOf, firstRows, lastOpcode, registers, usesCell, usesThread}
+use Rattle.rules.specs.Change.{Change}
+use Rattle.rules.specs.Table as Table
+use Rattle.rules.specs.Table.{Op, Decoded, refused, decoded, opAt, opcodeOf, startValue, threadsOf, cellsOf, countsOf, firstRows}
 use Rattle.rules.specs.Event as Event
-use Rattle.rules.specs.Event.{Fault, Entry, Place, nowhere, branch, Standing, Question, whichThread, whichSlot, whichBit, Answer, runThread, readSlot, takeBit, Machine, moves, asks, stops, ends}
+use Rattle.rules.specs.Event.{Fault, Entry, Matched, Place, nowhere, branch, Standing, Question, whichThread, whichSlot, whichBit, Answer, runThread, readSlot, takeBit, Site, noSite, Move, Machine, moves, asks, stops, ends}
 use Rattle.rules.specs.State as State
 use Rattle.rules.specs.State.{State, Clocks, Marks, Values, Numbers, Vector, Number, vector, withVector, value, withValue, number, withNumber, marksOf, storeAt, registerAt, vectorsHeld, valuesHeld, numbersHeld, threads, cells, history, none}
 use Rattle.rules.specs.State.{causality, scheduleOf, mutated, lastAccess, lastNonLoad, ofRegister, ofStore, nextRow, rowsOf, yields, lastYield, operation, operatesOn, phase, awaits, count, accessBranch, nonLoadBranch, activeThread, begun, exploring, skipping}
-use Rattle.rules.specs.Cell.{joinInto, version, slotOf, newest, storeDone, storeRace, storeTracked, loadDone, rmwDone, unsyncLoadDone, mutDone, newestOf, changeOf, fenced, matchedLoad, matchedRmw, Access, raced, read, Race, noRace, raceOf, withClocks, withValues}
+use Rattle.rules.specs.Cell.{joinInto, version, slotOf, newest, storeDone, storeRace, storeTracked, loadDone, rmwDone, unsyncLoadDone, mutDone, newestOf, fenced, matchedLoad, matchedRmw, Access, raced, read, Race, noRace, raceOf, withClocks, withValues}
 
 -- A program: the bytes of its table, the operation limit, and whether it is exploring on start
 pub record Program : Type 0 where
@@ -29,9 +31,10 @@ pub record Program : Type 0 where
 abbrev pub rowCount : Program → ℕ → ℕ
 rowCount p t = getD (countsOf (p .table)) t 0
 
--- the row at a place of a thread
-abbrev pub rowOf : Program → ℕ → ℕ → Row
-rowOf p t k = rowAt (p .table) (cellsOf (p .table)) (getD (firstRows 0 (countsOf (p .table))) t 0 + k)
+-- what the row at a place of a thread does
+abbrev pub rowOf : Program → ℕ → ℕ → Decoded Op
+rowOf p t k =
+    opAt (p .table) (threadsOf (p .table)) (cellsOf (p .table)) (rowCount p t) (getD (firstRows 0 (countsOf (p .table))) t 0 + k)
 
 -- Threads
 
@@ -135,7 +138,7 @@ start p =
 
 -- Scheduling
 
--- the last dependent access: for a load that of the last store or RMW, else the last of any kind
+-- the last dependent access: for a load that of the last store or RMW, else the last of any kind [Q23]
 abbrev pub dependentBranch : Numbers → ℕ → ℕ → ℕ
 dependentBranch numbers op c = cond (eqb op aLoad) (number numbers (nonLoadBranch c)) (number numbers (accessBranch c))
 
@@ -182,12 +185,13 @@ standing numbers t =
 abbrev pub everyThread : List ℕ
 everyThread = 0 ∷ 1 ∷ 2 ∷ 3 ∷ 4 ∷ []
 
--- "Scheduling is called before opcodes 0, 1, 2, 3 act (pending operation set first), at yield, at a blocking join and at a
--- thread's end."
+-- whether a branch that is added now is an exploring one
 abbrev pub isExploring : Numbers → Bool
 isExploring numbers = eqb (number numbers exploring) 1
 
-unfoldable pub schedules : State → List Entry → Event.Event State
+-- "Scheduling is called before opcodes 0, 1, 2, 3 act (pending operation set first), at yield, at a blocking join and at a
+-- thread's end." Rule (a) looks at every thread by number, at every scheduling [Q22]
+unfoldable pub schedules : State → List Entry → Move State
 schedules st es =
     asks st es (isExploring (st .numbers))
     (whichThread (map (conflict st) everyThread) (initial (st .numbers)) (map (standing (st .numbers)) everyThread))
@@ -217,7 +221,7 @@ accessMade st t at =
     cond (eqb (operationOf st t) noOperation) st
     (accessRecorded (withClocks st (withVector (st .clocks) (scheduleOf t) parts)) (operationOf st t) (cellOf st t) at parts)
 
--- "(e) Every yielded thread is then runnable again."
+-- "(e) Every yielded thread is then runnable again.": where a thread was chosen [Q24]
 abbrev pub awake : ℕ → Numbers → Numbers
 awake t numbers = cond (isIn numbers yielded t) (withNumber numbers (State.state t) runnable) numbers
 
@@ -230,7 +234,7 @@ switched st t at =
     let made = accessMade (withNumbers st (withNumber (st .numbers) activeThread t)) t at in
     withNumbers made (allAwake (made .numbers))
 
--- "if every present thread has ended, the execution ends, else 10"
+-- "if every present thread has ended"
 unfoldable pub allOver : Numbers → ℕ → ℕ → Bool
 allOver numbers zero t = true
 allOver numbers (suc n) t = (isIn numbers ended t || isIn numbers absent t) && allOver numbers n (t + 1)
@@ -239,67 +243,75 @@ allOver numbers (suc n) t = (isIn numbers ended t || isIn numbers absent t) && a
 abbrev pub canRun : Numbers → ℕ → Bool
 canRun numbers t = ltb t threads && (isIn numbers runnable t || isIn numbers yielded t)
 
--- "(d) the branch chooses. None: .."
-unfoldable pub scheduled : State → Whom → ℕ → Event.Event State
-scheduled st nobody at = cond (allOver (st .numbers) threads 0) (ends st) (stops st Event.deadlock)
+-- one of the n threads from t on can
+unfoldable pub someCanRun : Numbers → ℕ → ℕ → Bool
+someCanRun numbers zero t = false
+someCanRun numbers (suc n) t = canRun numbers t || someCanRun numbers n (t + 1)
+
+-- "(d) the branch chooses. None: if every present thread has ended, the execution ends, else 10." No branch chooses none where
+-- a thread can run, nor a thread that cannot
+unfoldable pub scheduled : State → Whom → ℕ → Move State
+scheduled st nobody at =
+    cond (allOver (st .numbers) threads 0) (ends st)
+    (cond (someCanRun (st .numbers) threads 0) (stops st Event.impossible) (stops st Event.deadlock))
 scheduled st (thread t) at = cond (canRun (st .numbers) t) (moves (switched st t at) []) (stops st Event.impossible)
 
 -- Rows
 
--- a row's trace entry: "slot .. or 255", "value .., else 0"
+-- the trace entry of a row with this opcode: "slot .. or 255", "value .., else 0"
 abbrev pub noSlot : ℕ
 noSlot = 255
 
-abbrev pub entry : ℕ → ℕ → Row → ℕ → ℕ → ℕ → List Entry
-entry t k row slot mask v =
-    record { thread = t; row = k; opcode = row .opcode; slot = slot; mask = mask; value = v } ∷ []
+abbrev pub entry : ℕ → ℕ → ℕ → ℕ → ℕ → ℕ → List Entry
+entry t k opcode slot mask v =
+    record { thread = t; row = k; opcode = opcode; slot = slot; mask = mask; value = v } ∷ []
 
 -- the row is complete, and this one is next
 abbrev pub completed : State → ℕ → ℕ → State
 completed st t k = withNumbers st (withNumber (withNumber (st .numbers) (nextRow t) k) (phase t) toBegin)
 
 -- a row without slot and value
-abbrev pub done : State → ℕ → ℕ → Row → Event.Event State
-done st t k row = moves (completed st t (oneMore k)) (entry t k row noSlot 0 0)
+abbrev pub done : State → ℕ → ℕ → ℕ → Move State
+done st t k opcode = moves (completed st t (oneMore k)) (entry t k opcode noSlot 0 0)
 
 -- "Only opcodes 0 to 4 and a join that goes through raise the own version, by 1 before acting."
 abbrev pub versionRaised : State → ℕ → State
 versionRaised st t = withClocks st (withVector (st .clocks) (causality t) (raised (vector (st .clocks) (causality t)) t))
 
-abbrev pub register : State → ℕ → Row → ℕ
-register st t row = value (st .values) (ofRegister (registerAt t (row .register)))
+abbrev pub register : State → ℕ → ℕ → ℕ
+register st t r = value (st .values) (ofRegister (registerAt t r))
 
-abbrev pub withRegister : State → ℕ → Row → ℕ → State
-withRegister st t row v = withValues st (withValue (st .values) (ofRegister (registerAt t (row .register))) v)
+abbrev pub withRegister : State → ℕ → ℕ → ℕ → State
+withRegister st t r v = withValues st (withValue (st .values) (ofRegister (registerAt t r)) v)
 
 -- "1 store a; 2 store register": race, then the store
-abbrev pub storesUnless : Race → State → State → ℕ → ℕ → Row → ℕ → Event.Event State
-storesUnless (raceOf kind other) st tracked t k row v = stops st (Event.race kind other)
-storesUnless noRace st tracked t k row v =
-    moves (completed (storeDone tracked t (row .object) (zeros threads) v (row .order)) t (oneMore k))
-    (entry t k row (slotOf (number (st .numbers) (count (row .object)))) 0 v)
+abbrev pub storesUnless : Race → State → State → ℕ → ℕ → ℕ → ℕ → ℕ → ℕ → Move State
+storesUnless (raceOf kind other) st tracked t k opcode c o v = stops st (Event.race kind other)
+storesUnless noRace st tracked t k opcode c o v =
+    moves (completed (storeDone tracked t c (zeros threads) v o) t (oneMore k))
+    (entry t k opcode (slotOf (number (st .numbers) (count c))) 0 v)
 
-unfoldable pub stores : State → ℕ → ℕ → Row → ℕ → Event.Event State
-stores st t k row v =
+unfoldable pub stores : State → ℕ → ℕ → ℕ → ℕ → ℕ → ℕ → Move State
+stores st t k opcode c o v =
     let up = versionRaised st t in
-    storesUnless (storeRace (up .clocks) t (row .object)) up (withClocks up (storeTracked (up .clocks) t (row .object))) t k row v
+    storesUnless (storeRace (up .clocks) t c) up (withClocks up (storeTracked (up .clocks) t c)) t k opcode c o v
 
 -- "Opcodes 0, 3, 5, 6 put the value read in the register, also on failure."; the trace has the value read, or of opcode 6 the value left
-abbrev pub reads : Access → ℕ → ℕ → Row → ℕ → ℕ → Event.Event State
-reads (raced kind other st) t k row slot mask = stops st (Event.race kind other)
-reads (read v st) t k row slot mask = moves (completed (withRegister st t row v) t (oneMore k)) (entry t k row slot mask v)
+abbrev pub reads : Access → ℕ → ℕ → ℕ → ℕ → ℕ → ℕ → Move State
+reads (raced kind other st) t k opcode r slot mask = stops st (Event.race kind other)
+reads (read v st) t k opcode r slot mask = moves (completed (withRegister st t r v) t (oneMore k)) (entry t k opcode slot mask v)
 
-abbrev pub leavesIn : Access → ℕ → ℕ → Row → Event.Event State
-leavesIn (raced kind other st) t k row = stops st (Event.race kind other)
-leavesIn (read v st) t k row =
-    moves (completed (withRegister st t row v) t (oneMore k))
-    (entry t k row (newest (number (st .numbers) (count (row .object)))) 0 (value (st .values) (ofStore (newestOf (st .numbers) (row .object)))))
+abbrev pub leavesIn : Access → ℕ → ℕ → ℕ → ℕ → ℕ → Move State
+leavesIn (raced kind other st) t k opcode c r = stops st (Event.race kind other)
+leavesIn (read v st) t k opcode c r =
+    moves (completed (withRegister st t r v) t (oneMore k))
+    (entry t k opcode (newest (number (st .numbers) (count c))) 0 (value (st .values) (ofStore (newestOf (st .numbers) c))))
 
 -- "4 fence"
-abbrev pub fences : Program → State → ℕ → Row → State
-fences p st t row =
+abbrev pub fences : Program → State → ℕ → ℕ → State
+fences p st t o =
     let up = versionRaised st t in
-    withClocks up (fenced (up .clocks) (up .marks) (up .numbers) t (cellsOf (p .table)) (row .order))
+    withClocks up (fenced (up .clocks) (up .marks) (up .numbers) t (cellsOf (p .table)) o)
 
 -- "Yield: state yielded, last yield = own version, yields +1, pending operation none."
 abbrev pub yieldDone : State → ℕ → State
@@ -320,81 +332,92 @@ abbrev pub blockedOn : State → ℕ → ℕ → State
 blockedOn st t target =
     withNumbers st (withNumber (withNumber (withNumber (st .numbers) (State.state t) blocked) (awaits t) target) (operation t) noOperation)
 
-unfoldable pub joins : State → ℕ → ℕ → Row → Event.Event State
-joins st t k row =
-    cond (isIn (st .numbers) ended (row .object)) (done (joinedWith st t (row .object)) t k row) (schedules (blockedOn st t (row .object)) [])
+unfoldable pub joins : State → ℕ → ℕ → ℕ → ℕ → Move State
+joins st t k opcode target =
+    cond (isIn (st .numbers) ended target) (done (joinedWith st t target) t k opcode) (schedules (blockedOn st t target) [])
 
 -- "9 jump; 10 jump if register = a; 11 jump if not"
-unfoldable pub jumps : State → ℕ → Row → Bool
-jumps st t row =
-    cond (eqb (row .opcode) 9) true
-    (cond (eqb (row .opcode) 10) (eqb (register st t row) (row .a)) (not (eqb (register st t row) (row .a))))
-
-abbrev pub jumpDone : State → ℕ → ℕ → Row → Event.Event State
-jumpDone st t k row =
-    moves (completed st t (cond (jumps st t row) (row .target) (oneMore k))) (entry t k row noSlot 0 0)
+abbrev pub jumps : State → ℕ → ℕ → ℕ → Bool → ℕ → Move State
+jumps st t k opcode taken target = moves (completed st t (cond taken target (oneMore k))) (entry t k opcode noSlot 0 0)
 
 -- "15 a check row fails"
-abbrev pub checks : State → ℕ → ℕ → Row → Event.Event State
-checks st t k row = cond (eqb (register st t row) (row .a)) (done st t k row) (stops st Event.check)
+abbrev pub checks : State → ℕ → ℕ → ℕ → Bool → Move State
+checks st t k opcode holds = cond holds (done st t k opcode) (stops st Event.check)
 
 abbrev pub isSkipping : Numbers → Bool
 isSkipping numbers = eqb (number numbers skipping) 1
 
 -- "13 `critical`; 14 `explore_state`": "16 not skipping, and `critical` when not exploring or `explore_state` when exploring".
--- When skipping they change nothing
-abbrev pub explores : State → ℕ → ℕ → Row → Bool → Event.Event State
-explores st t k row on =
-    cond (isSkipping (st .numbers)) (done st t k row)
+-- When skipping they change nothing [Q12]
+abbrev pub explores : State → ℕ → ℕ → ℕ → Bool → Move State
+explores st t k opcode on =
+    cond (isSkipping (st .numbers)) (done st t k opcode)
     (cond (eqb (number (st .numbers) exploring) (cond on 1 0)) (stops st Event.flags)
-    (done (withNumbers st (withNumber (st .numbers) exploring (cond on 1 0))) t k row))
+    (done (withNumbers st (withNumber (st .numbers) exploring (cond on 1 0))) t k opcode))
 
 -- "15 `skip_branch`"
 abbrev pub skipped : State → State
 skipped st = withNumbers st (withNumber (withNumber (st .numbers) exploring 0) skipping 1)
 
--- What stands in a row that can act: no row of an accepted table has other numbers
-unfoldable pub fitting : Row → Bool
-fitting row =
-    leb (row .opcode) lastOpcode
-    && ltb (row .register) registers
-    && (not (usesCell (row .opcode)) || ltb (row .object) cells)
-    && (not (usesThread (row .opcode)) || ltb (row .object) threads)
+-- a load's or an RMW's question, with the version raised
+abbrev pub asksSlot : State → Matched → Move State
+asksSlot up m = asks up [] (isExploring (up .numbers)) (whichSlot m)
 
--- "Opcodes: 0 load; 1 store a; 2 store register; 3 RMW; 4 fence; 5 unsynchronised load; 6 exclusive change (`with_mut`); 7 yield; 8
--- join thread; 9 jump; 10 jump if register = a; 11 jump if not; 12 check register = a; 13 `critical`; 14 `explore_state`; 15
--- `skip_branch`; 16 `branch_spurious` into register (0 or 1)."
-unfoldable pub acts : Program → State → ℕ → ℕ → Row → Event.Event State
-acts p st t k row =
+-- What each row does. "Load order: schedule; version; if new, match (13) then push (11); choose; race (14); coherence; touch;
+-- sync.": the scheduling is that of `begins`; then `versionRaised` and `matchedLoad` here, the push in the explorer's `pushed`, the
+-- choice in its `reply`; and in `loadDone`, with the slot, `loadRace`, `coherent`, `touchDone`, `loadSynced`
+unfoldable pub actsAs : Program → State → ℕ → ℕ → ℕ → Op → Move State
+actsAs p st t k n (Table.load c o r) =
     let up = versionRaised st t in
-    cond (eqb (row .opcode) 0)
-    (asks up [] (isExploring (st .numbers))
-    (whichSlot (matchedLoad (up .clocks) (marksOf (up .marks) (row .object)) (up .numbers) t (row .object) (row .order))))
-    (cond (eqb (row .opcode) 1) (stores st t k row (row .a))
-    (cond (eqb (row .opcode) 2) (stores st t k row (register st t row))
-    (cond (eqb (row .opcode) 3)
-    (asks up [] (isExploring (st .numbers)) (whichSlot (matchedRmw (up .clocks) (up .numbers) (row .object))))
-    (cond (eqb (row .opcode) 4) (done (fences p st t row) t k row)
-    (cond (eqb (row .opcode) 5)
-    (reads (unsyncLoadDone st t (row .object)) t k row (newest (number (st .numbers) (count (row .object)))) 0)
-    (cond (eqb (row .opcode) 6) (leavesIn (mutDone st t (row .object) (changeOf (row .kind) (row .a) (row .b))) t k row)
-    (cond (eqb (row .opcode) 7) (schedules (completed (yieldDone st t) t (oneMore k)) (entry t k row noSlot 0 0))
-    (cond (eqb (row .opcode) 8) (joins st t k row)
-    (cond (leb (row .opcode) 11) (jumpDone st t k row)
-    (cond (eqb (row .opcode) 12) (checks st t k row)
-    (cond (eqb (row .opcode) 13) (explores st t k row false)
-    (cond (eqb (row .opcode) 14) (explores st t k row true)
-    (cond (eqb (row .opcode) 15) (done (skipped st) t k row)
-    (asks st [] (isExploring (st .numbers)) whichBit))))))))))))))
+    asksSlot up (matchedLoad (up .clocks) (marksOf (up .marks) c) (up .numbers) t c o)
+actsAs p st t k n (Table.store c o a) = stores st t k n c o a
+actsAs p st t k n (Table.storeRegister c o r) = stores st t k n c o (register st t r)
+actsAs p st t k n (Table.rmw c o f change r) =
+    let up = versionRaised st t in
+    asksSlot up (matchedRmw (up .clocks) (up .numbers) c)
+actsAs p st t k n (Table.fence o) = done (fences p st t o) t k n
+actsAs p st t k n (Table.unsyncLoad c r) =
+    reads (unsyncLoadDone st t c) t k n r (newest (number (st .numbers) (count c))) 0
+actsAs p st t k n (Table.exclusive c change r) = leavesIn (mutDone st t c change) t k n c r
+actsAs p st t k n Table.yield = schedules (completed (yieldDone st t) t (oneMore k)) (entry t k n noSlot 0 0)
+actsAs p st t k n (Table.join target) = joins st t k n target
+actsAs p st t k n (Table.jump target) = jumps st t k n true target
+actsAs p st t k n (Table.jumpIf r a target) = jumps st t k n (eqb (register st t r) a) target
+actsAs p st t k n (Table.jumpUnless r a target) = jumps st t k n (not (eqb (register st t r) a)) target
+actsAs p st t k n (Table.check r a) = checks st t k n (eqb (register st t r) a)
+actsAs p st t k n Table.critical = explores st t k n false
+actsAs p st t k n Table.exploreState = explores st t k n true
+actsAs p st t k n Table.skipBranch = done (skipped st) t k n
+actsAs p st t k n (Table.spurious r) = asks st [] (isExploring (st .numbers)) whichBit
+
+abbrev pub acts : Program → State → ℕ → ℕ → Op → Move State
+acts p st t k op = actsAs p st t k (opcodeOf op) op
 
 -- A row begins
 
-abbrev pub operationFor : Row → ℕ
-operationFor row =
-    cond (eqb (row .opcode) 0) aLoad
-    (cond (eqb (row .opcode) 1 || eqb (row .opcode) 2) aStore
-    (cond (eqb (row .opcode) 3) anRmw
-    noOperation))
+-- the pending operation of a row of opcodes 0 to 3, and its cell; other rows have none
+pub data Pending : Type 0 where
+  nothing : Pending
+  pends : (operation cell : ℕ) → Pending
+
+abbrev pub pendingOf : Op → Pending
+pendingOf (Table.load c o r) = pends aLoad c
+pendingOf (Table.store c o a) = pends aStore c
+pendingOf (Table.storeRegister c o r) = pends aStore c
+pendingOf (Table.rmw c o f change r) = pends anRmw c
+pendingOf (Table.fence o) = nothing
+pendingOf (Table.unsyncLoad c r) = nothing
+pendingOf (Table.exclusive c change r) = nothing
+pendingOf Table.yield = nothing
+pendingOf (Table.join target) = nothing
+pendingOf (Table.jump target) = nothing
+pendingOf (Table.jumpIf r a target) = nothing
+pendingOf (Table.jumpUnless r a target) = nothing
+pendingOf (Table.check r a) = nothing
+pendingOf Table.critical = nothing
+pendingOf Table.exploreState = nothing
+pendingOf Table.skipBranch = nothing
+pendingOf (Table.spurious r) = nothing
 
 -- "rows begun is a counted number"
 abbrev pub rowBegun : State → ℕ → State
@@ -404,16 +427,17 @@ rowBegun st t =
     withNumbers st (withNumber numbers (phase t) toAct)
 
 -- "pending operation set first"
-abbrev pub withOperation : State → ℕ → Row → State
-withOperation st t row =
-    withNumbers st (withNumber (withNumber (st .numbers) (operation t) (operationFor row)) (operatesOn t) (row .object))
+abbrev pub withOperation : State → ℕ → ℕ → ℕ → State
+withOperation st t op c = withNumbers st (withNumber (withNumber (st .numbers) (operation t) op) (operatesOn t) c)
 
--- "12 a row is to begin with L begun"; "Scheduling is called before opcodes 0, 1, 2, 3 act"
-unfoldable pub begins : Program → State → ℕ → Row → Event.Event State
-begins p st t row =
-    let st′ = rowBegun st t in
-    cond (leb (p .operations) (number (st .numbers) begun)) (stops st Event.rows)
-    (cond (eqb (operationFor row) noOperation) (moves st′ []) (schedules (withOperation st′ t row) []))
+abbrev pub begunAs : State → ℕ → Pending → Move State
+begunAs st t nothing = moves st []
+begunAs st t (pends op c) = schedules (withOperation st t op c) []
+
+-- "12 a row is to begin with L begun" [Q1]; "Scheduling is called before opcodes 0, 1, 2, 3 act"
+unfoldable pub begins : Program → State → ℕ → Op → Move State
+begins p st t op =
+    cond (leb (p .operations) (number (st .numbers) begun)) (stops st Event.rows) (begunAs (rowBegun st t) t (pendingOf op))
 
 -- "Past its last row a thread ends, its pending operation none; only then are other threads' joins on it free.": "until the
 -- target's end makes it runnable (before that end's scheduling)"
@@ -435,14 +459,24 @@ active st = number (st .numbers) activeThread
 abbrev pub activeRow : State → ℕ
 activeRow st = number (st .numbers) (nextRow (active st))
 
-unfoldable pub nextAt : Program → State → ℕ → ℕ → Event.Event State
+abbrev pub isToBegin : State → ℕ → Bool
+isToBegin st t = eqb (number (st .numbers) (phase t)) toBegin
+
+-- it begins its row or, where that has begun, acts. No row of an accepted table is refused
+abbrev pub ofRow : Program → State → ℕ → ℕ → Decoded Op → Move State
+ofRow p st t k refused = stops st Event.impossible
+ofRow p st t k (decoded op) = cond (isToBegin st t) (begins p st t op) (acts p st t k op)
+
+-- past its last row it ends [Q3]
+unfoldable pub nextAt : Program → State → ℕ → ℕ → Move State
 nextAt p st t k =
-    cond (eqb (number (st .numbers) (phase t)) toBegin)
-    (cond (leb (rowCount p t) k) (schedules (threadEnded st t) []) (begins p st t (rowOf p t k)))
-    (cond (fitting (rowOf p t k)) (acts p st t k (rowOf p t k)) (stops st Event.impossible))
+    cond (isToBegin st t && leb (rowCount p t) k) (schedules (threadEnded st t) []) (ofRow p st t k (rowOf p t k))
 
 unfoldable pub next : Program → State → Event.Event State
-next p st = cond (ltb (active st) threads) (nextAt p st (active st) (activeRow st)) (stops st Event.impossible)
+next p st =
+    cond (ltb (active st) threads)
+    (record { site = record { thread = active st; row = activeRow st }; move = nextAt p st (active st) (activeRow st) })
+    (record { site = noSite; move = stops st Event.impossible })
 
 -- How it goes on with an answer
 
@@ -451,26 +485,62 @@ unfoldable pub maskOf : ℕ → List ℕ → ℕ
 maskOf mask [] = mask
 maskOf mask (i ∷ slots) = maskOf (bitOr mask (2 ^ i)) slots
 
--- a load or an RMW reads a slot that is live
-unfoldable pub readFrom : Program → State → ℕ → ℕ → Row → ℕ → ℕ → Event.Event State
-readFrom p st t k row slot mask =
-    cond (fitting row && ltb slot (number (st .numbers) (count (row .object))))
-    (cond (eqb (row .opcode) 0)
-    (reads (loadDone st t (row .object) slot (row .order)) t k row slot mask)
-    (reads (rmwDone st t (row .object) slot (changeOf (row .kind) (row .a) (row .b)) (row .order) (row .failure)) t k row slot mask))
-    (stops st Event.impossible)
+-- a slot that is live can be read
+abbrev pub ifLive : State → ℕ → ℕ → Move State → Move State
+ifLive st c slot m = cond (ltb slot (number (st .numbers) (count c))) m (stops st Event.impossible)
 
--- "16 `branch_spurious` into register (0 or 1)"
-unfoldable pub bitTaken : State → ℕ → ℕ → Row → Bool → Event.Event State
-bitTaken st t k row bit =
-    let v : ℕ = cond bit 1 0 in
-    moves (completed (withRegister st t row v) t (oneMore k)) (entry t k row noSlot 0 v)
+-- a load or an RMW goes on with a slot; no other row is given one
+unfoldable pub readFrom : State → ℕ → ℕ → ℕ → ℕ → Decoded Op → Move State
+readFrom st t k slot mask refused = stops st Event.impossible
+readFrom st t k slot mask (decoded (Table.load c o r)) =
+    ifLive st c slot (reads (loadDone st t c slot o) t k 0 r slot mask)
+readFrom st t k slot mask (decoded (Table.rmw c o f change r)) =
+    ifLive st c slot (reads (rmwDone st t c slot change o f) t k 3 r slot mask)
+readFrom st t k slot mask (decoded (Table.store c o a)) = stops st Event.impossible
+readFrom st t k slot mask (decoded (Table.storeRegister c o r)) = stops st Event.impossible
+readFrom st t k slot mask (decoded (Table.fence o)) = stops st Event.impossible
+readFrom st t k slot mask (decoded (Table.unsyncLoad c r)) = stops st Event.impossible
+readFrom st t k slot mask (decoded (Table.exclusive c change r)) = stops st Event.impossible
+readFrom st t k slot mask (decoded Table.yield) = stops st Event.impossible
+readFrom st t k slot mask (decoded (Table.join target)) = stops st Event.impossible
+readFrom st t k slot mask (decoded (Table.jump target)) = stops st Event.impossible
+readFrom st t k slot mask (decoded (Table.jumpIf r a target)) = stops st Event.impossible
+readFrom st t k slot mask (decoded (Table.jumpUnless r a target)) = stops st Event.impossible
+readFrom st t k slot mask (decoded (Table.check r a)) = stops st Event.impossible
+readFrom st t k slot mask (decoded Table.critical) = stops st Event.impossible
+readFrom st t k slot mask (decoded Table.exploreState) = stops st Event.impossible
+readFrom st t k slot mask (decoded Table.skipBranch) = stops st Event.impossible
+readFrom st t k slot mask (decoded (Table.spurious r)) = stops st Event.impossible
 
-unfoldable pub answered : Program → State → Answer → Event.Event State
+-- "16 `branch_spurious` into register (0 or 1)"; no other row is given a bit
+unfoldable pub bitTaken : State → ℕ → ℕ → ℕ → Decoded Op → Move State
+bitTaken st t k v refused = stops st Event.impossible
+bitTaken st t k v (decoded (Table.spurious r)) = moves (completed (withRegister st t r v) t (oneMore k)) (entry t k 16 noSlot 0 v)
+bitTaken st t k v (decoded (Table.load c o r)) = stops st Event.impossible
+bitTaken st t k v (decoded (Table.store c o a)) = stops st Event.impossible
+bitTaken st t k v (decoded (Table.storeRegister c o r)) = stops st Event.impossible
+bitTaken st t k v (decoded (Table.rmw c o f change r)) = stops st Event.impossible
+bitTaken st t k v (decoded (Table.fence o)) = stops st Event.impossible
+bitTaken st t k v (decoded (Table.unsyncLoad c r)) = stops st Event.impossible
+bitTaken st t k v (decoded (Table.exclusive c change r)) = stops st Event.impossible
+bitTaken st t k v (decoded Table.yield) = stops st Event.impossible
+bitTaken st t k v (decoded (Table.join target)) = stops st Event.impossible
+bitTaken st t k v (decoded (Table.jump target)) = stops st Event.impossible
+bitTaken st t k v (decoded (Table.jumpIf r a target)) = stops st Event.impossible
+bitTaken st t k v (decoded (Table.jumpUnless r a target)) = stops st Event.impossible
+bitTaken st t k v (decoded (Table.check r a)) = stops st Event.impossible
+bitTaken st t k v (decoded Table.critical) = stops st Event.impossible
+bitTaken st t k v (decoded Table.exploreState) = stops st Event.impossible
+bitTaken st t k v (decoded Table.skipBranch) = stops st Event.impossible
+
+-- what the active thread's row does
+abbrev pub activeOp : Program → State → Decoded Op
+activeOp p st = rowOf p (active st) (activeRow st)
+
+unfoldable pub answered : Program → State → Answer → Move State
 answered p st (runThread whom at) = scheduled st whom at
-answered p st (readSlot slot offered) =
-    readFrom p st (active st) (activeRow st) (rowOf p (active st) (activeRow st)) slot (maskOf 0 offered)
-answered p st (takeBit bit) = bitTaken st (active st) (activeRow st) (rowOf p (active st) (activeRow st)) bit
+answered p st (readSlot slot offered) = readFrom st (active st) (activeRow st) slot (maskOf 0 offered) (activeOp p st)
+answered p st (takeBit bit) = bitTaken st (active st) (activeRow st) (cond bit 1 0) (activeOp p st)
 
 -- The machine of a program
 abbrev pub machine : Program → Machine

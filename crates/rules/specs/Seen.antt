@@ -5,6 +5,7 @@ use mathlib.Core.List.{List, [], _∷_, map}
 use mathlib.Core.Bool.{Bool, true, false, cond, not, _&&_}
 use lib.Dec.{leb, eqb}
 use lib.ListN.{getD, set, replicate}
+use Rattle.rules.specs.State.{none}
 use Rattle.rules.specs.Vector.{Whom, nobody, thread, next}
 
 -- "65535 is unseen"
@@ -38,7 +39,7 @@ seen marks causality = someone (seenThrough marks causality)
 
 -- "seen by this thread no later than its last yield"; before its first yield it has none
 unfoldable pub seenBeforeYield : List ℕ → ℕ → ℕ → Bool
-seenBeforeYield marks t lastYield = not (eqb lastYield unseen) && known (markOf marks t) lastYield
+seenBeforeYield marks t lastYield = not (eqb lastYield none) && known (markOf marks t) lastYield
 
 -- "The mark of first sight is changed in place, as `touch` does, only where unseen."
 unfoldable pub touched : List ℕ → ℕ → ℕ → List ℕ

@@ -1,15 +1,16 @@
--- Which bytes are a table, which row of one is the first bad one, and what stands in a row: document 01, "Table".
--- A table is the list of its bytes. Assumes nothing.
---     headerFine         whether the header and the length are those of a table
---     rowFine            whether one row is, by the fields that its opcode and its change kind use
---     judged, accepted   the whole table, and its first bad row
---     shapeOf            what the header says
---     startValue, rowAt  a cell's start value, and a row by its number among all rows
+-- Which bytes are a table, which row of one is the first bad one, and what a row says: document 01, "Table". A table is the list
+-- of its bytes. Assumes nothing.
+--     headerFine             whether the header and the length are those of a table
+--     Op, rowDecoded         what a row does, by its opcode with just the fields that the opcode uses; or that it is refused
+--     judged, accepted       the whole table, and its first bad row
+--     startValue, rowAt      a cell's start value, and a row's fields by its number among all rows
 use Prim.Native.Nat.{ℕ, zero, suc, _+_, _*_}
 use mathlib.Core.List.{List, [], _∷_, _++_}
 use mathlib.Core.Bool.{Bool, true, false, cond, not, _&&_, _||_}
 use lib.Dec.{ltb, leb, eqb}
 use lib.ListN.{length, getD, take, drop, replicate}
+use Rattle.rules.specs.Change as Change
+use Rattle.rules.specs.Change.{Change}
 
 -- Limits
 
@@ -44,14 +45,6 @@ rowBytes = 24
 -- "register 0..3"
 abbrev pub registers : ℕ
 registers = 4
-
--- "Every opcode from 17 to 255 is refused."
-abbrev pub lastOpcode : ℕ
-lastOpcode = 16
-
--- "12 decrement unless zero", the last of the changes
-abbrev pub lastKind : ℕ
-lastKind = 12
 
 -- Numbers
 
@@ -149,7 +142,7 @@ rowFrom t at = record {
   b = u64At t (at + 16);
 }
 
--- "Every opcode from 17 to 255 is refused.": what stands for a row that the table does not hold
+-- what stands for a row that the table does not hold: no opcode is 255
 abbrev pub noRow : Row
 noRow = record { opcode = 255; object = 0; order = 0; failure = 0; kind = 0; register = 0; target = 0; a = 0; b = 0 }
 
@@ -160,44 +153,58 @@ rowAt t cells index =
     (rowFrom t (sizeOf cells index))
     noRow
 
--- Which fields an opcode uses
+-- What a row does
 
-abbrev pub oneOf : List ℕ → ℕ → Bool
-oneOf [] x = false
-oneOf (y ∷ ys) x = eqb x y || oneOf ys x
+-- "anything else is refused"
+pub data Decoded (A : Type 0) : Type 0 where
+  refused : Decoded A
+  decoded : A → Decoded A
 
--- "0 load; 1 store a; 2 store register; 3 RMW; 5 unsynchronised load; 6 exclusive change"
-abbrev pub usesCell : ℕ → Bool
-usesCell = oneOf (0 ∷ 1 ∷ 2 ∷ 3 ∷ 5 ∷ 6 ∷ [])
+abbrev pub onlyIf : {A : Type 0} → Bool → A → Decoded A
+onlyIf true x = decoded x
+onlyIf false x = refused
 
--- "8 join thread"
-abbrev pub usesThread : ℕ → Bool
-usesThread = oneOf (8 ∷ [])
+-- "Opcodes: 0 load; 1 store a; 2 store register; 3 RMW; 4 fence; 5 unsynchronised load; 6 exclusive change (`with_mut`); 7 yield; 8
+-- join thread; 9 jump; 10 jump if register = a; 11 jump if not; 12 check register = a; 13 `critical`; 14 `explore_state`; 15
+-- `skip_branch`; 16 `branch_spurious` into register (0 or 1)." Each with the fields that it uses, and no others [Q15]
+pub data Op : Type 0 where
+  load : (cell order register : ℕ) → Op
+  store : (cell order a : ℕ) → Op
+  storeRegister : (cell order register : ℕ) → Op
+  rmw : (cell order failure : ℕ) (change : Change) (register : ℕ) → Op
+  fence : (order : ℕ) → Op
+  unsyncLoad : (cell register : ℕ) → Op
+  exclusive : (cell : ℕ) (change : Change) (register : ℕ) → Op
+  yield : Op
+  join : (thread : ℕ) → Op
+  jump : (target : ℕ) → Op
+  jumpIf : (register a target : ℕ) → Op
+  jumpUnless : (register a target : ℕ) → Op
+  check : (register a : ℕ) → Op
+  critical : Op
+  exploreState : Op
+  skipBranch : Op
+  spurious : (register : ℕ) → Op
 
--- "3 RMW", "6 exclusive change": "Changes (both in RMW and exclusive)"
-abbrev pub usesKind : ℕ → Bool
-usesKind = oneOf (3 ∷ 6 ∷ [])
-
--- "Opcodes 0, 3, 5, 6 put the value read in the register"; "2 store register"; "10 jump if register = a; 11 jump if not;
--- 12 check register = a"; "16 `branch_spurious` into register"
-abbrev pub usesRegister : ℕ → Bool
-usesRegister = oneOf (0 ∷ 2 ∷ 3 ∷ 5 ∷ 6 ∷ 10 ∷ 11 ∷ 12 ∷ 16 ∷ [])
-
--- "9 jump; 10 jump if register = a; 11 jump if not"
-abbrev pub usesTarget : ℕ → Bool
-usesTarget = oneOf (9 ∷ 10 ∷ 11 ∷ [])
-
--- "Only kinds 11 and 12 may fail, and only they, in RMW, use a failure order."
-abbrev pub usesFailure : ℕ → ℕ → Bool
-usesFailure opcode kind = oneOf (3 ∷ []) opcode && (eqb kind 11 || eqb kind 12)
-
--- "1 store a", the jumps and the check; and every change but "12 decrement unless zero"
-abbrev pub usesA : ℕ → ℕ → Bool
-usesA opcode kind = oneOf (1 ∷ 10 ∷ 11 ∷ 12 ∷ []) opcode || (usesKind opcode && leb kind 11)
-
--- "11 compare a, write b"
-abbrev pub usesB : ℕ → ℕ → Bool
-usesB opcode kind = usesKind opcode && eqb kind 11
+-- the opcode's number
+abbrev pub opcodeOf : Op → ℕ
+opcodeOf (load cell order register) = 0
+opcodeOf (store cell order a) = 1
+opcodeOf (storeRegister cell order register) = 2
+opcodeOf (rmw cell order failure change register) = 3
+opcodeOf (fence order) = 4
+opcodeOf (unsyncLoad cell register) = 5
+opcodeOf (exclusive cell change register) = 6
+opcodeOf yield = 7
+opcodeOf (join thread) = 8
+opcodeOf (jump target) = 9
+opcodeOf (jumpIf register a target) = 10
+opcodeOf (jumpUnless register a target) = 11
+opcodeOf (check register a) = 12
+opcodeOf critical = 13
+opcodeOf exploreState = 14
+opcodeOf skipBranch = 15
+opcodeOf (spurious register) = 16
 
 -- What a field may be
 
@@ -217,55 +224,161 @@ storeOrder o = anyOrder o && not (eqb o 2) && not (eqb o 3)
 abbrev pub fenceOrder : ℕ → Bool
 fenceOrder o = anyOrder o && not (eqb o 0)
 
--- What each field of a row of this opcode may be: "Fields that the opcode or change kind doesn't use are zero; anything else is refused."
-
--- "A cell or thread named must exist."
-abbrev pub objectFine : ℕ → ℕ → ℕ → Row → Bool
-objectFine opcode threads cells r =
-    cond (usesCell opcode) (ltb (r .object) cells)
-    (cond (usesThread opcode) (ltb (r .object) threads)
-    (eqb (r .object) 0))
-
--- load, store, store, RMW, fence
-abbrev pub orderFine : ℕ → Row → Bool
-orderFine opcode r =
-    cond (oneOf (0 ∷ []) opcode) (loadOrder (r .order))
-    (cond (oneOf (1 ∷ 2 ∷ []) opcode) (storeOrder (r .order))
-    (cond (oneOf (3 ∷ []) opcode) (anyOrder (r .order))
-    (cond (oneOf (4 ∷ []) opcode) (fenceOrder (r .order))
-    (eqb (r .order) 0))))
-
--- failure order and change kind
-abbrev pub changeFine : ℕ → Row → Bool
-changeFine opcode r =
-    cond (usesFailure opcode (r .kind)) (loadOrder (r .failure)) (eqb (r .failure) 0)
-    && cond (usesKind opcode) (leb (r .kind) lastKind) (eqb (r .kind) 0)
+-- "Only kinds 11 and 12 may fail, and only they, in RMW, use a failure order."
+abbrev pub failureOrder : ℕ → ℕ → Bool
+failureOrder kind f = cond (eqb kind 11 || eqb kind 12) (loadOrder f) (eqb f 0)
 
 -- "register 0..3"
-abbrev pub registerFine : ℕ → Row → Bool
-registerFine opcode r = cond (usesRegister opcode) (ltb (r .register) registers) (eqb (r .register) 0)
+abbrev pub isRegister : ℕ → Bool
+isRegister r = ltb r registers
+
+-- "Fields that the opcode or change kind doesn't use are zero"
+abbrev pub unused : List ℕ → Bool
+unused [] = true
+unused (x ∷ xs) = eqb x 0 && unused xs
+
+-- "Changes (both in RMW and exclusive): 0 swap, 1 add, 2 subtract .., 3 and, 4 or, 5 xor, 6 nand, 7 unsigned max, 8 unsigned min, 9
+-- signed max, 10 signed min, 11 compare a, write b, 12 decrement unless zero."
+unfoldable pub changeDecoded : ℕ → ℕ → ℕ → Decoded Change
+changeDecoded kind a b =
+    cond (eqb kind 0) (onlyIf (eqb b 0) (Change.swap a))
+    (cond (eqb kind 1) (onlyIf (eqb b 0) (Change.add a))
+    (cond (eqb kind 2) (onlyIf (eqb b 0) (Change.subtract a))
+    (cond (eqb kind 3) (onlyIf (eqb b 0) (Change.and a))
+    (cond (eqb kind 4) (onlyIf (eqb b 0) (Change.or a))
+    (cond (eqb kind 5) (onlyIf (eqb b 0) (Change.xor a))
+    (cond (eqb kind 6) (onlyIf (eqb b 0) (Change.nand a))
+    (cond (eqb kind 7) (onlyIf (eqb b 0) (Change.greatest a))
+    (cond (eqb kind 8) (onlyIf (eqb b 0) (Change.least a))
+    (cond (eqb kind 9) (onlyIf (eqb b 0) (Change.signedGreatest a))
+    (cond (eqb kind 10) (onlyIf (eqb b 0) (Change.signedLeast a))
+    (cond (eqb kind 11) (decoded (Change.compare a b))
+    (cond (eqb kind 12) (onlyIf (eqb a 0 && eqb b 0) Change.decrement)
+    refused))))))))))))
+
+-- A row of each opcode, in a table of so many cells or threads, in a thread of so many rows. "A cell or thread named must exist."
+
+abbrev pub loadRow : ℕ → Row → Decoded Op
+loadRow cells r =
+    onlyIf
+    (ltb (r .object) cells && loadOrder (r .order) && isRegister (r .register)
+    && unused (r .failure ∷ r .kind ∷ r .target ∷ r .a ∷ r .b ∷ []))
+    (load (r .object) (r .order) (r .register))
+
+abbrev pub storeRow : ℕ → Row → Decoded Op
+storeRow cells r =
+    onlyIf
+    (ltb (r .object) cells && storeOrder (r .order)
+    && unused (r .failure ∷ r .kind ∷ r .register ∷ r .target ∷ r .b ∷ []))
+    (store (r .object) (r .order) (r .a))
+
+abbrev pub storeRegisterRow : ℕ → Row → Decoded Op
+storeRegisterRow cells r =
+    onlyIf
+    (ltb (r .object) cells && storeOrder (r .order) && isRegister (r .register)
+    && unused (r .failure ∷ r .kind ∷ r .target ∷ r .a ∷ r .b ∷ []))
+    (storeRegister (r .object) (r .order) (r .register))
+
+abbrev pub rmwRow : ℕ → Row → Decoded Change → Decoded Op
+rmwRow cells r refused = refused
+rmwRow cells r (decoded change) =
+    onlyIf
+    (ltb (r .object) cells && anyOrder (r .order) && failureOrder (r .kind) (r .failure) && isRegister (r .register)
+    && unused (r .target ∷ []))
+    (rmw (r .object) (r .order) (r .failure) change (r .register))
+
+abbrev pub fenceRow : Row → Decoded Op
+fenceRow r =
+    onlyIf
+    (fenceOrder (r .order)
+    && unused (r .object ∷ r .failure ∷ r .kind ∷ r .register ∷ r .target ∷ r .a ∷ r .b ∷ []))
+    (fence (r .order))
+
+abbrev pub unsyncLoadRow : ℕ → Row → Decoded Op
+unsyncLoadRow cells r =
+    onlyIf
+    (ltb (r .object) cells && isRegister (r .register)
+    && unused (r .order ∷ r .failure ∷ r .kind ∷ r .target ∷ r .a ∷ r .b ∷ []))
+    (unsyncLoad (r .object) (r .register))
+
+abbrev pub exclusiveRow : ℕ → Row → Decoded Change → Decoded Op
+exclusiveRow cells r refused = refused
+exclusiveRow cells r (decoded change) =
+    onlyIf
+    (ltb (r .object) cells && isRegister (r .register) && unused (r .order ∷ r .failure ∷ r .target ∷ []))
+    (exclusive (r .object) change (r .register))
+
+-- yield, `critical`, `explore_state`, `skip_branch`
+abbrev pub bareRow : Op → Row → Decoded Op
+bareRow op r =
+    onlyIf (unused (r .object ∷ r .order ∷ r .failure ∷ r .kind ∷ r .register ∷ r .target ∷ r .a ∷ r .b ∷ [])) op
+
+-- a join may name its own thread: that is a deadlock [Q16]
+abbrev pub joinRow : ℕ → Row → Decoded Op
+joinRow threads r =
+    onlyIf
+    (ltb (r .object) threads
+    && unused (r .order ∷ r .failure ∷ r .kind ∷ r .register ∷ r .target ∷ r .a ∷ r .b ∷ []))
+    (join (r .object))
 
 -- "jump target u16 (0..row count)"
-abbrev pub targetFine : ℕ → ℕ → Row → Bool
-targetFine opcode count r = cond (usesTarget opcode) (leb (r .target) count) (eqb (r .target) 0)
+abbrev pub jumpRow : ℕ → Row → Decoded Op
+jumpRow count r =
+    onlyIf
+    (leb (r .target) count
+    && unused (r .object ∷ r .order ∷ r .failure ∷ r .kind ∷ r .register ∷ r .a ∷ r .b ∷ []))
+    (jump (r .target))
 
--- operand a, which may be anything where it is used, and operand b
-abbrev pub operandsFine : ℕ → Row → Bool
-operandsFine opcode r = (usesA opcode (r .kind) || eqb (r .a) 0) && (usesB opcode (r .kind) || eqb (r .b) 0)
+-- a jump on a test of the register
+abbrev pub jumpOnRow : (ℕ → ℕ → ℕ → Op) → ℕ → Row → Decoded Op
+jumpOnRow op count r =
+    onlyIf
+    (isRegister (r .register) && leb (r .target) count
+    && unused (r .object ∷ r .order ∷ r .failure ∷ r .kind ∷ r .b ∷ []))
+    (op (r .register) (r .a) (r .target))
 
--- a row as one of this opcode, in a table of these many threads and cells, in a thread of this many rows
-abbrev pub fineAs : ℕ → ℕ → ℕ → ℕ → Row → Bool
-fineAs opcode threads cells count r =
-    leb opcode lastOpcode
-    && objectFine opcode threads cells r
-    && orderFine opcode r
-    && changeFine opcode r
-    && registerFine opcode r
-    && targetFine opcode count r
-    && operandsFine opcode r
+abbrev pub checkRow : Row → Decoded Op
+checkRow r =
+    onlyIf
+    (isRegister (r .register) && unused (r .object ∷ r .order ∷ r .failure ∷ r .kind ∷ r .target ∷ r .b ∷ []))
+    (check (r .register) (r .a))
 
-unfoldable pub rowFine : ℕ → ℕ → ℕ → Row → Bool
-rowFine threads cells count r = fineAs (r .opcode) threads cells count r
+abbrev pub spuriousRow : Row → Decoded Op
+spuriousRow r =
+    onlyIf
+    (isRegister (r .register) && unused (r .object ∷ r .order ∷ r .failure ∷ r .kind ∷ r .target ∷ r .a ∷ r .b ∷ []))
+    (spurious (r .register))
+
+-- by the opcode. "Every opcode from 17 to 255 is refused."
+unfoldable pub rowDecoded : ℕ → ℕ → ℕ → Row → Decoded Op
+rowDecoded threads cells count r =
+    cond (eqb (r .opcode) 0) (loadRow cells r)
+    (cond (eqb (r .opcode) 1) (storeRow cells r)
+    (cond (eqb (r .opcode) 2) (storeRegisterRow cells r)
+    (cond (eqb (r .opcode) 3) (rmwRow cells r (changeDecoded (r .kind) (r .a) (r .b)))
+    (cond (eqb (r .opcode) 4) (fenceRow r)
+    (cond (eqb (r .opcode) 5) (unsyncLoadRow cells r)
+    (cond (eqb (r .opcode) 6) (exclusiveRow cells r (changeDecoded (r .kind) (r .a) (r .b)))
+    (cond (eqb (r .opcode) 7) (bareRow yield r)
+    (cond (eqb (r .opcode) 8) (joinRow threads r)
+    (cond (eqb (r .opcode) 9) (jumpRow count r)
+    (cond (eqb (r .opcode) 10) (jumpOnRow jumpIf count r)
+    (cond (eqb (r .opcode) 11) (jumpOnRow jumpUnless count r)
+    (cond (eqb (r .opcode) 12) (checkRow r)
+    (cond (eqb (r .opcode) 13) (bareRow critical r)
+    (cond (eqb (r .opcode) 14) (bareRow exploreState r)
+    (cond (eqb (r .opcode) 15) (bareRow skipBranch r)
+    (cond (eqb (r .opcode) 16) (spuriousRow r)
+    refused))))))))))))))))
+
+-- a row is fine where it says something
+abbrev pub isFine : Decoded Op → Bool
+isFine refused = false
+isFine (decoded op) = true
+
+-- in a table of so many threads and cells: the row of this number among all rows, which is one of a thread of so many rows
+unfoldable pub opAt : List ℕ → ℕ → ℕ → ℕ → ℕ → Decoded Op
+opAt t threads cells count index = rowDecoded threads cells count (rowAt t cells index)
 
 -- The whole table
 
@@ -276,7 +389,7 @@ firstNot fine (suc n) i = cond (fine i) (firstNot fine n (i + 1)) i
 
 -- the first bad row of a thread of c rows, of which the first has this number among all rows; c where there is none
 unfoldable pub firstBad : List ℕ → ℕ → ℕ → ℕ → ℕ → ℕ
-firstBad t threads cells first c = firstNot (λ (i : ℕ). rowFine threads cells c (rowAt t cells (first + i))) c 0
+firstBad t threads cells first c = firstNot (λ (i : ℕ). isFine (opAt t threads cells c (first + i))) c 0
 
 pub data Verdict : Type 0 where
   good : Verdict

@@ -7,8 +7,9 @@ use lib.Dec.{eqb}
 use lib.ListN.{length, replicate}
 use Rattle.rules.specs.Path.{Bound, unbounded, atMost}
 use Rattle.rules.specs.Event.{Entry, little}
-use Rattle.rules.specs.Table.{Row}
-use Rattle.rules.specs.Cell.{Change, changeOf, Changed, success, failure, applied, kthOldest, liveStores}
+use Rattle.rules.specs.Change.{Change, Changed, success, failure, applied}
+use Rattle.rules.specs.Table.{Row, Decoded, refused, decoded, changeDecoded}
+use Rattle.rules.specs.Cell.{kthOldest, liveStores}
 use Rattle.rules.specs.Explorer.{Execution}
 use Rattle.rules.specs.Explored.{Settings, Explored, explored, stopOf}
 
@@ -105,6 +106,11 @@ abbrev pub changedTo : Changed → List ℕ
 changedTo (success v) = v ∷ []
 changedTo failure = []
 
+-- what the change of a kind and an operand makes of a value
+abbrev pub madeBy : Decoded Change → ℕ → List ℕ
+madeBy refused v = []
+madeBy (decoded change) v = changedTo (applied change v)
+
 -- The table
 
 pub record Worked : Type 0 where
@@ -180,14 +186,14 @@ p8 = record { given = map (kthOldest 9) (numbersFrom (liveStores 9) 0); said = 2
 
 -- "P9 signed max of 2^64−1 and 0 is 0. P10 signed max of 2^63 and 2^63−1 is 2^63−1."
 abbrev pub p9 : Worked
-p9 = record { given = changedTo (applied (changeOf 9 0 0) (2 ^ 64 - 1)); said = 0 ∷ [] }
+p9 = record { given = madeBy (changeDecoded 9 0 0) (2 ^ 64 - 1); said = 0 ∷ [] }
 
 abbrev pub p10 : Worked
-p10 = record { given = changedTo (applied (changeOf 9 (2 ^ 63 - 1) 0) (2 ^ 63)); said = (2 ^ 63 - 1) ∷ [] }
+p10 = record { given = madeBy (changeDecoded 9 (2 ^ 63 - 1) 0) (2 ^ 63); said = (2 ^ 63 - 1) ∷ [] }
 
 -- "P11 decrement at 0 fails, register 0.": by its meaning, and in a run that checks the register
 abbrev pub p11 : Worked
-p11 = record { given = changedTo (applied (changeOf 12 0 0) 0); said = [] }
+p11 = record { given = madeBy (changeDecoded 12 0 0) 0; said = [] }
 
 abbrev pub p11Register : Worked
 p11Register = record {
