@@ -1,6 +1,6 @@
 use borrow.Author.Needs.{needs}
 use Rattle.atomic.proofs.AccessLaws.{load-raced, load-done}
-use Rattle.atomic.proofs.TrackLaws.{answered}
+use Rattle.track.proofs.TrackLaws.{answered}
 use Rattle.atomic.proofs.load.Statement.{statement}
 use Rattle.atomic.proofs.load.Tie as tie
 

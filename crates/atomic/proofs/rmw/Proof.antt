@@ -1,7 +1,7 @@
 use borrow.Author.Needs.{needs}
-use Rattle.atomic.specs.Changes.{changeMeant}
+use Rattle.change.specs.Changes.{changeMeant}
 use Rattle.atomic.proofs.AccessLaws.{changing, rmw-raced, rmw-failed, rmw-succeeded}
-use Rattle.atomic.proofs.TrackLaws.{answered}
+use Rattle.track.proofs.TrackLaws.{answered}
 use Rattle.atomic.proofs.rmw.Statement.{statement}
 use Rattle.atomic.proofs.rmw.Tie as tie
 

@@ -1,6 +1,6 @@
 use borrow.Author.Needs.{needs}
 use Rattle.atomic.proofs.AccessLaws.{then-raced, then-stored}
-use Rattle.atomic.proofs.TrackLaws.{answered}
+use Rattle.track.proofs.TrackLaws.{answered}
 use Rattle.atomic.proofs.rmw_store.Statement.{statement}
 use Rattle.atomic.proofs.rmw_store.Tie as tie
 
