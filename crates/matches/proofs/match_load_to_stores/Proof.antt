@@ -9,24 +9,24 @@ use Rattle.matches.proofs.match_load_to_stores.Statement.{statement}
 use Rattle.matches.proofs.match_load_to_stores.Tie as tie
 
 abbrev Inv-loop : tie.InvT-loop
-Inv-loop clocks numbers thread cell order dst₀ marks seen last-yield live n₀ i₀ dst n i =
-    let fate = loadFate clocks marks numbers thread cell order in
-    (n ≤ i) × (i ≤ 7) × (offering dst n i (matchedFrom fate (live - i) i) ≡ offered (matchedFrom fate (liveIn numbers cell) 0) dst₀)
+Inv-loop clocks numbers access dst₀ marks thread cell seen last-yield live n₀ i₀ dst n i =
+    let fate = loadFate clocks marks numbers (access .thread) (access .cell) (access .order) in
+    (n ≤ i) × (i ≤ 7) × (offering dst n i (matchedFrom fate (live - i) i) ≡ offered (matchedFrom fate (liveIn numbers (access .cell)) 0) dst₀)
 
 abbrev μ-loop : tie.MeasureT-loop
-μ-loop clocks numbers thread cell order dst₀ marks seen last-yield live n₀ i₀ dst n i = 7 - i
+μ-loop clocks numbers access dst₀ marks thread cell seen last-yield live n₀ i₀ dst n i = 7 - i
 
 -- the fate that was answered is the definition's
 fated : (c : tie.After-load-fate Inv-loop μ-loop) →
     let at = c .before .before .before .before in
     let args = at .before .before .before .before .before .before .args in
-    fateOf (c .load-fate .result) ≡ loadFate (args .clocks .now) (args .t2) (args .numbers .now) (args .thread) (args .cell) (args .order) (at .loop .i)
+    fateOf (c .load-fate .result) ≡ loadFate (args .clocks .now) (args .t2) (args .numbers .now) (args .access .thread) (args .access .cell) (args .access .order) (at .loop .i)
 fated c =
     let at = c .before .before .before .before in
     let slots = at .before .before .before .before in
     let args = slots .before .before .args in
     c .load-fate .ensures
-    ∙ fate-load (args .clocks .now) (args .t2) (args .numbers .now) (args .thread) (args .cell) (args .order) (at .loop .i) _ _ (slots .seen-slots .ensures) (c .before .is-seen-before-yield .ensures)
+    ∙ fate-load (args .clocks .now) (args .t2) (args .numbers .now) (args .access .thread) (args .access .cell) (args .access .order) (at .loop .i) _ _ (slots .seen-slots .ensures) (c .before .is-seen-before-yield .ensures)
 
 add-causality : tie.Need-add-causality Inv-loop μ-loop
 add-causality c = search needs
