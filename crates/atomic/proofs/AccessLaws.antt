@@ -14,9 +14,9 @@ use Rattle.rules.specs.Cell as rules
 use Rattle.rules.specs.Cell.{slotOf, withStore, version, seqCstFlag, storeOrder, storeSynced, storeDone, Access, raced, read}
 use Rattle.rules.specs.Cell.{noRace, raceOf, loadRace, loadTracked, storeRace, storeTracked, coherent, touchDone, loadSynced}
 use Rattle.rules.specs.Cell.{Change, success, failure, applied, sighted, loadDone, succeeded, rmwDone}
-use Rattle.atomic.specs.declared.change.Changed.{Changed}
-use Rattle.atomic.specs.Access.{state}
-use Rattle.atomic.specs.Changes.{changedOf}
+use Rattle.change.specs.declared.Changed.{Changed}
+use Rattle.layout.specs.Tables.{state}
+use Rattle.change.specs.Changes.{changedOf}
 
 -- an answer of a change that was taken apart
 pub changing : (r s : Changed) (x : rules.Changed) → r ≡ s → changedOf r ≡ x → changedOf s ≡ x

@@ -1,11 +1,4 @@
 pub mod AccessLaws
-pub mod ChangeLaws
-pub mod FenceLaws
-pub mod LastAccessLaws
 pub mod NewestLaws
-pub mod OfferLaws
 pub mod OrderLaws
-pub mod SeenLaws
 pub mod SlotLaws
-pub mod SyncLaws
-pub mod TrackLaws

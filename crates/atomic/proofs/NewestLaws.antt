@@ -7,7 +7,7 @@ use lib.Seq.{set-getD}
 use Rattle.rules.specs.State.{Clocks, Marks, Values, Numbers, value, withValue, number, storeAt, ofStore, count}
 use Rattle.rules.specs.Cell.{Change, applied, success, failure, newest, newestOf, raced, read, raceOf, noRace}
 use Rattle.rules.specs.Cell.{unsyncLoadRace, unsyncLoadTracked, unsyncLoadDone, mutRace, mutTracked, mutDone}
-use Rattle.atomic.specs.Access.{state}
+use Rattle.layout.specs.Tables.{state}
 use Rattle.atomic.specs.Exclusive.{Mutates}
 use Rattle.atomic.specs.declared.Mutated.the-variants as code
 

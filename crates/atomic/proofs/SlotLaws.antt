@@ -1,28 +1,19 @@
--- The laws of a cell's slots, for the functions that count, touch and mark them. Assumes nothing.
---     live-few, live-all              how many stores are live
+-- The laws of a cell's slots, for the functions that touch and mark them. Assumes nothing.
 --     flag-set, flag-clear            whether a store was SeqCst
 --     touch-again, touch-first        the thread's mark on the store that it reads
 --     marked-first                    the marks of a new store
-use Prim.Native.Nat.{ℕ, _≤_, _<_}
+use Prim.Native.Nat.{ℕ}
 use mathlib.Core.List.{List, []}
 use mathlib.Core.Path.{_≡_}
 use mathlib.Core.Logic.{_≢_, ⊎-elim}
-use native.Mathlib.Omega.{arith}
 use lib.Dec.{ltb}
 use lib.ListN.{length, getD, set}
 use lib.Seq.{set-getD}
-use borrow.Author.Tests.{eq-eqb, ne-eqb, lt-ltb, le-ltb, ltb-true, ltb-false}
+use borrow.Author.Tests.{eq-eqb, ne-eqb, ltb-true, ltb-false}
 use Rattle.rules.specs.Seen.{unseen, unseens, touched, touchedAt}
 use Rattle.rules.specs.State.{Clocks, Marks, marksOf}
 use Rattle.rules.specs.Cell.{seqCstOrder, seqCstFlag, version, touchDone}
-use Rattle.atomic.specs.Slots.{Live}
-use Rattle.atomic.proofs.SeenLaws as Seen
-
-pub live-few : (n : ℕ) → n < 7 → Live n n
-live-few n h = record { is = rw (lt-ltb n 7 h); within = omega arith }
-
-pub live-all : (n : ℕ) → 7 ≤ n → Live n 7
-live-all n h = record { is = rw (le-ltb n 7 h); within = omega arith }
+use Rattle.synchronize.proofs.SeenLaws as Seen
 
 pub flag-set : (o : ℕ) → o ≡ seqCstOrder → 1 ≡ seqCstFlag o
 flag-set o e = rw (eq-eqb o seqCstOrder e)

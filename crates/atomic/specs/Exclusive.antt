@@ -3,7 +3,7 @@ use Prim.Native.Nat.{ℕ}
 use mathlib.Core.Path.{_≡_}
 use Rattle.rules.specs.Cell as rules
 use Rattle.rules.specs.State.{State, Clocks, Marks, Values, Numbers, value, ofStore}
-use Rattle.atomic.specs.Access.{state}
+use Rattle.layout.specs.Tables.{state}
 use Rattle.atomic.specs.declared.Mutated.{Mutated}
 use Rattle.atomic.specs.declared.Mutated.the-variants as code
 

@@ -1,8 +1,2 @@
-pub mod Access
-pub mod Changes
+pub mod Accesses
 pub mod Exclusive
-pub mod Fences
-pub mod LastAccess
-pub mod Offers
-pub mod Slots
-pub mod Tracked

@@ -1,5 +1,11 @@
 // An atomic cell, after loom's rt/atomic.rs: what a store, a load, a read-modify-write, an unsynchronised load and an
 // exclusive change do to the lent state, each once its thread has been chosen.
+//
+// loom's four coherences are kept in modification order, which is partial, a vector for each store:
+// write-write, a store is after every store that happened before it (store_order);
+// read-write, a store is after every store that was read before it (store_order);
+// write-read, the store that a load reads is after every store that happened before the load (apply_load_coherence);
+// read-read, the store that a load reads is after every store that was read before the load (apply_load_coherence).
 ghost use mathlib.Core.Path.{_≡_};
 ghost use Prim.Native.Nat.{_<_};
 ghost use Rattle.rules.specs.Cell.{loadDone, storeDone, succeeded, rmwDone, unsyncLoadDone, coherent, touchDone, storeOrder, seqCstFlag};
@@ -7,37 +13,38 @@ ghost use Rattle.rules.specs.Seen.{touched, unseens};
 ghost use Rattle.rules.specs.State.{marksOf};
 ghost use Rattle.rules.specs.Vector.{less};
 ghost use Rattle.rules.specs.State as rules;
-ghost use Rattle.atomic.specs.Access.{state, accessOf};
-ghost use Rattle.atomic.specs.Changes.{changeMeant};
+ghost use Rattle.layout.specs.Tables.{state};
+ghost use Rattle.change.specs.Changes.{changeMeant};
+ghost use Rattle.atomic.specs.Accesses.{accessOf};
 ghost use Rattle.atomic.specs.Exclusive.{Mutates};
-ghost use Rattle.atomic.specs.Slots.{Next, Newest, Live};
 use change::Change;
 use change::Changed;
-use first_seen::is_seen;
-use state::CAUSALITY;
-use state::COUNT;
-use state::Clocks;
-use state::HAPPENS_BEFORE;
-use state::MODIFICATION_ORDER;
-use state::Marks;
-use state::SYNC;
-use state::Numbers;
-use state::VALUE;
-use state::Values;
+use layout::Access;
+use layout::Clocks;
+use layout::MAX_THREADS;
+use layout::Marks;
+use layout::NONE;
+use layout::Numbers;
+use layout::Values;
+use layout::cell::COUNT;
+use layout::order;
+use layout::slots::index;
+use layout::slots::live_stores;
+use layout::slots::newest;
+use layout::store::HAPPENS_BEFORE;
+use layout::store::MODIFICATION_ORDER;
+use layout::store::SEQ_CST;
+use layout::store::SYNC;
+use layout::store::VALUE;
+use layout::store_at;
+use layout::thread::CAUSALITY;
+use synchronize::first_seen;
+use synchronize::first_seen::is_seen;
 use synchronize::join;
 use synchronize::sync_load;
 use synchronize::sync_store;
 use track::Race;
 use vv::VersionVec;
-
-pub mod access;
-pub mod change;
-pub mod fence;
-pub mod first_seen;
-pub mod matches;
-pub mod state;
-pub mod synchronize;
-pub mod track;
 
 // The value read, or the race that stopped the access.
 pub enum Loaded {
@@ -51,49 +58,28 @@ pub enum Mutated {
     Raced { kind: u8, other: usize },
 }
 
-// The slot that the next store of a cell takes, by how many there were.
-pub fn index(count: u16) -> usize
-    ensures { λ r. ⌜ Next count r ⌝ }
-{
-    (count % 7) as usize
-}
-
-// The slot of the newest store.
-pub fn newest(count: u16) -> usize
-    ensures { λ r. ⌜ Newest count r ⌝ }
-{
-    ((count % 7 + 6) % 7) as usize
-}
-
-// How many of a cell's stores are kept.
-pub fn live_stores(count: u16) -> usize
-    ensures { λ r. ⌜ Live count r ⌝ }
-{
-    if count < 7 { count as usize } else { 7 }
-}
-
 // Loads from a slot: race, coherence, touch, sync, in that order.
 pub fn load(
     clocks: &mut Clocks,
     marks: &mut Marks,
     values: &Values,
     numbers: &Numbers,
-    thread: usize,
-    cell: usize,
+    access: Access,
     slot: usize,
-    order: u8,
 ) -> Loaded
-    requires { ⌜ (thread < 5) × (cell < 4) × (slot < 7) ⌝ }
-    ensures { λ r. ⌜ accessOf r (state (now (clocks .exit)) (now (marks .exit)) (now (values .entry)) (now (numbers .entry))) ≡ loadDone (state (now (clocks .entry)) (now (marks .entry)) (now (values .entry)) (now (numbers .entry))) thread cell slot order ⌝ }
+    requires { ⌜ (access .thread < 5) × (access .cell < 4) × (slot < 7) ⌝ }
+    ensures { λ r. ⌜ accessOf r (state (now (clocks .exit)) (now (marks .exit)) (now (values .entry)) (now (numbers .entry))) ≡ loadDone (state (now (clocks .entry)) (now (marks .entry)) (now (values .entry)) (now (numbers .entry))) (access .thread) (access .cell) slot (access .order) ⌝ }
 {
+    let thread = access.thread;
+    let cell = access.cell;
     if let Race::With { kind, other } = track::track_load(clocks, thread, cell) {
         return Loaded::Raced { kind, other };
     }
     apply_load_coherence(clocks, marks, numbers, thread, cell, slot);
     touch(clocks, marks, thread, cell, slot);
-    let store = state::store_at(cell, slot);
-    sync_load(clocks, thread, store, order);
-    Loaded::Value(values[VALUE + store])
+    let at = store_at(cell, slot);
+    sync_load(clocks, thread, at, access.order);
+    Loaded::Value(values[VALUE + at])
 }
 
 // Stores a value. The sync vector is that of a fresh store, or of the store that a read-modify-write read.
@@ -102,70 +88,59 @@ pub fn store(
     marks: &mut Marks,
     values: &mut Values,
     numbers: &mut Numbers,
-    thread: usize,
-    cell: usize,
-    sync: [u16; 5],
+    access: Access,
+    sync: [u16; MAX_THREADS],
     value: u64,
-    order: u8,
 )
-    requires { ⌜ (thread < 5) × (cell < 4) ⌝ }
-    ensures { λ _. ⌜ state (now (clocks .exit)) (now (marks .exit)) (now (values .exit)) (now (numbers .exit)) ≡ storeDone (state (now (clocks .entry)) (now (marks .entry)) (now (values .entry)) (now (numbers .entry))) thread cell sync value order ⌝ }
+    requires { ⌜ (access .thread < 5) × (access .cell < 4) ⌝ }
+    ensures { λ _. ⌜ state (now (clocks .exit)) (now (marks .exit)) (now (values .exit)) (now (numbers .exit)) ≡ storeDone (state (now (clocks .entry)) (now (marks .entry)) (now (values .entry)) (now (numbers .entry))) (access .thread) (access .cell) sync value (access .order) ⌝ }
 {
+    let thread = access.thread;
+    let cell = access.cell;
     let count = numbers[COUNT + cell];
     let slot = index(count);
-    let at = state::store_at(cell, slot);
+    let at = store_at(cell, slot);
     numbers[COUNT + cell] = vv::one_more(count);
     let causality = clocks[CAUSALITY + thread];
     // The slot that is replaced still counts here, so its order is joined before it is overwritten.
     let modification_order = store_order(clocks, marks, count, thread, cell);
-    let sync = sync_store(clocks, thread, sync, order);
+    let sync = sync_store(clocks, thread, sync, access.order);
     clocks[HAPPENS_BEFORE + at] = causality;
     clocks[MODIFICATION_ORDER + at] = modification_order;
     clocks[SYNC + at] = sync;
     marks[cell][slot] = first_marked(thread, causality[thread]);
     values[VALUE + at] = value;
-    numbers[state::SEQ_CST + at] = is_seq_cst(order);
+    numbers[SEQ_CST + at] = is_seq_cst(access.order);
 }
 
-// Reads a slot and, if the change succeeds, stores what it makes of the value.
+// Reads a slot and, if the change succeeds, stores what it makes of the value. The access's order is that of success.
 pub fn rmw(
     clocks: &mut Clocks,
     marks: &mut Marks,
     values: &mut Values,
     numbers: &mut Numbers,
-    thread: usize,
-    cell: usize,
+    access: Access,
     slot: usize,
     change: Change,
-    success: u8,
     failure: u8,
 ) -> Loaded
-    requires { ⌜ (thread < 5) × (cell < 4) × (slot < 7) ⌝ }
-    ensures { λ r. ⌜ accessOf r (state (now (clocks .exit)) (now (marks .exit)) (now (values .exit)) (now (numbers .exit))) ≡ rmwDone (state (now (clocks .entry)) (now (marks .entry)) (now (values .entry)) (now (numbers .entry))) thread cell slot (changeMeant change) success failure ⌝ }
+    requires { ⌜ (access .thread < 5) × (access .cell < 4) × (slot < 7) ⌝ }
+    ensures { λ r. ⌜ accessOf r (state (now (clocks .exit)) (now (marks .exit)) (now (values .exit)) (now (numbers .exit))) ≡ rmwDone (state (now (clocks .entry)) (now (marks .entry)) (now (values .entry)) (now (numbers .entry))) (access .thread) (access .cell) slot (changeMeant change) (access .order) failure ⌝ }
 {
+    let thread = access.thread;
+    let cell = access.cell;
     if let Race::With { kind, other } = track::track_load(clocks, thread, cell) {
         return Loaded::Raced { kind, other };
     }
     apply_load_coherence(clocks, marks, numbers, thread, cell, slot);
     touch(clocks, marks, thread, cell, slot);
-    let at = state::store_at(cell, slot);
+    let at = store_at(cell, slot);
     let prev = values[VALUE + at];
     let Changed::Success(next) = change::apply(change, prev) else {
         sync_load(clocks, thread, at, failure);
         return Loaded::Value(prev);
     };
-    rmw_store(
-        clocks,
-        marks,
-        values,
-        numbers,
-        thread,
-        cell,
-        at,
-        prev,
-        next,
-        success,
-    )
+    rmw_store(clocks, marks, values, numbers, access, at, prev, next)
 }
 
 // The rest of a read-modify-write whose change has succeeded: `next` is stored in the place of `prev`, read from store `at`.
@@ -174,33 +149,22 @@ fn rmw_store(
     marks: &mut Marks,
     values: &mut Values,
     numbers: &mut Numbers,
-    thread: usize,
-    cell: usize,
+    access: Access,
     at: usize,
     prev: u64,
     next: u64,
-    success: u8,
 ) -> Loaded
-    requires { ⌜ (thread < 5) × (cell < 4) × (at < 28) ⌝ }
-    ensures { λ r. ⌜ accessOf r (state (now (clocks .exit)) (now (marks .exit)) (now (values .exit)) (now (numbers .exit))) ≡ succeeded (state (now (clocks .entry)) (now (marks .entry)) (now (values .entry)) (now (numbers .entry))) thread cell at prev next success ⌝ }
+    requires { ⌜ (access .thread < 5) × (access .cell < 4) × (at < 28) ⌝ }
+    ensures { λ r. ⌜ accessOf r (state (now (clocks .exit)) (now (marks .exit)) (now (values .exit)) (now (numbers .exit))) ≡ succeeded (state (now (clocks .entry)) (now (marks .entry)) (now (values .entry)) (now (numbers .entry))) (access .thread) (access .cell) at prev next (access .order) ⌝ }
 {
-    if let Race::With { kind, other } = track::track_store(clocks, thread, cell) {
+    let thread = access.thread;
+    if let Race::With { kind, other } = track::track_store(clocks, thread, access.cell) {
         return Loaded::Raced { kind, other };
     }
-    sync_load(clocks, thread, at, success);
+    sync_load(clocks, thread, at, access.order);
     // The new store starts from the sync of the one read, which makes a release sequence of the two.
     let sync = clocks[SYNC + at];
-    store(
-        clocks,
-        marks,
-        values,
-        numbers,
-        thread,
-        cell,
-        sync,
-        next,
-        success,
-    );
+    store(clocks, marks, values, numbers, access, sync, next);
     Loaded::Value(prev)
 }
 
@@ -219,7 +183,7 @@ pub fn unsync_load(
         return Loaded::Raced { kind, other };
     }
     let slot = newest(numbers[COUNT + cell]);
-    Loaded::Value(values[VALUE + state::store_at(cell, slot)])
+    Loaded::Value(values[VALUE + store_at(cell, slot)])
 }
 
 // Changes the newest store's value in place. A change that fails still counts as a mutation.
@@ -238,7 +202,7 @@ pub fn with_mut(
         return Mutated::Raced { kind, other };
     }
     let slot = newest(numbers[COUNT + cell]);
-    let at = VALUE + state::store_at(cell, slot);
+    let at = VALUE + store_at(cell, slot);
     let read = values[at];
     let changed = change::apply(change, read);
     let Changed::Success(left) = changed else {
@@ -248,7 +212,9 @@ pub fn with_mut(
     Mutated::Values { read, left }
 }
 
-// The chosen store's order takes in those of the stores that the thread has seen or that happened before it.
+// The chosen store's order takes in those of the stores that must not come after it. A store that is seen was read by an
+// action in the thread's causality, before this load: read-read coherence. A store that happened before this load is
+// write-read coherence.
 pub fn apply_load_coherence(
     clocks: &mut Clocks,
     marks: &Marks,
@@ -261,14 +227,15 @@ pub fn apply_load_coherence(
     ensures { λ _. ⌜ now (clocks .exit) ≡ coherent (now (clocks .entry)) (marksOf (now (marks .entry)) cell) (now (numbers .entry)) thread cell slot ⌝ }
 {
     let causality = clocks[CAUSALITY + thread];
-    let chosen = MODIFICATION_ORDER + state::store_at(cell, slot);
+    let chosen = MODIFICATION_ORDER + store_at(cell, slot);
     let live = live_stores(numbers[COUNT + cell]);
     let mut order = clocks[chosen];
     let mut i = 0;
     while i < live {
         if i != slot {
-            let at = state::store_at(cell, i);
+            let at = store_at(cell, i);
             let before = clocks[HAPPENS_BEFORE + at];
+            // Read-read on the left, write-read on the right.
             if is_seen(marks, cell, i, causality) | is_before(before, causality) {
                 let other = clocks[MODIFICATION_ORDER + at];
                 let both = join(order, other);
@@ -286,7 +253,7 @@ pub fn touch(clocks: &Clocks, marks: &mut Marks, thread: usize, cell: usize, slo
     ensures { λ _. ⌜ now (marks .exit) ≡ touchDone (now (clocks .entry)) (now (marks .entry)) thread cell slot ⌝ }
 {
     let row = marks[cell][slot];
-    if row[thread] != state::NONE {
+    if row[thread] != NONE {
         return;
     }
     let causality = clocks[CAUSALITY + thread];
@@ -294,7 +261,7 @@ pub fn touch(clocks: &Clocks, marks: &mut Marks, thread: usize, cell: usize, slo
 }
 
 // The marks of a new store, seen by its own thread alone.
-fn first_marked(thread: usize, version: u16) -> [u16; 5]
+fn first_marked(thread: usize, version: u16) -> [u16; MAX_THREADS]
     ensures { λ r. ⌜ r ≡ touched (unseens 5) thread version ⌝ }
 {
     let fresh = first_seen::FirstSeen::new();
@@ -304,17 +271,25 @@ fn first_marked(thread: usize, version: u16) -> [u16; 5]
 
 // The place of a new store in modification order: after all that its thread knows, and after each store it has seen of the
 // `count` before it.
-fn store_order(clocks: &Clocks, marks: &Marks, count: u16, thread: usize, cell: usize) -> [u16; 5]
+fn store_order(
+    clocks: &Clocks,
+    marks: &Marks,
+    count: u16,
+    thread: usize,
+    cell: usize,
+) -> [u16; MAX_THREADS]
     requires { ⌜ (thread < 5) × (cell < 4) ⌝ }
     ensures { λ r. ⌜ r ≡ storeOrder (now (clocks .entry)) (marksOf (now (marks .entry)) cell) count thread cell ⌝ }
 {
     let causality = clocks[CAUSALITY + thread];
     let live = live_stores(count);
+    // To start with the causality is write-write coherence.
     let mut order = causality;
     let mut i = 0;
     while i < live {
+        // Read-write coherence.
         if is_seen(marks, cell, i, causality) {
-            let other = clocks[MODIFICATION_ORDER + state::store_at(cell, i)];
+            let other = clocks[MODIFICATION_ORDER + store_at(cell, i)];
             let both = join(order, other);
             order = both;
         }
@@ -323,7 +298,7 @@ fn store_order(clocks: &Clocks, marks: &Marks, count: u16, thread: usize, cell: 
     order
 }
 
-fn is_before(a: [u16; 5], b: [u16; 5]) -> bool
+fn is_before(a: [u16; MAX_THREADS], b: [u16; MAX_THREADS]) -> bool
     ensures { λ r. ⌜ r ≡ less a b ⌝ }
 {
     let first = VersionVec { versions: a };
@@ -333,5 +308,5 @@ fn is_before(a: [u16; 5], b: [u16; 5]) -> bool
 fn is_seq_cst(order: u8) -> u16
     ensures { λ r. ⌜ r ≡ seqCstFlag order ⌝ }
 {
-    if order == synchronize::SEQ_CST { 1 } else { 0 }
+    if order == order::SEQ_CST { 1 } else { 0 }
 }

@@ -2,14 +2,13 @@
 ghost use mathlib.Core.Path.{_≡_};
 ghost use Rattle.rules.specs.Vector.{atMost, equal, less, joined, ahead, oneMore, raised, zeros};
 ghost use Rattle.vv.specs.Whom.{whom};
-
-pub const MAX_THREADS: usize = 5;
+use layout::MAX_THREADS;
 
 // The largest number that a part can be; a mark of this number is unseen, so no version passes it.
 pub const LARGEST: u16 = 65535;
 
 pub struct VersionVec {
-    pub versions: [u16; 5],
+    pub versions: [u16; MAX_THREADS],
 }
 
 // The thread that is ahead, or none.
@@ -30,7 +29,9 @@ impl VersionVec {
     pub fn new() -> Self
         ensures { λ r. ⌜ r .versions ≡ zeros 5 ⌝ }
     {
-        VersionVec { versions: [0; 5] }
+        VersionVec {
+            versions: [0; MAX_THREADS],
+        }
     }
 
     // The greater of each part.

@@ -1,6 +1,6 @@
 use borrow.Author.Needs.{needs}
 use Rattle.atomic.proofs.AccessLaws.{load-raced, load-done}
-use Rattle.atomic.proofs.TrackLaws.{answered}
+use Rattle.track.proofs.TrackLaws.{answered}
 use Rattle.atomic.proofs.load.Statement.{statement}
 use Rattle.atomic.proofs.load.Tie as tie
 
@@ -19,15 +19,15 @@ returns c =
     (args .marks .now)
     (args .values .now)
     (args .numbers .now)
-    (args .thread)
-    (args .cell)
+    (args .access .thread)
+    (args .access .cell)
     (args .slot)
     _
     (call .track-load .ensures .left)
     _
     _
     (answered _ _ _ (c .before .kind .given .1) (call .track-load .ensures .answer))
-    (args .order)
+    (args .access .order)
 
 enum-told : tie.Need-enum-told
 enum-told c = search needs
@@ -65,8 +65,8 @@ returns-2 c =
     (args .marks .now)
     (args .values .now)
     (args .numbers .now)
-    (args .thread)
-    (args .cell)
+    (args .access .thread)
+    (args .access .cell)
     (args .slot)
     _
     (call .track-load .ensures .left)
@@ -77,7 +77,7 @@ returns-2 c =
     (ordered .apply-load-coherence .ensures)
     _
     (store .before .touch .ensures)
-    (args .order)
+    (args .access .order)
     _
     (c .before .sync-load .ensures)
 

@@ -1,7 +1,7 @@
 use borrow.Author.Needs.{needs}
-use Rattle.atomic.specs.Changes.{changeMeant}
+use Rattle.change.specs.Changes.{changeMeant}
 use Rattle.atomic.proofs.AccessLaws.{changing, rmw-raced, rmw-failed, rmw-succeeded}
-use Rattle.atomic.proofs.TrackLaws.{answered}
+use Rattle.track.proofs.TrackLaws.{answered}
 use Rattle.atomic.proofs.rmw.Statement.{statement}
 use Rattle.atomic.proofs.rmw.Tie as tie
 
@@ -20,8 +20,8 @@ returns c =
     (args .marks .now)
     (args .values .now)
     (args .numbers .now)
-    (args .thread)
-    (args .cell)
+    (args .access .thread)
+    (args .access .cell)
     (args .slot)
     _
     (call .track-load .ensures .left)
@@ -29,7 +29,7 @@ returns c =
     _
     (answered _ _ _ (c .before .kind .given .1) (call .track-load .ensures .answer))
     (changeMeant (args .change))
-    (args .success)
+    (args .access .order)
     (args .failure)
 
 enum-told : tie.Need-enum-told
@@ -77,8 +77,8 @@ returns-2 c =
     (args .marks .now)
     (args .values .now)
     (args .numbers .now)
-    (args .thread)
-    (args .cell)
+    (args .access .thread)
+    (args .access .cell)
     (args .slot)
     _
     (call .track-load .ensures .left)
@@ -90,7 +90,7 @@ returns-2 c =
     _
     (store .before .touch .ensures)
     (changeMeant (args .change))
-    (args .success)
+    (args .access .order)
     (args .failure)
     (changing _ _ _ (c .before .before .enum-told2 .given .1) (c .before .before .before .before .apply .ensures))
     _
@@ -111,8 +111,8 @@ returns-3 c =
     (args .marks .now)
     (args .values .now)
     (args .numbers .now)
-    (args .thread)
-    (args .cell)
+    (args .access .thread)
+    (args .access .cell)
     (args .slot)
     _
     (call .track-load .ensures .left)
@@ -124,7 +124,7 @@ returns-3 c =
     _
     (store .before .touch .ensures)
     (changeMeant (args .change))
-    (args .success)
+    (args .access .order)
     (args .failure)
     _
     (changing _ _ _ (c .before .before .before .before .before .before .next .given .1) (c .before .before .before .before .before .before .before .before .apply .ensures))

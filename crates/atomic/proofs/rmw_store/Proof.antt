@@ -1,6 +1,6 @@
 use borrow.Author.Needs.{needs}
 use Rattle.atomic.proofs.AccessLaws.{then-raced, then-stored}
-use Rattle.atomic.proofs.TrackLaws.{answered}
+use Rattle.track.proofs.TrackLaws.{answered}
 use Rattle.atomic.proofs.rmw_store.Statement.{statement}
 use Rattle.atomic.proofs.rmw_store.Tie as tie
 
@@ -19,12 +19,12 @@ returns c =
     (args .marks .now)
     (args .values .now)
     (args .numbers .now)
-    (args .thread)
-    (args .cell)
+    (args .access .thread)
+    (args .access .cell)
     (args .at)
     (args .prev)
     (args .next)
-    (args .success)
+    (args .access .order)
     _
     (call .track-store .ensures .left)
     _
@@ -60,12 +60,12 @@ returns-2 c =
     (args .marks .now)
     (args .values .now)
     (args .numbers .now)
-    (args .thread)
-    (args .cell)
+    (args .access .thread)
+    (args .access .cell)
     (args .at)
     (args .prev)
     (args .next)
-    (args .success)
+    (args .access .order)
     _
     (call .track-store .ensures .left)
     (answered _ _ _ (told .enum-told .given .1) (call .track-store .ensures .answer))

@@ -124,11 +124,11 @@ returns c =
     (args .marks .now)
     (args .values .now)
     (args .numbers .now)
-    (args .thread)
-    (args .cell)
+    (args .access .thread)
+    (args .access .cell)
     (args .sync)
     (args .value)
-    (args .order)
+    (args .access .order)
     _
     _
     _

@@ -1,5 +1,5 @@
 use borrow.Author.Needs.{needs}
-use Rattle.atomic.proofs.TrackLaws.{answered}
+use Rattle.track.proofs.TrackLaws.{answered}
 use Rattle.atomic.proofs.NewestLaws.{newest-at, unsync-raced, unsync-done}
 use Rattle.atomic.proofs.unsync_load.Statement.{statement}
 use Rattle.atomic.proofs.unsync_load.Tie as tie

@@ -1,7 +1,7 @@
 use borrow.Author.Needs.{needs}
-use Rattle.atomic.specs.Changes.{changeMeant}
+use Rattle.change.specs.Changes.{changeMeant}
 use Rattle.atomic.proofs.AccessLaws.{changing}
-use Rattle.atomic.proofs.TrackLaws.{answered}
+use Rattle.track.proofs.TrackLaws.{answered}
 use Rattle.atomic.proofs.NewestLaws.{newest-at, mut-raced, mut-failed, mut-changed}
 use Rattle.atomic.proofs.with_mut.Statement.{statement}
 use Rattle.atomic.proofs.with_mut.Tie as tie

@@ -1,0 +1,85 @@
+// Where each part of the machine's state stands, and how large it is: here alone. The state is four tables that the caller
+// lends: vectors (clocks), marks of first sight, values and numbers. A part is found at its constant plus the number of its
+// thread, cell, store or register; nothing else does arithmetic on positions. A new part goes at the end of its table, past
+// all that are there, and the table's size grows by it: then no position that a proof names moves.
+ghost use mathlib.Core.Path.{_≡_};
+ghost use Prim.Native.Nat.{_+_, _*_, _<_};
+ghost use Rattle.layout.specs.Wide.{Wide};
+
+pub mod cell;
+pub mod order;
+pub mod run;
+pub mod seed;
+pub mod slots;
+pub mod store;
+pub mod thread;
+
+pub const MAX_THREADS: usize = 5;
+
+pub const MAX_CELLS: usize = 4;
+
+// loom's: a cell keeps its seven most recent stores.
+pub const MAX_ATOMIC_HISTORY: usize = 7;
+
+// Registers of a thread.
+pub const REGISTERS: usize = 4;
+
+// A number that stands for none: no mark, no yield yet, no access yet.
+pub const NONE: u16 = 65535;
+
+// How many vectors, values and numbers the tables hold.
+pub const CLOCKS: usize = 124;
+
+pub const VALUES: usize = 48;
+
+pub const NUMBERS: usize = 89;
+
+pub type Clocks = [[u16; MAX_THREADS]; CLOCKS];
+
+pub type Marks = [[[u16; MAX_THREADS]; MAX_ATOMIC_HISTORY]; MAX_CELLS];
+
+pub type Values = [u64; VALUES];
+
+pub type Numbers = [u16; NUMBERS];
+
+// An atomic access to a cell: whose, to which, by which order.
+pub struct Access {
+    pub thread: usize,
+    pub cell: usize,
+    pub order: u8,
+}
+
+// The number of a store among those of all cells.
+pub fn store_at(cell: usize, slot: usize) -> usize
+    requires { ⌜ (cell < 4) × (slot < 7) ⌝ }
+    ensures { λ r. ⌜ r ≡ 7 * cell + slot ⌝ }
+{
+    MAX_ATOMIC_HISTORY * cell + slot
+}
+
+// The number of a register among those of all threads.
+pub fn register_at(thread: usize, register: usize) -> usize
+    requires { ⌜ (thread < 5) × (register < 4) ⌝ }
+    ensures { λ r. ⌜ r ≡ 4 * thread + register ⌝ }
+{
+    REGISTERS * thread + register
+}
+
+// A byte, and a number of two bytes, as one that can count and be an index; a byte as a number of two.
+pub fn wide8(x: u8) -> usize
+    ensures { λ r. ⌜ Wide 255 x r ⌝ }
+{
+    x as usize
+}
+
+pub fn wide16(x: u16) -> usize
+    ensures { λ r. ⌜ Wide 65535 x r ⌝ }
+{
+    x as usize
+}
+
+pub fn short8(x: u8) -> u16
+    ensures { λ r. ⌜ Wide 255 x r ⌝ }
+{
+    x as u16
+}

@@ -1,0 +1,118 @@
+// When each thread first saw a store: loom's FirstSeen, and the marks of a cell's seven stores.
+ghost use mathlib.Core.Path.{_≡_};
+ghost use Prim.Native.Nat.{_<_};
+ghost use mathlib.Core.List.{[]};
+ghost use lib.ListN.{getD};
+ghost use Rattle.rules.specs.Seen.{unseens, seen, seenBeforeYield, seenSlots, touched, touchedAt};
+use layout::MAX_ATOMIC_HISTORY;
+use layout::MAX_THREADS;
+use layout::Marks;
+use layout::NONE;
+
+// The version of each thread at its first sight of the store, or NONE.
+pub struct FirstSeen {
+    pub versions: [u16; MAX_THREADS],
+}
+
+impl FirstSeen {
+    // Seen by no thread.
+    pub fn new() -> Self
+        ensures { λ r. ⌜ r .versions ≡ unseens 5 ⌝ }
+    {
+        FirstSeen {
+            versions: [NONE; MAX_THREADS],
+        }
+    }
+
+    // The thread's mark, set only where it has none. All marks are gone through, as in VersionVec's raise.
+    pub fn touch(mut self, thread: usize, version: u16) -> FirstSeen
+        ensures { λ r. ⌜ r .versions ≡ touched (self .versions) thread version ⌝ }
+    {
+        let mut i = 0;
+        while i < MAX_THREADS {
+            let mark = self.versions[i];
+            self.versions[i] = if (i == thread) & (mark == NONE) {
+                version
+            } else {
+                mark
+            };
+            i += 1;
+        }
+        self
+    }
+
+    // Whether some thread's first sight is known to whoever has this causality. No mark ends the walk.
+    pub fn is_seen_by_current(self, causality: [u16; MAX_THREADS]) -> bool
+        ensures { λ r. ⌜ r ≡ seen (self .versions) causality ⌝ }
+    {
+        let mut seen = false;
+        let mut i = 0;
+        while i < MAX_THREADS {
+            seen = seen | ((self.versions[i] != NONE) & (self.versions[i] <= causality[i]));
+            i += 1;
+        }
+        seen
+    }
+
+    // Whether this thread saw the store no later than its last yield.
+    pub fn is_seen_before_yield(self, thread: usize, last_yield: u16) -> bool
+        ensures { λ r. ⌜ r ≡ seenBeforeYield (self .versions) thread «last_yield» ⌝ }
+    {
+        if MAX_THREADS <= thread {
+            return false;
+        }
+        if last_yield == NONE {
+            return false;
+        }
+        if self.versions[thread] == NONE {
+            return false;
+        }
+        self.versions[thread] <= last_yield
+    }
+}
+
+// The marks of a cell with this thread's mark on one store, where it had none.
+pub fn touched(
+    mut marks: [[u16; MAX_THREADS]; MAX_ATOMIC_HISTORY],
+    slot: usize,
+    thread: usize,
+    version: u16,
+) -> [[u16; MAX_THREADS]; MAX_ATOMIC_HISTORY]
+    requires { ⌜ slot < 7 ⌝ }
+    ensures { λ r. ⌜ r ≡ touchedAt marks slot thread version ⌝ }
+{
+    let row = marks[slot];
+    let seen = FirstSeen { versions: row };
+    let seen = seen.touch(thread, version);
+    let row = seen.versions;
+    marks[slot] = row;
+    marks
+}
+
+// Whether one store of a cell is seen.
+pub fn is_seen(marks: &Marks, cell: usize, slot: usize, causality: [u16; MAX_THREADS]) -> bool
+    requires { ⌜ (cell < 4) × (slot < 7) ⌝ }
+    ensures { λ r. ⌜ r ≡ seen (getD (getD (now (marks .entry)) cell []) slot []) causality ⌝ }
+{
+    let row = marks[cell][slot];
+    let first = FirstSeen { versions: row };
+    first.is_seen_by_current(causality)
+}
+
+// Which stores of a cell are seen.
+pub fn seen_slots(
+    marks: [[u16; MAX_THREADS]; MAX_ATOMIC_HISTORY],
+    causality: [u16; MAX_THREADS],
+) -> [bool; MAX_ATOMIC_HISTORY]
+    ensures { λ r. ⌜ r ≡ seenSlots marks causality ⌝ }
+{
+    let mut seen = [false; MAX_ATOMIC_HISTORY];
+    let mut i = 0;
+    while i < MAX_ATOMIC_HISTORY {
+        let row = marks[i];
+        let first = FirstSeen { versions: row };
+        seen[i] = first.is_seen_by_current(causality);
+        i += 1;
+    }
+    seen
+}

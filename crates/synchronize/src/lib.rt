@@ -1,0 +1,70 @@
+// How vectors pass between threads and stores: loom's rt/synchronize.rs over the lent clocks.
+ghost use mathlib.Core.Path.{_≡_};
+ghost use Prim.Native.Nat.{_<_};
+ghost use mathlib.Core.List.{[]};
+ghost use lib.ListN.{getD, set};
+ghost use Rattle.rules.specs.Vector.{joined};
+ghost use Rattle.rules.specs.Cell.{loadSynced, storeSynced};
+use layout::Clocks;
+use layout::MAX_THREADS;
+use layout::order::ACQ_REL;
+use layout::order::ACQUIRE;
+use layout::order::RELEASE;
+use layout::order::SEQ_CST;
+use layout::store::SYNC;
+use layout::thread::CAUSALITY;
+use layout::thread::RELEASED;
+use vv::VersionVec;
+
+pub mod first_seen;
+
+// The greater of each part of two rows.
+pub fn join(a: [u16; MAX_THREADS], b: [u16; MAX_THREADS]) -> [u16; MAX_THREADS]
+    ensures { λ r. ⌜ r ≡ joined a b ⌝ }
+{
+    let first = VersionVec { versions: a };
+    let both = first.join(VersionVec { versions: b });
+    both.versions
+}
+
+// The vector at `at` takes the one at `from` in.
+pub fn join_into(clocks: &mut Clocks, at: usize, from: usize)
+    requires { ⌜ (at < 124) × (from < 124) ⌝ }
+    ensures { λ _. ⌜ now (clocks .exit) ≡ set (now (clocks .entry)) at (joined (getD (now (clocks .entry)) at []) (getD (now (clocks .entry)) from [])) ⌝ }
+{
+    let own = clocks[at];
+    let other = clocks[from];
+    clocks[at] = join(own, other);
+}
+
+// A load by an order that acquires takes the store's sync vector into the thread.
+pub fn sync_load(clocks: &mut Clocks, thread: usize, store: usize, order: u8)
+    requires { ⌜ (thread < 5) × (store < 28) ⌝ }
+    ensures { λ _. ⌜ now (clocks .exit) ≡ loadSynced (now (clocks .entry)) thread store order ⌝ }
+{
+    match order {
+        ACQUIRE | ACQ_REL | SEQ_CST => join_into(clocks, CAUSALITY + thread, SYNC + store),
+        _ => {}
+    }
+}
+
+// What a store leaves for loads that acquire: the released vector too, and by an order that releases the thread's own.
+pub fn sync_store(
+    clocks: &Clocks,
+    thread: usize,
+    sync: [u16; MAX_THREADS],
+    order: u8,
+) -> [u16; MAX_THREADS]
+    requires { ⌜ thread < 5 ⌝ }
+    ensures { λ r. ⌜ r ≡ storeSynced (now (clocks .entry)) thread sync order ⌝ }
+{
+    let released = clocks[RELEASED + thread];
+    let sync = join(sync, released);
+    match order {
+        RELEASE | ACQ_REL | SEQ_CST => {
+            let causality = clocks[CAUSALITY + thread];
+            join(sync, causality)
+        }
+        _ => sync,
+    }
+}

@@ -1,0 +1,2 @@
+pub mod LastAccessLaws
+pub mod TrackLaws

@@ -1,0 +1,2 @@
+pub mod LastAccess
+pub mod Tracked

@@ -1,0 +1,104 @@
+// The last dependent access of a cell, for the search for races between schedules: loom's rt/access.rs and Action.
+ghost use mathlib.Core.Path.{_≡_};
+ghost use mathlib.Core.Bool.{not, _||_};
+ghost use Prim.Native.Nat.{_<_};
+ghost use lib.Dec.{eqb};
+ghost use Rattle.rules.specs.Machine.{dependentBranch, dependentVector};
+ghost use Rattle.rules.specs.State as rules;
+ghost use Rattle.rules.specs.Vector.{atMost};
+ghost use Rattle.layout.specs.Tables.{state};
+ghost use Rattle.track.specs.LastAccess.{accessed};
+use layout::Clocks;
+use layout::MAX_THREADS;
+use layout::NONE;
+use layout::Numbers;
+use layout::cell::ACCESS_BRANCH;
+use layout::cell::LAST_ACCESS;
+use layout::cell::LAST_NON_LOAD_ACCESS;
+use layout::cell::NON_LOAD_BRANCH;
+use layout::thread::SCHEDULE;
+use vv::VersionVec;
+
+// The operation that a thread is about to take, as a number: none, load, store, read-modify-write.
+pub const NO_ACTION: u16 = 0;
+
+pub const LOAD: u16 = 1;
+
+pub const STORE: u16 = 2;
+
+pub const RMW: u16 = 3;
+
+// The branch of the access that this operation depends on, or NONE: a load does not depend on loads.
+pub fn last_dependent_branch(numbers: &Numbers, action: u16, cell: usize) -> u16
+    requires { ⌜ cell < 4 ⌝ }
+    ensures { λ r. ⌜ r ≡ dependentBranch (now (numbers .entry)) action cell ⌝ }
+{
+    let at = if action == LOAD {
+        NON_LOAD_BRANCH
+    } else {
+        ACCESS_BRANCH
+    };
+    numbers[at + cell]
+}
+
+// That access's vector.
+pub fn last_dependent_version(clocks: &Clocks, action: u16, cell: usize) -> [u16; MAX_THREADS]
+    requires { ⌜ cell < 4 ⌝ }
+    ensures { λ r. ⌜ r ≡ dependentVector (now (clocks .entry)) action cell ⌝ }
+{
+    let at = if action == LOAD {
+        LAST_NON_LOAD_ACCESS
+    } else {
+        LAST_ACCESS
+    };
+    clocks[at + cell]
+}
+
+// Whether a dependent access is there that did not happen before what the thread has scheduled so far.
+pub fn is_concurrent(
+    clocks: &Clocks,
+    numbers: &Numbers,
+    thread: usize,
+    action: u16,
+    cell: usize,
+) -> bool
+    requires { ⌜ (thread < 5) × (cell < 4) ⌝ }
+    ensures { λ r. ⌜ r ≡ not (eqb (dependentBranch (now (numbers .entry)) action cell) rules.none || atMost (dependentVector (now (clocks .entry)) action cell) (rules.vector (now (clocks .entry)) (rules.scheduleOf thread))) ⌝ }
+{
+    if last_dependent_branch(numbers, action, cell) == NONE {
+        return false;
+    }
+    let version = last_dependent_version(clocks, action, cell);
+    let schedule = clocks[SCHEDULE + thread];
+    let access = VersionVec { versions: version };
+    !access.at_most(VersionVec { versions: schedule })
+}
+
+// The chosen thread's operation becomes the last access, at this branch, after all that it depends on.
+pub fn set_last_access(
+    clocks: &mut Clocks,
+    numbers: &mut Numbers,
+    thread: usize,
+    action: u16,
+    cell: usize,
+    branch: u16,
+)
+    requires { ⌜ (thread < 5) × (cell < 4) ⌝ }
+    ensures { λ _. ⌜ ((marks : rules.Marks) (values : rules.Values) → state (now (clocks .exit)) marks values (now (numbers .exit)) ≡ accessed (state (now (clocks .entry)) marks values (now (numbers .entry))) thread action cell branch) ⌝ }
+{
+    let row = clocks[SCHEDULE + thread];
+    let mut schedule = VersionVec { versions: row };
+    if last_dependent_branch(numbers, action, cell) != NONE {
+        let version = last_dependent_version(clocks, action, cell);
+        schedule = schedule.join(VersionVec { versions: version });
+    }
+    let schedule = schedule.raise(thread);
+    let row = schedule.versions;
+    clocks[SCHEDULE + thread] = row;
+    clocks[LAST_ACCESS + cell] = row;
+    numbers[ACCESS_BRANCH + cell] = branch;
+    if action != LOAD {
+        clocks[LAST_NON_LOAD_ACCESS + cell] = row;
+        numbers[NON_LOAD_BRANCH + cell] = branch;
+    }
+}

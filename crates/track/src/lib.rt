@@ -1,0 +1,103 @@
+// Which accesses a cell has had, and whether one more races with them: loom's track_ functions.
+ghost use mathlib.Core.Path.{_≡_};
+ghost use Prim.Native.Nat.{_<_};
+ghost use mathlib.Core.List.{[]};
+ghost use lib.ListN.{getD};
+ghost use Rattle.rules.specs.Cell.{ofKind, loadRace, loadTracked, unsyncLoadRace, unsyncLoadTracked, storeRace, storeTracked, mutRace, mutTracked};
+ghost use Rattle.rules.specs.State.{vector, causality};
+ghost use Rattle.rules.specs.Vector as rules;
+ghost use Rattle.track.specs.Tracked.{raceOf, Tracked};
+use layout::Clocks;
+use layout::cell::LOADED_AT;
+use layout::cell::STORED_AT;
+use layout::cell::UNSYNC_LOADED_AT;
+use layout::cell::UNSYNC_MUT_AT;
+use layout::thread::CAUSALITY;
+use synchronize::join_into;
+use vv::Ahead;
+use vv::VersionVec;
+
+pub mod access;
+
+// No race, or the kind of race by document 01's number and the lowest thread that is ahead.
+pub enum Race {
+    Nothing,
+    With { kind: u8, other: usize },
+}
+
+// A race of this kind where the accesses recorded at `at` have a thread ahead of the current one.
+pub fn race_with(clocks: &Clocks, thread: usize, at: usize, kind: u8) -> Race
+    requires { ⌜ (thread < 5) × (at < 124) ⌝ }
+    ensures { λ r. ⌜ raceOf r ≡ ofKind kind (rules.ahead (vector (now (clocks .entry)) (causality thread)) (getD (now (clocks .entry)) at [])) ⌝ }
+{
+    let current = clocks[CAUSALITY + thread];
+    let recorded = clocks[at];
+    let current = VersionVec { versions: current };
+    match current.ahead(VersionVec { versions: recorded }) {
+        Ahead::Thread(other) => Race::With { kind, other },
+        Ahead::Nobody => Race::Nothing,
+    }
+}
+
+// Track an atomic load.
+pub fn track_load(clocks: &mut Clocks, thread: usize, cell: usize) -> Race
+    requires { ⌜ (thread < 5) × (cell < 4) ⌝ }
+    ensures { λ r. ⌜ Tracked (raceOf r) (now (clocks .exit)) (loadRace (now (clocks .entry)) thread cell) (loadTracked (now (clocks .entry)) thread cell) ⌝ }
+{
+    if let Race::With { kind, other } = race_with(clocks, thread, UNSYNC_MUT_AT + cell, 1) {
+        return Race::With { kind, other };
+    }
+    join_into(clocks, LOADED_AT + cell, CAUSALITY + thread);
+    Race::Nothing
+}
+
+// Track an unsynchronised load.
+pub fn track_unsync_load(clocks: &mut Clocks, thread: usize, cell: usize) -> Race
+    requires { ⌜ (thread < 5) × (cell < 4) ⌝ }
+    ensures { λ r. ⌜ Tracked (raceOf r) (now (clocks .exit)) (unsyncLoadRace (now (clocks .entry)) thread cell) (unsyncLoadTracked (now (clocks .entry)) thread cell) ⌝ }
+{
+    if let Race::With { kind, other } = race_with(clocks, thread, UNSYNC_MUT_AT + cell, 2) {
+        return Race::With { kind, other };
+    }
+    if let Race::With { kind, other } = race_with(clocks, thread, STORED_AT + cell, 3) {
+        return Race::With { kind, other };
+    }
+    join_into(clocks, UNSYNC_LOADED_AT + cell, CAUSALITY + thread);
+    Race::Nothing
+}
+
+// Track an atomic store.
+pub fn track_store(clocks: &mut Clocks, thread: usize, cell: usize) -> Race
+    requires { ⌜ (thread < 5) × (cell < 4) ⌝ }
+    ensures { λ r. ⌜ Tracked (raceOf r) (now (clocks .exit)) (storeRace (now (clocks .entry)) thread cell) (storeTracked (now (clocks .entry)) thread cell) ⌝ }
+{
+    if let Race::With { kind, other } = race_with(clocks, thread, UNSYNC_MUT_AT + cell, 4) {
+        return Race::With { kind, other };
+    }
+    if let Race::With { kind, other } = race_with(clocks, thread, UNSYNC_LOADED_AT + cell, 5) {
+        return Race::With { kind, other };
+    }
+    join_into(clocks, STORED_AT + cell, CAUSALITY + thread);
+    Race::Nothing
+}
+
+// Track an exclusive change.
+pub fn track_unsync_mut(clocks: &mut Clocks, thread: usize, cell: usize) -> Race
+    requires { ⌜ (thread < 5) × (cell < 4) ⌝ }
+    ensures { λ r. ⌜ Tracked (raceOf r) (now (clocks .exit)) (mutRace (now (clocks .entry)) thread cell) (mutTracked (now (clocks .entry)) thread cell) ⌝ }
+{
+    if let Race::With { kind, other } = race_with(clocks, thread, LOADED_AT + cell, 6) {
+        return Race::With { kind, other };
+    }
+    if let Race::With { kind, other } = race_with(clocks, thread, UNSYNC_LOADED_AT + cell, 7) {
+        return Race::With { kind, other };
+    }
+    if let Race::With { kind, other } = race_with(clocks, thread, STORED_AT + cell, 8) {
+        return Race::With { kind, other };
+    }
+    if let Race::With { kind, other } = race_with(clocks, thread, UNSYNC_MUT_AT + cell, 9) {
+        return Race::With { kind, other };
+    }
+    join_into(clocks, UNSYNC_MUT_AT + cell, CAUSALITY + thread);
+    Race::Nothing
+}
