@@ -13,13 +13,15 @@ use Rattle.rules.specs.State.{State, Clocks, Marks, Values, Numbers, vector, ma
 use Rattle.rules.specs.Cell as rules
 use Rattle.rules.specs.Cell.{slotOf, withStore, version, seqCstFlag, storeOrder, storeSynced, storeDone, Access, raced, read}
 use Rattle.rules.specs.Cell.{noRace, raceOf, loadRace, loadTracked, storeRace, storeTracked, coherent, touchDone, loadSynced}
-use Rattle.rules.specs.Cell.{Change, success, failure, applied, sighted, loadDone, succeeded, rmwDone}
+use Rattle.rules.specs.Change as Changes
+use Rattle.rules.specs.Change.{Change, success, failure, applied}
+use Rattle.rules.specs.Cell.{sighted, loadDone, succeeded, rmwDone}
 use Rattle.change.specs.declared.Changed.{Changed}
 use Rattle.layout.specs.Tables.{state}
 use Rattle.change.specs.Changes.{changedOf}
 
 -- an answer of a change that was taken apart
-pub changing : (r s : Changed) (x : rules.Changed) → r ≡ s → changedOf r ≡ x → changedOf s ≡ x
+pub changing : (r s : Changed) (x : Changes.Changed) → r ≡ s → changedOf r ≡ x → changedOf s ≡ x
 changing r s x e f = sym (ap changedOf e) ∙ f
 
 module _ (clocks : Clocks) (marks : Marks) (values : Values) (numbers : Numbers) (t c : ℕ) where

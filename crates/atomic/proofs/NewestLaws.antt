@@ -5,7 +5,8 @@ use Prim.Native.Nat.{ℕ, _+_}
 use mathlib.Core.Path.{_≡_, refl}
 use lib.Seq.{set-getD}
 use Rattle.rules.specs.State.{Clocks, Marks, Values, Numbers, value, withValue, number, storeAt, ofStore, count}
-use Rattle.rules.specs.Cell.{Change, applied, success, failure, newest, newestOf, raced, read, raceOf, noRace}
+use Rattle.rules.specs.Change.{Change, applied, success, failure}
+use Rattle.rules.specs.Cell.{newest, newestOf, raced, read, raceOf, noRace}
 use Rattle.rules.specs.Cell.{unsyncLoadRace, unsyncLoadTracked, unsyncLoadDone, mutRace, mutTracked, mutDone}
 use Rattle.layout.specs.Tables.{state}
 use Rattle.atomic.specs.Exclusive.{Mutates}

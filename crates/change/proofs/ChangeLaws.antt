@@ -1,5 +1,4 @@
--- The laws of changes: which change a kind names, and what a change makes of a value at 64 bits. Assumes nothing.
---     named, unnamed            the kind that a match found, and any other
+-- The laws of changes: what a change makes of a value at 64 bits. Assumes nothing.
 --     meant                     a change that was taken apart
 --     subtracted, signed-less   sums that wrap
 --     greater-.., lesser-..     by one test, made on signed and on unsigned numbers
@@ -11,31 +10,10 @@ use mathlib.Core.Logic.{_≢_}
 use native.Mathlib.Omega.{arith}
 use lib.Dec.{ltb}
 use borrow.Author.Tests.{eq-eqb, ne-eqb}
-use Rattle.rules.specs.Cell as rules
-use Rattle.rules.specs.Cell.{changeOf, applied, word, signed, greater, lesser, success, failure}
+use Rattle.rules.specs.Change as rules
+use Rattle.rules.specs.Change.{applied, word, signed, greater, lesser, success, failure}
 use Rattle.change.specs.declared.Change.{Change}
 use Rattle.change.specs.Changes.{changeMeant}
-
-pub named : (kind k a b : ℕ) → kind ≡ k → changeOf k a b ≡ changeOf kind a b
-named kind k a b e = ap (λ (n : ℕ). changeOf n a b) (sym e)
-
-pub unnamed : (kind a b : ℕ) → 11 < kind → rules.decrement ≡ changeOf kind a b
-unfolding changeOf
-unnamed kind a b h =
-    rw (
-      ne-eqb kind 0 (λ e. omega arith),
-      ne-eqb kind 1 (λ e. omega arith),
-      ne-eqb kind 2 (λ e. omega arith),
-      ne-eqb kind 3 (λ e. omega arith),
-      ne-eqb kind 4 (λ e. omega arith),
-      ne-eqb kind 5 (λ e. omega arith),
-      ne-eqb kind 6 (λ e. omega arith),
-      ne-eqb kind 7 (λ e. omega arith),
-      ne-eqb kind 8 (λ e. omega arith),
-      ne-eqb kind 9 (λ e. omega arith),
-      ne-eqb kind 10 (λ e. omega arith),
-      ne-eqb kind 11 (λ e. omega arith),
-    )
 
 pub meant : (change m : Change) (v : ℕ) (r : rules.Changed) → change ≡ m → r ≡ applied (changeMeant m) v → r ≡ applied (changeMeant change) v
 meant change m v r e f = f ∙ ap (λ (x : Change). applied (changeMeant x) v) (sym e)

@@ -1,5 +1,5 @@
 -- What the code's changes and their answers stand for. Assumes nothing.
-use Rattle.rules.specs.Cell as rules
+use Rattle.rules.specs.Change as rules
 use Rattle.change.specs.declared.Change.{Change}
 use Rattle.change.specs.declared.Change.the-variants as code
 use Rattle.change.specs.declared.Changed.{Changed}

@@ -1,7 +1,7 @@
 // What a read-modify-write or an exclusive change makes of a value: an enum in the place of loom's closures.
 ghost use mathlib.Core.Path.{_≡_};
 ghost use lib.Dec.{ltb};
-ghost use Rattle.rules.specs.Cell as rules;
+ghost use Rattle.rules.specs.Change as rules;
 ghost use Rattle.change.specs.Changes.{changeMeant, changedOf};
 
 // The thirteen changes, with their operands.
@@ -25,27 +25,6 @@ pub enum Change {
 pub enum Changed {
     Success(u64),
     Failure,
-}
-
-// The change that a row names; an unknown kind, which no accepted table has, decrements.
-pub fn change_of(kind: u8, a: u64, b: u64) -> Change
-    ensures { λ r. ⌜ changeMeant r ≡ rules.changeOf kind a b ⌝ }
-{
-    match kind {
-        0 => Change::Swap(a),
-        1 => Change::Add(a),
-        2 => Change::Subtract(a),
-        3 => Change::And(a),
-        4 => Change::Or(a),
-        5 => Change::Xor(a),
-        6 => Change::Nand(a),
-        7 => Change::Max(a),
-        8 => Change::Min(a),
-        9 => Change::SignedMax(a),
-        10 => Change::SignedMin(a),
-        11 => Change::Compare(a, b),
-        _ => Change::Decrement,
-    }
 }
 
 // Only a comparison and a decrement can fail.

@@ -13,8 +13,8 @@ use atomic::state::COUNT;
 use atomic::state::Clocks;
 use atomic::state::MAX_CELLS;
 use atomic::state::Marks;
-use atomic::state::REGISTER;
 use atomic::state::Numbers;
+use atomic::state::REGISTER;
 use atomic::state::Values;
 use atomic::track::Race;
 use table::Row;
@@ -37,10 +37,28 @@ pub fn access_row(
     }
     let opcode = row.opcode;
     match opcode {
-        1 => store_row(row.a, row.order, cell, thread, clocks, marks, values, numbers),
+        1 => store_row(
+            row.a,
+            row.order,
+            cell,
+            thread,
+            clocks,
+            marks,
+            values,
+            numbers,
+        ),
         2 => {
             let value = values[REGISTER + state::register_at(thread, register)];
-            store_row(value, row.order, cell, thread, clocks, marks, values, numbers)
+            store_row(
+                value,
+                row.order,
+                cell,
+                thread,
+                clocks,
+                marks,
+                values,
+                numbers,
+            )
         }
         5 => unsync_load_row(register, cell, thread, clocks, values, numbers),
         _ => with_mut_row(row, register, cell, thread, clocks, values, numbers),
@@ -204,7 +222,16 @@ fn read_from(
     requires { ⌜ (thread < 5) × (cell < 4) × (slot < 7) ⌝ }
 {
     if row.opcode == 0 {
-        return atomic::load(clocks, marks, values, numbers, thread, cell, slot, row.order);
+        return atomic::load(
+            clocks,
+            marks,
+            values,
+            numbers,
+            thread,
+            cell,
+            slot,
+            row.order,
+        );
     }
     let change = change_of(row.kind, row.a, row.b);
     atomic::rmw(

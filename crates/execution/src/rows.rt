@@ -15,6 +15,7 @@ use atomic::state::Clocks;
 use atomic::state::EXPLORING;
 use atomic::state::Marks;
 use atomic::state::NEXT_ROW;
+use atomic::state::Numbers;
 use atomic::state::OBJECT;
 use atomic::state::OPERATION;
 use atomic::state::PHASE;
@@ -22,7 +23,6 @@ use atomic::state::REGISTER;
 use atomic::state::ROWS;
 use atomic::state::SCHEDULE;
 use atomic::state::SKIPPING;
-use atomic::state::Numbers;
 use atomic::state::Values;
 use atomic::synchronize::join_into;
 use table::Row;
@@ -154,7 +154,13 @@ fn join_row(row: Row, thread: usize, clocks: &mut Clocks, numbers: &mut Numbers)
 }
 
 // Opcode 9 always jumps, 10 where the register equals a, 11 where it does not.
-fn jump_row(row: Row, register: usize, thread: usize, values: &Values, numbers: &mut Numbers) -> Event
+fn jump_row(
+    row: Row,
+    register: usize,
+    thread: usize,
+    values: &Values,
+    numbers: &mut Numbers,
+) -> Event
     requires { ⌜ (thread < 5) × (register < 4) ⌝ }
 {
     let equal = values[REGISTER + state::register_at(thread, register)] == row.a;
@@ -174,7 +180,13 @@ fn jump_row(row: Row, register: usize, thread: usize, values: &Values, numbers: 
     done(numbers, thread)
 }
 
-fn check_row(row: Row, register: usize, thread: usize, values: &Values, numbers: &mut Numbers) -> Event
+fn check_row(
+    row: Row,
+    register: usize,
+    thread: usize,
+    values: &Values,
+    numbers: &mut Numbers,
+) -> Event
     requires { ⌜ (thread < 5) × (register < 4) ⌝ }
 {
     if values[REGISTER + state::register_at(thread, register)] != row.a {
@@ -219,7 +231,13 @@ fn skip_branch(thread: usize, numbers: &mut Numbers) -> Event
 }
 
 // Goes on with the bit that was answered for `branch_spurious`.
-pub fn chance(row: Row, bit: bool, thread: usize, values: &mut Values, numbers: &mut Numbers) -> Event
+pub fn chance(
+    row: Row,
+    bit: bool,
+    thread: usize,
+    values: &mut Values,
+    numbers: &mut Numbers,
+) -> Event
     requires { ⌜ thread < 5 ⌝ }
 {
     let register = row.register as usize;

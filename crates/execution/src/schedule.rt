@@ -12,10 +12,10 @@ use atomic::state::Clocks;
 use atomic::state::MAX_CELLS;
 use atomic::state::MAX_THREADS;
 use atomic::state::NONE;
+use atomic::state::Numbers;
 use atomic::state::OBJECT;
 use atomic::state::OPERATION;
 use atomic::state::STATE;
-use atomic::state::Numbers;
 use atomic::state::YIELDS;
 
 // The states of a seed that this file makes, by document 01's numbers.

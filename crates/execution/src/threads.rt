@@ -8,10 +8,10 @@ use atomic::state::Clocks;
 use atomic::state::LAST_YIELD;
 use atomic::state::MAX_THREADS;
 use atomic::state::NEXT_ROW;
+use atomic::state::Numbers;
 use atomic::state::OPERATION;
 use atomic::state::PHASE;
 use atomic::state::STATE;
-use atomic::state::Numbers;
 use atomic::state::YIELDS;
 use vv::VersionVec;
 

@@ -73,7 +73,16 @@ pub fn run(table: &[u8], settings: Settings, path: &mut [u8], trace: &mut [u8]) 
             ledger.len,
             begun == settings.executions,
         ) {
-            return finish(answer, begun, ledger, longest, path, trace, &clocks, &numbers);
+            return finish(
+                answer,
+                begun,
+                ledger,
+                longest,
+                path,
+                trace,
+                &clocks,
+                &numbers,
+            );
         }
         ledger.len = step(path, ledger.len);
     }

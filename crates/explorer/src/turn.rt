@@ -11,8 +11,8 @@ use atomic::state::HISTORY;
 use atomic::state::MAX_THREADS;
 use atomic::state::Marks;
 use atomic::state::NEXT_ROW;
-use atomic::state::STATE;
 use atomic::state::Numbers;
+use atomic::state::STATE;
 use atomic::state::Values;
 use execution::Event;
 use execution::Fault;
@@ -276,7 +276,12 @@ fn one_longer(len: usize) -> usize {
 }
 
 // The thread that the branch chooses goes on.
-fn follow_thread(clocks: &mut Clocks, numbers: &mut Numbers, path: &[u8], ledger: Ledger) -> Turned {
+fn follow_thread(
+    clocks: &mut Clocks,
+    numbers: &mut Numbers,
+    path: &[u8],
+    ledger: Ledger,
+) -> Turned {
     let pos = ledger.pos;
     if path.len() / RECORD <= pos {
         return stops(Fault::Impossible, ledger);

@@ -376,9 +376,10 @@ abbrev pub isFine : Decoded Op → Bool
 isFine refused = false
 isFine (decoded op) = true
 
--- in a table of so many threads and cells: the row of this number among all rows, which is one of a thread of so many rows
+-- in a table of so many threads and cells: the row of this number among all rows, which is one of a thread of so many rows.
+-- With more threads or cells than there can be, no row is one
 unfoldable pub opAt : List ℕ → ℕ → ℕ → ℕ → ℕ → Decoded Op
-opAt t threads cells count index = rowDecoded threads cells count (rowAt t cells index)
+opAt t threads cells count index = cond (leb threads maxThreads) (rowDecoded threads cells count (rowAt t cells index)) refused
 
 -- The whole table
 

@@ -1,7 +1,7 @@
 use borrow.Author.Needs.{needs}
 use native.Mathlib.Omega.{arith}
 use mathlib.Core.Path.{refl, ap}
-use Rattle.rules.specs.Cell.{applied, success}
+use Rattle.rules.specs.Change.{applied, success}
 use Rattle.change.proofs.ChangeLaws.{meant, subtracted}
 use Rattle.change.proofs.apply.Statement.{statement}
 use Rattle.change.proofs.apply.Tie as tie
