@@ -145,11 +145,12 @@ dependentBranch numbers op c = cond (eqb op aLoad) (number numbers (nonLoadBranc
 abbrev pub dependentVector : Clocks → ℕ → ℕ → List ℕ
 dependentVector clocks op c = cond (eqb op aLoad) (vector clocks (lastNonLoad c)) (vector clocks (lastAccess c))
 
-abbrev pub operationOf : State → ℕ → ℕ
-operationOf st t = number (st .numbers) (operation t)
-
 abbrev pub cellOf : State → ℕ → ℕ
 cellOf st t = number (st .numbers) (operatesOn t)
+
+-- a thread's pending operation; one on a cell that is none, which no row sets, counts as none
+abbrev pub operationOf : State → ℕ → ℕ
+operationOf st t = cond (ltb (cellOf st t) cells) (number (st .numbers) (operation t)) noOperation
 
 -- "(a) for each thread in order with a pending operation, if the cell's last dependent access has a vector not ≤ that thread's
 -- schedule vector, `backtrack` from that access's branch for that thread"
@@ -174,7 +175,8 @@ fewestFrom numbers best (suc n) t =
 -- "(b) initial is the current thread if runnable, else the runnable thread with fewest yields, lowest number on a tie"
 unfoldable pub initial : Numbers → Whom
 initial numbers =
-    cond (isIn numbers runnable (number numbers activeThread)) (thread (number numbers activeThread)) (fewestFrom numbers nobody threads 0)
+    let now = number numbers activeThread in
+    cond (ltb now threads && isIn numbers runnable now) (thread now) (fewestFrom numbers nobody threads 0)
 
 -- "(c) .. yielded Yield, not runnable or absent Disabled, others Skip"
 unfoldable pub standing : Numbers → ℕ → Standing

@@ -206,6 +206,11 @@ opcodeOf exploreState = 14
 opcodeOf skipBranch = 15
 opcodeOf (spurious register) = 16
 
+-- of a row that is none, 255
+abbrev pub opcodeIn : Decoded Op → ℕ
+opcodeIn refused = 255
+opcodeIn (decoded op) = opcodeOf op
+
 -- What a field may be
 
 -- "Orders: 0 Relaxed, 1 Release, 2 Acquire, 3 AcqRel, 4 SeqCst."
