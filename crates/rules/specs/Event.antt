@@ -77,9 +77,9 @@ unfoldable pub little : ℕ → ℕ → List ℕ
 little zero v = []
 little (suc n) v = v % 256 ∷ little n (v / 256)
 
--- "thread, row, opcode, slot .., offer mask .., three zeros, u64 value"
+-- "thread, row, opcode, slot .., offer mask .., three zeros, u64 value": a byte each, and eight
 unfoldable pub entryBytes : Entry → List ℕ
-entryBytes e = e .thread ∷ e .row ∷ e .opcode ∷ e .slot ∷ e .mask ∷ 0 ∷ 0 ∷ 0 ∷ little 8 (e .value)
+entryBytes e = e .thread % 256 ∷ e .row % 256 ∷ e .opcode ∷ e .slot ∷ e .mask ∷ 0 ∷ 0 ∷ 0 ∷ little 8 (e .value)
 
 -- what the scan of a cell's stores comes to: for each slot whether it is offered, or that equal orders were met
 pub data Matched : Type 0 where
