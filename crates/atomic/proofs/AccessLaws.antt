@@ -1,22 +1,31 @@
 -- The laws of whole accesses, for the functions that go through their steps: each step's own promise gives what it leaves, and
 -- the last state is the definition's. Assumes nothing.
+--     flag-set, flag-clear            whether a store was SeqCst
 --     stored                          a store
 --     load-raced, load-done           a load
 --     rmw-raced, rmw-failed, rmw-succeeded, then-raced, then-stored      a read-modify-write, and its rest after a change
 use Prim.Native.Nat.{ℕ}
 use mathlib.Core.List.{List}
 use mathlib.Core.Path.{_≡_, ap, sym, _∙_}
+use mathlib.Core.Logic.{_≢_}
+use borrow.Author.Tests.{eq-eqb, ne-eqb}
 use lib.ListN.{set}
 use Rattle.rules.specs.Vector.{oneMore}
 use Rattle.rules.specs.Seen.{touched, unseens}
 use Rattle.rules.specs.State.{State, Clocks, Marks, Values, Numbers, vector, marksOf, withMarks, value, withValue, number, withNumber, storeAt, threads, causality, sync, ofStore, count, isSeqCst}
 use Rattle.rules.specs.Cell as rules
-use Rattle.rules.specs.Cell.{slotOf, withStore, version, seqCstFlag, storeOrder, storeSynced, storeDone, Access, raced, read}
+use Rattle.rules.specs.Cell.{slotOf, withStore, version, seqCstOrder, seqCstFlag, storeOrder, storeSynced, storeDone, Access, raced, read}
 use Rattle.rules.specs.Cell.{noRace, raceOf, loadRace, loadTracked, storeRace, storeTracked, coherent, touchDone, loadSynced}
 use Rattle.rules.specs.Cell.{Change, success, failure, applied, sighted, loadDone, succeeded, rmwDone}
 use Rattle.change.specs.declared.Changed.{Changed}
 use Rattle.layout.specs.Tables.{state}
 use Rattle.change.specs.Changes.{changedOf}
+
+pub flag-set : (o : ℕ) → o ≡ seqCstOrder → 1 ≡ seqCstFlag o
+flag-set o e = rw (eq-eqb o seqCstOrder e)
+
+pub flag-clear : (o : ℕ) → o ≢ seqCstOrder → 0 ≡ seqCstFlag o
+flag-clear o n = rw (ne-eqb o seqCstOrder n)
 
 -- an answer of a change that was taken apart
 pub changing : (r s : Changed) (x : rules.Changed) → r ≡ s → changedOf r ≡ x → changedOf s ≡ x

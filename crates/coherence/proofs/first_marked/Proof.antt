@@ -1,7 +1,7 @@
 use borrow.Author.Needs.{needs}
-use Rattle.atomic.proofs.SlotLaws.{marked-first}
-use Rattle.atomic.proofs.first_marked.Statement.{statement}
-use Rattle.atomic.proofs.first_marked.Tie as tie
+use Rattle.coherence.proofs.TouchLaws.{marked-first}
+use Rattle.coherence.proofs.first_marked.Statement.{statement}
+use Rattle.coherence.proofs.first_marked.Tie as tie
 
 new-requires : tie.Need-new-requires
 new-requires c κs = search needs

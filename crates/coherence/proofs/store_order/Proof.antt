@@ -4,9 +4,9 @@ use mathlib.Core.Logic.{⊎-elim}
 use Prim.Native.Nat.{_≤_, _-_}
 use Rattle.rules.specs.State.{marksOf}
 use Rattle.rules.specs.Cell.{storeOrderFrom, storeOrder}
-use Rattle.atomic.proofs.OrderLaws.{store-start, store-all, store-seen, store-unseen}
-use Rattle.atomic.proofs.store_order.Statement.{statement}
-use Rattle.atomic.proofs.store_order.Tie as tie
+use Rattle.coherence.proofs.OrderLaws.{store-start, store-all, store-seen, store-unseen}
+use Rattle.coherence.proofs.store_order.Statement.{statement}
+use Rattle.coherence.proofs.store_order.Tie as tie
 
 abbrev Inv-loop : tie.InvT-loop
 Inv-loop clocks marks count thread cell causality live order₀ i₀ order i =
