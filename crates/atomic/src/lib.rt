@@ -11,7 +11,6 @@ ghost use Rattle.atomic.specs.Exclusive.{Mutates};
 use change::Change;
 use change::Changed;
 use coherence::apply_load_coherence;
-use coherence::first_marked;
 use coherence::store_order;
 use coherence::touch;
 use layout::Access;
@@ -31,6 +30,7 @@ use layout::store::SYNC;
 use layout::store::VALUE;
 use layout::store_at;
 use layout::thread::CAUSALITY;
+use synchronize::first_seen;
 use synchronize::sync_load;
 use synchronize::sync_store;
 use track::Race;
@@ -92,13 +92,15 @@ pub fn store(
     let at = store_at(cell, slot);
     numbers[COUNT + cell] = vv::one_more(count);
     let causality = clocks[CAUSALITY + thread];
-    // The slot that is replaced still counts here, so its order is joined before it is overwritten.
-    let modification_order = store_order(clocks, marks, count, thread, cell);
+    let seen = marks[cell];
+    let cleared = first_seen::cleared(seen, slot);
+    // The slot that is replaced still counts here: its order is joined by the marks that it had.
+    let modification_order = store_order(clocks, seen, count, thread, cell);
     let sync = sync_store(clocks, thread, sync, access.order);
     clocks[HAPPENS_BEFORE + at] = causality;
     clocks[MODIFICATION_ORDER + at] = modification_order;
     clocks[SYNC + at] = sync;
-    marks[cell][slot] = first_marked(thread, causality[thread]);
+    marks[cell] = first_seen::touched(cleared, slot, thread, causality[thread]);
     values[VALUE + at] = value;
     numbers[SEQ_CST + at] = is_seq_cst(access.order);
 }

@@ -1,6 +1,5 @@
 -- The laws of the marks on a cell's slots, for the functions that make them. Assumes nothing.
 --     touch-again, touch-first        the thread's mark on the store that it reads
---     marked-first                    the marks of a new store
 use Prim.Native.Nat.{ℕ}
 use mathlib.Core.List.{List, []}
 use mathlib.Core.Path.{_≡_}
@@ -9,7 +8,7 @@ use lib.Dec.{ltb}
 use lib.ListN.{length, getD, set}
 use lib.Seq.{set-getD}
 use borrow.Author.Tests.{ltb-true, ltb-false}
-use Rattle.rules.specs.Seen.{unseen, unseens, touched, touchedAt}
+use Rattle.rules.specs.Seen.{unseen, touched, touchedAt}
 use Rattle.rules.specs.State.{Clocks, Marks, marksOf}
 use Rattle.rules.specs.Cell.{version, touchDone}
 use Rattle.synchronize.proofs.SeenLaws as Seen
@@ -32,6 +31,3 @@ module _ (clocks : Clocks) (marks : Marks) (t c slot : ℕ) where
       marks ≡ touchDone clocks marks t c slot
   unfolding touchDone touchedAt
   touch-again n = rw (← mark-there (getD (marksOf marks c) slot []) t (version clocks t) n, set-getD, set-getD)
-
-pub marked-first : (t v : ℕ) (fresh marks : List ℕ) → fresh ≡ unseens 5 → marks ≡ touched fresh t v → marks ≡ touched (unseens 5) t v
-marked-first t v fresh marks e f = rw (← e) f

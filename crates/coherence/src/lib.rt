@@ -9,10 +9,10 @@
 ghost use mathlib.Core.Path.{_≡_};
 ghost use Prim.Native.Nat.{_<_};
 ghost use Rattle.rules.specs.Cell.{coherent, touchDone, storeOrder};
-ghost use Rattle.rules.specs.Seen.{touched, unseens};
 ghost use Rattle.rules.specs.State.{marksOf};
 ghost use Rattle.rules.specs.Vector.{less};
 use layout::Clocks;
+use layout::MAX_ATOMIC_HISTORY;
 use layout::MAX_THREADS;
 use layout::Marks;
 use layout::NONE;
@@ -23,8 +23,9 @@ use layout::store::HAPPENS_BEFORE;
 use layout::store::MODIFICATION_ORDER;
 use layout::store_at;
 use layout::thread::CAUSALITY;
-use synchronize::first_seen;
+use synchronize::first_seen::FirstSeen;
 use synchronize::first_seen::is_seen;
+use synchronize::first_seen::touched;
 use synchronize::join;
 use vv::VersionVec;
 
@@ -73,29 +74,20 @@ pub fn touch(clocks: &Clocks, marks: &mut Marks, thread: usize, cell: usize, slo
         return;
     }
     let causality = clocks[CAUSALITY + thread];
-    marks[cell] = first_seen::touched(marks[cell], slot, thread, causality[thread]);
-}
-
-// The marks of a new store, seen by its own thread alone.
-pub fn first_marked(thread: usize, version: u16) -> [u16; MAX_THREADS]
-    ensures { λ r. ⌜ r ≡ touched (unseens 5) thread version ⌝ }
-{
-    let fresh = first_seen::FirstSeen::new();
-    let fresh = fresh.touch(thread, version);
-    fresh.versions
+    marks[cell] = touched(marks[cell], slot, thread, causality[thread]);
 }
 
 // The place of a new store in modification order: after all that its thread knows, and after each store it has seen of the
-// `count` before it.
+// `count` before it, by the cell's marks as they were.
 pub fn store_order(
     clocks: &Clocks,
-    marks: &Marks,
+    marks: [[u16; MAX_THREADS]; MAX_ATOMIC_HISTORY],
     count: u16,
     thread: usize,
     cell: usize,
 ) -> [u16; MAX_THREADS]
     requires { ⌜ (thread < 5) × (cell < 4) ⌝ }
-    ensures { λ r. ⌜ r ≡ storeOrder (now (clocks .entry)) (marksOf (now (marks .entry)) cell) count thread cell ⌝ }
+    ensures { λ r. ⌜ r ≡ storeOrder (now (clocks .entry)) marks count thread cell ⌝ }
 {
     let causality = clocks[CAUSALITY + thread];
     let live = live_stores(count);
@@ -103,8 +95,10 @@ pub fn store_order(
     let mut order = causality;
     let mut i = 0;
     while i < live {
+        let row = marks[i];
+        let first = FirstSeen { versions: row };
         // Read-write coherence.
-        if is_seen(marks, cell, i, causality) {
+        if first.is_seen_by_current(causality) {
             let other = clocks[MODIFICATION_ORDER + store_at(cell, i)];
             let both = join(order, other);
             order = both;
