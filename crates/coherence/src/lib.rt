@@ -1,5 +1,5 @@
-// Modification order and marks of first sight, after loom's rt/atomic.rs: what a load leaves of the order of the store that it
-// reads, and which order and marks a new store has.
+// Modification order, after loom's rt/atomic.rs: which order and mark a load leaves on the store that it reads, and which order
+// a new store has.
 //
 // Modification order is partial, a vector for each store. loom's four coherences are kept in it:
 // write-write, a store comes after every store that happened before it (store_order);
