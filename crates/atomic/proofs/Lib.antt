@@ -1,4 +1,2 @@
 pub mod AccessLaws
 pub mod NewestLaws
-pub mod OrderLaws
-pub mod SlotLaws

@@ -1,17 +1,8 @@
 // An atomic cell, after loom's rt/atomic.rs: what a store, a load, a read-modify-write, an unsynchronised load and an
 // exclusive change do to the lent state, each once its thread has been chosen.
-//
-// loom's four coherences are kept in modification order, which is partial, a vector for each store:
-// write-write, a store is after every store that happened before it (store_order);
-// read-write, a store is after every store that was read before it (store_order);
-// write-read, the store that a load reads is after every store that happened before the load (apply_load_coherence);
-// read-read, the store that a load reads is after every store that was read before the load (apply_load_coherence).
 ghost use mathlib.Core.Path.{_≡_};
 ghost use Prim.Native.Nat.{_<_};
-ghost use Rattle.rules.specs.Cell.{loadDone, storeDone, succeeded, rmwDone, unsyncLoadDone, coherent, touchDone, storeOrder, seqCstFlag};
-ghost use Rattle.rules.specs.Seen.{touched, unseens};
-ghost use Rattle.rules.specs.State.{marksOf};
-ghost use Rattle.rules.specs.Vector.{less};
+ghost use Rattle.rules.specs.Cell.{loadDone, storeDone, succeeded, rmwDone, unsyncLoadDone, seqCstFlag};
 ghost use Rattle.rules.specs.State as rules;
 ghost use Rattle.layout.specs.Tables.{state};
 ghost use Rattle.change.specs.Changes.{changeMeant};
@@ -19,17 +10,18 @@ ghost use Rattle.atomic.specs.Accesses.{accessOf};
 ghost use Rattle.atomic.specs.Exclusive.{Mutates};
 use change::Change;
 use change::Changed;
+use coherence::apply_load_coherence;
+use coherence::store_order;
+use coherence::touch;
 use layout::Access;
 use layout::Clocks;
 use layout::MAX_THREADS;
 use layout::Marks;
-use layout::NONE;
 use layout::Numbers;
 use layout::Values;
 use layout::cell::COUNT;
 use layout::order;
 use layout::slots::index;
-use layout::slots::live_stores;
 use layout::slots::newest;
 use layout::store::HAPPENS_BEFORE;
 use layout::store::MODIFICATION_ORDER;
@@ -39,12 +31,9 @@ use layout::store::VALUE;
 use layout::store_at;
 use layout::thread::CAUSALITY;
 use synchronize::first_seen;
-use synchronize::first_seen::is_seen;
-use synchronize::join;
 use synchronize::sync_load;
 use synchronize::sync_store;
 use track::Race;
-use vv::VersionVec;
 
 // The value read, or the race that stopped the access.
 pub enum Loaded {
@@ -82,7 +71,8 @@ pub fn load(
     Loaded::Value(values[VALUE + at])
 }
 
-// Stores a value. The sync vector is that of a fresh store, or of the store that a read-modify-write read.
+// Stores a value in the place of the oldest that is kept. The sync vector is that of a fresh store, or of the store that a
+// read-modify-write read.
 pub fn store(
     clocks: &mut Clocks,
     marks: &mut Marks,
@@ -102,13 +92,15 @@ pub fn store(
     let at = store_at(cell, slot);
     numbers[COUNT + cell] = vv::one_more(count);
     let causality = clocks[CAUSALITY + thread];
-    // The slot that is replaced still counts here, so its order is joined before it is overwritten.
-    let modification_order = store_order(clocks, marks, count, thread, cell);
+    let seen = marks[cell];
+    let cleared = first_seen::cleared(seen, slot);
+    // The slot that is replaced still counts here: its order is joined by the marks that it had.
+    let modification_order = store_order(clocks, seen, count, thread, cell);
     let sync = sync_store(clocks, thread, sync, access.order);
     clocks[HAPPENS_BEFORE + at] = causality;
     clocks[MODIFICATION_ORDER + at] = modification_order;
     clocks[SYNC + at] = sync;
-    marks[cell][slot] = first_marked(thread, causality[thread]);
+    marks[cell] = first_seen::touched(cleared, slot, thread, causality[thread]);
     values[VALUE + at] = value;
     numbers[SEQ_CST + at] = is_seq_cst(access.order);
 }
@@ -210,99 +202,6 @@ pub fn with_mut(
     };
     values[at] = left;
     Mutated::Values { read, left }
-}
-
-// The chosen store's order takes in those of the stores that must not come after it. A store that is seen was read by an
-// action in the thread's causality, before this load: read-read coherence. A store that happened before this load is
-// write-read coherence.
-pub fn apply_load_coherence(
-    clocks: &mut Clocks,
-    marks: &Marks,
-    numbers: &Numbers,
-    thread: usize,
-    cell: usize,
-    slot: usize,
-)
-    requires { ⌜ (thread < 5) × (cell < 4) × (slot < 7) ⌝ }
-    ensures { λ _. ⌜ now (clocks .exit) ≡ coherent (now (clocks .entry)) (marksOf (now (marks .entry)) cell) (now (numbers .entry)) thread cell slot ⌝ }
-{
-    let causality = clocks[CAUSALITY + thread];
-    let chosen = MODIFICATION_ORDER + store_at(cell, slot);
-    let live = live_stores(numbers[COUNT + cell]);
-    let mut order = clocks[chosen];
-    let mut i = 0;
-    while i < live {
-        if i != slot {
-            let at = store_at(cell, i);
-            let before = clocks[HAPPENS_BEFORE + at];
-            // Read-read on the left, write-read on the right.
-            if is_seen(marks, cell, i, causality) | is_before(before, causality) {
-                let other = clocks[MODIFICATION_ORDER + at];
-                let both = join(order, other);
-                order = both;
-            }
-        }
-        i += 1;
-    }
-    clocks[chosen] = order;
-}
-
-// The thread's mark on a store that it reads, where it has none yet.
-pub fn touch(clocks: &Clocks, marks: &mut Marks, thread: usize, cell: usize, slot: usize)
-    requires { ⌜ (thread < 5) × (cell < 4) × (slot < 7) ⌝ }
-    ensures { λ _. ⌜ now (marks .exit) ≡ touchDone (now (clocks .entry)) (now (marks .entry)) thread cell slot ⌝ }
-{
-    let row = marks[cell][slot];
-    if row[thread] != NONE {
-        return;
-    }
-    let causality = clocks[CAUSALITY + thread];
-    marks[cell] = first_seen::touched(marks[cell], slot, thread, causality[thread]);
-}
-
-// The marks of a new store, seen by its own thread alone.
-fn first_marked(thread: usize, version: u16) -> [u16; MAX_THREADS]
-    ensures { λ r. ⌜ r ≡ touched (unseens 5) thread version ⌝ }
-{
-    let fresh = first_seen::FirstSeen::new();
-    let fresh = fresh.touch(thread, version);
-    fresh.versions
-}
-
-// The place of a new store in modification order: after all that its thread knows, and after each store it has seen of the
-// `count` before it.
-fn store_order(
-    clocks: &Clocks,
-    marks: &Marks,
-    count: u16,
-    thread: usize,
-    cell: usize,
-) -> [u16; MAX_THREADS]
-    requires { ⌜ (thread < 5) × (cell < 4) ⌝ }
-    ensures { λ r. ⌜ r ≡ storeOrder (now (clocks .entry)) (marksOf (now (marks .entry)) cell) count thread cell ⌝ }
-{
-    let causality = clocks[CAUSALITY + thread];
-    let live = live_stores(count);
-    // To start with the causality is write-write coherence.
-    let mut order = causality;
-    let mut i = 0;
-    while i < live {
-        // Read-write coherence.
-        if is_seen(marks, cell, i, causality) {
-            let other = clocks[MODIFICATION_ORDER + store_at(cell, i)];
-            let both = join(order, other);
-            order = both;
-        }
-        i += 1;
-    }
-    order
-}
-
-fn is_before(a: [u16; MAX_THREADS], b: [u16; MAX_THREADS]) -> bool
-    ensures { λ r. ⌜ r ≡ less a b ⌝ }
-{
-    let first = VersionVec { versions: a };
-    first.less(VersionVec { versions: b })
 }
 
 fn is_seq_cst(order: u8) -> u16

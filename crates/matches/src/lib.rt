@@ -20,7 +20,8 @@ use synchronize::first_seen::FirstSeen;
 use synchronize::first_seen::seen_slots;
 use vv::VersionVec;
 
-// How many stores are offered, or that equal orders were met.
+// How many stores are offered, or that equal orders were met: answer 13. There loom asserts that no two stores of a cell have
+// the same order, with the remark that this sometimes fails; here it is an answer.
 pub enum Matched {
     Offers(usize),
     Equal,
@@ -40,7 +41,8 @@ pub enum Order {
     Other,
 }
 
-// Find all stores that could be returned by an atomic load: their slots, rising, at the start of `dst`.
+// Find all stores that could be returned by an atomic load: their slots, rising, at the start of `dst`. A store is offered
+// unless a newer one has been seen in the thread's causality: then to return it would go back in modification order.
 pub fn match_load_to_stores(
     clocks: &Clocks,
     marks: [[u16; MAX_THREADS]; MAX_ATOMIC_HISTORY],
@@ -77,7 +79,9 @@ pub fn match_load_to_stores(
 }
 
 // Store i is dropped at the first newer live one that is seen, or if i was seen before the yield, or if the load and
-// both stores are SeqCst. Equal orders count only if they are met before that.
+// both stores are SeqCst. A thread yields to wait for another, so what it saw before it is not returned again where there is
+// a newer store: else a loop that waits for the newer one could read the older for ever. Equal orders count only if they are
+// met before the store is dropped, since loom's scan asserts and drops in one walk.
 fn load_fate(
     clocks: &Clocks,
     numbers: &Numbers,
@@ -109,7 +113,7 @@ fn load_fate(
     Fate::Kept
 }
 
-// Find all stores that a read-modify-write could read: those below no other.
+// Find all stores that a read-modify-write could read: unlike a load, only the newest, those below no other.
 pub fn match_rmw_to_stores(
     clocks: &Clocks,
     numbers: &Numbers,

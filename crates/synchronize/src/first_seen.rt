@@ -2,7 +2,7 @@
 ghost use mathlib.Core.Path.{_≡_};
 ghost use Prim.Native.Nat.{_<_};
 ghost use mathlib.Core.List.{[]};
-ghost use lib.ListN.{getD};
+ghost use lib.ListN.{getD, set};
 ghost use Rattle.rules.specs.Seen.{unseens, seen, seenBeforeYield, seenSlots, touched, touchedAt};
 use layout::MAX_ATOMIC_HISTORY;
 use layout::MAX_THREADS;
@@ -69,6 +69,20 @@ impl FirstSeen {
         }
         self.versions[thread] <= last_yield
     }
+}
+
+// The marks of a cell with none on one store, as a new one that is yet seen by no thread has them.
+pub fn cleared(
+    mut marks: [[u16; MAX_THREADS]; MAX_ATOMIC_HISTORY],
+    slot: usize,
+) -> [[u16; MAX_THREADS]; MAX_ATOMIC_HISTORY]
+    requires { ⌜ slot < 7 ⌝ }
+    ensures { λ r. ⌜ r ≡ set marks slot (unseens 5) ⌝ }
+{
+    let fresh = FirstSeen::new();
+    let row = fresh.versions;
+    marks[slot] = row;
+    marks
 }
 
 // The marks of a cell with this thread's mark on one store, where it had none.

@@ -1,4 +1,4 @@
-use Rattle.atomic.proofs.SlotLaws.{flag-set, flag-clear}
+use Rattle.atomic.proofs.AccessLaws.{flag-set, flag-clear}
 use Rattle.atomic.proofs.is_seq_cst.Statement.{statement}
 use Rattle.atomic.proofs.is_seq_cst.Tie as tie
 

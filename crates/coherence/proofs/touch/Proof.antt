@@ -1,7 +1,7 @@
 use borrow.Author.Needs.{needs}
-use Rattle.atomic.proofs.SlotLaws.{touch-again, touch-first}
-use Rattle.atomic.proofs.touch.Statement.{statement}
-use Rattle.atomic.proofs.touch.Tie as tie
+use Rattle.coherence.proofs.TouchLaws.{touch-again, touch-first}
+use Rattle.coherence.proofs.touch.Statement.{statement}
+use Rattle.coherence.proofs.touch.Tie as tie
 
 mul-row : tie.Need-mul-row
 mul-row c = search needs

@@ -4,9 +4,9 @@ use mathlib.Core.Logic.{⊎-elim}
 use Prim.Native.Nat.{_≤_, _-_}
 use Rattle.rules.specs.State.{marksOf}
 use Rattle.rules.specs.Cell.{coherentFrom, liveIn, orderOf}
-use Rattle.atomic.proofs.OrderLaws.{cohere-start, cohere-all, cohere-done, cohere-own, cohere-known, cohere-unknown}
-use Rattle.atomic.proofs.apply_load_coherence.Statement.{statement}
-use Rattle.atomic.proofs.apply_load_coherence.Tie as tie
+use Rattle.coherence.proofs.OrderLaws.{cohere-start, cohere-all, cohere-done, cohere-own, cohere-known, cohere-unknown}
+use Rattle.coherence.proofs.apply_load_coherence.Statement.{statement}
+use Rattle.coherence.proofs.apply_load_coherence.Tie as tie
 
 abbrev Inv-loop : tie.InvT-loop
 Inv-loop clocks marks numbers thread cell slot causality chosen live order₀ i₀ order i =

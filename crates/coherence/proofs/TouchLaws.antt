@@ -1,7 +1,5 @@
--- The laws of a cell's slots, for the functions that touch and mark them. Assumes nothing.
---     flag-set, flag-clear            whether a store was SeqCst
+-- The laws of the marks on a cell's slots, for the functions that make them. Assumes nothing.
 --     touch-again, touch-first        the thread's mark on the store that it reads
---     marked-first                    the marks of a new store
 use Prim.Native.Nat.{ℕ}
 use mathlib.Core.List.{List, []}
 use mathlib.Core.Path.{_≡_}
@@ -9,17 +7,11 @@ use mathlib.Core.Logic.{_≢_, ⊎-elim}
 use lib.Dec.{ltb}
 use lib.ListN.{length, getD, set}
 use lib.Seq.{set-getD}
-use borrow.Author.Tests.{eq-eqb, ne-eqb, ltb-true, ltb-false}
-use Rattle.rules.specs.Seen.{unseen, unseens, touched, touchedAt}
+use borrow.Author.Tests.{ltb-true, ltb-false}
+use Rattle.rules.specs.Seen.{unseen, touched, touchedAt}
 use Rattle.rules.specs.State.{Clocks, Marks, marksOf}
-use Rattle.rules.specs.Cell.{seqCstOrder, seqCstFlag, version, touchDone}
+use Rattle.rules.specs.Cell.{version, touchDone}
 use Rattle.synchronize.proofs.SeenLaws as Seen
-
-pub flag-set : (o : ℕ) → o ≡ seqCstOrder → 1 ≡ seqCstFlag o
-flag-set o e = rw (eq-eqb o seqCstOrder e)
-
-pub flag-clear : (o : ℕ) → o ≢ seqCstOrder → 0 ≡ seqCstFlag o
-flag-clear o n = rw (ne-eqb o seqCstOrder n)
 
 -- a mark that is there stays; a thread that is none has no mark to be made
 mark-there : (marks : List ℕ) (t v : ℕ) → getD marks t 0 ≢ unseen → marks ≡ touched marks t v
@@ -39,6 +31,3 @@ module _ (clocks : Clocks) (marks : Marks) (t c slot : ℕ) where
       marks ≡ touchDone clocks marks t c slot
   unfolding touchDone touchedAt
   touch-again n = rw (← mark-there (getD (marksOf marks c) slot []) t (version clocks t) n, set-getD, set-getD)
-
-pub marked-first : (t v : ℕ) (fresh marks : List ℕ) → fresh ≡ unseens 5 → marks ≡ touched fresh t v → marks ≡ touched (unseens 5) t v
-marked-first t v fresh marks e f = rw (← e) f
