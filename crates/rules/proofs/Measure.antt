@@ -51,145 +51,98 @@ pub record Is (t s ph b m : ℕ) (a : Numbers) : Type 0 where
   pub rows : number a begun ≡ b
   pub worth : work a ≡ m + ticksLeft s ph
 
--- what the measure and `Whole` do not read
-abbrev pub Aside : ℕ → Type 0
-Aside n =
-    (numberAt activeThread ≢ n)
-    × (numberAt begun ≢ n)
-    × ((i : ℕ) → i < threads → (numberAt (State.state i) ≢ n) × (numberAt (operatesOn i) ≢ n) × (numberAt (phase i) ≢ n))
+-- what is said of a number after a write under the name k: of what is written there, of what was under any other name
+after : (P : ℕ → Type 0) (a : Numbers) (k n : Number) (v : ℕ) → numberAt k < length a → (numberAt n ≡ numberAt k → P v) →
+    (numberAt n ≢ numberAt k → P (number a n)) → P (number (withNumber a k v) n)
+after P a k n v h f g =
+    elim (ℕ-discrete (numberAt n) (numberAt k)) [
+      | yes q ↦ rw (q, number-same a k v h) (f q)
+      | no d ↦ rw (number-other a k n v d) (g d)
+    ]
+
+-- the number of this name was x; it is y after the write
+abbrev Becomes : Number → ℕ → Number → ℕ → ℕ → Type 0
+Becomes k v n x y = (numberAt n ≡ numberAt k → v ≡ y) × (numberAt n ≢ numberAt k → x ≡ y)
+
+-- what such a write makes of the active thread's state and phase, of the rows begun and of the cells
+abbrev Writes : (k : Number) (v t s ph b s′ ph′ b′ : ℕ) → Type 0
+Writes k v t s ph b s′ ph′ b′ =
+    (numberAt k < numbersHeld)
+    × (numberAt activeThread ≢ numberAt k)
+    × Becomes k v (State.state t) s s′
+    × Becomes k v (phase t) ph ph′
+    × Becomes k v begun b b′
+    × ((i : ℕ) → i < threads → numberAt (operatesOn i) ≡ numberAt k → v < cells)
+
+-- and it leaves the other threads' states and phases alone
+abbrev Own : Number → ℕ → Type 0
+Own k t = (i : ℕ) → i < threads → i ≢ t → (numberAt (State.state i) ≢ numberAt k) × (numberAt (phase i) ≢ numberAt k)
 
 module _ {t s ph b m : ℕ} {a : Numbers} (below : t < threads) (is : Is t s ph b m a) where
-  long-with : (k : Number) (v : ℕ) → length (withNumber a k v) ≡ numbersHeld
-  long-with k v = number-kept a k v ∙ is .whole .long
-
-  -- what a change of the active thread's own state and phase makes of the work
-  worth-with : (c : Numbers) (x y : ℕ) → number c (State.state t) ≡ x → number c (phase t) ≡ y →
-      ((i : ℕ) → i < threads → i ≢ t → ticksLeftOf c i ≡ ticksLeftOf a i) → work c ≡ m + ticksLeft x y
-  worth-with c x y e f same =
-      let was = ap₂ ticksLeft (is .stands) (is .inPhase) in
-      let becomes = ap₂ ticksLeft e f in
-      omega (arith, is .worth, five-one (ticksLeftOf a) (ticksLeftOf c) t below same)
-
-  -- the parts of every thread stand as they stood
-  worth-kept : (c : Numbers) → ((i : ℕ) → i < threads → number c (State.state i) ≡ number a (State.state i)) →
-      ((i : ℕ) → i < threads → number c (phase i) ≡ number a (phase i)) → work c ≡ m + ticksLeft s ph
-  worth-kept c stood phased =
-      worth-with c s ph (stood t below ∙ is .stands) (phased t below ∙ is .inPhase) (λ i h d. ap₂ ticksLeft (stood i h) (phased i h))
-
-  pub aside : (k : Number) (v : ℕ) → Aside (numberAt k) → Is t s ph b m (withNumber a k v)
-  aside k v off =
-      let stood : (i : ℕ) → i < threads → number (withNumber a k v) (State.state i) ≡ number a (State.state i) =
-      λ i h. number-other a k (State.state i) v (off .2 i h .0) in
-      let phased : (i : ℕ) → i < threads → number (withNumber a k v) (phase i) ≡ number a (phase i) =
-      λ i h. number-other a k (phase i) v (off .2 i h .2) in
+  written : (k : Number) (v : ℕ) {s′ ph′ b′ m′ : ℕ} → Writes k v t s ph b s′ ph′ b′ →
+      (ticksLeftOf (withNumber a k v) t ≡ ticksLeft s′ ph′ → work (withNumber a k v) ≡ m′ + ticksLeft s′ ph′) →
+      Is t s′ ph′ b′ m′ (withNumber a k v)
+  written k v {s′} {ph′} {b′} w e =
+      let h : numberAt k < length a = omega (arith, is .whole .long, w .0) in
+      let now : (n : Number) (x y : ℕ) → number a n ≡ x → Becomes k v n x y → number (withNumber a k v) n ≡ y =
+      λ n x y f u. after (λ (z : ℕ). z ≡ y) a k n v h (u .0) (λ d. f ∙ u .1 d) in
+      let stands = now (State.state t) s s′ (is .stands) (w .2) in
+      let inPhase = now (phase t) ph ph′ (is .inPhase) (w .3) in
       record {
         whole = record {
-          long = long-with k v;
-          onCell = λ i h. rw (number-other a k (operatesOn i) v (off .2 i h .1)) (is .whole .onCell i h);
+          long = number-kept a k v ∙ is .whole .long;
+          onCell = λ i l. after (λ (z : ℕ). z < cells) a k (operatesOn i) v h (w .5 i l) (λ d. is .whole .onCell i l);
         };
-        runs = number-other a k activeThread v (off .0) ∙ is .runs;
-        stands = stood t below ∙ is .stands;
-        inPhase = phased t below ∙ is .inPhase;
-        rows = number-other a k begun v (off .1) ∙ is .rows;
-        worth = worth-kept (withNumber a k v) stood phased;
+        runs = number-other a k activeThread v (w .1) ∙ is .runs;
+        stands = stands;
+        inPhase = inPhase;
+        rows = now begun b b′ (is .rows) (w .4);
+        worth = e (ap₂ ticksLeft stands inPhase);
       }
+
+  write : (k : Number) (v : ℕ) {s′ ph′ b′ : ℕ} → Writes k v t s ph b s′ ph′ b′ × Own k t → Is t s′ ph′ b′ m (withNumber a k v)
+  write k v w =
+      written k v (w .0)
+      (λ f. omega (
+        arith,
+        is .worth,
+        ap₂ ticksLeft (is .stands) (is .inPhase),
+        five-one (ticksLeftOf a) (ticksLeftOf (withNumber a k v)) t below
+            (λ i h d. ap₂ ticksLeft (number-other a k (State.state i) v (w .1 i h d .0)) (number-other a k (phase i) v (w .1 i h d .1))),
+      ))
+
+  -- of what the measure and `Whole` do not read
+  pub aside : (k : Number) (v : ℕ) → Writes k v t s ph b s ph b × Own k t → Is t s ph b m (withNumber a k v)
+  aside k v w = write k v w
 
   pub toState : (v : ℕ) → Is t v ph b m (withNumber a (State.state t) v)
-  toState v =
-      let k = State.state t in
-      let c = withNumber a k v in
-      let now : number c k ≡ v = number-same a k v (omega (arith, is .whole .long)) in
-      let phased : (i : ℕ) → i < threads → number c (phase i) ≡ number a (phase i) = λ i h. number-other a k (phase i) v (omega arith) in
-      record {
-        whole = record {
-          long = long-with k v;
-          onCell = λ i h. rw (number-other a k (operatesOn i) v (omega arith)) (is .whole .onCell i h);
-        };
-        runs = number-other a k activeThread v (omega arith) ∙ is .runs;
-        stands = now;
-        inPhase = phased t below ∙ is .inPhase;
-        rows = number-other a k begun v (omega arith) ∙ is .rows;
-        worth = worth-with c v ph now (phased t below ∙ is .inPhase)
-            (λ i h d. ap₂ ticksLeft (number-other a k (State.state i) v (omega arith)) (phased i h));
-      }
+  toState v = write (State.state t) v (omega arith)
 
   pub toPhase : (v : ℕ) → Is t s v b m (withNumber a (phase t) v)
-  toPhase v =
-      let k = phase t in
-      let c = withNumber a k v in
-      let now : number c k ≡ v = number-same a k v (omega (arith, is .whole .long)) in
-      let stood : (i : ℕ) → i < threads → number c (State.state i) ≡ number a (State.state i) =
-      λ i h. number-other a k (State.state i) v (omega arith) in
-      record {
-        whole = record {
-          long = long-with k v;
-          onCell = λ i h. rw (number-other a k (operatesOn i) v (omega arith)) (is .whole .onCell i h);
-        };
-        runs = number-other a k activeThread v (omega arith) ∙ is .runs;
-        stands = stood t below ∙ is .stands;
-        inPhase = now;
-        rows = number-other a k begun v (omega arith) ∙ is .rows;
-        worth = worth-with c s v (stood t below ∙ is .stands) now
-            (λ i h d. ap₂ ticksLeft (stood i h) (number-other a k (phase i) v (omega arith)));
-      }
+  toPhase v = write (phase t) v (omega arith)
 
   pub toBegun : (v : ℕ) → Is t s ph v m (withNumber a begun v)
-  toBegun v =
-      let k = begun in
-      record {
-        whole = record {
-          long = long-with k v;
-          onCell = λ i h. rw (number-other a k (operatesOn i) v (omega arith)) (is .whole .onCell i h);
-        };
-        runs = number-other a k activeThread v (omega arith) ∙ is .runs;
-        stands = number-other a k (State.state t) v (omega arith) ∙ is .stands;
-        inPhase = number-other a k (phase t) v (omega arith) ∙ is .inPhase;
-        rows = number-same a k v (omega (arith, is .whole .long));
-        worth = worth-kept (withNumber a k v) (λ i h. number-other a k (State.state i) v (omega arith))
-            (λ i h. number-other a k (phase i) v (omega arith));
-      }
+  toBegun v = write begun v (omega arith)
 
   pub toCell : (v : ℕ) → v < cells → Is t s ph b m (withNumber a (operatesOn t) v)
-  toCell v fits =
-      let k = operatesOn t in
-      record {
-        whole = record { long = long-with k v; onCell = λ i h. onCell i h (ℕ-discrete i t) };
-        runs = number-other a k activeThread v (omega arith) ∙ is .runs;
-        stands = number-other a k (State.state t) v (omega arith) ∙ is .stands;
-        inPhase = number-other a k (phase t) v (omega arith) ∙ is .inPhase;
-        rows = number-other a k begun v (omega arith) ∙ is .rows;
-        worth = worth-kept (withNumber a k v) (λ i h. number-other a k (State.state i) v (omega arith))
-            (λ i h. number-other a k (phase i) v (omega arith));
-      }
-    where
-      onCell : (i : ℕ) → i < threads → Dec (i ≡ t) → number (withNumber a (operatesOn t) v) (operatesOn i) < cells
-      onCell i h (yes e) = rw (e, number-same a (operatesOn t) v (omega (arith, is .whole .long))) fits
-      onCell i h (no d) = rw (number-other a (operatesOn t) (operatesOn i) v (omega arith)) (is .whole .onCell i h)
+  toCell v h = write (operatesOn t) v (omega arith)
 
   -- another thread's state: its part of the work changes
   pub otherState : (i v n : ℕ) → i < threads → i ≢ t → n + ticksLeftOf a i ≡ m + ticksLeft v (number a (phase i)) →
       Is t s ph b n (withNumber a (State.state i) v)
   otherState i v n h d e =
       let k = State.state i in
-      let c = withNumber a k v in
-      let phased : (j : ℕ) → j < threads → number c (phase j) ≡ number a (phase j) = λ j l. number-other a k (phase j) v (omega arith) in
-      record {
-        whole = record {
-          long = long-with k v;
-          onCell = λ j l. rw (number-other a k (operatesOn j) v (omega arith)) (is .whole .onCell j l);
-        };
-        runs = number-other a k activeThread v (omega arith) ∙ is .runs;
-        stands = number-other a k (State.state t) v (omega arith) ∙ is .stands;
-        inPhase = phased t below ∙ is .inPhase;
-        rows = number-other a k begun v (omega arith) ∙ is .rows;
-        worth = omega (
-          arith,
-          is .worth,
-          e,
-          five-one (ticksLeftOf a) (ticksLeftOf c) i h (λ j l u. ap₂ ticksLeft (number-other a k (State.state j) v (omega arith)) (phased j l)),
-          ap₂ ticksLeft (number-same a k v (omega (arith, is .whole .long))) (phased i h),
-        );
-      }
+      let phased : (j : ℕ) → j < threads → number (withNumber a k v) (phase j) ≡ number a (phase j) =
+      λ j l. number-other a k (phase j) v (omega arith) in
+      written k v (omega arith)
+      (λ f. omega (
+        arith,
+        is .worth,
+        e,
+        five-one (ticksLeftOf a) (ticksLeftOf (withNumber a k v)) i h
+            (λ j l u. ap₂ ticksLeft (number-other a k (State.state j) v (omega arith)) (phased j l)),
+        ap₂ ticksLeft (number-same a k v (omega (arith, is .whole .long))) (phased i h),
+      ))
 
 -- any thread can be looked at
 abbrev pub otherWork : Numbers → ℕ → ℕ

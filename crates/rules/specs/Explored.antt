@@ -127,8 +127,8 @@ entriesBytes (e ∷ es) = entryBytes e ++ entriesBytes es
 unfoldable pub noted : ℕ → List Entry → List ℕ
 noted n es = entriesBytes es ++ replicate (n - recordBytes * length es) 0
 
--- more ticks than an execution can take: one more than the measure of its start (Measure). Each of L rows that begin takes at
--- most three (it begins, may block once, acts); of five threads each ends, and may free the joins of four others: 3·L + 25
+-- more ticks than an execution can take: one more than the measure of its start can be, 3·L + 25 (Measure). Each of L rows that
+-- begin takes at most three (it begins, may block once, acts); each of five threads ends, and may free the joins of four others
 abbrev pub ticksOf : ℕ → ℕ
 ticksOf operations = 3 * operations + 26
 
