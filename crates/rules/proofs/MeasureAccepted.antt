@@ -1,14 +1,15 @@
--- No execution of a table whose header is fine runs out of ticks. Assumes nothing.
+-- No execution of a table whose header is fine, as that of an accepted one is, runs out of ticks. Assumes nothing.
+--     good-header          an accepted table's header is fine
 --     execution-enough     more ticks than an execution is given would change nothing
 --     execution-last       it comes out as its last tick does
 use Prim.Native.Nat.{ℕ, _≤_, _<_}
 use mathlib.Core.List.{List}
-use mathlib.Core.Bool.{true, and-eq-true-iff}
-use mathlib.Core.Path.{_≡_}
+use mathlib.Core.Bool.{Bool, true, false, cond, and-eq-true-iff}
+use mathlib.Core.Path.{_≡_, refl}
 use native.Mathlib.Omega.{arith}
 use borrow.Author.Tests.{leb-true}
 use Rattle.rules.specs.Vector.{largest}
-use Rattle.rules.specs.Table.{headerFine, threadsOf, cellsOf}
+use Rattle.rules.specs.Table.{Verdict, good, badHeader, judged, headerFine, threadsOf, cellsOf}
 use Rattle.rules.specs.State.{State, threads, cells}
 use Rattle.rules.specs.Machine.{Program, machine}
 use Rattle.rules.specs.Explorer.{Ledger, Walk, tick, walked, fresh, oneBegun, execution}
@@ -16,6 +17,14 @@ use Rattle.rules.specs.Explored.{Settings, settingsFine, programOf, limi
 use Rattle.rules.specs.Measure.{Ready}
 use Rattle.rules.proofs.MeasureStart.{start-ready, start-measure}
 use Rattle.rules.proofs.MeasureWalk.{ticks-enough, last-tick}
+
+pub good-header : (table : List ℕ) → judged table ≡ good → headerFine table ≡ true
+unfolding judged
+good-header table = fine (headerFine table) _
+  where
+    fine : (b : Bool) (v : Verdict) → cond b v badHeader ≡ good → b ≡ true
+    fine true v e = refl
+    fine false v e = cc
 
 -- "threads 1..5, cells 1..4"
 header-within : (table : List ℕ) → headerFine table ≡ true → (1 ≤ threadsOf table) × (threadsOf table ≤ threads) × (cellsOf table ≤ cells)
