@@ -25,7 +25,7 @@ pub data Fault : Type 0 where
   flags : Fault
   -- "17 a new schedule branch's preemptions would pass 255"
   preemptions : Fault
-  -- a number that is out of range where the rules read it back; no run of an accepted table meets it
+  -- a number that is out of range where the rules read it back; no run of an accepted table meets it (docs/DECISIONS.md, 37, 51)
   impossible : Fault
 
 -- the fault's number; 20 is none of document 01's
@@ -100,7 +100,7 @@ pub data Standing : Type 0 where
   cannotRun : Standing
   other : Standing
 
--- a branch's position among all branches of the path, or none
+-- a branch's position among all branches of the path [Q21], or none
 pub data Place : Type 0 where
   nowhere : Place
   branch : ℕ → Place

@@ -24,7 +24,7 @@ pub record Settings : Type 0 where
   pub bound : Bound
   pub exploring : Bool
 
--- "summaries: state .., rows begun, yields, own version"
+-- "summaries: state .., rows begun, yields, own version", all of the last execution [Q6]
 pub record Summary : Type 0 where
   pub state : ℕ
   pub rows : ℕ
@@ -65,7 +65,7 @@ summary st t =
       version = version (st .clocks) t;
     })
 
--- "Checks run 2, 3, 4, 5; these give zero counts and summaries."
+-- "Checks run 2, 3, 4, 5; these give zero counts and summaries.", race kind 0 and other thread 255 [Q11]
 unfoldable pub refused : ℕ → ℕ → ℕ → List ℕ → List ℕ → Explored
 refused answer t k path trace = record {
   report = record {
@@ -99,7 +99,8 @@ verdictOther exhausted = 255
 verdictOther spent = 255
 verdictOther (stopped f site) = otherThread f
 
--- "255, 255 for 0 to 4 and 10", "from 11 on the current thread and its row, the row count if it is ending"
+-- "255, 255 for 0 to 4 and 10", "from 11 on the current thread and its row, the row count if it is ending": in a scheduling the
+-- thread that called it [Q5]
 unfoldable pub verdictSite : Verdict → Site
 verdictSite exhausted = noSite
 verdictSite spent = noSite
@@ -195,7 +196,7 @@ isRefusal answer = leb 2 answer && leb answer 5
 abbrev pub copied : Explored → List Summary → ExploredInto
 copied e list = record { explored = e; list = cond (isRefusal (e .report .answer)) list (e .report .threads) }
 
--- "4 trace buffer or thread list length wrong": judged with the trace buffer, so before the table
+-- "4 trace buffer or thread list length wrong": judged with the trace buffer, so before the table [Q13]
 unfoldable pub exploredInto : List ℕ → Settings → List ℕ → List ℕ → List Summary → ExploredInto
 exploredInto table s path trace list =
     elim (eqb (length list) 5 || not (settingsFine s) || not (eqb (length path) (recordBytes * s .branches))) [

@@ -88,7 +88,7 @@ total (c ∷ cs) = c + total cs
 abbrev pub sizeOf : ℕ → ℕ → ℕ
 sizeOf cells rows = headerBytes + valueBytes * cells + rowBytes * rows
 
--- "Header of 8 bytes: threads 1..5, cells 1..4, five row counts 0..32 (0 past the thread count), a zero.", and the length
+-- "Header of 8 bytes: threads 1..5, cells 1..4, five row counts 0..32 (0 past the thread count), a zero.", and the length [Q14]
 unfoldable pub headerFine : List ℕ → Bool
 headerFine t =
     leb headerBytes (length t)
@@ -142,7 +142,7 @@ rowFrom t at = record {
   b = u64At t (at + 16);
 }
 
--- what stands for a row that the table does not hold: no opcode is 255
+-- what stands for a row that the table does not hold: no opcode is 255 (docs/DECISIONS.md, 41)
 abbrev pub noRow : Row
 noRow = record { opcode = 255; object = 0; order = 0; failure = 0; kind = 0; register = 0; target = 0; a = 0; b = 0 }
 
@@ -279,6 +279,7 @@ storeRegisterRow cells r =
     && unused (r .failure ∷ r .kind ∷ r .target ∷ r .a ∷ r .b ∷ []))
     (storeRegister (r .object) (r .order) (r .register))
 
+-- an RMW may have any order, and its failure order is not compared with it [Q16]
 abbrev pub rmwRow : ℕ → Row → Decoded Change → Decoded Op
 rmwRow cells r refused = refused
 rmwRow cells r (decoded change) =
@@ -398,7 +399,7 @@ pub data Verdict : Type 0 where
   badRow : ℕ → ℕ → Verdict
 
 -- "the first bad row", thread and row within the thread: of the threads from this one on, whose counts are these and whose
--- rows begin at this number
+-- rows begin at this number [Q14]
 unfoldable pub rowsJudged : List ℕ → ℕ → ℕ → ℕ → ℕ → List ℕ → Verdict
 rowsJudged t threads cells thread first [] = good
 rowsJudged t threads cells thread first (c ∷ cs) =
