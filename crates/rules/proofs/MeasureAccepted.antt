@@ -2,7 +2,7 @@
 --     good-header          an accepted table's header is fine
 --     execution-enough     more ticks than an execution is given would change nothing
 --     execution-last       it comes out as its last tick does
-use Prim.Native.Nat.{ℕ, _≤_, _<_}
+use Prim.Native.Nat.{ℕ, _≤_}
 use mathlib.Core.List.{List}
 use mathlib.Core.Bool.{Bool, true, false, cond, and-eq-true-iff}
 use mathlib.Core.Path.{_≡_, refl}

@@ -7,12 +7,12 @@ use mathlib.Core.Bool.{Bool, true, false, cond, _&&_, true≢false, false≢true
 use mathlib.Core.Path.{_≡_, refl}
 use mathlib.Core.Logic.{_↔_}
 use native.Mathlib.Omega.{arith}
-use lib.Dec.{ltb, leb, eqb}
+use lib.Dec.{ltb, leb}
 use lib.ListN.{length}
 use borrow.Author.Tests.{ltb-true, leb-true}
 use Rattle.rules.specs.Change.{Change}
 use Rattle.rules.specs.Table as Table
-use Rattle.rules.specs.Table.{Op, Row, Decoded, refused, decoded, onlyIf, changeDecoded, rowDecoded, rowAt, opAt}
+use Rattle.rules.specs.Table.{Op, Row, Decoded, refused, decoded, onlyIf, rowDecoded, rowAt, opAt}
 use Rattle.rules.specs.State.{cells}
 use Rattle.rules.specs.Machine.{Program, Pending, nothing, pends, pendingOf, rowOf}
 

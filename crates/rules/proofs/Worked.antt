@@ -1,5 +1,5 @@
 -- Document 01's cases P hold of the definition: computed by the checker.
-use mathlib.Core.List.{List, map}
+use mathlib.Core.List.{map}
 use mathlib.Core.Path.{_≡_, refl}
 use Rattle.rules.specs.Cell as Cell
 use Rattle.rules.specs.Change as Change

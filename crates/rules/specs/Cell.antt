@@ -3,18 +3,18 @@
 --     matchedLoad, matchedRmw        the offers, or that equal orders were met
 --     loadDone, rmwDone, storeDone, unsyncLoadDone, mutDone       the accesses
 --     fenced                         the fences
-use Prim.Native.Nat.{ℕ, zero, suc, _+_, _-_, _*_, _%_}
-use mathlib.Core.List.{List, [], _∷_, map}
+use Prim.Native.Nat.{ℕ, zero, suc, _+_, _%_}
+use mathlib.Core.List.{List, [], _∷_}
 use mathlib.Core.Bool.{Bool, true, false, cond, not, _&&_, _||_}
-use lib.Dec.{ltb, leb, eqb}
-use lib.ListN.{getD, set, replicate}
+use lib.Dec.{ltb, eqb}
+use lib.ListN.{getD, set}
 use Rattle.rules.specs.Vector as Vectors
-use Rattle.rules.specs.Vector.{joined, less, ahead, Whom, nobody, thread, zeros, oneMore}
+use Rattle.rules.specs.Vector.{joined, less, ahead, Whom, nobody, thread, oneMore}
 use Rattle.rules.specs.Change.{Change, Changed, success, failure, applied}
 use Rattle.rules.specs.Seen.{seen, seenBeforeYield, touchedAt, touched, unseens}
 use Rattle.rules.specs.Event.{Matched, offers}
 use Rattle.rules.specs.Event as Event
-use Rattle.rules.specs.State.{State, Clocks, Marks, Values, Numbers, Vector, Number, vector, withVector, marksOf, withMarks, value, withValue, number, withNumber, storeAt, history, threads}
+use Rattle.rules.specs.State.{State, Clocks, Marks, Values, Numbers, Vector, vector, withVector, marksOf, withMarks, value, withValue, number, withNumber, storeAt, history, threads}
 use Rattle.rules.specs.State.{causality, released, seqCst, loaded, unsyncLoaded, stored, mutated, happensBefore, order, sync, ofStore, count, isSeqCst, lastYield}
 
 -- Orders

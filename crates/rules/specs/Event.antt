@@ -1,11 +1,9 @@
 -- What a machine is to the explorer: where it starts, what it does next, and how it goes on with an answer. A machine never
 -- reads the path: it asks, and is answered. The explorer and all that is said of its ledger are over any machine.
-use Prim.Native.Nat.{ℕ, zero, suc, _+_, _*_, _/_, _%_}
-use mathlib.Core.List.{List, [], _∷_, _++_}
-use mathlib.Core.Bool.{Bool, true, false, cond}
-use lib.Dec.{eqb}
-use lib.ListN.{length}
-use Rattle.rules.specs.Vector.{Whom, nobody, thread}
+use Prim.Native.Nat.{ℕ, zero, suc, _+_, _/_, _%_}
+use mathlib.Core.List.{List, [], _∷_}
+use mathlib.Core.Bool.{Bool, cond}
+use Rattle.rules.specs.Vector.{Whom, thread}
 
 -- "In a run the first fault stops everything"
 pub data Fault : Type 0 where

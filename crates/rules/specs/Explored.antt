@@ -3,12 +3,11 @@
 use Prim.Native.Nat.{ℕ, _+_, _-_, _*_}
 use mathlib.Core.List.{List, [], _∷_, _++_, map}
 use mathlib.Core.Bool.{Bool, true, false, cond, not, _&&_, _||_}
-use lib.Dec.{ltb, leb, eqb}
+use lib.Dec.{leb, eqb}
 use lib.ListN.{length, replicate}
 use Rattle.rules.specs.Path.{Bound, openIn, written, recordBytes}
 use Rattle.rules.specs.Table.{judged, good, badHeader, badRow}
-use Rattle.rules.specs.Event as Event
-use Rattle.rules.specs.Event.{Fault, Site, noSite, Entry, entryBytes, faultNumber, raceKind, otherThread}
+use Rattle.rules.specs.Event.{Site, noSite, Entry, entryBytes, faultNumber, raceKind, otherThread}
 use Rattle.rules.specs.State as State
 use Rattle.rules.specs.State.{State, number, rowsOf, yields, begun}
 use Rattle.rules.specs.Cell.{version}

@@ -7,10 +7,10 @@
 --     run               one execution after another, with their history
 use Prim.Native.Nat.{ℕ, zero, suc, _+_}
 use mathlib.Core.List.{List, [], _∷_, _++_, map}
-use mathlib.Core.Bool.{Bool, true, false, cond, not, _&&_, _||_}
+use mathlib.Core.Bool.{Bool, true, cond, _&&_}
 use lib.Dec.{ltb, leb, eqb}
 use lib.ListN.{length, getD, take}
-use Rattle.rules.specs.Path.{Branch, schedule, load, spurious, Schedule, Load, Spurious, Bound, Added, added, Marked, Choice}
+use Rattle.rules.specs.Path.{Branch, schedule, load, spurious, Load, Bound, Added, added, Choice}
 use Rattle.rules.specs.Path.{threadAdded, loadAdded, spuriousAdded, openAt, backtracked, stepped, openIn, choiceOf, activeIn, noBranch}
 use Rattle.rules.specs.Path.{disabled, skip, yield, toActive}
 use Rattle.rules.specs.Vector.{Whom}

@@ -12,13 +12,12 @@ use lib.Bits.{bitOr}
 use lib.ListN.{getD, set, replicate}
 use Rattle.rules.specs.Vector.{zeros, joined, atMost, raised, oneMore, Whom, nobody, thread}
 use Rattle.rules.specs.Seen.{unseens}
-use Rattle.rules.specs.Change.{Change}
 use Rattle.rules.specs.Table as Table
 use Rattle.rules.specs.Table.{Op, Decoded, refused, decoded, opAt, opcodeOf, startValue, threadsOf, cellsOf, countsOf, firstRows}
 use Rattle.rules.specs.Event as Event
-use Rattle.rules.specs.Event.{Fault, Entry, Matched, Place, nowhere, branch, Standing, Question, whichThread, whichSlot, whichBit, Answer, runThread, readSlot, takeBit, Site, noSite, Move, Machine, moves, asks, stops, ends}
+use Rattle.rules.specs.Event.{Entry, Matched, Place, nowhere, branch, Standing, whichThread, whichSlot, whichBit, Answer, runThread, readSlot, takeBit, noSite, Move, Machine, moves, asks, stops, ends}
 use Rattle.rules.specs.State as State
-use Rattle.rules.specs.State.{State, Clocks, Marks, Values, Numbers, Vector, Number, vector, withVector, value, withValue, number, withNumber, marksOf, storeAt, registerAt, vectorsHeld, valuesHeld, numbersHeld, threads, cells, history, none}
+use Rattle.rules.specs.State.{State, Clocks, Numbers, vector, withVector, value, withValue, number, withNumber, marksOf, registerAt, vectorsHeld, valuesHeld, numbersHeld, threads, cells, history, none}
 use Rattle.rules.specs.State.{causality, scheduleOf, mutated, lastAccess, lastNonLoad, ofRegister, ofStore, nextRow, rowsOf, yields, lastYield, operation, operatesOn, phase, awaits, count, accessBranch, nonLoadBranch, activeThread, begun, exploring, skipping}
 use Rattle.rules.specs.Cell.{joinInto, version, slotOf, newest, storeDone, storeRace, storeTracked, loadDone, rmwDone, unsyncLoadDone, mutDone, newestOf, fenced, matchedLoad, matchedRmw, Access, raced, read, Race, noRace, raceOf, withClocks, withValues}
 

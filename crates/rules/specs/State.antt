@@ -7,8 +7,8 @@
 --     value, withValue       a store's value or a register
 --     number, withNumber     a number
 use Prim.Native.Nat.{ℕ, _+_, _*_}
-use mathlib.Core.List.{List, [], _∷_}
-use lib.ListN.{getD, set, replicate}
+use mathlib.Core.List.{List, []}
+use lib.ListN.{getD, set}
 
 -- "MAX_THREADS is 5, MAX_ATOMIC_HISTORY 7.", "cells 1..4", "register 0..3"
 abbrev pub threads : ℕ

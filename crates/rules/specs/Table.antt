@@ -2,7 +2,7 @@
 -- of its bytes. Assumes nothing.
 --     headerFine             whether the header and the length are those of a table
 --     Op, rowDecoded         what a row does, by its opcode with just the fields that the opcode uses; or that it is refused
---     judged, accepted       the whole table, and its first bad row
+--     judged                 the whole table, and its first bad row
 --     startValue, rowAt      a cell's start value, and a row's fields by its number among all rows
 use Prim.Native.Nat.{ℕ, zero, suc, _+_, _*_}
 use mathlib.Core.List.{List, [], _∷_, _++_}
@@ -410,7 +410,3 @@ rowsJudged t threads cells thread first (c ∷ cs) =
 -- "for 5 the first bad row, or 255, 255 if header or length is bad, which is judged first"
 unfoldable pub judged : List ℕ → Verdict
 judged t = cond (headerFine t) (rowsJudged t (threadsOf t) (cellsOf t) 0 0 (countsOf t)) badHeader
-
--- 5 is given exactly when "table refused"
-unfoldable pub accepted : List ℕ → Bool
-accepted t = elim (judged t) [ good ↦ true | badHeader ↦ false | badRow thread i ↦ false ]
