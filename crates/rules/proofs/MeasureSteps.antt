@@ -107,60 +107,42 @@ module _ (p : Program) (t ph b m n : ℕ) (below : t < threads) (acts : eqb ph t
       aside below (aside below is (count c) _ (omega arith)) (isSeqCst store) _ (omega arith)
 
   -- what an access leaves, where no race stops it
-  abbrev AtRead : Access → Type 0
-  AtRead (raced kind other st) = Unit
-  AtRead (read v st) = At st
+  data AtRead : Access → Type 0 where
+    isRaced : {kind other : ℕ} {st : State} → AtRead (raced kind other st)
+    isRead : {v : ℕ} {st : State} → At st → AtRead (read v st)
 
   unless-race : (r : Race) (st : State) (x : Access) → AtRead x → AtRead (unlessRace r st x)
   unless-race noRace st x h = h
-  unless-race (raceOf kind other) st x h = tt
+  unless-race (raceOf kind other) st x h = isRaced
 
   load-at : (st : State) (c slot o : ℕ) → At st → AtRead (loadDone st t c slot o)
   unfolding loadDone sighted
-  load-at st c slot o is =
-      let seen = sighted st t c slot in
-      unless-race (loadRace (st .clocks) t c) st
-      (read (value (st .values) (ofStore (storeAt c slot))) (withClocks seen (loadSynced (seen .clocks) t (storeAt c slot) o)))
-      is
+  load-at st c slot o is = search (unless-race, isRead)
 
   change-at : (x : Changed) (st : State) (c store v o f : ℕ) → c < cells → At st → AtRead (byChange x st t c store v o f)
   unfolding succeeded
-  change-at (success new) st c store v o f h is =
-      let synced = withClocks st (loadSynced (storeTracked (st .clocks) t c) t store o) in
-      let from = vector (synced .clocks) (sync store) in
-      unless-race (storeRace (st .clocks) t c) st (read v (storeDone synced t c from new o)) (store-at synced t c from new o h is)
-  change-at failure st c store v o f h is = is
+  change-at (success new) st c store v o f h is = search (unless-race, isRead, store-at)
+  change-at failure st c store v o f h is = isRead is
 
   rmw-at : (st : State) (c slot : ℕ) (change : Change) (o f : ℕ) → c < cells → At st → AtRead (rmwDone st t c slot change o f)
   unfolding rmwDone sighted
-  rmw-at st c slot change o f h is =
-      let store = storeAt c slot in
-      let v = value (st .values) (ofStore store) in
-      let x = applied change v in
-      let seen = sighted st t c slot in
-      unless-race (loadRace (st .clocks) t c) st (byChange x seen t c store v o f) (change-at x seen c store v o f h is)
+  rmw-at st c slot change o f h is = search (unless-race, change-at)
 
   unsync-at : (st : State) (c : ℕ) → At st → AtRead (unsyncLoadDone st t c)
   unfolding unsyncLoadDone
-  unsync-at st c is =
-      let v = value (st .values) (ofStore (newestOf (st .numbers) c)) in
-      unless-race (unsyncLoadRace (st .clocks) t c) st (read v (withClocks st (unsyncLoadTracked (st .clocks) t c))) is
+  unsync-at st c is = search (unless-race, isRead)
 
   mut-at : (st : State) (c : ℕ) (change : Change) → At st → AtRead (mutDone st t c change)
   unfolding mutDone
-  mut-at st c change is =
-      let store = newestOf (st .numbers) c in
-      let v = value (st .values) (ofStore store) in
-      let values = withValue (st .values) (ofStore store) (leaves (applied change v) v) in
-      unless-race (mutRace (st .clocks) t c) st (read v (withValues (withClocks st (mutTracked (st .clocks) t c)) values)) is
+  mut-at st c change is = search (unless-race, isRead)
 
   reads-lower : (x : Access) (k opcode r slot mask : ℕ) → AtRead x → Lower p n (Machine.reads x t k opcode r slot mask)
   reads-lower (raced kind other st) k opcode r slot mask h = stopping
-  reads-lower (read v st) k opcode r slot mask h = finished (Machine.withRegister st t r v) (oneMore k) _ h
+  reads-lower (read v st) k opcode r slot mask (isRead h) = finished (Machine.withRegister st t r v) (oneMore k) _ h
 
   leaves-lower : (x : Access) (k opcode c r : ℕ) → AtRead x → Lower p n (Machine.leavesIn x t k opcode c r)
   leaves-lower (raced kind other st) k opcode c r h = stopping
-  leaves-lower (read v st) k opcode c r h = finished (Machine.withRegister st t r v) (oneMore k) _ h
+  leaves-lower (read v st) k opcode c r (isRead h) = finished (Machine.withRegister st t r v) (oneMore k) _ h
 
   stores-unless : (x : Race) (st tracked : State) (k opcode c o v : ℕ) → c < cells → At tracked →
       Lower p n (Machine.storesUnless x st tracked t k opcode c o v)
