@@ -10,14 +10,14 @@ use mathlib.Core.Path.{_≡_, refl, ap, _∙_}
 use native.Mathlib.Omega.{arith}
 use lib.Dec.{eqb, ltb}
 use Rattle.rules.specs.Vector.{oneMore}
-use Rattle.rules.specs.Change.{Change, Changed, success, failure, applied}
+use Rattle.rules.specs.Change.{Change, Changed, success, failure}
 use Rattle.rules.specs.Table as Table
 use Rattle.rules.specs.Table.{Op, Decoded, refused, decoded}
 use Rattle.rules.specs.Event as Event
 use Rattle.rules.specs.Event.{Entry, Question, whichThread, whichSlot, whichBit, moves, asks, stops, ends}
 use Rattle.rules.specs.State as State
-use Rattle.rules.specs.State.{State, number, withNumber, threads, cells, phase, begun, nextRow, yields, lastYield, operation, awaits, count, isSeqCst, exploring, skipping, storeAt, sync, ofStore, value, withValue, vector}
-use Rattle.rules.specs.Cell.{newestOf, unsyncLoadRace, unsyncLoadTracked, leaves, mutRace, mutTracked, withValues, version, loadRace, loadSynced, storeDone, slotOf, Access, raced, read, Race, noRace, raceOf, unlessRace, sighted, loadDone, byChange, succeeded, rmwDone, unsyncLoadDone, mutDone, storeRace, storeTracked, withClocks}
+use Rattle.rules.specs.State.{State, number, withNumber, threads, cells, phase, begun, nextRow, yields, lastYield, operation, awaits, count, isSeqCst, exploring, skipping, storeAt}
+use Rattle.rules.specs.Cell.{version, storeDone, slotOf, Access, raced, read, Race, noRace, raceOf, unlessRace, sighted, loadDone, byChange, succeeded, rmwDone, unsyncLoadDone, mutDone, storeRace, storeTracked, withClocks}
 use Rattle.rules.specs.Machine
 use Rattle.rules.specs.Machine.{Program, pendingOf, active, runnable, blocked, yielded, ended, toBegin, toAct, completed}
 use Rattle.rules.specs.Measure.{ticksLeft, ticksLeftOf, measure, Whole, Ready}

@@ -1,6 +1,6 @@
 -- The measure at the machine's events: a row begins, a thread ends, a scheduling goes on. Assumes nothing.
---     next-lower         what the active thread does next
---     answered-lower     how it goes on with an answer
+--     next-lower                                   what the active thread does next
+--     thread-lower, slot-lower, spurious-lower     how it goes on with an answer
 use Prim.Native.Nat.{ℕ, _+_, _-_, _*_, _≤_, _<_}
 use mathlib.Core.List.{List, []}
 use mathlib.Core.Bool.{Bool, true, false, cond, _&&_, _||_}
@@ -11,7 +11,7 @@ use lib.Dec.{eqb, ltb, leb}
 use borrow.Author.Tests.{eqb-true, ltb-true, leb-false, lt-ltb}
 use Rattle.rules.specs.Vector.{Whom, nobody, thread, largest, oneMore}
 use Rattle.rules.specs.Table.{Op, Decoded, refused, decoded}
-use Rattle.rules.specs.Event.{Event, Question, whichThread, whichSlot, whichBit, Answer, runThread, readSlot, takeBit, moves}
+use Rattle.rules.specs.Event.{Event, runThread, readSlot, takeBit, moves}
 use Rattle.rules.specs.State as State
 use Rattle.rules.specs.State.{State, Numbers, number, withNumber, threads, cells, phase, begun, activeThread, rowsOf, operation, accessBranch, nonLoadBranch, withVector, lastAccess, lastNonLoad, scheduleOf}
 use Rattle.rules.specs.Cell.{withClocks}
@@ -21,7 +21,7 @@ use Rattle.rules.specs.Measure.{ticksLeft, measure, Whole, Ready}
 use Rattle.rules.proofs.Measure.{Is, aside, toState, toPhase, toBegun, toCell, seen, toActive, otherWork}
 use Rattle.rules.proofs.MeasureLoops.{Wakes, awake-all, freed-all, yielded-same}
 use Rattle.rules.proofs.MeasureRows.{pick, both-left, both-right, OnCell, RowOnCell, row-on-cell}
-use Rattle.rules.proofs.MeasureSteps.{Acting, Asked, Lower, lowered, asking, stopping, ending, measure-is, ready-is, at-begin, measure-part, acting-is, acting-most, acts-lower, read-lower, bit-lower}
+use Rattle.rules.proofs.MeasureSteps.{Acting, Lower, lowered, asking, stopping, ending, measure-is, ready-is, at-begin, measure-part, acting-is, acting-most, acts-lower, read-lower, bit-lower}
 
 -- one more, below the largest number
 more-below : (x : ℕ) → x < largest → oneMore x ≡ x + 1
@@ -116,18 +116,6 @@ wakes-same : {t s i : ℕ} (row : ℕ) → Wakes t s i → ticksLeft s row ≡ t
 wakes-same row (inl e) = ap (λ (x : ℕ). ticksLeft x row) e
 wakes-same row (inr e) = ap (λ (x : ℕ). ticksLeft x row) (e .0) ∙ yielded-same row
 
--- an answer of the question's kind
-abbrev pub Fits : Question → Answer → Type 0
-Fits (whichThread points initial standings) (runThread whom at) = Unit
-Fits (whichThread points initial standings) (readSlot slot offered) = ⊥
-Fits (whichThread points initial standings) (takeBit bit) = ⊥
-Fits (whichSlot m) (runThread whom at) = ⊥
-Fits (whichSlot m) (readSlot slot offered) = Unit
-Fits (whichSlot m) (takeBit bit) = ⊥
-Fits whichBit (runThread whom at) = ⊥
-Fits whichBit (readSlot slot offered) = ⊥
-Fits whichBit (takeBit bit) = Unit
-
 -- How the machine goes on with an answer
 module _ (p : Program) (n : ℕ) where
   -- "(d) the branch chooses.": the threads that wake have as many ticks left as before
@@ -151,19 +139,21 @@ module _ (p : Program) (n : ℕ) where
             wakes-same (number (st .numbers) (phase t)) wakes,
           ))
 
-  pub answered-lower : (st : State) (q : Question) (a : Answer) → Fits q a → Asked p n st q → Lower p n (Machine.answered p st a)
+  -- an answer of the question's kind
+  pub thread-lower : (st : State) (whom : Whom) (at : ℕ) → Whole (st .numbers) × (measure p st < n) →
+      Lower p n (Machine.answered p st (runThread whom at))
   unfolding Machine.answered
-  answered-lower st (whichThread points initial standings) (runThread whom at) f h = scheduled-lower st whom at (h .0) (h .1)
-  answered-lower st (whichThread points initial standings) (readSlot slot offered) f h = absurd f
-  answered-lower st (whichThread points initial standings) (takeBit bit) f h = absurd f
-  answered-lower st (whichSlot m) (runThread whom at) f h = absurd f
-  answered-lower st (whichSlot m) (readSlot slot offered) f h =
+  thread-lower st whom at h = scheduled-lower st whom at (h .0) (h .1)
+
+  pub slot-lower : (st : State) (slot : ℕ) (offered : List ℕ) → Acting p n st → Lower p n (Machine.answered p st (readSlot slot offered))
+  unfolding Machine.answered
+  slot-lower st slot offered h =
       read-lower p (active st) _ _ _ n (h .ready .below) (h .acts) (acting-most p n st h) st (activeRow st)
       slot (Machine.maskOf 0 offered) (activeOp p st) (row-on-cell p (active st) (activeRow st)) (acting-is p n st h)
-  answered-lower st (whichSlot m) (takeBit bit) f h = absurd f
-  answered-lower st whichBit (runThread whom at) f h = absurd f
-  answered-lower st whichBit (readSlot slot offered) f h = absurd f
-  answered-lower st whichBit (takeBit bit) f h =
+
+  pub spurious-lower : (st : State) (bit : Bool) → Acting p n st → Lower p n (Machine.answered p st (takeBit bit))
+  unfolding Machine.answered
+  spurious-lower st bit h =
       bit-lower p (active st) _ _ _ n (h .ready .below) (h .acts) (acting-most p n st h) st (activeRow st)
       (cond bit 1 0) (activeOp p st) (acting-is p n st h)
 

@@ -4,45 +4,23 @@
 --     ticks-enough      the ticks of an execution
 --     last-tick         how it comes out
 use Prim.Native.Nat.{ℕ, zero, suc, _≤_, _<_}
-use mathlib.Core.Bool.{Bool, true, false, cond, _&&_}
+use mathlib.Core.Bool.{Bool, _&&_}
 use mathlib.Core.Path.{_≡_, refl, subst}
 use native.Mathlib.Omega.{arith}
 use lib.Dec.{eqb, ltb}
 use lib.ListN.{length, getD}
 use Rattle.rules.specs.Vector.{largest}
-use Rattle.rules.specs.Path.{Branch, schedule, load, spurious, Load, noBranch}
+use Rattle.rules.specs.Path.{Branch, schedule, load, spurious, noBranch}
 use Rattle.rules.specs.Event as Event
-use Rattle.rules.specs.Event.{Question, whichThread, whichSlot, whichBit, readSlot, Site}
+use Rattle.rules.specs.Event.{Question, whichThread, whichSlot, whichBit, Site}
 use Rattle.rules.specs.State.{State}
 use Rattle.rules.specs.Machine.{Program, machine, next}
 use Rattle.rules.specs.Explorer as Explorer
-use Rattle.rules.specs.Explorer.{Limits, Walk, Tick, goes, over, faulted, Reply, says, unexpected, reply, Pushed, pushes, faults, pushed, tick, walked}
+use Rattle.rules.specs.Explorer.{Limits, Walk, Tick, goes, over, faulted, Reply, reply, Pushed, pushes, faults, pushed, tick, walked}
 use Rattle.rules.specs.Measure.{measure, Ready}
 use Rattle.rules.proofs.MeasureRows.{pick}
 use Rattle.rules.proofs.MeasureSteps.{Asked, Lower, lowered, asking, stopping, ending}
-use Rattle.rules.proofs.MeasureTicks.{Fits, answered-lower, next-lower}
-
--- The record answers in the question's kind
-abbrev FitsReply : Question → Reply → Type 0
-FitsReply q (says a) = Fits q a
-FitsReply q unexpected = Unit
-
-slot-fits : (m : Event.Matched) (l : Load) (c : Bool) →
-    FitsReply (whichSlot m) (cond c (says (readSlot (getD (l .values) (l .pos) 0) (l .values))) unexpected)
-slot-fits m l true = tt
-slot-fits m l false = tt
-
-reply-fits : (pos : ℕ) (b : Branch) (q : Question) → FitsReply q (reply pos b q)
-unfolding reply
-reply-fits pos (schedule s) (whichThread points initial standings) = tt
-reply-fits pos (schedule s) (whichSlot m) = tt
-reply-fits pos (schedule s) whichBit = tt
-reply-fits pos (load l) (whichThread points initial standings) = tt
-reply-fits pos (load l) (whichSlot m) = slot-fits m l (ltb (l .pos) (length (l .values)) && Explorer.allBelow Explorer.maxSlots (l .values))
-reply-fits pos (load l) whichBit = tt
-reply-fits pos (spurious u) (whichThread points initial standings) = tt
-reply-fits pos (spurious u) (whichSlot m) = tt
-reply-fits pos (spurious u) whichBit = tt
+use Rattle.rules.proofs.MeasureTicks.{thread-lower, slot-lower, spurious-lower, next-lower}
 
 -- a tick that goes on has lowered the measure below n
 data Lowers (p : Program) (n : ℕ) : Tick State → Type 0 where
@@ -63,24 +41,35 @@ module _ (p : Program) (limits : Limits) where
     followed-lowers site w stopping = isFaulted
     followed-lowers site w ending = isOver
 
-    replied-lowers : (site : Site) (w : Walk State) (q : Question) (r : Reply) → FitsReply q r → Asked p n (w .state) q →
-        Lowers p n (Explorer.replied (machine p) limits site w r)
-    replied-lowers site w q (says a) f h = followed-lowers site (Explorer.onward w) (answered-lower p n (w .state) q a f h)
-    replied-lowers site w q unexpected f h = isFaulted
+    -- the branch answers in the question's kind, or the explorer stops
+    replied-lowers : (site : Site) (w : Walk State) (b : Branch) (q : Question) → Asked p n (w .state) q →
+        Lowers p n (Explorer.replied (machine p) limits site w (reply (w .pos) b q))
+    unfolding reply
+    replied-lowers site w (schedule s) (whichThread points initial standings) h =
+        followed-lowers site (Explorer.onward w) (thread-lower p n (w .state) _ _ h)
+    replied-lowers site w (load l) (whichSlot m) h =
+        pick (λ (r : Reply). Lowers p n (Explorer.replied (machine p) limits site w r))
+        (ltb (l .pos) (length (l .values)) && Explorer.allBelow Explorer.maxSlots (l .values))
+        (λ e. followed-lowers site (Explorer.onward w) (slot-lower p n (w .state) _ _ h)) (λ e. isFaulted)
+    replied-lowers site w (spurious u) whichBit h = followed-lowers site (Explorer.onward w) (spurious-lower p n (w .state) _ h)
+    replied-lowers site w (schedule s) (whichSlot m) h = isFaulted
+    replied-lowers site w (schedule s) whichBit h = isFaulted
+    replied-lowers site w (load l) (whichThread points initial standings) h = isFaulted
+    replied-lowers site w (load l) whichBit h = isFaulted
+    replied-lowers site w (spurious u) (whichThread points initial standings) h = isFaulted
+    replied-lowers site w (spurious u) (whichSlot m) h = isFaulted
 
     new-lowers : (site : Site) (w : Walk State) (q : Question) (b : Pushed) → Asked p n (w .state) q →
         Lowers p n (Explorer.newBranch (machine p) limits site w q b)
-    new-lowers site w q (pushes b) h =
-        replied-lowers site (Explorer.withLedger w (Explorer.withBranch (w .ledger) b)) q (reply (w .pos) b q) (reply-fits (w .pos) b q) h
+    new-lowers site w q (pushes b) h = replied-lowers site (Explorer.withLedger w (Explorer.withBranch (w .ledger) b)) b q h
     new-lowers site w q (faults f) h = isFaulted
 
     met-lowers : (site : Site) (w : Walk State) (explores : Bool) (q : Question) → Asked p n (w .state) q →
         Lowers p n (Explorer.met (machine p) limits site w explores q)
     met-lowers site w explores q h =
-        let b = getD (w .ledger .path) (w .pos) noBranch in
         pick (Lowers p n) (eqb (w .pos) (length (w .ledger .path)))
         (λ e. new-lowers site w q (pushed (limits .branches) (w .ledger .path) explores q) h)
-        (λ e. replied-lowers site w q (reply (w .pos) b q) (reply-fits (w .pos) b q) h)
+        (λ e. replied-lowers site w (getD (w .ledger .path) (w .pos) noBranch) q h)
 
     taken-lowers : (site : Site) (w : Walk State) {e : Event.Move State} → Lower p n e → Lowers p n (Explorer.taken (machine p) limits site w e)
     taken-lowers site w (lowered {es = es} r l) =
