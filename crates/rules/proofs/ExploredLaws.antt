@@ -1,15 +1,14 @@
 -- `explored`, spelt out for each refusal and for a run: document 01's table of answers, row by row. Assumes nothing.
 use Prim.Native.Nat.{ℕ, _*_}
 use mathlib.Core.List.{List}
-use mathlib.Core.Bool.{Bool, true, false}
-use mathlib.Core.Path.{_≡_, refl}
+use mathlib.Core.Bool.{true, false}
+use mathlib.Core.Path.{_≡_}
 use mathlib.Core.Logic.{_≢_}
-use lib.Dec.{eqb}
 use lib.ListN.{length}
 use borrow.Author.Tests.{eq-eqb, ne-eqb}
 use Rattle.rules.specs.Path.{recordBytes}
 use Rattle.rules.specs.Table.{judged, good, badHeader, badRow}
-use Rattle.rules.specs.Explored.{Settings, Explored, explored, refused, ran, stopOf, settingsFine}
+use Rattle.rules.specs.Explored.{Settings, explored, refused, ran, stopOf, settingsFine}
 
 module _ (table : List ℕ) (s : Settings) (path trace : List ℕ) where
   -- "2 B, L or N out of range": "buffers unchanged"

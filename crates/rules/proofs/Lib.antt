@@ -1,4 +1,12 @@
 pub mod ExploredLaws
+pub mod Measure
+pub mod MeasureAccepted
+pub mod MeasureLoops
+pub mod MeasureRows
+pub mod MeasureStart
+pub mod MeasureSteps
+pub mod MeasureTicks
+pub mod MeasureWalk
 pub mod RecordLaws
 pub mod StateLaws
 pub mod VectorLaws

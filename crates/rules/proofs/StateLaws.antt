@@ -2,14 +2,14 @@
 -- lengths. Positions are unfolded here and nowhere else. Assumes nothing.
 --     vector-same, vector-other, vector-kept     and the same for values, numbers and marks
 --     vectorAt-apart, valueAt-apart, numberAt-apart       different names within the tables stand at different positions
-use Prim.Native.Nat.{ℕ, zero, suc, _+_, _-_, _≤_, _<_}
-use mathlib.Core.List.{List, [], _∷_}
-use mathlib.Core.Bool.{Bool, true, false, cond}
+use Prim.Native.Nat.{ℕ, _+_, _-_, _≤_, _<_}
+use mathlib.Core.List.{List, []}
+use mathlib.Core.Bool.{false, cond}
 use mathlib.Core.Path.{_≡_, refl, ap, sym, _∙_}
 use mathlib.Core.Logic.{_≢_}
 use native.Mathlib.Omega.{arith}
 use lib.Dec.{ltb}
-use lib.ListN.{length, getD, set, length-set}
+use lib.ListN.{length, length-set}
 use lib.Seq.{getD-set-same, getD-set-other}
 use borrow.Author.Tests.{lt-ltb, le-ltb}
 use Rattle.rules.specs.State

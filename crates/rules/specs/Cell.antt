@@ -3,18 +3,18 @@
 --     matchedLoad, matchedRmw        the offers, or that equal orders were met
 --     loadDone, rmwDone, storeDone, unsyncLoadDone, mutDone       the accesses
 --     fenced                         the fences
-use Prim.Native.Nat.{ℕ, zero, suc, _+_, _-_, _*_, _%_}
-use mathlib.Core.List.{List, [], _∷_, map}
+use Prim.Native.Nat.{ℕ, zero, suc, _+_, _%_}
+use mathlib.Core.List.{List, [], _∷_}
 use mathlib.Core.Bool.{Bool, true, false, cond, not, _&&_, _||_}
-use lib.Dec.{ltb, leb, eqb}
-use lib.ListN.{getD, set, replicate}
+use lib.Dec.{ltb, eqb}
+use lib.ListN.{getD, set}
 use Rattle.rules.specs.Vector as Vectors
-use Rattle.rules.specs.Vector.{joined, less, ahead, Whom, nobody, thread, zeros, oneMore}
+use Rattle.rules.specs.Vector.{joined, less, ahead, Whom, nobody, thread, oneMore}
 use Rattle.rules.specs.Change.{Change, Changed, success, failure, applied}
 use Rattle.rules.specs.Seen.{seen, seenBeforeYield, touchedAt, touched, unseens}
 use Rattle.rules.specs.Event.{Matched, offers}
 use Rattle.rules.specs.Event as Event
-use Rattle.rules.specs.State.{State, Clocks, Marks, Values, Numbers, Vector, Number, vector, withVector, marksOf, withMarks, value, withValue, number, withNumber, storeAt, history, threads}
+use Rattle.rules.specs.State.{State, Clocks, Marks, Values, Numbers, Vector, vector, withVector, marksOf, withMarks, value, withValue, number, withNumber, storeAt, history, threads}
 use Rattle.rules.specs.State.{causality, released, seqCst, loaded, unsyncLoaded, stored, mutated, happensBefore, order, sync, ofStore, count, isSeqCst, lastYield}
 
 -- Orders
@@ -77,8 +77,9 @@ pub data Fate : Type 0 where
   dropped : Fate
   equalMet : Fate
 
--- "slot i is dropped at the first live j with order i < order j and (..)"; "13 exactly if some row i meets an equal order at j
--- before being dropped". Here are the n slots from j on, i itself passed over; what stands in the brackets is a test of j
+-- "slot i is dropped at the first live j with order i < order j and (j seen, or ..)"; "13 exactly if some row i meets an equal
+-- order at j before being dropped". Here are the n slots from j on, i itself passed over [Q25]; what stands in the brackets is a
+-- test of j
 unfoldable pub fateFrom : Clocks → ℕ → ℕ → (ℕ → Bool) → ℕ → ℕ → Fate
 fateFrom clocks c i drops zero j = kept
 fateFrom clocks c i drops (suc n) j =
@@ -100,11 +101,11 @@ loadDrops clocks rows numbers t c o i j =
     || seenBeforeYield (getD rows i []) t (number numbers (lastYield t))
     || allSeqCst numbers c i j o
 
--- "Match for load"
+-- "Match for load" (atomic.rs: match_load_to_stores)
 unfoldable pub loadFate : Clocks → List (List ℕ) → Numbers → ℕ → ℕ → ℕ → ℕ → Fate
 loadFate clocks rows numbers t c o i = fateFrom clocks c i (loadDrops clocks rows numbers t c o i) (liveIn numbers c) 0
 
--- "RMW drops at any greater j."
+-- "RMW drops at any greater j." (atomic.rs: match_rmw_to_stores)
 unfoldable pub rmwFate : Clocks → Numbers → ℕ → ℕ → Fate
 rmwFate clocks numbers c i = fateFrom clocks c i (λ (j : ℕ). true) (liveIn numbers c) 0
 
@@ -134,7 +135,7 @@ pub data Race : Type 0 where
   noRace : Race
   raceOf : ℕ → ℕ → Race
 
--- "14 race: kind and other thread": the accesses of this sort have a thread ahead
+-- "14 race: kind and other thread": the accesses of this sort have a thread ahead, and the other is the lowest [Q31]
 abbrev pub ofKind : ℕ → Whom → Race
 ofKind kind nobody = noRace
 ofKind kind (thread other) = raceOf kind other
@@ -166,7 +167,8 @@ mutRace clocks t c =
     (orElse (raceWith clocks t (stored c) 8)
     (raceWith clocks t (mutated c) 9)))
 
--- an access that does not race is recorded: its sort takes the thread's causality in
+-- an access that does not race is recorded: its sort takes in the thread's causality, which is that before it synchronises [Q31]
+-- (atomic.rs: track_load, track_unsync_load, track_store, track_unsync_mut)
 abbrev pub recorded : Race → Clocks → Vector → ℕ → Clocks
 recorded noRace clocks v t = joinInto clocks v (causality t)
 recorded (raceOf kind other) clocks v t = clocks
@@ -185,13 +187,14 @@ mutTracked clocks t c = recorded (mutRace clocks t c) clocks (mutated c) t
 
 -- Coherence and touch
 
--- the other stores that the thread has seen or that happened before it
+-- the other stores that the thread has seen or that happened before it (atomic.rs: apply_load_coherence)
 abbrev pub coheres : Clocks → List (List ℕ) → ℕ → ℕ → ℕ → ℕ → Bool
 coheres clocks rows t c slot i =
     not (eqb i slot)
     && (seenBy clocks rows t i || less (vector clocks (happensBefore (storeAt c i))) (vector clocks (causality t)))
 
--- "coherence": an order takes in the orders of those stores, here of the n slots from i on
+-- "coherence": an order takes in the orders of those stores, here of the n slots from i on. A slot that is not live would add
+-- nothing (docs/DECISIONS.md, 49)
 unfoldable pub coherentFrom : Clocks → List (List ℕ) → ℕ → ℕ → ℕ → List ℕ → ℕ → ℕ → List ℕ
 coherentFrom clocks rows t c slot so zero i = so
 coherentFrom clocks rows t c slot so (suc n) i =
@@ -216,11 +219,12 @@ touchDone clocks marks t c slot = withMarks marks c (touchedAt (marksOf marks c)
 abbrev pub slotOf : ℕ → ℕ
 slotOf n = n % history
 
--- "newest": the last in execution order
+-- "newest": the last in execution order [Q18]
 abbrev pub newest : ℕ → ℕ
 newest n = (n % history + 6) % history
 
--- "A new store joins the orders of all seen slots, the one it replaces included.", here of the n slots from i on
+-- "A new store joins the orders of all seen slots, the one it replaces included.", here of the n slots from i on. It starts from
+-- the causality (atomic.rs: State::store)
 unfoldable pub storeOrderFrom : Clocks → List (List ℕ) → ℕ → ℕ → List ℕ → ℕ → ℕ → List ℕ
 storeOrderFrom clocks rows t c so zero i = so
 storeOrderFrom clocks rows t c so (suc n) i =
@@ -234,14 +238,15 @@ abbrev pub withStore : Clocks → ℕ → List ℕ → List ℕ → List ℕ →
 withStore clocks store hb so s =
     withVector (withVector (withVector clocks (happensBefore store) hb) (order store) so) (sync store) s
 
--- the new store is seen by its own thread alone
+-- the new store is seen by its own thread alone (atomic.rs: State::store)
 abbrev pub firstMarked : Clocks → List (List ℕ) → ℕ → ℕ → List (List ℕ)
 firstMarked clocks rows t slot = set rows slot (touched (unseens threads) t (version clocks t))
 
 abbrev pub seqCstFlag : ℕ → ℕ
 seqCstFlag o = cond (eqb o seqCstOrder) 1 0
 
--- a store of a value in the cell's next slot, with the sync vector that it starts from
+-- a store of a value in the cell's next slot, with the sync vector that it starts from. Happens-before, order and mark go by the
+-- causality at this moment, for an RMW after its sync [Q30]
 unfoldable pub storeDone : State → ℕ → ℕ → List ℕ → ℕ → ℕ → State
 storeDone st t c from v o =
     let n = number (st .numbers) (count c) in
@@ -291,12 +296,12 @@ loadDone st t c slot o =
 
 -- RMW
 
--- "failure syncs by the failure order only"
+-- "failure syncs by the failure order only" (atomic.rs: State::rmw)
 abbrev pub failed : State → ℕ → ℕ → ℕ → ℕ → Access
 failed st t store v o = read v (withClocks st (loadSynced (st .clocks) t store o))
 
 -- "An RMW that succeeds checks the store race after touching, then syncs by success order, and copies that sync into the new
--- store"
+-- store", where it takes the store synchronisation too [Q30]
 unfoldable pub succeeded : State → ℕ → ℕ → ℕ → ℕ → ℕ → ℕ → Access
 succeeded st t c store v new o =
     let synced = withClocks st (loadSynced (storeTracked (st .clocks) t c) t store o) in
@@ -307,7 +312,7 @@ abbrev pub byChange : Changed → State → ℕ → ℕ → ℕ → ℕ → ℕ 
 byChange (success new) st t c store v o f = succeeded st t c store v new o
 byChange failure st t c store v o f = failed st t store v f
 
--- RMW of a slot: a load's race, coherence and touch, then the change
+-- RMW of a slot: a load's race, coherence and touch, then the change (atomic.rs: State::rmw)
 unfoldable pub rmwDone : State → ℕ → ℕ → ℕ → Change → ℕ → ℕ → Access
 rmwDone st t c slot change o f =
     let store = storeAt c slot in
@@ -320,7 +325,7 @@ rmwDone st t c slot change o f =
 abbrev pub newestOf : Numbers → ℕ → ℕ
 newestOf numbers c = storeAt c (newest (number numbers (count c)))
 
--- "5 unsynchronised load"
+-- "5 unsynchronised load": order, sync and marks stay as they are [Q28]
 unfoldable pub unsyncLoadDone : State → ℕ → ℕ → Access
 unsyncLoadDone st t c =
     unlessRace (unsyncLoadRace (st .clocks) t c) st
@@ -331,7 +336,7 @@ abbrev pub leaves : Changed → ℕ → ℕ
 leaves (success new) v = new
 leaves failure v = v
 
--- "6 exclusive change (`with_mut`)": only the newest store's value changes. A failing one still tracks
+-- "6 exclusive change (`with_mut`)": only the newest store's value changes; a failing one still tracks [Q28]
 unfoldable pub mutDone : State → ℕ → ℕ → Change → Access
 mutDone st t c change =
     let store = newestOf (st .numbers) c in
@@ -341,12 +346,12 @@ mutDone st t c change =
 
 -- Fences
 
--- the k-th from the oldest of the stores that are live: "stores oldest first"
+-- the k-th from the oldest of the stores that are live: "stores oldest first" (atomic.rs: stores_mut, range)
 abbrev pub kthOldest : ℕ → ℕ → ℕ
 kthOldest n k = cond (ltb n history) k ((n % history + k) % history)
 
 -- "Acquire fence: .. stores oldest first; causality grown by one join counts for the next store.": n more stores, from the
--- k-th on. Only seen stores are joined
+-- k-th on. Only seen stores are joined [Q29] (atomic.rs: fence_acq)
 unfoldable pub acquiredFrom : Clocks → List (List ℕ) → ℕ → ℕ → ℕ → ℕ → ℕ → Clocks
 acquiredFrom clocks rows cnt t c zero k = clocks
 acquiredFrom clocks rows cnt t c (suc n) k =
@@ -357,7 +362,7 @@ acquiredFrom clocks rows cnt t c (suc n) k =
 unfoldable pub cellAcquired : Clocks → List (List ℕ) → ℕ → ℕ → ℕ → Clocks
 cellAcquired clocks rows cnt t c = acquiredFrom clocks rows cnt t c (liveStores cnt) 0
 
--- "cells in order": n more cells, from cell c on
+-- "cells in order": n more cells, from cell c on; what one cell's join adds counts for the next cell [Q29]
 unfoldable pub cellsAcquired : Clocks → Marks → Numbers → ℕ → ℕ → ℕ → Clocks
 cellsAcquired clocks marks numbers t zero c = clocks
 cellsAcquired clocks marks numbers t (suc n) c =
@@ -366,7 +371,7 @@ cellsAcquired clocks marks numbers t (suc n) c =
 unfoldable pub fenceAcquired : Clocks → Marks → Numbers → ℕ → ℕ → Clocks
 fenceAcquired clocks marks numbers t cells = cellsAcquired clocks marks numbers t cells 0
 
--- a release fence sets released to the causality
+-- a release fence sets released to the causality [Q25] (atomic.rs: fence_rel)
 unfoldable pub fenceReleased : Clocks → ℕ → Clocks
 fenceReleased clocks t = withVector clocks (released t) (vector clocks (causality t))
 
@@ -374,7 +379,7 @@ fenceReleased clocks t = withVector clocks (released t) (vector clocks (causalit
 unfoldable pub fenceSeqCst : Clocks → ℕ → Clocks
 fenceSeqCst clocks t = joinInto (joinInto clocks (causality t) seqCst) seqCst (causality t)
 
--- "Orders: .. 1 Release, 2 Acquire, 3 AcqRel, 4 SeqCst."
+-- "Orders: .. 1 Release, 2 Acquire, 3 AcqRel, 4 SeqCst.": AcqRel is acquire, then release [Q29]
 unfoldable pub fenced : Clocks → Marks → Numbers → ℕ → ℕ → ℕ → Clocks
 fenced clocks marks numbers t cells o =
     cond (eqb o 1) (fenceReleased clocks t)

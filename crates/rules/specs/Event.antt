@@ -1,11 +1,9 @@
 -- What a machine is to the explorer: where it starts, what it does next, and how it goes on with an answer. A machine never
 -- reads the path: it asks, and is answered. The explorer and all that is said of its ledger are over any machine.
-use Prim.Native.Nat.{ℕ, zero, suc, _+_, _*_, _/_, _%_}
-use mathlib.Core.List.{List, [], _∷_, _++_}
-use mathlib.Core.Bool.{Bool, true, false, cond}
-use lib.Dec.{eqb}
-use lib.ListN.{length}
-use Rattle.rules.specs.Vector.{Whom, nobody, thread}
+use Prim.Native.Nat.{ℕ, zero, suc, _+_, _/_, _%_}
+use mathlib.Core.List.{List, [], _∷_}
+use mathlib.Core.Bool.{Bool, cond}
+use Rattle.rules.specs.Vector.{Whom, thread}
 
 -- "In a run the first fault stops everything"
 pub data Fault : Type 0 where
@@ -25,7 +23,7 @@ pub data Fault : Type 0 where
   flags : Fault
   -- "17 a new schedule branch's preemptions would pass 255"
   preemptions : Fault
-  -- a number that is out of range where the rules read it back; no run of an accepted table meets it
+  -- a number that is out of range where the rules read it back; no run of an accepted table meets it (docs/DECISIONS.md, 37, 51)
   impossible : Fault
 
 -- the fault's number; 20 is none of document 01's
@@ -100,7 +98,7 @@ pub data Standing : Type 0 where
   cannotRun : Standing
   other : Standing
 
--- a branch's position among all branches of the path, or none
+-- a branch's position among all branches of the path [Q21], or none
 pub data Place : Type 0 where
   nowhere : Place
   branch : ℕ → Place

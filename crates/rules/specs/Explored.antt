@@ -3,12 +3,11 @@
 use Prim.Native.Nat.{ℕ, _+_, _-_, _*_}
 use mathlib.Core.List.{List, [], _∷_, _++_, map}
 use mathlib.Core.Bool.{Bool, true, false, cond, not, _&&_, _||_}
-use lib.Dec.{ltb, leb, eqb}
+use lib.Dec.{leb, eqb}
 use lib.ListN.{length, replicate}
 use Rattle.rules.specs.Path.{Bound, openIn, written, recordBytes}
 use Rattle.rules.specs.Table.{judged, good, badHeader, badRow}
-use Rattle.rules.specs.Event as Event
-use Rattle.rules.specs.Event.{Fault, Site, noSite, Entry, entryBytes, faultNumber, raceKind, otherThread}
+use Rattle.rules.specs.Event.{Site, noSite, Entry, entryBytes, faultNumber, raceKind, otherThread}
 use Rattle.rules.specs.State as State
 use Rattle.rules.specs.State.{State, number, rowsOf, yields, begun}
 use Rattle.rules.specs.Cell.{version}
@@ -24,7 +23,7 @@ pub record Settings : Type 0 where
   pub bound : Bound
   pub exploring : Bool
 
--- "summaries: state .., rows begun, yields, own version"
+-- "summaries: state .., rows begun, yields, own version", all of the last execution [Q6]
 pub record Summary : Type 0 where
   pub state : ℕ
   pub rows : ℕ
@@ -65,7 +64,7 @@ summary st t =
       version = version (st .clocks) t;
     })
 
--- "Checks run 2, 3, 4, 5; these give zero counts and summaries."
+-- "Checks run 2, 3, 4, 5; these give zero counts and summaries.", race kind 0 and other thread 255 [Q11]
 unfoldable pub refused : ℕ → ℕ → ℕ → List ℕ → List ℕ → Explored
 refused answer t k path trace = record {
   report = record {
@@ -99,7 +98,8 @@ verdictOther exhausted = 255
 verdictOther spent = 255
 verdictOther (stopped f site) = otherThread f
 
--- "255, 255 for 0 to 4 and 10", "from 11 on the current thread and its row, the row count if it is ending"
+-- "255, 255 for 0 to 4 and 10", "from 11 on the current thread and its row, the row count if it is ending": in a scheduling the
+-- thread that called it [Q5]
 unfoldable pub verdictSite : Verdict → Site
 verdictSite exhausted = noSite
 verdictSite spent = noSite
@@ -127,8 +127,8 @@ entriesBytes (e ∷ es) = entryBytes e ++ entriesBytes es
 unfoldable pub noted : ℕ → List Entry → List ℕ
 noted n es = entriesBytes es ++ replicate (n - recordBytes * length es) 0
 
--- more ticks than an execution can take: one more than the measure of its start (Measure). Each of L rows that begin takes at
--- most three (it begins, may block once, acts); of five threads each ends, and may free the joins of four others: 3·L + 25
+-- more ticks than an execution can take: one more than the measure of its start can be, 3·L + 25 (Measure). Each of L rows that
+-- begin takes at most three (it begins, may block once, acts); each of five threads ends, and may free the joins of four others
 abbrev pub ticksOf : ℕ → ℕ
 ticksOf operations = 3 * operations + 26
 
@@ -195,7 +195,7 @@ isRefusal answer = leb 2 answer && leb answer 5
 abbrev pub copied : Explored → List Summary → ExploredInto
 copied e list = record { explored = e; list = cond (isRefusal (e .report .answer)) list (e .report .threads) }
 
--- "4 trace buffer or thread list length wrong": judged with the trace buffer, so before the table
+-- "4 trace buffer or thread list length wrong": judged with the trace buffer, so before the table [Q13]
 unfoldable pub exploredInto : List ℕ → Settings → List ℕ → List ℕ → List Summary → ExploredInto
 exploredInto table s path trace list =
     elim (eqb (length list) 5 || not (settingsFine s) || not (eqb (length path) (recordBytes * s .branches))) [

@@ -1,5 +1,5 @@
 -- How an event meets the path, an execution as ticks, a run as executions, over any machine: document 01, "Settings, buffers,
--- answers" and "Explorer". Assumes nothing.
+-- answers" and "Interpreter, explorer". Assumes nothing.
 --     Ledger            the path, and what is counted over the whole history
 --     met               a question meets the path
 --     Walk, tick        an execution under way, and its next tick
@@ -7,10 +7,10 @@
 --     run               one execution after another, with their history
 use Prim.Native.Nat.{ℕ, zero, suc, _+_}
 use mathlib.Core.List.{List, [], _∷_, _++_, map}
-use mathlib.Core.Bool.{Bool, true, false, cond, not, _&&_, _||_}
+use mathlib.Core.Bool.{Bool, true, cond, _&&_}
 use lib.Dec.{ltb, leb, eqb}
 use lib.ListN.{length, getD, take}
-use Rattle.rules.specs.Path.{Branch, schedule, load, spurious, Schedule, Load, Spurious, Bound, Added, added, Marked, Choice}
+use Rattle.rules.specs.Path.{Branch, schedule, load, spurious, Load, Bound, Added, added, Choice}
 use Rattle.rules.specs.Path.{threadAdded, loadAdded, spuriousAdded, openAt, backtracked, stepped, openIn, choiceOf, activeIn, noBranch}
 use Rattle.rules.specs.Path.{disabled, skip, yield, toActive}
 use Rattle.rules.specs.Vector.{Whom}
@@ -61,7 +61,7 @@ seedState other = skip
 unfoldable pub seedOf : Whom → List Standing → List ℕ
 seedOf initial standings = toActive initial (map seedState standings)
 
--- the branch that a question adds where the path has none yet: "if new, match (13) then push (11)"
+-- the branch that a question adds where the path has none yet: "if new, match (13) then push (11)" (atomic.rs: Atomic::load)
 pub data Pushed : Type 0 where
   pushes : Branch → Pushed
   faults : Fault → Pushed
@@ -97,7 +97,7 @@ unfoldable pub allBelow : ℕ → List ℕ → Bool
 allBelow n [] = true
 allBelow n (x ∷ xs) = ltb x n && allBelow n xs
 
--- a load's value at its position; no path has a position past its values or a value that is no slot
+-- a load's value at its position; no path has a position past its values or a value that is no slot (docs/DECISIONS.md, 51)
 abbrev pub slotOf : Load → Reply
 slotOf l =
     cond (ltb (l .pos) (length (l .values)) && allBelow maxSlots (l .values))
@@ -159,11 +159,12 @@ module _ (M : Machine) (limits : Limits) where
   replied site w (says a) = followed site (onward w) (M .answered (w .state) a)
   replied site w unexpected = faulted Event.impossible site w
 
+  -- where no branch can be added, what came before the question has happened [Q4]
   abbrev pub newBranch : Site → Walk (M .State) → Question → Pushed → Tick (M .State)
   newBranch site w q (pushes b) = replied site (withLedger w (withBranch (w .ledger) b)) (reply (w .pos) b q)
   newBranch site w q (faults f) = faulted f site w
 
-  -- past the known path the question adds a branch; before its end the branch there answers
+  -- past the known path the question adds a branch; before its end the branch there answers (path.rs: is_traversed)
   abbrev pub met : Site → Walk (M .State) → Bool → Question → Tick (M .State)
   met site w exploring q =
       cond (eqb (w .pos) (length (w .ledger .path)))
@@ -193,7 +194,7 @@ module _ (M : Machine) (limits : Limits) where
   abbrev pub fresh : Ledger → Walk (M .State)
   fresh l = record { state = M .start; ledger = l; pos = 0; trace = [] }
 
-  -- "Executions begun" counts each as it begins, also the one that faults [Q8]
+  -- "executions begun": each is counted as it begins, also the one that faults [Q8]
   abbrev pub oneBegun : Ledger → Ledger
   oneBegun l = record { path = l .path; opened = l .opened; begun = l .begun + 1 }
 

@@ -12,13 +12,12 @@ use lib.Bits.{bitOr}
 use lib.ListN.{getD, set, replicate}
 use Rattle.rules.specs.Vector.{zeros, joined, atMost, raised, oneMore, Whom, nobody, thread}
 use Rattle.rules.specs.Seen.{unseens}
-use Rattle.rules.specs.Change.{Change}
 use Rattle.rules.specs.Table as Table
 use Rattle.rules.specs.Table.{Op, Decoded, refused, decoded, opAt, opcodeOf, startValue, threadsOf, cellsOf, countsOf, firstRows}
 use Rattle.rules.specs.Event as Event
-use Rattle.rules.specs.Event.{Fault, Entry, Matched, Place, nowhere, branch, Standing, Question, whichThread, whichSlot, whichBit, Answer, runThread, readSlot, takeBit, Site, noSite, Move, Machine, moves, asks, stops, ends}
+use Rattle.rules.specs.Event.{Entry, Matched, Place, nowhere, branch, Standing, whichThread, whichSlot, whichBit, Answer, runThread, readSlot, takeBit, noSite, Move, Machine, moves, asks, stops, ends}
 use Rattle.rules.specs.State as State
-use Rattle.rules.specs.State.{State, Clocks, Marks, Values, Numbers, Vector, Number, vector, withVector, value, withValue, number, withNumber, marksOf, storeAt, registerAt, vectorsHeld, valuesHeld, numbersHeld, threads, cells, history, none}
+use Rattle.rules.specs.State.{State, Clocks, Numbers, vector, withVector, value, withValue, number, withNumber, marksOf, registerAt, vectorsHeld, valuesHeld, numbersHeld, threads, cells, history, none}
 use Rattle.rules.specs.State.{causality, scheduleOf, mutated, lastAccess, lastNonLoad, ofRegister, ofStore, nextRow, rowsOf, yields, lastYield, operation, operatesOn, phase, awaits, count, accessBranch, nonLoadBranch, activeThread, begun, exploring, skipping}
 use Rattle.rules.specs.Cell.{joinInto, version, slotOf, newest, storeDone, storeRace, storeTracked, loadDone, rmwDone, unsyncLoadDone, mutDone, newestOf, fenced, matchedLoad, matchedRmw, Access, raced, read, Race, noRace, raceOf, withClocks, withValues}
 
@@ -57,7 +56,7 @@ ended = 4
 abbrev pub isIn : Numbers → ℕ → ℕ → Bool
 isIn numbers x t = eqb (number numbers (State.state t)) x
 
--- a thread's row is to begin, or has begun and is to act
+-- a thread's row is to begin, or has begun and is to act: a thread that is switched out there goes on with it [Q1]
 abbrev pub toBegin : ℕ
 toBegin = 0
 
@@ -94,6 +93,7 @@ noYield t numbers = withNumber numbers (lastYield t) none
 abbrev pub noAccess : ℕ → Numbers → Numbers
 noAccess c numbers = withNumber (withNumber numbers (accessBranch c) none) (nonLoadBranch c) none
 
+-- the flags are as the settings say at every start [Q12]
 unfoldable pub blank : Bool → State
 blank explores = record {
   clocks = replicate vectorsHeld (zeros threads);
@@ -102,7 +102,8 @@ blank explores = record {
   numbers = withNumber (forThreads noAccess cells 0 (forThreads noYield threads 0 (replicate numbersHeld 0))) exploring (cond explores 1 0);
 }
 
--- "cells take a Release store of their start value": a cell is made as the source makes it, its exclusive vector takes thread 0's
+-- "cells take a Release store of their start value": a cell's exclusive vector takes thread 0's, its stored vector none [Q26]
+-- (atomic.rs: State::new)
 abbrev pub cellMade : List ℕ → State → ℕ → State
 cellMade table st c =
     storeDone (withClocks st (joinInto (st .clocks) (mutated c) (causality 0))) 0 c (zeros threads) (startValue table c) 1
@@ -129,7 +130,7 @@ threadsStarted st (suc n) t = threadsStarted (threadStarted st t) n (t + 1)
 abbrev pub thread0Making : State → State
 thread0Making st = withClocks st (withVector (st .clocks) (causality 0) (set (zeros threads) 0 1))
 
--- "Start of each execution: ..". "Thread 0 runs.": the number 0 stands for it
+-- "Start of each execution: ..". "Thread 0 runs.", without a scheduling [Q7]: the number 0 stands for it
 unfoldable pub start : Program → State
 start p =
     threadsStarted
@@ -138,7 +139,8 @@ start p =
 
 -- Scheduling
 
--- the last dependent access: for a load that of the last store or RMW, else the last of any kind [Q23]
+-- the last dependent access: for a load that of the last store or RMW, else the last of any kind [Q23] (atomic.rs:
+-- last_dependent_access)
 abbrev pub dependentBranch : Numbers → ℕ → ℕ → ℕ
 dependentBranch numbers op c = cond (eqb op aLoad) (number numbers (nonLoadBranch c)) (number numbers (accessBranch c))
 
@@ -153,7 +155,7 @@ abbrev pub operationOf : State → ℕ → ℕ
 operationOf st t = cond (ltb (cellOf st t) cells) (number (st .numbers) (operation t)) noOperation
 
 -- "(a) for each thread in order with a pending operation, if the cell's last dependent access has a vector not ≤ that thread's
--- schedule vector, `backtrack` from that access's branch for that thread"
+-- schedule vector, `backtrack` from that access's branch for that thread": vectors that cannot be compared do, equal ones not [Q22]
 unfoldable pub conflict : State → ℕ → Place
 conflict st t =
     let op = operationOf st t in
@@ -251,7 +253,7 @@ someCanRun numbers zero t = false
 someCanRun numbers (suc n) t = canRun numbers t || someCanRun numbers n (t + 1)
 
 -- "(d) the branch chooses. None: if every present thread has ended, the execution ends, else 10." No branch chooses none where
--- a thread can run, nor a thread that cannot
+-- a thread can run, nor a thread that cannot (docs/DECISIONS.md, 51)
 unfoldable pub scheduled : State → Whom → ℕ → Move State
 scheduled st nobody at =
     cond (allOver (st .numbers) threads 0) (ends st)
@@ -260,7 +262,7 @@ scheduled st (thread t) at = cond (canRun (st .numbers) t) (moves (switched st t
 
 -- Rows
 
--- the trace entry of a row with this opcode: "slot .. or 255", "value .., else 0"
+-- the trace entry of a row with this opcode: "slot .. or 255", "value .., else 0" [Q18, Q19]
 abbrev pub noSlot : ℕ
 noSlot = 255
 
@@ -286,7 +288,7 @@ register st t r = value (st .values) (ofRegister (registerAt t r))
 abbrev pub withRegister : State → ℕ → ℕ → ℕ → State
 withRegister st t r v = withValues st (withValue (st .values) (ofRegister (registerAt t r)) v)
 
--- "1 store a; 2 store register": race, then the store
+-- "1 store a; 2 store register": race, then the store (atomic.rs: Atomic::store)
 abbrev pub storesUnless : Race → State → State → ℕ → ℕ → ℕ → ℕ → ℕ → ℕ → Move State
 storesUnless (raceOf kind other) st tracked t k opcode c o v = stops st (Event.race kind other)
 storesUnless noRace st tracked t k opcode c o v =
@@ -298,7 +300,8 @@ stores st t k opcode c o v =
     let up = versionRaised st t in
     storesUnless (storeRace (up .clocks) t c) up (withClocks up (storeTracked (up .clocks) t c)) t k opcode c o v
 
--- "Opcodes 0, 3, 5, 6 put the value read in the register, also on failure."; the trace has the value read, or of opcode 6 the value left
+-- "Opcodes 0, 3, 5, 6 put the value read in the register, also on failure."; the trace has the value read, or of opcode 6 the
+-- value left [Q18]
 abbrev pub reads : Access → ℕ → ℕ → ℕ → ℕ → ℕ → ℕ → Move State
 reads (raced kind other st) t k opcode r slot mask = stops st (Event.race kind other)
 reads (read v st) t k opcode r slot mask = moves (completed (withRegister st t r v) t (oneMore k)) (entry t k opcode slot mask v)
@@ -334,11 +337,12 @@ abbrev pub blockedOn : State → ℕ → ℕ → State
 blockedOn st t target =
     withNumbers st (withNumber (withNumber (withNumber (st .numbers) (State.state t) blocked) (awaits t) target) (operation t) noOperation)
 
+-- a join that goes through at once makes no scheduling [Q27]
 unfoldable pub joins : State → ℕ → ℕ → ℕ → ℕ → Move State
 joins st t k opcode target =
     cond (isIn (st .numbers) ended target) (done (joinedWith st t target) t k opcode) (schedules (blockedOn st t target) [])
 
--- "9 jump; 10 jump if register = a; 11 jump if not"
+-- "9 jump; 10 jump if register = a; 11 jump if not": with its entry whether taken or not [Q19]
 abbrev pub jumps : State → ℕ → ℕ → ℕ → Bool → ℕ → Move State
 jumps st t k opcode taken target = moves (completed st t (cond taken target (oneMore k))) (entry t k opcode noSlot 0 0)
 
@@ -357,7 +361,7 @@ explores st t k opcode on =
     (cond (eqb (number (st .numbers) exploring) (cond on 1 0)) (stops st Event.flags)
     (done (withNumbers st (withNumber (st .numbers) exploring (cond on 1 0))) t k opcode))
 
--- "15 `skip_branch`"
+-- "15 `skip_branch`" (path.rs: skip_branch)
 abbrev pub skipped : State → State
 skipped st = withNumbers st (withNumber (withNumber (st .numbers) exploring 0) skipping 1)
 
@@ -436,7 +440,7 @@ abbrev pub begunAs : State → ℕ → Pending → Move State
 begunAs st t nothing = moves st []
 begunAs st t (pends op c) = schedules (withOperation st t op c) []
 
--- "12 a row is to begin with L begun" [Q1]; "Scheduling is called before opcodes 0, 1, 2, 3 act"
+-- "12 a row is to begin with L begun" [Q1], and is then counted nowhere [Q2]; "Scheduling is called before opcodes 0, 1, 2, 3 act"
 unfoldable pub begins : Program → State → ℕ → Op → Move State
 begins p st t op =
     cond (leb (p .operations) (number (st .numbers) begun)) (stops st Event.rows) (begunAs (rowBegun st t) t (pendingOf op))
@@ -469,7 +473,7 @@ abbrev pub ofRow : Program → State → ℕ → ℕ → Decoded Op → Move Sta
 ofRow p st t k refused = stops st Event.impossible
 ofRow p st t k (decoded op) = cond (isToBegin st t) (begins p st t op) (acts p st t k op)
 
--- past its last row it ends [Q3]
+-- past its last row it ends [Q3], at once unless that row is a yield [Q27]
 unfoldable pub nextAt : Program → State → ℕ → ℕ → Move State
 nextAt p st t k =
     cond (isToBegin st t && leb (rowCount p t) k) (schedules (threadEnded st t) []) (ofRow p st t k (rowOf p t k))
@@ -482,12 +486,12 @@ next p st =
 
 -- How it goes on with an answer
 
--- "offer mask (bit i for slot i..)"
+-- "offer mask (bit i for slot i; ..)": of all that the branch offers, also in a replay [Q19]
 unfoldable pub maskOf : ℕ → List ℕ → ℕ
 maskOf mask [] = mask
 maskOf mask (i ∷ slots) = maskOf (bitOr mask (2 ^ i)) slots
 
--- a slot that is live can be read
+-- a slot that is live can be read; no branch chooses another (docs/DECISIONS.md, 51)
 abbrev pub ifLive : State → ℕ → ℕ → Move State → Move State
 ifLive st c slot m = cond (ltb slot (number (st .numbers) (count c))) m (stops st Event.impossible)
 

@@ -10,7 +10,7 @@ use Prim.Native.Nat.{ℕ, zero, suc, _+_, _-_, _*_, _/_, _%_}
 use mathlib.Core.List.{List, [], _∷_, _++_, map}
 use mathlib.Core.Bool.{Bool, true, false, cond, not, _&&_, _||_}
 use lib.Dec.{ltb, leb, eqb}
-use lib.ListN.{length, getD, set, take, replicate}
+use lib.ListN.{length, getD, set, replicate}
 use Rattle.rules.specs.Vector.{Whom, nobody, thread, next}
 
 -- Branches
@@ -82,8 +82,8 @@ maxValues = 7
 abbrev pub flag : Bool → ℕ
 flag b = cond b 1 0
 
--- "Path record: kind .., exploring; schedule: five states, preemptions, initial active, prev; load: seven values, pos, len;
--- spurious: bit. Rest zero."
+-- "Path record: kind .., exploring; schedule: five states .., preemptions, initial active or 255, prev u16 or 65535; load: seven
+-- values, pos, len; spurious: bit. Rest zero." [Q20]
 unfoldable pub encoded : Branch → List ℕ
 encoded (schedule s) =
     1 ∷ flag (s .exploring) ∷ (s .states ++ (s .preemptions ∷ s .initial ∷ s .prev % 256 ∷ s .prev / 256 ∷ replicate 5 0))
@@ -154,16 +154,17 @@ orFirst none (schedule s) = at 0 s
 orFirst none (load l) = none
 orFirst none (spurious u) = none
 
--- the last schedule of a path, with its position among all branches
+-- the last schedule of a path, with its position among all branches (path.rs: last_schedule)
 unfoldable pub lastSchedule : List Branch → Last
 lastSchedule [] = none
 lastSchedule (b ∷ bs) = orFirst (further (lastSchedule bs)) b
 
+-- the preemptions before a new branch [Q20]
 abbrev pub preemptionsAfter : Last → ℕ
 preemptionsAfter none = 0
 preemptionsAfter (at k s) = preemptionsWith s
 
--- the Active of the new branch, unless the schedule before has another [Q20]
+-- the Active of the new branch, unless the schedule before has another [Q20] (path.rs: branch_thread)
 abbrev pub initialAfter : Last → ℕ → ℕ
 initialAfter none now = now
 initialAfter (at k s) now = cond (eqb now (activeOf s)) now noThread
@@ -188,20 +189,20 @@ newSchedule exploring last states = record {
   prev = prevOf last;
 }
 
--- "11: a branch is to be added with B present"; "17: a new schedule branch's preemptions would pass 255 (tested after 11; the
--- branch isn't added)"
+-- "11 a branch is to be added with B present"; "17 a new schedule branch's preemptions would pass 255 (tested after 11; the
+-- branch isn't added)" [Q10]. A branch in which nobody is Active is one too [Q9]
 unfoldable pub threadAdded : ℕ → List Branch → Bool → List ℕ → Added
 threadAdded B bs exploring seed =
     cond (leb B (length bs)) full
     (cond (ltb 255 (preemptionsAfter (lastSchedule bs))) preempted
     (added (schedule (newSchedule exploring (lastSchedule bs) (toggled seed)))))
 
--- a load branch reads its first value first
+-- a load branch reads its first value first (path.rs: push_load)
 unfoldable pub loadAdded : ℕ → List Branch → Bool → List ℕ → Added
 loadAdded B bs exploring offers =
     cond (leb B (length bs)) full (added (load (record { exploring = exploring; values = offers; pos = 0 })))
 
--- a spurious branch says 0 first
+-- a spurious branch says 0 first (path.rs: branch_spurious)
 unfoldable pub spuriousAdded : ℕ → List Branch → Bool → Added
 spuriousAdded B bs exploring =
     cond (leb B (length bs)) full (added (spurious (record { exploring = exploring; bit = false })))
@@ -212,7 +213,7 @@ spuriousAdded B bs exploring =
 abbrev pub explored : ℕ → ℕ
 explored s = cond (eqb s skip) pending s
 
--- "a disabled target explores all Skip". A thread that is none is no target
+-- "a disabled target explores all Skip". A thread that is none is no target (path.rs: Schedule::backtrack)
 unfoldable pub marked : List ℕ → ℕ → List ℕ
 marked states t = cond (eqb (getD states t visited) disabled) (map explored states) (set states t (explored (getD states t visited)))
 
@@ -227,7 +228,7 @@ pub data Bound : Type 0 where
   unbounded : Bound
   atMost : ℕ → Bound
 
--- a record whose preemptions equal the bound takes no marks [Q32; path.rs: Schedule::backtrack]
+-- a record whose preemptions equal the bound takes no marks [Q32] (path.rs: Schedule::backtrack)
 unfoldable pub takesMarks : Bound → Schedule → Bool
 takesMarks unbounded s = true
 takesMarks (atMost n) s = not (eqb (s .preemptions) n)
@@ -354,7 +355,7 @@ left states = toVisited (activeIn states) states
 unfoldable pub turned : List ℕ → List ℕ
 turned states = toActive (firstIn pending (left states)) (left states)
 
--- a branch at its next choice
+-- a branch at its next choice (path.rs: step)
 unfoldable pub turnedBranch : Branch → Branch
 turnedBranch (schedule s) = schedule (withStates s (turned (s .states)))
 turnedBranch (load l) = load (record { exploring = l .exploring; values = l .values; pos = l .pos + 1 })

@@ -20,11 +20,11 @@ unseens n = replicate n unseen
 abbrev pub markOf : List ℕ → ℕ → ℕ
 markOf marks t = getD marks t unseen
 
--- a mark that is there, and "mark ≤ that part"
+-- a mark that is there, and "mark ≤ that part" (atomic.rs: is_seen_by_current)
 abbrev pub known : ℕ → ℕ → Bool
 known mark part = not (eqb mark unseen) && leb mark part
 
--- "Seen: for some thread, mark ≤ that part of the current causality." The lowest such thread, or none
+-- "Seen: for some thread, mark ≤ that part of the current causality.": the lowest such thread, or none
 unfoldable pub seenThrough : List ℕ → List ℕ → Whom
 seenThrough [] causality = nobody
 seenThrough (m ∷ marks) [] = nobody
@@ -37,7 +37,7 @@ someone (thread t) = true
 unfoldable pub seen : List ℕ → List ℕ → Bool
 seen marks causality = someone (seenThrough marks causality)
 
--- "seen by this thread no later than its last yield"; before its first yield it has none
+-- "seen by this thread no later than its last yield"; before its first yield it has none (atomic.rs: is_seen_before_yield)
 unfoldable pub seenBeforeYield : List ℕ → ℕ → ℕ → Bool
 seenBeforeYield marks t lastYield = not (eqb lastYield none) && known (markOf marks t) lastYield
 

@@ -1,12 +1,14 @@
 -- The state of an execution: four tables, and a name for each thing that they hold. Positions are worked out here and nowhere
 -- else: a vector, a number or a value is read and written by its name. Assumes nothing.
+-- In the comments of these files a quotation stands in document 01, with .. for what is left out; [Q23] is question 23 of those
+-- that docs/DECISIONS.md settles, 1 to 32; (path.rs: step) is a function of loom 0.7.2's source.
 --     vector, withVector     a vector of five parts, by its name
 --     marksOf, withMarks     a cell's marks of first sight
 --     value, withValue       a store's value or a register
 --     number, withNumber     a number
 use Prim.Native.Nat.{ℕ, _+_, _*_}
-use mathlib.Core.List.{List, [], _∷_}
-use lib.ListN.{getD, set, replicate}
+use mathlib.Core.List.{List, []}
+use lib.ListN.{getD, set}
 
 -- "MAX_THREADS is 5, MAX_ATOMIC_HISTORY 7.", "cells 1..4", "register 0..3"
 abbrev pub threads : ℕ
@@ -18,7 +20,7 @@ history = 7
 abbrev pub cells : ℕ
 cells = 4
 
--- a number that stands for none: no last yield, no last access
+-- a number that stands for none: no last yield, no last access (docs/DECISIONS.md, 50)
 abbrev pub none : ℕ
 none = 65535
 
@@ -39,14 +41,14 @@ pub data Vector : Type 0 where
   scheduleOf : ℕ → Vector
   -- "the global SeqCst vector"
   seqCst : Vector
-  -- of a cell: the accesses that races are judged by, and the last accesses
+  -- of a cell: the accesses that races are judged by, and the last accesses (atomic.rs: State)
   loaded : ℕ → Vector
   unsyncLoaded : ℕ → Vector
   stored : ℕ → Vector
   mutated : ℕ → Vector
   lastAccess : ℕ → Vector
   lastNonLoad : ℕ → Vector
-  -- of a store
+  -- of a store (atomic.rs: Store)
   happensBefore : ℕ → Vector
   order : ℕ → Vector
   sync : ℕ → Vector

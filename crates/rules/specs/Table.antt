@@ -2,7 +2,7 @@
 -- of its bytes. Assumes nothing.
 --     headerFine             whether the header and the length are those of a table
 --     Op, rowDecoded         what a row does, by its opcode with just the fields that the opcode uses; or that it is refused
---     judged, accepted       the whole table, and its first bad row
+--     judged                 the whole table, and its first bad row
 --     startValue, rowAt      a cell's start value, and a row's fields by its number among all rows
 use Prim.Native.Nat.{ℕ, zero, suc, _+_, _*_}
 use mathlib.Core.List.{List, [], _∷_, _++_}
@@ -88,7 +88,7 @@ total (c ∷ cs) = c + total cs
 abbrev pub sizeOf : ℕ → ℕ → ℕ
 sizeOf cells rows = headerBytes + valueBytes * cells + rowBytes * rows
 
--- "Header of 8 bytes: threads 1..5, cells 1..4, five row counts 0..32 (0 past the thread count), a zero.", and the length
+-- "Header of 8 bytes: threads 1..5, cells 1..4, five row counts 0..32 (0 past the thread count), a zero.", and the length [Q14]
 unfoldable pub headerFine : List ℕ → Bool
 headerFine t =
     leb headerBytes (length t)
@@ -142,7 +142,7 @@ rowFrom t at = record {
   b = u64At t (at + 16);
 }
 
--- what stands for a row that the table does not hold: no opcode is 255
+-- what stands for a row that the table does not hold: no opcode is 255 (docs/DECISIONS.md, 41)
 abbrev pub noRow : Row
 noRow = record { opcode = 255; object = 0; order = 0; failure = 0; kind = 0; register = 0; target = 0; a = 0; b = 0 }
 
@@ -284,6 +284,7 @@ storeRegisterRow cells r =
     && unused (r .failure ∷ r .kind ∷ r .target ∷ r .a ∷ r .b ∷ []))
     (storeRegister (r .object) (r .order) (r .register))
 
+-- an RMW may have any order, and its failure order is not compared with it [Q16]
 abbrev pub rmwRow : ℕ → Row → Decoded Change → Decoded Op
 rmwRow cells r refused = refused
 rmwRow cells r (decoded change) =
@@ -403,7 +404,7 @@ pub data Verdict : Type 0 where
   badRow : ℕ → ℕ → Verdict
 
 -- "the first bad row", thread and row within the thread: of the threads from this one on, whose counts are these and whose
--- rows begin at this number
+-- rows begin at this number [Q14]
 unfoldable pub rowsJudged : List ℕ → ℕ → ℕ → ℕ → ℕ → List ℕ → Verdict
 rowsJudged t threads cells thread first [] = good
 rowsJudged t threads cells thread first (c ∷ cs) =
@@ -414,7 +415,3 @@ rowsJudged t threads cells thread first (c ∷ cs) =
 -- "for 5 the first bad row, or 255, 255 if header or length is bad, which is judged first"
 unfoldable pub judged : List ℕ → Verdict
 judged t = cond (headerFine t) (rowsJudged t (threadsOf t) (cellsOf t) 0 0 (countsOf t)) badHeader
-
--- 5 is given exactly when "table refused"
-unfoldable pub accepted : List ℕ → Bool
-accepted t = elim (judged t) [ good ↦ true | badHeader ↦ false | badRow thread i ↦ false ]

@@ -13,7 +13,7 @@ largest = 65535
 abbrev pub zeros : ℕ → List ℕ
 zeros n = replicate n 0
 
--- "each part ≤": every part of the first has a part of the second beside it that is not smaller
+-- "each part ≤": every part of the first has a part of the second beside it that is not smaller (docs/DECISIONS.md, 35)
 unfoldable pub atMost : List ℕ → List ℕ → Bool
 atMost [] ys = true
 atMost (x ∷ xs) [] = false
@@ -51,7 +51,7 @@ ahead xs [] = nobody
 ahead [] (y ∷ ys) = thread 0
 ahead (x ∷ xs) (y ∷ ys) = cond (ltb x y) (thread 0) (next (ahead xs ys))
 
--- "by 1": one more, but a u16 stays where it is largest
+-- "by 1": one more, but a u16 stays where it is largest (docs/DECISIONS.md, 34)
 abbrev pub oneMore : ℕ → ℕ
 oneMore n = cond (ltb n largest) (n + 1) n
 

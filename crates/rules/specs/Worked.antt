@@ -2,7 +2,7 @@
 -- document says; that the two columns are equal is one statement, computed by the checker (proofs/Worked.antt).
 use Prim.Native.Nat.{ℕ, zero, suc, _+_, _-_, _*_, _^_}
 use mathlib.Core.List.{List, [], _∷_, _++_, map}
-use mathlib.Core.Bool.{Bool, true, false, cond}
+use mathlib.Core.Bool.{true, cond}
 use lib.Dec.{eqb}
 use lib.ListN.{length, replicate}
 use Rattle.rules.specs.Path.{Bound, unbounded, atMost}
@@ -47,28 +47,43 @@ unfoldable pub threadsAsBytes : List (List Row) → List ℕ
 threadsAsBytes [] = []
 threadsAsBytes (rows ∷ threads) = rowsAsBytes rows ++ threadsAsBytes threads
 
--- one cell with this start value, and these threads
-unfoldable pub table : ℕ → List (List Row) → List ℕ
-table start threads =
-    length threads
-    ∷ 1
-    ∷ (map (λ (rows : List Row). length rows) threads
-    ++ (replicate (5 - length threads) 0 ++ (0 ∷ (little 8 start ++ threadsAsBytes threads))))
+unfoldable pub valuesAsBytes : List ℕ → List ℕ
+valuesAsBytes [] = []
+valuesAsBytes (v ∷ values) = little 8 v ++ valuesAsBytes values
 
-abbrev pub load : Row
-load = row 0 0 0 0 0 0
+-- a cell for each of these start values, and these threads
+unfoldable pub table : List ℕ → List (List Row) → List ℕ
+table starts threads =
+    length threads
+    ∷ length starts
+    ∷ (map (λ (rows : List Row). length rows) threads
+    ++ (replicate (5 - length threads) 0 ++ (0 ∷ (valuesAsBytes starts ++ threadsAsBytes threads))))
+
+-- Rows: loads and changes of a cell, by register 0; stores in cell 0
+
+abbrev pub load : ℕ → Row
+load cell = row 0 cell 0 0 0 0
 
 abbrev pub store : ℕ → Row
 store a = row 1 0 0 0 0 a
 
-abbrev pub exclusive : Row
-exclusive = row 6 0 0 0 0 0
+abbrev pub storeRelease : ℕ → Row
+storeRelease a = row 1 0 1 0 0 a
+
+abbrev pub decrement : ℕ → Row
+decrement cell = row 3 cell 0 12 0 0
+
+abbrev pub fenceAcquire : Row
+fenceAcquire = row 4 0 2 0 0 0
+
+abbrev pub unsyncLoad : ℕ → Row
+unsyncLoad cell = row 5 cell 0 0 0 0
+
+abbrev pub exclusive : ℕ → Row
+exclusive cell = row 6 cell 0 0 0 0
 
 abbrev pub join : ℕ → Row
 join t = row 8 t 0 0 0 0
-
-abbrev pub decrement : Row
-decrement = row 3 0 0 12 0 0
 
 abbrev pub check : ℕ → Row
 check a = row 12 0 0 0 0 a
@@ -120,7 +135,7 @@ pub record Worked : Type 0 where
 -- "P1 one thread, cell 7, load Relaxed, B=3, L=1: answer 0. Trace 00 00 00 00 01 00 00 00 07 then seven zeros. Path: 01 01 04 00
 -- 00 00 00 00 00 FF FF then five zeros; 02 01, eight zeros, 01, five zeros; 01 01, six zeros, FF, seven zeros."
 abbrev pub oneLoad : List ℕ
-oneLoad = table 7 ((load ∷ []) ∷ [])
+oneLoad = table (7 ∷ []) ((load 0 ∷ []) ∷ [])
 
 abbrev pub p1 : Worked
 p1 = record { given = answerOf (run oneLoad (limits 3 1 unbounded)); said = 0 ∷ [] }
@@ -145,7 +160,7 @@ p2 = record { given = answerOf (run oneLoad (limits 2 1 unbounded)); said = 11 �
 
 -- "P3 thread 0 stores 1, thread 1 loads, Relaxed, one cell starting at 0: 5 executions, values 0,1,0,0,1, opened 4."
 abbrev pub storeAndLoad : List ℕ
-storeAndLoad = table 0 ((store 1 ∷ []) ∷ (load ∷ []) ∷ [])
+storeAndLoad = table (0 ∷ []) ((store 1 ∷ []) ∷ (load 0 ∷ []) ∷ [])
 
 abbrev pub p3 : Worked
 p3 = record { given = answerAndBegun (run storeAndLoad (limits 8 4 unbounded)); said = 0 ∷ 5 ∷ [] }
@@ -168,7 +183,7 @@ p5 = record { given = answerAndBegun (run storeAndLoad (limits 8 4 (atMost 1)));
 
 -- "P6 a thread joins itself: 10."
 abbrev pub p6 : Worked
-p6 = record { given = answerOf (run (table 0 ((join 0 ∷ []) ∷ [])) (limits 8 4 unbounded)); said = 10 ∷ [] }
+p6 = record { given = answerOf (run (table (0 ∷ []) ((join 0 ∷ []) ∷ [])) (limits 8 4 unbounded)); said = 10 ∷ [] }
 
 -- "P7 thread 0 exclusive, thread 1 load: 14, kind 1, other 0."
 abbrev pub raceOf : Explored → List ℕ
@@ -176,13 +191,34 @@ raceOf e = e .report .answer ∷ e .report .kind ∷ e .report .other ∷ []
 
 abbrev pub p7 : Worked
 p7 = record {
-  given = raceOf (run (table 0 ((exclusive ∷ []) ∷ (load ∷ []) ∷ [])) (limits 8 4 unbounded));
+  given = raceOf (run (table (0 ∷ []) ((exclusive 0 ∷ []) ∷ (load 0 ∷ []) ∷ [])) (limits 8 4 unbounded));
   said = 14 ∷ 1 ∷ 0 ∷ [];
 }
 
--- "P8 fence order at cnt 9: 2,3,4,5,6,0,1."
+-- "P8 fence order at cnt 9: 2,3,4,5,6,0,1.": by its meaning, and in a run
 abbrev pub p8 : Worked
 p8 = record { given = map (kthOldest 9) (numbersFrom (liveStores 9) 0); said = 2 ∷ 3 ∷ 4 ∷ 5 ∷ 6 ∷ 0 ∷ 1 ∷ [] }
+
+-- Cell 0 has nine stores, its start value the first. Thread 1's change fails, so it has seen slot 6, thread 0's Release store, and
+-- synchronises with nothing; then it stores slots 0 and 1. Thread 2 has seen slot 0. Its fence passes slot 6 before slot 0, whose
+-- join would let it be seen: so thread 0's exclusive change is unordered, and the first execution has a race. By slot number, slot
+-- 0 would come first, and there would be none
+abbrev pub fenceOverNine : List ℕ
+fenceOverNine =
+    table (0 ∷ 0 ∷ [])
+    ((exclusive 1 ∷ store 1 ∷ store 2 ∷ store 3 ∷ store 4 ∷ store 5 ∷ storeRelease 0 ∷ [])
+    ∷ (decrement 0 ∷ storeRelease 7 ∷ store 8 ∷ [])
+    ∷ (load 0 ∷ fenceAcquire ∷ unsyncLoad 1 ∷ [])
+    ∷ [])
+
+abbrev pub raceAndBegun : Explored → List ℕ
+raceAndBegun e = raceOf e ++ (e .report .begun ∷ [])
+
+abbrev pub p8Run : Worked
+p8Run = record {
+  given = raceAndBegun (run fenceOverNine (limits 20 16 unbounded));
+  said = 14 ∷ 2 ∷ 0 ∷ 1 ∷ [];
+}
 
 -- "P9 signed max of 2^64−1 and 0 is 0. P10 signed max of 2^63 and 2^63−1 is 2^63−1."
 abbrev pub p9 : Worked
@@ -191,15 +227,18 @@ p9 = record { given = madeBy (changeDecoded 9 0 0) (2 ^ 64 - 1); said = 0 ∷ []
 abbrev pub p10 : Worked
 p10 = record { given = madeBy (changeDecoded 9 (2 ^ 63 - 1) 0) (2 ^ 63); said = (2 ^ 63 - 1) ∷ [] }
 
--- "P11 decrement at 0 fails, register 0.": by its meaning, and in a run that checks the register
+-- "P11 decrement at 0 fails, register 0.": by its meaning, and in runs. The register holds 7 before, and then 0
 abbrev pub p11 : Worked
 p11 = record { given = madeBy (changeDecoded 12 0 0) 0; said = [] }
 
+abbrev pub decrementThenCheck : ℕ → List ℕ
+decrementThenCheck a = table (0 ∷ 7 ∷ []) ((load 1 ∷ decrement 0 ∷ check a ∷ []) ∷ [])
+
 abbrev pub p11Register : Worked
-p11Register = record {
-  given = answerOf (run (table 0 ((decrement ∷ check 0 ∷ []) ∷ [])) (limits 8 4 unbounded));
-  said = 0 ∷ [];
-}
+p11Register = record { given = answerOf (run (decrementThenCheck 0) (limits 8 4 unbounded)); said = 0 ∷ [] }
+
+abbrev pub p11NotKept : Worked
+p11NotKept = record { given = answerOf (run (decrementThenCheck 7) (limits 8 4 unbounded)); said = 15 ∷ [] }
 
 abbrev pub worked : List Worked
 worked =
@@ -215,8 +254,10 @@ worked =
     ∷ p6
     ∷ p7
     ∷ p8
+    ∷ p8Run
     ∷ p9
     ∷ p10
     ∷ p11
     ∷ p11Register
+    ∷ p11NotKept
     ∷ []

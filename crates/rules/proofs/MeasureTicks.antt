@@ -1,0 +1,193 @@
+-- The measure at the machine's events: a row begins, a thread ends, a scheduling goes on. Assumes nothing.
+--     next-lower                                   what the active thread does next
+--     thread-lower, slot-lower, spurious-lower     how it goes on with an answer
+use Prim.Native.Nat.{ℕ, _+_, _-_, _*_, _≤_, _<_}
+use mathlib.Core.List.{List, []}
+use mathlib.Core.Bool.{Bool, true, false, cond, _&&_, _||_}
+use mathlib.Core.Path.{_≡_, refl, ap, subst, _∙_}
+use mathlib.Core.Logic.{_⊎_, inl, inr}
+use native.Mathlib.Omega.{arith}
+use lib.Dec.{eqb, ltb, leb}
+use borrow.Author.Tests.{eqb-true, ltb-true, leb-false, lt-ltb}
+use Rattle.rules.specs.Vector.{Whom, nobody, thread, largest, oneMore}
+use Rattle.rules.specs.Table.{Op, Decoded, refused, decoded}
+use Rattle.rules.specs.Event.{Event, runThread, readSlot, takeBit, moves}
+use Rattle.rules.specs.State as State
+use Rattle.rules.specs.State.{State, Numbers, number, withNumber, threads, cells, phase, begun, activeThread, rowsOf, operation, accessBranch, nonLoadBranch, withVector, lastAccess, lastNonLoad, scheduleOf}
+use Rattle.rules.specs.Cell.{withClocks}
+use Rattle.rules.specs.Machine
+use Rattle.rules.specs.Machine.{Program, Pending, nothing, pends, pendingOf, active, activeRow, activeOp, rowOf, rowCount, runnable, yielded, ended, toBegin, toAct, noOperation}
+use Rattle.rules.specs.Measure.{ticksLeft, measure, Whole, Ready}
+use Rattle.rules.proofs.Measure.{Is, aside, toState, toPhase, toBegun, toCell, seen, toActive, otherWork}
+use Rattle.rules.proofs.MeasureLoops.{Wakes, awake-all, freed-all, yielded-same}
+use Rattle.rules.proofs.MeasureRows.{pick, both-left, both-right, OnCell, RowOnCell, row-on-cell}
+use Rattle.rules.proofs.MeasureSteps.{Acting, Lower, lowered, asking, stopping, ending, measure-is, ready-is, at-begin, measure-part, acting-is, acting-most, acts-lower, read-lower, bit-lower}
+
+-- one more, below the largest number
+more-below : (x : ℕ) → x < largest → oneMore x ≡ x + 1
+more-below x h = rw (lt-ltb x largest h)
+
+-- A row that is to begin
+module _ (p : Program) (limited : p .operations ≤ largest) (t b m n : ℕ) (below : t < threads)
+    (most : 3 * (p .operations - b) + (m + 5) ≤ n) where
+  abbrev At : State → Type 0
+  At st = Is t runnable toBegin b m (st .numbers)
+
+  begun-is : (st : State) → At st → b < p .operations → Is t runnable toAct (b + 1) m (Machine.rowBegun st t .numbers)
+  begun-is st is h =
+      let numbers = withNumber (st .numbers) begun (oneMore (number (st .numbers) begun)) in
+      let e : oneMore (number (st .numbers) begun) ≡ b + 1 = ap oneMore (is .rows) ∙ more-below b (omega arith) in
+      subst (λ (x : ℕ). Is t runnable toAct x m (Machine.rowBegun st t .numbers)) e
+      (toPhase below
+      (aside below (toBegun below is (oneMore (number (st .numbers) begun))) (rowsOf t) (oneMore (number numbers (rowsOf t))) (omega arith))
+      toAct)
+
+  begun-lower : (st : State) (pending : Pending) → OnCell pending → Is t runnable toAct (b + 1) m (st .numbers) → b < p .operations →
+      Lower p n (Machine.begunAs st t pending)
+  unfolding Machine.schedules
+  begun-lower st nothing h after less = lowered (ready-is st below after) (omega (arith, measure-is p st after, at-begin))
+  begun-lower st (pends op c) h after less =
+      let st′ = Machine.withOperation st t op c in
+      let last = toCell below (aside below after (operation t) op (omega arith)) c h in
+      let low : Whole (st′ .numbers) × (measure p st′ < n) = (last .whole, omega (arith, measure-is p st′ last, at-begin)) in
+      asking low
+
+  begins-lower : (st : State) (op : Op) → OnCell (pendingOf op) → At st → Lower p n (Machine.begins p st t op)
+  unfolding Machine.begins
+  begins-lower st op h is =
+      pick (Lower p n) (leb (p .operations) (number (st .numbers) begun)) (λ e. stopping)
+      (λ e.
+      let less : b < p .operations = omega (arith, leb-false, is .rows) in
+      begun-lower (Machine.rowBegun st t) (pendingOf op) h (begun-is st is less) less)
+
+  -- "Past its last row a thread ends"
+  ended-lower : (st : State) → At st → Lower p n (Machine.schedules (Machine.threadEnded st t) [])
+  unfolding Machine.threadEnded Machine.schedules
+  ended-lower st is =
+      let all = freed-all below 5 0 _ (omega arith) (aside below (toState below is ended) (operation t) noOperation (omega arith)) in
+      let low : Whole (Machine.threadEnded st t .numbers) × (measure p (Machine.threadEnded st t) < n) =
+      (all .1 .whole, omega (arith, measure-is p (Machine.threadEnded st t) (all .1), all .3 (omega arith), at-begin)) in
+      asking low
+
+-- A scheduling goes on with the chosen thread
+module _ {t s ph b m : ℕ} (below : t < threads) where
+  recorded-is : (st : State) (op c at : ℕ) (parts : List ℕ) → c < cells → Is t s ph b m (st .numbers) →
+      Is t s ph b m (Machine.accessRecorded st op c at parts .numbers)
+  recorded-is st op c at parts h is =
+      let one = aside below is (accessBranch c) at (omega arith) in
+      let clocks = withVector (st .clocks) (lastAccess c) parts in
+      let numbers = withNumber (st .numbers) (accessBranch c) at in
+      pick (λ (x : State). Is t s ph b m (x .numbers)) (eqb op Machine.aLoad)
+      {x = Machine.withNumbers (withClocks st clocks) numbers}
+      {y = Machine.withNumbers (withClocks st (withVector clocks (lastNonLoad c) parts)) (withNumber numbers (nonLoadBranch c) at)}
+      (λ e. one)
+      (λ e. aside below one (nonLoadBranch c) at (omega arith))
+
+  access-is : (st : State) (at : ℕ) → Is t s ph b m (st .numbers) → Is t s ph b m (Machine.accessMade st t at .numbers)
+  unfolding Machine.accessMade
+  access-is st at is =
+      let parts = Machine.scheduleGrown st t in
+      let op = Machine.operationOf st t in
+      let c = Machine.cellOf st t in
+      let grown = withClocks st (withVector (st .clocks) (scheduleOf t) parts) in
+      pick (λ (x : State). Is t s ph b m (x .numbers)) (eqb op noOperation) {x = st} {y = Machine.accessRecorded grown op c at parts}
+      (λ e. is)
+      (λ e. recorded-is grown op c at parts (is .whole .onCell t below) is)
+
+  switched-is : (st : State) (at : ℕ) → Is t s ph b m (withNumber (st .numbers) activeThread t) → Wakes t s 0 →
+      Is t runnable ph b m (Machine.switched st t at .numbers)
+  unfolding Machine.switched Machine.allAwake
+  switched-is st at is w =
+      let now = Machine.withNumbers st (withNumber (st .numbers) activeThread t) in
+      awake-all below 5 0 (Machine.accessMade now t at .numbers) (omega arith) (access-is now at is) w
+
+either : (x y : Bool) → (x || y) ≡ true → (x ≡ true) ⊎ (y ≡ true)
+either true y e = inl refl
+either false y e = inr e
+
+can-wake : (numbers : Numbers) (t : ℕ) → Machine.canRun numbers t ≡ true → Wakes t (number numbers (State.state t)) 0
+can-wake numbers t e =
+    elim (either (Machine.isIn numbers runnable t) (Machine.isIn numbers yielded t) (both-right (ltb t threads) _ e)) [
+      | inl f ↦ inl (eqb-true _ _ f)
+      | inr f ↦ inr (eqb-true _ _ f, omega arith)
+    ]
+
+wakes-same : {t s i : ℕ} (row : ℕ) → Wakes t s i → ticksLeft s row ≡ ticksLeft runnable row
+wakes-same row (inl e) = ap (λ (x : ℕ). ticksLeft x row) e
+wakes-same row (inr e) = ap (λ (x : ℕ). ticksLeft x row) (e .0) ∙ yielded-same row
+
+-- How the machine goes on with an answer
+module _ (p : Program) (n : ℕ) where
+  -- "(d) the branch chooses.": the threads that wake have as many ticks left as before
+  scheduled-lower : (st : State) (whom : Whom) (at : ℕ) → Whole (st .numbers) → measure p st < n → Lower p n (Machine.scheduled st whom at)
+  unfolding Machine.scheduled
+  scheduled-lower st nobody at whole less = pick (Lower p n) (Machine.allOver (st .numbers) threads 0) (λ e. ending)
+      (λ e. pick (Lower p n) (Machine.someCanRun (st .numbers) threads 0) (λ f. stopping) (λ f. stopping))
+  scheduled-lower st (thread t) at whole less =
+      pick (Lower p n) (Machine.canRun (st .numbers) t) (λ e. runs e) (λ e. stopping)
+    where
+      runs : Machine.canRun (st .numbers) t ≡ true → Lower p n (moves (Machine.switched st t at) [])
+      runs e =
+          let below : t < threads = ltb-true t threads (both-left _ _ e) in
+          let wakes = can-wake (st .numbers) t e in
+          let after = switched-is below st at (toActive (st .numbers) t below whole) wakes in
+          lowered (ready-is (Machine.switched st t at) below after)
+          (omega (
+            arith,
+            measure-is p (Machine.switched st t at) after,
+            measure-part p st t below whole,
+            wakes-same (number (st .numbers) (phase t)) wakes,
+          ))
+
+  -- an answer of the question's kind
+  pub thread-lower : (st : State) (whom : Whom) (at : ℕ) → Whole (st .numbers) × (measure p st < n) →
+      Lower p n (Machine.answered p st (runThread whom at))
+  unfolding Machine.answered
+  thread-lower st whom at h = scheduled-lower st whom at (h .0) (h .1)
+
+  pub slot-lower : (st : State) (slot : ℕ) (offered : List ℕ) → Acting p n st → Lower p n (Machine.answered p st (readSlot slot offered))
+  unfolding Machine.answered
+  slot-lower st slot offered h =
+      read-lower p (active st) _ _ _ n (h .ready .below) (h .acts) (acting-most p n st h) st (activeRow st)
+      slot (Machine.maskOf 0 offered) (activeOp p st) (row-on-cell p (active st) (activeRow st)) (acting-is p n st h)
+
+  pub spurious-lower : (st : State) (bit : Bool) → Acting p n st → Lower p n (Machine.answered p st (takeBit bit))
+  unfolding Machine.answered
+  spurious-lower st bit h =
+      bit-lower p (active st) _ _ _ n (h .ready .below) (h .acts) (acting-most p n st h) st (activeRow st)
+      (cond bit 1 0) (activeOp p st) (acting-is p n st h)
+
+-- What the active thread does next
+module _ (p : Program) (limited : p .operations ≤ largest) (st : State) (r : Ready st) where
+  begin-is : eqb (number (st .numbers) (phase (active st))) toBegin ≡ true →
+      Is (active st) runnable toBegin (number (st .numbers) begun) (otherWork (st .numbers) (active st)) (st .numbers)
+  begin-is e = seen (st .numbers) (active st) (r .below) (r .whole) refl (r .runs) (eqb-true _ _ e)
+
+  begin-most : eqb (number (st .numbers) (phase (active st))) toBegin ≡ true →
+      3 * (p .operations - number (st .numbers) begun) + (otherWork (st .numbers) (active st) + 5) ≤ measure p st
+  begin-most e = omega (arith, measure-is p st (begin-is e), at-begin)
+
+  row-lower : (k : ℕ) (row : Decoded Op) → RowOnCell row → Lower p (measure p st) (Machine.ofRow p st (active st) k row)
+  unfolding RowOnCell
+  row-lower k refused h = stopping
+  row-lower k (decoded op) h =
+      pick (Lower p (measure p st)) (Machine.isToBegin st (active st))
+      (λ e. begins-lower p limited (active st) _ _ (measure p st) (r .below) (begin-most e) st op h (begin-is e))
+      (λ e.
+      let acting : Acting p (measure p st) st = record { ready = r; acts = e; most = omega arith } in
+      acts-lower p (active st) _ _ _ (measure p st) (r .below) e (acting-most p (measure p st) st acting) st k op h
+      (acting-is p (measure p st) st acting))
+
+  next-at : (k : ℕ) → Lower p (measure p st) (Machine.nextAt p st (active st) k)
+  unfolding Machine.nextAt
+  next-at k =
+      pick (Lower p (measure p st)) (Machine.isToBegin st (active st) && leb (rowCount p (active st)) k)
+      (λ e.
+      let toEnd = both-left _ _ e in
+      ended-lower p limited (active st) _ _ (measure p st) (r .below) (begin-most toEnd) st (begin-is toEnd))
+      (λ e. row-lower k (rowOf p (active st) k) (row-on-cell p (active st) k))
+
+  pub next-lower : Lower p (measure p st) (Machine.next p st .move)
+  unfolding Machine.next
+  next-lower =
+      pick (λ (x : Event State). Lower p (measure p st) (x .move)) (ltb (active st) threads) (λ e. next-at (activeRow st)) (λ e. stopping)
