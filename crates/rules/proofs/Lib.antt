@@ -1,4 +1,5 @@
 pub mod ExploredLaws
+pub mod MarkLaws
 pub mod Measure
 pub mod MeasureAccepted
 pub mod MeasureLoops

@@ -80,9 +80,9 @@ mod tests {
             unfolding g\n\
             f n = n\n\
             abbrev pub h : ℕ\n\
-            module _ (M : Machine) where\n  unfoldable pub turn' : ℕ\n";
+            module _ (M : Machine) where\n  unfoldable pub tick' : ℕ\n";
         let source = Source::new("Some", text.to_string()).expect("a source");
-        assert_eq!(source.shut, ["f", "turn'"]);
+        assert_eq!(source.shut, ["f", "tick'"]);
     }
 
     #[test]
@@ -102,7 +102,7 @@ mod tests {
             source.expect(name).shut.clone()
         };
         assert!(shut("Explored").contains(&"exploredInto".to_string()));
-        assert!(shut("Explorer").contains(&"turn".to_string()));
+        assert!(shut("Explorer").contains(&"tick".to_string()));
         assert!(shut("Lib").is_empty());
     }
 
