@@ -16,7 +16,7 @@ use lib.Seq.{drop-cons}
 use borrow.Author.Tests.{eqb-true, ne-eqb}
 use Rattle.rules.specs.Vector.{Whom, nobody, thread, next}
 use Rattle.rules.specs.Path.{Branch, schedule, load, spurious, Schedule, Load, Choice, runs, reads, choiceOf, pending, active, visited, firstIn, activeIn, toVisited, left, turned, pendings, openAt, turnedBranch}
-use Rattle.ledger.specs.Course.{Every}
+use Rattle.ledger.specs.History.{Every}
 use Rattle.ledger.specs.Turning.{threadsFrom, running, alternatives}
 use Rattle.ledger.proofs.States.{found, some-pending, left-first, turned-shape}
 use Rattle.ledger.proofs.Records.{Used, open-pending, open-values, open-bit}

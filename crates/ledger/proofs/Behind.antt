@@ -9,10 +9,10 @@ use mathlib.Core.Bool.{Bool, true, false, cond}
 use mathlib.Core.Path.{_≡_, refl, sym, _∙_}
 use mathlib.Core.Logic.{_≢_, _⊎_, inl, inr}
 use native.Mathlib.Omega.{arith}
-use lib.Dec.{ltb, eqb}
-use borrow.Author.Tests.{ltb-true, ltb-false, eqb-false}
+use lib.Dec.{ltb}
+use borrow.Author.Tests.{ltb-true, ltb-false}
 use Rattle.rules.specs.Path.{Branch, Choice, choiceOf, stepped, orTurned, turnedBranch, openAt, openIn}
-use Rattle.ledger.specs.Course.{Every}
+use Rattle.ledger.specs.History.{Every}
 use Rattle.ledger.specs.Tree.{Parted}
 use Rattle.ledger.proofs.Marking.{marking-choice}
 use Rattle.ledger.proofs.Growth.{Grown}
@@ -44,8 +44,8 @@ nothing-open (b ∷ bs) e = go (stepped bs) refl e (λ f. nothing-open bs f)
         on false k e = let i = ltb-false 0 (openAt b) k in let j = h f in omega arith
     go (c ∷ cs) f e h = let z : _≡_ {A = ℕ} 0 1 = cc in absurd (omega arith)
 
-pub some-open : (bs : List Branch) → eqb (openIn bs) 0 ≡ false → stepped bs ≢ []
-some-open bs k e = eqb-false (openIn bs) 0 k (nothing-open bs e)
+pub some-open : (bs : List Branch) → 0 < openIn bs → stepped bs ≢ []
+some-open bs o e = let z = nothing-open bs e in omega arith
 
 -- at the record that is turned, or before it
 turned-behind : (b : Branch) (c : Choice) (cs : List Choice) → Used (turnedBranch b) c →

@@ -1,5 +1,5 @@
 -- Laws of the two counts of a path, opened and open, each over plain lists. Assumes nothing.
---     pendings-..        the Pending threads of a schedule: under set, marks, seeds and turning
+--     pendings-..        the Pending threads of a schedule: under set, seeds and turning
 --     openIn-..          what is open in a path: under set and append
 --     turned-open        a branch at its next choice has one less open
 --     stepped-..         the next path has one less open; where nothing is open there is none
@@ -13,8 +13,8 @@ use lib.Dec.{eqb}
 use lib.ListN.{length, getD, set}
 use borrow.Author.Tests.{eqb-true, lt-ltb, le-ltb}
 use Rattle.rules.specs.Vector.{Whom, nobody, thread, next}
-use Rattle.rules.specs.Path.{Branch, schedule, load, spurious, disabled, skip, yield, pending, active, visited}
-use Rattle.rules.specs.Path.{firstIn, activeIn, toActive, unlessActive, toggled, explored, isSkip, skips, marked, openedAt, isPending, pendings}
+use Rattle.rules.specs.Path.{Branch, schedule, load, spurious, yield, pending, active, visited}
+use Rattle.rules.specs.Path.{firstIn, activeIn, toActive, unlessActive, toggled, isPending, pendings}
 use Rattle.rules.specs.Path.{openAt, openIn, toVisited, left, turned, turnedBranch, orTurned, stepped, noBranch}
 use Rattle.rules.specs.Event.{Standing, yielded, cannotRun, other}
 use Rattle.rules.specs.Explorer.{seedState, seedOf}
@@ -38,34 +38,6 @@ unfolding pendings
 pendings-lower [] t v e = omega arith
 pendings-lower (x ∷ xs) zero v e = omega arith
 pendings-lower (x ∷ xs) (suc t) v e = omega (arith, pendings-lower xs t v e)
-
--- "`explore` turns only Skip into Pending": the one that was Skip is counted
-pub explored-one : (s : ℕ) → isPending (explored s) ≡ isPending s + isSkip s
-explored-one s =
-    ⊎-elim
-    (λ t. let z : s ≡ skip = eqb-true s skip t in rw (z))
-    (λ f. rw f (omega arith))
-    (flag (eqb s skip))
-
-pub explored-all : (xs : List ℕ) → pendings (map explored xs) ≡ pendings xs + skips xs
-unfolding pendings skips
-explored-all [] = refl
-explored-all (x ∷ xs) = omega (arith, explored-one x, explored-all xs)
-
-pub explored-at : (xs : List ℕ) (t : ℕ) → pendings (set xs t (explored (getD xs t visited))) ≡ pendings xs + isSkip (getD xs t visited)
-unfolding pendings
-explored-at [] t = refl
-explored-at (x ∷ xs) zero = omega (arith, explored-one x)
-explored-at (x ∷ xs) (suc t) = omega (arith, explored-at xs t)
-
--- "Opened: each Skip turned Pending": what a mark is counted for is what it makes Pending
-pub pendings-marked : (xs : List ℕ) (t : ℕ) → pendings (marked xs t) ≡ pendings xs + openedAt xs t
-unfolding marked openedAt
-pendings-marked xs t =
-    ⊎-elim
-    (λ e. rw e (explored-all xs))
-    (λ e. rw e (explored-at xs t))
-    (flag (eqb (getD xs t visited) disabled))
 
 -- The first in a state
 

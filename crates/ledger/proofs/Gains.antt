@@ -1,22 +1,22 @@
--- What ticks and executions do to the path, whatever the machine asks: marks, and fresh records.
+-- What ticks and executions do to the path, whatever the machine asks: marks, and records added.
 --     tick-gained             a tick
 --     course-open             what an execution opens and what it leaves open
 use Prim.Native.Nat.{ℕ, zero, suc}
 use mathlib.Core.List.{List, [], _∷_, _++_, append-assoc, Perm, Perm·refl, Perm·trans, Perm·symm, Perm·append-left}
 use mathlib.Core.Bool.{Bool, true, false, cond}
-use mathlib.Core.Path.{_≡_, refl, sym, subst}
+use mathlib.Core.Path.{_≡_, refl, ap, sym, subst}
 use lib.Dec.{eqb}
 use lib.ListN.{length, getD}
 use Rattle.rules.specs.Path.{Branch, noBranch}
 use Rattle.rules.specs.Event as Event
 use Rattle.rules.specs.Event.{Machine, moves, asks, stops, ends, Question}
-use Rattle.rules.specs.Explorer.{Limits, Ledger, Walk, Tick, goes, over, faulted, Reply, says, unexpected, reply, Pushed, pushes, faults, pushed, withBranch, withLedger, withState, noted, onward, firstMarked, followed, replied, newBranch, met, asked, taken, tick, fits, walked, fresh, execution}
-use Rattle.ledger.specs.Course.{Every, ticksFrom, courseOf}
-use Rattle.ledger.specs.History.{leftBy}
+use Rattle.rules.specs.Explorer.{Limits, Ledger, Walk, Tick, goes, over, faulted, Reply, reply, Pushed, pushes, faults, pushed, withBranch, withLedger, withState, noted, firstMarked, replied, newBranch, met, asked, taken, tick, fits, walked, execution}
+use Rattle.ledger.specs.History.{Every, ticksFrom, starting, courseOf, end, leftBy}
 use Rattle.ledger.specs.Turning.{Name, openNames, openedNames, joinedOver, openedTick}
+use Rattle.ledger.proofs.Ledgers.{replied-ledger}
 use Rattle.ledger.proofs.Marking.{AllMarking, all-refl, firstMarked-marks}
 use Rattle.ledger.proofs.Growth.{Grown, grown-refl, grown-trans}
-use Rattle.ledger.proofs.Proper.{Proper, pushed-fresh}
+use Rattle.ledger.proofs.Proper.{Proper, pushed-proper}
 use Rattle.ledger.proofs.Opened.{Gained, gained-grown, gained-proper, marking-gained, gained-added, opened-open}
 use Rattle.ledger.proofs.Lists.{left-comm}
 
@@ -26,60 +26,48 @@ module _ (M : Machine) (limits : Limits) where
   abbrev pathLeft : Tick (M .State) → List Branch
   pathLeft t = leftBy t .ledger .path
 
-  followed-path : (began : M .State) (w : Walk (M .State)) (e : Event.Event (M .State)) →
-      pathLeft (followed M limits began w e) ≡ w .ledger .path
-  followed-path began w (moves s es) = go (fits M limits w es)
-    where
-      go : (x : Bool) → pathLeft (cond x (goes (noted w s es)) (faulted Event.impossible began (withState w s))) ≡ w .ledger .path
-      go true = refl
-      go false = refl
-  followed-path began w (asks s es x q) = refl
-  followed-path began w (stops s f) = refl
-  followed-path began w (ends s) = refl
+  replied-path : (site : Event.Site) (w : Walk (M .State)) (r : Reply) → pathLeft (replied M limits site w r) ≡ w .ledger .path
+  replied-path site w r = ap (λ (l : Ledger). l .path) (replied-ledger M limits site w r)
 
-  replied-path : (began : M .State) (w : Walk (M .State)) (r : Reply) → pathLeft (replied M limits began w r) ≡ w .ledger .path
-  replied-path began w (says a) = followed-path began (onward w) (M .answered (w .state) a)
-  replied-path began w unexpected = refl
-
-  new-gained : (bs : List Branch) (began : M .State) (w : Walk (M .State)) (x : Bool) (q : Question) → AllMarking bs (w .ledger .path) →
+  new-gained : (bs : List Branch) (site : Event.Site) (w : Walk (M .State)) (x : Bool) (q : Question) → AllMarking bs (w .ledger .path) →
       (P : Pushed) →
-      pushed (limits .branches) (w .ledger .path) x q ≡ P → Gained bs (pathLeft (newBranch M limits began w q P))
-  new-gained bs began w x q m (pushes b) e =
-      rw (replied-path began (withLedger w (withBranch (w .ledger) b)) (reply (w .pos) b q))
-      (gained-added bs (w .ledger .path) b m (pushed-fresh (limits .branches) (w .ledger .path) x q b e))
-  new-gained bs began w x q m (faults f) e = marking-gained bs (w .ledger .path) m
+      pushed (limits .branches) (w .ledger .path) x q ≡ P → Gained bs (pathLeft (newBranch M limits site w q P))
+  new-gained bs site w x q m (pushes b) e =
+      rw (replied-path site (withLedger w (withBranch (w .ledger) b)) (reply (w .pos) b q))
+      (gained-added bs (w .ledger .path) b m (pushed-proper (limits .branches) (w .ledger .path) x q b e))
+  new-gained bs site w x q m (faults f) e = marking-gained bs (w .ledger .path) m
 
-  met-gained : (bs : List Branch) (began : M .State) (w : Walk (M .State)) (x : Bool) (q : Question) → AllMarking bs (w .ledger .path) →
-      Gained bs (pathLeft (met M limits began w x q))
-  met-gained bs began w x q m = go (eqb (w .pos) (length (w .ledger .path)))
+  met-gained : (bs : List Branch) (site : Event.Site) (w : Walk (M .State)) (x : Bool) (q : Question) → AllMarking bs (w .ledger .path) →
+      Gained bs (pathLeft (met M limits site w x q))
+  met-gained bs site w x q m = go (eqb (w .pos) (length (w .ledger .path)))
     where
-      go : (y : Bool) → Gained bs (pathLeft (cond y (newBranch M limits began w q (pushed (limits .branches) (w .ledger .path) x q))
-          (replied M limits began w (reply (w .pos) (getD (w .ledger .path) (w .pos) noBranch) q))))
-      go true = new-gained bs began w x q m (pushed (limits .branches) (w .ledger .path) x q) refl
-      go false = rw (replied-path began w (reply (w .pos) (getD (w .ledger .path) (w .pos) noBranch) q)) (marking-gained bs (w .ledger .path) m)
+      go : (y : Bool) → Gained bs (pathLeft (cond y (newBranch M limits site w q (pushed (limits .branches) (w .ledger .path) x q))
+          (replied M limits site w (reply (w .pos) (getD (w .ledger .path) (w .pos) noBranch) q))))
+      go true = new-gained bs site w x q m (pushed (limits .branches) (w .ledger .path) x q) refl
+      go false = rw (replied-path site w (reply (w .pos) (getD (w .ledger .path) (w .pos) noBranch) q)) (marking-gained bs (w .ledger .path) m)
 
   idle : (w : Walk (M .State)) → Gained (w .ledger .path) (w .ledger .path)
   idle w = marking-gained (w .ledger .path) (w .ledger .path) (all-refl (w .ledger .path))
 
-  taken-gained : (w : Walk (M .State)) (e : Event.Event (M .State)) → Gained (w .ledger .path) (pathLeft (taken M limits w e))
-  taken-gained w (moves s es) = go (fits M limits w es)
+  taken-gained : (site : Event.Site) (w : Walk (M .State)) (e : Event.Move (M .State)) → Gained (w .ledger .path) (pathLeft (taken M limits site w e))
+  taken-gained site w (moves s es) = go (fits M limits w es)
     where
-      go : (x : Bool) → Gained (w .ledger .path) (pathLeft (cond x (goes (noted w s es)) (faulted Event.impossible (w .state) (withState w s))))
+      go : (x : Bool) → Gained (w .ledger .path) (pathLeft (cond x (goes (noted w s es)) (faulted Event.impossible site (withState w s))))
       go true = idle w
       go false = idle w
-  taken-gained w (asks s es x q) = go (fits M limits w es)
+  taken-gained site w (asks s es x q) = go (fits M limits w es)
     where
-      go : (y : Bool) → Gained (w .ledger .path) (pathLeft (cond y (asked M limits (w .state) (noted w s es) x q) (faulted Event.impossible (w .state) (withState w s))))
+      go : (y : Bool) → Gained (w .ledger .path) (pathLeft (cond y (asked M limits site (noted w s es) x q) (faulted Event.impossible site (withState w s))))
       go true =
-          met-gained (w .ledger .path) (w .state) (withLedger (noted w s es) (firstMarked (limits .bound) (w .ledger) q)) x q
+          met-gained (w .ledger .path) site (withLedger (noted w s es) (firstMarked (limits .bound) (w .ledger) q)) x q
           (firstMarked-marks (limits .bound) (w .ledger) q)
       go false = idle w
-  taken-gained w (stops s f) = idle w
-  taken-gained w (ends s) = idle w
+  taken-gained site w (stops s f) = idle w
+  taken-gained site w (ends s) = idle w
 
   pub tick-gained : (w : Walk (M .State)) → Gained (w .ledger .path) (pathLeft (tick M limits w))
   unfolding tick
-  tick-gained w = taken-gained w (M .next (w .state))
+  tick-gained w = taken-gained (M .next (w .state) .site) w (M .next (w .state) .move)
 
   -- An execution
 
@@ -125,6 +113,6 @@ module _ (M : Machine) (limits : Limits) where
       go (over v) e h = one-tick w v (rw e at (tick-gained w)) (rw e) [] v (no-tick v)
       go (faulted f s v) e h = one-tick w v (rw e at (tick-gained w)) (rw e) [] v (no-tick v)
 
-  pub course-gains : (l : Ledger) → Gains (fresh M limits l) (courseOf M limits l .ticks) (courseOf M limits l .end)
+  pub course-gains : (l : Ledger) → Gains (starting M limits l) (courseOf M limits l .ticks) (end (courseOf M limits l))
   unfolding courseOf execution
-  course-gains l = walk-gains (limits .ticks) (fresh M limits l)
+  course-gains l = walk-gains (limits .ticks) (starting M limits l)

@@ -1,91 +1,97 @@
 -- The history is real. Assumes nothing.
-use Prim.Native.Nat.{ℕ, zero, suc, _≤_, _<_}
-use mathlib.Core.List.{List, [], _∷_, _++_}
-use mathlib.Core.Bool.{Bool, true, false, cond}
+use Prim.Native.Nat.{ℕ, zero, suc, _+_, _<_}
+use mathlib.Core.List.{List, [], _∷_, _++_, map}
+use mathlib.Core.Bool.{Bool, true, false, cond, true≢false}
 use mathlib.Core.Path.{_≡_, refl, ap, sym, subst, _∙_}
 use mathlib.Core.Logic.{_≢_}
 use native.Mathlib.Omega.{arith}
 use lib.Dec.{eqb}
 use lib.Seq.{append-snoc}
-use borrow.Author.Tests.{eqb-false}
+use borrow.Author.Tests.{eqb-true, eqb-false}
 use Rattle.rules.specs.Path.{openIn}
-use Rattle.rules.specs.Event as Event
 use Rattle.rules.specs.Event.{Machine}
-use Rattle.rules.specs.Explorer.{Limits, Ledger, Walk, Tick, goes, over, faulted, execution, Execution, executionOf, Verdict, exhausted, spent, stopped, Stop, stop, After, stopsHere, goesOn, nextLedger, after, runFrom, run}
-use Rattle.ledger.specs.History.{leftBy, empty, Made, lastly, andOn, Real}
+use Rattle.rules.specs.Explorer.{Limits, Ledger, Walk, Tick, goes, over, faulted, execution, Execution, executionOf, Verdict, exhausted, spent, stopped, Stop, stop, After, stopsHere, goesOn, nextLedger, empty, after, runFrom, run}
+use Rattle.ledger.specs.History.{leftBy, Course, courseOf, coursesFrom, courses, executed, Stops, Made, Real}
+use Rattle.ledger.proofs.Ledgers.{never-goes, execution-begun}
 
-module _ (M : Machine) (limits : Limits) where
-  -- a run from a ledger after some executions: those, and then what is made
-  pub record Goes (l : Ledger) (past : List Execution) (r : Stop (M .State)) : Type 0 where
-    pub made : List Execution
-    pub history : r .history ≡ past ++ made
-    pub from : Made M limits l made (r .walk)
+-- after an execution that is over: with nothing open, with the budget spent, or with the next path
+abbrev afterOver : {S : Type 0} → Bool → Bool → List Execution → Walk S → After S
+afterOver none last past w =
+    cond none (stopsHere (stop exhausted w past))
+    (cond last (stopsHere (stop spent w past))
+    (goesOn (nextLedger (w .ledger)) (past ++ (executionOf w ∷ []))))
 
-  -- what follows an execution, with n more allowed after it
-  abbrev Follows : ℕ → Ledger → List Execution → After (M .State) → Type 0
-  Follows n l past (stopsHere r) = Goes l past r
-  Follows n l past (goesOn m more) =
-      (w : Walk (M .State))
-      × (execution M limits l ≡ over w)
-      × (0 < openIn (w .ledger .path))
-      × (m ≡ nextLedger (w .ledger))
-      × (more ≡ past ++ (executionOf w ∷ []))
-      × (1 ≤ n)
+module _ (M : Machine) (limits : Limits) (n : ℕ) where
+  -- a run from a ledger after some executions: those, and then these
+  record Goes (l : Ledger) (past : List Execution) (cs : List (Course (M .State))) (r : Stop (M .State)) : Type 0 where
+    made : Made M limits n (r .walk) (r .verdict) l cs
+    history : r .history ≡ past ++ map executed cs
 
-  stop-goes : (l : Ledger) (past : List Execution) (verdict : Verdict) (s : M .State) (w : Walk (M .State)) → leftBy (execution M limits l) ≡ w →
-      Goes l past (stop verdict s w past)
-  stop-goes l past verdict s w e = record {
-    made = executionOf w ∷ [];
-    history = refl;
-    from = subst (λ (v : Walk (M .State)). Made M limits l (executionOf v ∷ []) v) e (lastly l);
+  -- the last one
+  lastly : (l : Ledger) (past : List Execution) (w : Walk (M .State)) (v : Verdict) → leftBy (execution M limits l) ≡ w →
+      Stops M limits n w v (execution M limits l) → Goes l past (courseOf M limits l ∷ []) (stop v w past)
+  unfolding courseOf
+  lastly l past w v e s = record { made = (refl, s); history = rw e }
+
+  -- one that was over with a choice open, and those from the next path on
+  andOn : (l : Ledger) (past : List Execution) (u : Walk (M .State)) → execution M limits l ≡ over u → 0 < openIn (u .ledger .path) →
+      u .ledger .begun < n → (d : Course (M .State)) (ds : List (Course (M .State))) (r : Stop (M .State)) →
+      Goes (nextLedger (u .ledger)) (past ++ (executionOf u ∷ [])) (d ∷ ds) r → Goes l past (courseOf M limits l ∷ d ∷ ds) r
+  unfolding courseOf
+  andOn l past u e o b d ds r g = record {
+    made = (refl, u, e, o, b, g .made);
+    history = g .history ∙ append-snoc past (executionOf u) (map executed (d ∷ ds)) ∙ rw e;
   }
 
-  over-follows : (n : ℕ) (l : Ledger) (past : List Execution) (w : Walk (M .State)) → execution M limits l ≡ over w → (a b : Bool) →
-      eqb (openIn (w .ledger .path)) 0 ≡ a → eqb n 0 ≡ b →
-      Follows n l past
-      (cond a (stopsHere (stop exhausted (w .state) w past))
-      (cond b (stopsHere (stop spent (w .state) w past))
-      (goesOn (nextLedger (w .ledger)) (past ++ (executionOf w ∷ [])))))
-  over-follows n l past w e true b f g = stop-goes l past exhausted (w .state) w (ap leftBy e)
-  over-follows n l past w e false true f g = stop-goes l past spent (w .state) w (ap leftBy e)
-  over-follows n l past w e false false f g =
-      let z : openIn (w .ledger .path) ≢ 0 = eqb-false (openIn (w .ledger .path)) 0 f in
-      let k : n ≢ 0 = eqb-false n 0 g in
-      (w, e, omega arith, refl, refl, omega arith)
-
-  after-follows : (n : ℕ) (l : Ledger) (past : List Execution) (t : Tick (M .State)) → execution M limits l ≡ t → Follows n l past (after (eqb n 0) past t)
+  -- what follows an execution: it is the last that is allowed, or there may be more
+  further : (last : Bool) (l : Ledger) (past : List Execution) → (last ≡ true → l .begun + 1 ≡ n) → (last ≡ false → l .begun + 1 < n) →
+      (k : Ledger → List Execution → List (Course (M .State))) (h : Ledger → List Execution → Stop (M .State)) →
+      (last ≡ false → (m : Ledger) (more : List Execution) → m .begun ≡ l .begun + 1 →
+      (d : Course (M .State)) × (ds : List (Course (M .State))) × (k m more ≡ d ∷ ds) × Goes m more (d ∷ ds) (h m more)) →
+      (t : Tick (M .State)) → execution M limits l ≡ t →
+      Goes l past (courseOf M limits l ∷ elim (after last past t) [ stopsHere r ↦ [] | goesOn m more ↦ k m more ])
+      (elim (after last past t) [ stopsHere r ↦ r | goesOn m more ↦ h m more ])
   unfolding after
-  after-follows n l past (goes w) e = stop-goes l past (stopped Event.impossible) (w .state) w (ap leftBy e)
-  after-follows n l past (over w) e = over-follows n l past w e (eqb (openIn (w .ledger .path)) 0) (eqb n 0) refl refl
-  after-follows n l past (faulted f s w) e = stop-goes l past (stopped f) s w (ap leftBy e)
+  further last l past x y k h f (goes w) e = absurd (never-goes M limits l w e)
+  further last l past x y k h f (over w) e = go (eqb (openIn (w .ledger .path)) 0) refl last refl
+    where
+      b : w .ledger .begun ≡ l .begun + 1
+      b = rw e at (execution-begun M limits l)
 
-  run-step : (n : ℕ) (l : Ledger) (past : List Execution) → ((m : Ledger) (more : List Execution) → 1 ≤ n → Goes m more (runFrom M limits n m more)) →
-      (a : After (M .State)) → Follows n l past a →
-      Goes l past (elim a [ stopsHere r ↦ r | goesOn m more ↦ runFrom M limits n m more ])
-  run-step n l past rest (stopsHere r) h = h
-  run-step n l past rest (goesOn m more) h =
-      let w = h .0 in
-      let r = runFrom M limits n m more in
-      let g = rest m more (h .5) in
-      record {
-        made = executionOf w ∷ g .made;
-        history = g .history ∙ ap (λ (xs : List Execution). xs ++ g .made) (h .4) ∙ append-snoc past (executionOf w) (g .made);
-        from = andOn l w (r .walk) (g .made) (h .1) (h .2) (subst (λ (k : Ledger). Made M limits k (g .made) (r .walk)) (h .3) (g .from));
-      }
+      go : (none : Bool) → eqb (openIn (w .ledger .path)) 0 ≡ none → (at-last : Bool) → last ≡ at-last →
+          Goes l past
+          (courseOf M limits l ∷ elim (afterOver none at-last past w) [ stopsHere r ↦ [] | goesOn m more ↦ k m more ])
+          (elim (afterOver none at-last past w) [ stopsHere r ↦ r | goesOn m more ↦ h m more ])
+      go true o at-last q = lastly l past w exhausted (ap leftBy e) (e, eqb-true (openIn (w .ledger .path)) 0 o)
+      go false o true q =
+          let z : openIn (w .ledger .path) ≢ 0 = eqb-false (openIn (w .ledger .path)) 0 o in
+          lastly l past w spent (ap leftBy e) (e, omega arith, omega (arith, b, x q))
+      go false o false q =
+          let z : openIn (w .ledger .path) ≢ 0 = eqb-false (openIn (w .ledger .path)) 0 o in
+          let m = nextLedger (w .ledger) in
+          let more = past ++ (executionOf w ∷ []) in
+          let r = f q m more b in
+          subst (λ cs. Goes l past (courseOf M limits l ∷ cs) (h m more)) (sym (r .2))
+          (andOn l past w e (omega arith) (omega (arith, b, y q)) (r .0) (r .1) (h m more) (r .3))
+  further last l past x y k h f (faulted g s w) e = lastly l past w (stopped g s) (ap leftBy e) e
 
-  pub runFrom-goes : (n : ℕ) (l : Ledger) (past : List Execution) → 1 ≤ n → Goes l past (runFrom M limits n l past)
-  unfolding runFrom
-  runFrom-goes zero l past h = absurd (omega arith)
-  runFrom-goes (suc n) l past h =
-      run-step n l past (λ m more k. runFrom-goes n m more k) (after (eqb n 0) past (execution M limits l))
-      (after-follows n l past (execution M limits l) refl)
+  -- the executions after the first
+  after-first : ℕ → Ledger → List Execution → List (Course (M .State))
+  after-first k l past =
+      elim (after (eqb k 0) past (execution M limits l)) [ stopsHere r ↦ [] | goesOn m more ↦ coursesFrom M limits k m more ]
 
-  run-real : (n : ℕ) → 1 ≤ n → Made M limits empty (run M limits n .history) (run M limits n .walk)
-  unfolding run
-  run-real n h =
-      let g = runFrom-goes n empty [] h in
-      subst (λ (xs : List Execution). Made M limits empty xs (runFrom M limits n empty [] .walk)) (sym (g .history)) (g .from)
+  told : (k : ℕ) (l : Ledger) (past : List Execution) → l .begun + suc k ≡ n →
+      Goes l past (courseOf M limits l ∷ after-first k l past) (runFrom M limits (suc k) l past)
+  unfolding after-first coursesFrom runFrom
+  told zero l past b =
+      further true l past (λ q. omega arith) (λ q. absurd (true≢false q)) (coursesFrom M limits zero) (runFrom M limits zero)
+      (λ q. absurd (true≢false q)) (execution M limits l) refl
+  told (suc k) l past b =
+      further (eqb (suc k) 0) l past (λ q. absurd (omega (arith, eqb-true (suc k) 0 q))) (λ q. omega arith) (coursesFrom M limits (suc k)) (runFrom M limits (suc k))
+      (λ q m more c. (courseOf M limits m, after-first k m more, refl, told k m more (omega arith))) (execution M limits l) refl
 
 pub real : Real
-unfolding Real
-real = run-real
+unfolding Real courses coursesFrom run runFrom after-first
+real M limits zero = record { made = (refl, refl, refl); history = refl }
+real M limits (suc n) =
+    let g = told M limits (suc n) n empty [] (omega arith) in record { made = g .made; history = g .history }

@@ -12,9 +12,9 @@ use lib.Dec.{ltb, leb}
 use lib.ListN.{length}
 use borrow.Author.Tests.{ltb-true}
 use Rattle.rules.specs.Path.{Branch, stepped, orTurned, turnedBranch, openAt}
-use Rattle.rules.specs.Event.{Machine, Event, moves, asks, stops, ends, Entry, Question}
+use Rattle.rules.specs.Event.{Machine, Move, moves, asks, stops, ends, Entry, Question}
 use Rattle.rules.specs.Explorer.{Limits, Reply, says, unexpected, reply}
-use Rattle.ledger.specs.Course.{Every}
+use Rattle.ledger.specs.History.{Every}
 use Rattle.ledger.specs.Replay.{Agrees}
 use Rattle.ledger.proofs.Marking.{AllMarking, marking-reply}
 use Rattle.ledger.proofs.Records.{Sound, agrees-sound, agrees-marking, agrees-turned, Answers, reply-turned}
@@ -28,7 +28,7 @@ module _ (M : Machine) (limits : Limits) where
   Ahead = M .State → List Entry → ℕ → List Branch → Type 0
 
   -- after an answer
-  abbrev pub Onward : Ahead → List Entry → ℕ → List Branch → Event (M .State) → Type 0
+  abbrev pub Onward : Ahead → List Entry → ℕ → List Branch → Move (M .State) → Type 0
   Onward F tr k [] e = Unit {0}
   Onward F tr k (b ∷ bs) (moves s es) = (room tr es ≡ true) × F s (tr ++ es) k (b ∷ bs)
   Onward F tr k (b ∷ bs) (asks s es x q) = ⊥
@@ -41,7 +41,7 @@ module _ (M : Machine) (limits : Limits) where
   Replies F s tr k bs unexpected = ⊥
 
   -- at a tick
-  abbrev pub Asks : Ahead → List Entry → ℕ → List Branch → Event (M .State) → Type 0
+  abbrev pub Asks : Ahead → List Entry → ℕ → List Branch → Move (M .State) → Type 0
   Asks F tr k [] e = Unit {0}
   Asks F tr k (b ∷ bs) (moves s es) = (room tr es ≡ true) × F s (tr ++ es) k (b ∷ bs)
   Asks F tr k (b ∷ bs) (asks s es x q) = (room tr es ≡ true) × Agrees x b q × Replies F s (tr ++ es) k bs (reply k b q)
@@ -51,7 +51,7 @@ module _ (M : Machine) (limits : Limits) where
   unfoldable pub Leads : ℕ → Ahead
   Leads zero s tr k [] = Unit {0}
   Leads zero s tr k (b ∷ bs) = ⊥
-  Leads (suc n) s tr k bs = Asks (Leads n) tr k bs (M .next s)
+  Leads (suc n) s tr k bs = Asks (Leads n) tr k bs (M .next s .move)
 
   pub leads-nil : (n : ℕ) (s : M .State) (tr : List Entry) (k : ℕ) → Leads n s tr k []
   unfolding Leads
@@ -63,7 +63,7 @@ module _ (M : Machine) (limits : Limits) where
   abbrev pub Keeps : Ahead → Type 0
   Keeps F = (s : M .State) (tr : List Entry) (k : ℕ) (bs cs : List Branch) → AllMarking bs cs → F s tr k bs → F s tr k cs
 
-  onward-marking : (F : Ahead) → Keeps F → (tr : List Entry) (k : ℕ) (bs cs : List Branch) (e : Event (M .State)) →
+  onward-marking : (F : Ahead) → Keeps F → (tr : List Entry) (k : ℕ) (bs cs : List Branch) (e : Move (M .State)) →
       AllMarking bs cs → Onward F tr k bs e → Onward F tr k cs e
   onward-marking F keeps tr k [] [] e p o = tt
   onward-marking F keeps tr k [] (c ∷ cs) e p o = absurd p
@@ -78,7 +78,7 @@ module _ (M : Machine) (limits : Limits) where
   replies-marking F keeps s tr k bs cs (says a) p o = onward-marking F keeps tr (k + 1) bs cs (M .answered s a) p o
   replies-marking F keeps s tr k bs cs unexpected p o = o
 
-  pub asks-marking : (F : Ahead) → Keeps F → (tr : List Entry) (k : ℕ) (bs cs : List Branch) (e : Event (M .State)) →
+  pub asks-marking : (F : Ahead) → Keeps F → (tr : List Entry) (k : ℕ) (bs cs : List Branch) (e : Move (M .State)) →
       AllMarking bs cs → Asks F tr k bs e → Asks F tr k cs e
   asks-marking F keeps tr k [] [] e p o = tt
   asks-marking F keeps tr k [] (c ∷ cs) e p o = absurd p
@@ -94,12 +94,12 @@ module _ (M : Machine) (limits : Limits) where
   leads-marking zero s tr k [] [] p o = tt
   leads-marking zero s tr k [] (c ∷ cs) p o = absurd p
   leads-marking zero s tr k (b ∷ bs) cs p o = absurd o
-  leads-marking (suc n) s tr k bs cs p o = asks-marking (Leads n) (leads-marking n) tr k bs cs (M .next s) p o
+  leads-marking (suc n) s tr k bs cs p o = asks-marking (Leads n) (leads-marking n) tr k bs cs (M .next s .move) p o
 
   -- Every record
 
   onward-sound : (F : Ahead) → ((s : M .State) (tr : List Entry) (k : ℕ) (bs : List Branch) → F s tr k bs → Every Sound bs) →
-      (tr : List Entry) (k : ℕ) (bs : List Branch) (e : Event (M .State)) → Onward F tr k bs e → Every Sound bs
+      (tr : List Entry) (k : ℕ) (bs : List Branch) (e : Move (M .State)) → Onward F tr k bs e → Every Sound bs
   onward-sound F f tr k [] e o = tt
   onward-sound F f tr k (b ∷ bs) (moves s es) o = f s (tr ++ es) k (b ∷ bs) (o .1)
   onward-sound F f tr k (b ∷ bs) (asks s es x q) o = absurd o
@@ -112,7 +112,7 @@ module _ (M : Machine) (limits : Limits) where
   replies-sound F f s tr k bs unexpected o = absurd o
 
   asks-sound : (F : Ahead) → ((s : M .State) (tr : List Entry) (k : ℕ) (bs : List Branch) → F s tr k bs → Every Sound bs) →
-      (tr : List Entry) (k : ℕ) (bs : List Branch) (e : Event (M .State)) → Asks F tr k bs e → Every Sound bs
+      (tr : List Entry) (k : ℕ) (bs : List Branch) (e : Move (M .State)) → Asks F tr k bs e → Every Sound bs
   asks-sound F f tr k [] e o = tt
   asks-sound F f tr k (b ∷ bs) (moves s es) o = f s (tr ++ es) k (b ∷ bs) (o .1)
   asks-sound F f tr k (b ∷ bs) (asks s es x q) o =
@@ -124,7 +124,7 @@ module _ (M : Machine) (limits : Limits) where
   unfolding Leads
   leads-sound zero s tr k [] o = tt
   leads-sound zero s tr k (b ∷ bs) o = absurd o
-  leads-sound (suc n) s tr k bs o = asks-sound (Leads n) (leads-sound n) tr k bs (M .next s) o
+  leads-sound (suc n) s tr k bs o = asks-sound (Leads n) (leads-sound n) tr k bs (M .next s .move) o
 
   -- The next path
 
@@ -141,7 +141,7 @@ module _ (M : Machine) (limits : Limits) where
   asks-moves F tr k [] s es r f = tt
   asks-moves F tr k (b ∷ bs) s es r f = (r, f)
 
-  onward-stepped : (F : Ahead) → Steps F → (tr : List Entry) (k : ℕ) (bs : List Branch) (e : Event (M .State)) →
+  onward-stepped : (F : Ahead) → Steps F → (tr : List Entry) (k : ℕ) (bs : List Branch) (e : Move (M .State)) →
       Onward F tr k bs e → Onward F tr k (stepped bs) e
   unfolding stepped
   onward-stepped F steps tr k [] e o = tt
@@ -177,7 +177,7 @@ module _ (M : Machine) (limits : Limits) where
       go false e = tt
   asked-turned F tr k b (c ∷ cs) s es x q r a h o = (r, a, o)
 
-  asks-stepped : (F : Ahead) → Steps F → (tr : List Entry) (k : ℕ) (bs : List Branch) (e : Event (M .State)) →
+  asks-stepped : (F : Ahead) → Steps F → (tr : List Entry) (k : ℕ) (bs : List Branch) (e : Move (M .State)) →
       Asks F tr k bs e → Asks F tr k (stepped bs) e
   unfolding stepped
   asks-stepped F steps tr k [] e o = tt
@@ -194,4 +194,4 @@ module _ (M : Machine) (limits : Limits) where
   unfolding Leads stepped
   leads-stepped zero s tr k [] o = tt
   leads-stepped zero s tr k (b ∷ bs) o = absurd o
-  leads-stepped (suc n) s tr k bs o = asks-stepped (Leads n) (leads-stepped n) tr k bs (M .next s) o
+  leads-stepped (suc n) s tr k bs o = asks-stepped (Leads n) (leads-stepped n) tr k bs (M .next s .move) o

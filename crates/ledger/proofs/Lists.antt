@@ -13,7 +13,7 @@ use native.Mathlib.Nat.{ℕ-set}
 use lib.Dec.{eqb}
 use lib.ListN.{length, getD, drop}
 use Rattle.rules.specs.Event.{slotsFrom}
-use Rattle.ledger.specs.Course.{Every}
+use Rattle.ledger.specs.History.{Every}
 use Rattle.ledger.specs.Turning.{threadsFrom}
 
 -- What each of a list has

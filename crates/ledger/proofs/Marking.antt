@@ -1,93 +1,18 @@
 -- Marks on a path: what the definition's `backtrack` does to a record, whatever it is asked for, is a number of marks on an
 -- exploring schedule, and no mark alters what a record chooses.
---     Turned, StatesMarked       each state is as it was, or was Skip and is Pending
 --     Marking, AllMarking        a record, a path after some marks
 --     firstMarked-marks          the marks that a question makes
 use Prim.Native.Nat.{ℕ, zero, suc, _+_}
-use mathlib.Core.List.{List, [], _∷_, _++_, map}
+use mathlib.Core.List.{List, [], _∷_, _++_}
 use mathlib.Core.Bool.{Bool, true, false, cond}
-use mathlib.Core.Path.{_≡_, refl, ap, sym, _∙_}
-use mathlib.Core.Logic.{_⊎_, inl, inr}
-use native.Mathlib.Omega.{arith}
-use lib.Dec.{eqb}
+use mathlib.Core.Path.{_≡_, refl, ap, _∙_}
 use lib.ListN.{length, getD, set}
-use borrow.Author.Tests.{eqb-true}
 use Rattle.rules.specs.Path.{Branch, schedule, Schedule, Bound, Last, none, at, runs}
-use Rattle.rules.specs.Path.{skip, pending, visited, disabled, firstIn, activeIn, explored, marked, withStates, scheduleMarked, takesMarks, markedAt, noBranch, unbounded, atMost, exploringBelow, before, switchFrom, markedBefore, backtracked, choiceOf}
+use Rattle.rules.specs.Path.{marked, withStates, scheduleMarked, takesMarks, Marked, markedAt, noBranch, unbounded, atMost, exploringBelow, schedulesBelow, switchIn, markedBefore, backtracked, choiceOf}
 use Rattle.rules.specs.Event.{Place, nowhere, branch, Question, whichThread, whichSlot, whichBit}
 use Rattle.rules.specs.Explorer.{Ledger, backtrackFrom, allMarked, firstMarked, reply}
-use Rattle.ledger.proofs.Marks.{Explores, exploringBelow-explores, before-stands, switchFrom-explores}
-
--- States
-
-abbrev pub StateMarked : ℕ → ℕ → Type 0
-StateMarked x y = (x ≡ y) ⊎ ((x ≡ skip) × (y ≡ pending))
-
-abbrev pub StatesMarked : List ℕ → List ℕ → Type 0
-StatesMarked [] [] = Unit {0}
-StatesMarked [] (y ∷ ys) = ⊥
-StatesMarked (x ∷ xs) [] = ⊥
-StatesMarked (x ∷ xs) (y ∷ ys) = StateMarked x y × StatesMarked xs ys
-
-state-trans : (x y z : ℕ) → StateMarked x y → StateMarked y z → StateMarked x z
-state-trans x y z (inl p) (inl q) = inl (p ∙ q)
-state-trans x y z (inl p) (inr q) = inr (p ∙ q .0, q .1)
-state-trans x y z (inr p) (inl q) = inr (p .0, sym q ∙ p .1)
-state-trans x y z (inr p) (inr q) = inr (p .0, q .1)
-
-pub states-refl : (xs : List ℕ) → StatesMarked xs xs
-states-refl [] = tt
-states-refl (x ∷ xs) = (inl refl, states-refl xs)
-
-pub states-trans : (xs ys zs : List ℕ) → StatesMarked xs ys → StatesMarked ys zs → StatesMarked xs zs
-states-trans [] [] [] p q = tt
-states-trans [] [] (z ∷ zs) p q = q
-states-trans [] (y ∷ ys) zs p q = absurd p
-states-trans (x ∷ xs) [] zs p q = absurd p
-states-trans (x ∷ xs) (y ∷ ys) [] p q = absurd q
-states-trans (x ∷ xs) (y ∷ ys) (z ∷ zs) p q = (state-trans x y z (p .0) (q .0), states-trans xs ys zs (p .1) (q .1))
-
-explored-marked : (x : ℕ) → StateMarked x (explored x)
-explored-marked x = go (eqb x skip) refl
-  where
-    go : (b : Bool) → eqb x skip ≡ b → StateMarked x (cond b pending x)
-    go true e = inr (eqb-true x skip e, refl)
-    go false e = inl refl
-
-all-explored : (xs : List ℕ) → StatesMarked xs (map explored xs)
-all-explored [] = tt
-all-explored (x ∷ xs) = (explored-marked x, all-explored xs)
-
-one-explored : (xs : List ℕ) (t d : ℕ) → StatesMarked xs (set xs t (explored (getD xs t d)))
-one-explored [] t d = tt
-one-explored (x ∷ xs) zero d = (explored-marked x, states-refl xs)
-one-explored (x ∷ xs) (suc t) d = (inl refl, one-explored xs t d)
-
-pub marked-states : (xs : List ℕ) (t : ℕ) → StatesMarked xs (marked xs t)
-unfolding marked
-marked-states xs t = go (eqb (getD xs t visited) disabled)
-  where
-    go : (b : Bool) → StatesMarked xs (cond b (map explored xs) (set xs t (explored (getD xs t visited))))
-    go true = all-explored xs
-    go false = one-explored xs t visited
-
--- marks leave the Active
-pub states-active : (xs ys : List ℕ) → StatesMarked xs ys → activeIn ys ≡ activeIn xs
-unfolding firstIn
-states-active [] [] p = refl
-states-active [] (y ∷ ys) p = absurd p
-states-active (x ∷ xs) [] p = absurd p
-states-active (x ∷ xs) (y ∷ ys) (inl e, p) = rw (e, states-active xs ys p)
-states-active (x ∷ xs) (y ∷ ys) (inr e, p) = rw (e .0, e .1, states-active xs ys p)
-
--- and what is Visited
-pub states-visited : (xs ys : List ℕ) (t : ℕ) → StatesMarked xs ys → getD xs t 0 ≡ visited → getD ys t 0 ≡ visited
-states-visited [] [] t p v = v
-states-visited [] (y ∷ ys) t p v = absurd p
-states-visited (x ∷ xs) [] t p v = absurd p
-states-visited (x ∷ xs) (y ∷ ys) zero (inl e, p) v = sym e ∙ v
-states-visited (x ∷ xs) (y ∷ ys) zero (inr e, p) v = absurd (omega arith)
-states-visited (x ∷ xs) (y ∷ ys) (suc t) p v = states-visited xs ys t (p .1) v
+use Rattle.ledger.proofs.Events.{marked-states, states-active}
+use Rattle.ledger.proofs.Marks.{Explores, exploringBelow-explores, second-explores}
 
 -- Records
 
@@ -165,16 +90,21 @@ markedAt-marking : (bound : Bound) (bs : List Branch) (p : Last) (t : ℕ) → E
 markedAt-marking bound bs none t a = all-refl bs
 markedAt-marking bound bs (at k s) t a = all-set bs k _ (rw (a .0) (scheduleMarked-marking bound s t (a .1)))
 
+markedBefore-marking : (bound : Bound) (m : Marked) (first : Last) (t : ℕ) → AllMarking (m .path) (markedBefore bound m first t .path)
+unfolding markedBefore
+markedBefore-marking bound m none t = all-refl (m .path)
+markedBefore-marking bound m (at k s) t =
+    markedAt-marking bound (m .path) (switchIn (schedulesBelow (m .path) k)) t (second-explores (m .path) k)
+
 backtracked-marking : (bound : Bound) (bs : List Branch) (point t : ℕ) → AllMarking bs (backtracked bound bs point t .path)
-unfolding backtracked markedBefore
+unfolding backtracked
 backtracked-marking unbounded bs point t = markedAt-marking unbounded bs (exploringBelow bs (point + 1)) t (exploringBelow-explores bs (point + 1))
 backtracked-marking (atMost n) bs point t =
     let first = exploringBelow bs (point + 1) in
-    let cs = markedAt (atMost n) bs first t .path in
-    let second = switchFrom cs (length cs) (before cs first) in
-    all-trans bs cs (markedAt (atMost n) cs second t .path)
+    let m = markedAt (atMost n) bs first t in
+    all-trans bs (m .path) (markedBefore (atMost n) m first t .path)
     (markedAt-marking (atMost n) bs first t (exploringBelow-explores bs (point + 1)))
-    (markedAt-marking (atMost n) cs second t (switchFrom-explores cs (length cs) (before cs first) (before-stands cs first)))
+    (markedBefore-marking (atMost n) m first t)
 
 backtrackFrom-marking : (bound : Bound) (l : Ledger) (p : Place) (t : ℕ) → AllMarking (l .path) (backtrackFrom bound l p t .path)
 backtrackFrom-marking bound l nowhere t = all-refl (l .path)
@@ -199,9 +129,3 @@ all-split [] rest cs p = ([], cs, refl, tt, p)
 all-split (b ∷ pre) rest [] p = absurd p
 all-split (b ∷ pre) rest (c ∷ cs) p =
     let r = all-split pre rest cs (p .1) in (c ∷ r .0, r .1, ap (λ (l : List Branch). c ∷ l) (r .2), (p .0, r .3), r .4)
-
-pub all-append : (bs cs ds es : List Branch) → AllMarking bs cs → AllMarking ds es → AllMarking (bs ++ ds) (cs ++ es)
-all-append [] [] ds es p q = q
-all-append [] (c ∷ cs) ds es p q = absurd p
-all-append (b ∷ bs) [] ds es p q = absurd p
-all-append (b ∷ bs) (c ∷ cs) ds es p q = (p .0, all-append bs cs ds es (p .1) q)

@@ -1,24 +1,25 @@
 -- Laws of marks: a backtrack marks exploring schedules of the path only, and counts what it opens. Assumes nothing.
 --     Stands            that a place found in a path is there
 --     Explores          and that it is exploring
---     exploringBelow-explores, switchFrom-explores     what a backtrack finds is
+--     exploringBelow-explores, second-explores     what a backtrack finds is
 --     backtracked-open  after the marks as much more is open as was counted
 --     backtracked-kept  a record that is not exploring takes none
---     backtracked-length
 use Prim.Native.Nat.{ℕ, zero, suc, _+_, _<_}
-use mathlib.Core.List.{List, []}
+use mathlib.Core.List.{List, [], _∷_}
 use mathlib.Core.Bool.{Bool, true, false, cond, not, _&&_, true≢false, and-eq-true-iff}
 use mathlib.Core.Path.{_≡_, refl, ap, sym, _∙_}
 use mathlib.Core.Logic.{⊎-elim}
 use native.Mathlib.Omega.{arith}
 use lib.Dec.{ltb, eqb}
-use lib.ListN.{length, getD, length-set, List·getD-eq-default}
+use lib.ListN.{length, getD, List·getD-eq-default}
 use lib.Seq.{getD-set-other}
 use borrow.Author.Tests.{ltb-true, ltb-false}
 use Rattle.rules.specs.Path.{Branch, schedule, load, spurious, Schedule, Bound, unbounded, atMost, Last, none, at}
-use Rattle.rules.specs.Path.{isExploring, takesMarks, scheduleMarked, scheduleOpened, Marked, markedAt, theSchedule, noBranch}
-use Rattle.rules.specs.Path.{scheduleAt, ifExploring, exploringBelow, before, activeOf, switchFrom, markedBefore, backtracked, openAt, openIn}
-use Rattle.ledger.proofs.Counts.{flag, pendings-marked, openIn-set}
+use Rattle.rules.specs.Path.{Placed, isExploring, takesMarks, scheduleMarked, madePending, Marked, markedAt, theSchedule, noBranch}
+use Rattle.rules.specs.Path.{scheduleAt, ifExploring, exploringBelow, andSchedule, schedulesBelow, activeOf, switchIn, markedBefore, backtracked, openAt, openIn}
+use Rattle.ledger.specs.History.{Every}
+use Rattle.ledger.proofs.Counts.{flag, openIn-set}
+use Rattle.ledger.proofs.Events.{pendings-marked, none-made}
 
 -- What a backtrack finds
 
@@ -55,51 +56,51 @@ unfolding exploringBelow
 exploringBelow-explores bs zero = tt
 exploringBelow-explores bs (suc k) = ifExploring-explores bs (scheduleAt bs k) (exploringBelow bs k) (scheduleAt-stands bs k) (exploringBelow-explores bs k)
 
-before-cond : (bs : List Branch) (b : Bool) (k : ℕ) → Stands bs (cond b (scheduleAt bs k) none)
-before-cond bs true k = scheduleAt-stands bs k
-before-cond bs false k = tt
+-- the schedules that the second mark is looked for among
 
-pub before-stands : (bs : List Branch) (l : Last) → Stands bs (before bs l)
-unfolding before
-before-stands bs none = tt
-before-stands bs (at k s) = before-cond bs (ltb (s .prev) k) (s .prev)
+abbrev pub StandsAt : List Branch → Placed → Type 0
+StandsAt bs p = getD bs (p .place) noBranch ≡ schedule (p .schedule)
+
+and-stands : (bs : List Branch) (k : ℕ) (b : Branch) (ps : List Placed) → getD bs k noBranch ≡ b → Every (StandsAt bs) ps →
+    Every (StandsAt bs) (andSchedule k b ps)
+and-stands bs k (schedule s) ps e h = (e, h)
+and-stands bs k (load l) ps e h = h
+and-stands bs k (spurious u) ps e h = h
+
+below-stand : (bs : List Branch) (n : ℕ) → Every (StandsAt bs) (schedulesBelow bs n)
+unfolding schedulesBelow
+below-stand bs zero = tt
+below-stand bs (suc k) = and-stands bs k (getD bs k noBranch) (schedulesBelow bs k) refl (below-stand bs k)
 
 and-left : (a b : Bool) → a && b ≡ true → a ≡ true
 and-left a b e = and-eq-true-iff a b .0 e .0
 
-switch-at : (bs : List Branch) (k : ℕ) (s : Schedule) (more : Last) → Stands bs (at k s) → Explores bs more →
-    (a b : Bool) → s .exploring ≡ a → (c : Bool) → a && b ≡ c → Explores bs (elim c [ true ↦ at k s | false ↦ more ])
-switch-at bs k s more p q a b e true f = (p, e ∙ and-left a b f)
-switch-at bs k s more p q a b e false f = q
+switchIn-explores : (bs : List Branch) (ps : List Placed) → Every (StandsAt bs) ps → Explores bs (switchIn ps)
+unfolding switchIn
+switchIn-explores bs [] h = tt
+switchIn-explores bs (a ∷ []) h = ifExploring-explores bs (at (a .place) (a .schedule)) none (h .0) tt
+switchIn-explores bs (a ∷ b ∷ more) h =
+    let c = a .schedule .exploring && not (eqb (activeOf (a .schedule)) (activeOf (b .schedule))) in
+    go c refl (switchIn-explores bs (b ∷ more) (h .1))
+  where
+    go : (c : Bool) → a .schedule .exploring && not (eqb (activeOf (a .schedule)) (activeOf (b .schedule))) ≡ c →
+        Explores bs (switchIn (b ∷ more)) → Explores bs (cond c (at (a .place) (a .schedule)) (switchIn (b ∷ more)))
+    go true e k = (h .0, and-left (a .schedule .exploring) _ e)
+    go false e k = k
 
-switch-step : (bs : List Branch) (k : ℕ) (s : Schedule) (rest : Last → Last) → Stands bs (at k s) → ((i : ℕ) (q : Schedule) → Stands bs (at i q) → Explores bs (rest (at i q))) →
-    (l : Last) → Stands bs l →
-    Explores bs (elim l [
-      | none ↦ ifExploring (at k s) none
-      | at p q ↦ elim (s .exploring && not (eqb (activeOf s) (activeOf q))) [ true ↦ at k s | false ↦ rest (at p q) ]
-    ])
-switch-step bs k s rest p more none t = ifExploring-explores bs (at k s) none p tt
-switch-step bs k s rest p more (at i q) t =
-    let b = not (eqb (activeOf s) (activeOf q)) in
-    switch-at bs k s (rest (at i q)) p (more i q t) (s .exploring) b refl (s .exploring && b) refl
-
-pub switchFrom-explores : (bs : List Branch) (n : ℕ) (l : Last) → Stands bs l → Explores bs (switchFrom bs n l)
-unfolding switchFrom
-switchFrom-explores bs n none p = tt
-switchFrom-explores bs zero (at k s) p = tt
-switchFrom-explores bs (suc n) (at k s) p =
-    switch-step bs k s (switchFrom bs n) p (λ i q t. switchFrom-explores bs n (at i q) t) (before bs (at k s)) (before-stands bs (at k s))
+pub second-explores : (bs : List Branch) (k : ℕ) → Explores bs (switchIn (schedulesBelow bs k))
+second-explores bs k = switchIn-explores bs (schedulesBelow bs k) (below-stand bs k)
 
 -- Marks
 
 -- an exploring schedule's marks are what is counted
 pub scheduleMarked-open : (bound : Bound) (s : Schedule) (t : ℕ) → s .exploring ≡ true →
-    openAt (schedule (scheduleMarked bound s t)) ≡ openAt (schedule s) + scheduleOpened bound s t
-unfolding openAt scheduleMarked scheduleOpened
+    openAt (schedule (scheduleMarked bound s t)) ≡ openAt (schedule s) + madePending (s .states) (scheduleMarked bound s t .states)
+unfolding openAt scheduleMarked
 scheduleMarked-open bound s t e =
     ⊎-elim
     (λ (m : takesMarks bound s ≡ true). rw (m, e) (pendings-marked (s .states) t))
-    (λ (m : takesMarks bound s ≡ false). rw m (omega arith))
+    (λ (m : takesMarks bound s ≡ false). rw m (omega (arith, none-made (s .states))))
     (flag (takesMarks bound s))
 
 -- a schedule that stands in a path stands below its length
@@ -124,11 +125,9 @@ markedAt-open bound bs (at k s) t p =
 markedBefore-open : (bound : Bound) (bs : List Branch) (m : Marked) (first : Last) (t : ℕ) → openIn (m .path) ≡ openIn bs + m .opened →
     openIn (markedBefore bound m first t .path) ≡ openIn bs + markedBefore bound m first t .opened
 unfolding markedBefore
-markedBefore-open bound bs m first t e =
-    let from = before (m .path) first in
-    let second = switchFrom (m .path) (length (m .path)) from in
-    let x = switchFrom-explores (m .path) (length (m .path)) from (before-stands (m .path) first) in
-    omega (arith, markedAt-open bound (m .path) second t x)
+markedBefore-open bound bs m none t e = e
+markedBefore-open bound bs m (at k s) t e =
+    omega (arith, markedAt-open bound (m .path) (switchIn (schedulesBelow (m .path) k)) t (second-explores (m .path) k))
 
 -- "Opened: each Skip turned Pending on an exploring record": after the marks as much more is open as was counted
 pub backtracked-open : (bound : Bound) (bs : List Branch) (point t : ℕ) →
@@ -156,11 +155,9 @@ markedAt-kept bound bs (at k s) t p j e =
 markedBefore-kept : (bound : Bound) (m : Marked) (first : Last) (t j : ℕ) → isExploring (getD (m .path) j noBranch) ≡ false →
     getD (markedBefore bound m first t .path) j noBranch ≡ getD (m .path) j noBranch
 unfolding markedBefore
-markedBefore-kept bound m first t j e =
-    let from = before (m .path) first in
-    let second = switchFrom (m .path) (length (m .path)) from in
-    let x = switchFrom-explores (m .path) (length (m .path)) from (before-stands (m .path) first) in
-    markedAt-kept bound (m .path) second t x j e
+markedBefore-kept bound m none t j e = refl
+markedBefore-kept bound m (at k s) t j e =
+    markedAt-kept bound (m .path) (switchIn (schedulesBelow (m .path) k)) t (second-explores (m .path) k) j e
 
 pub backtracked-kept : (bound : Bound) (bs : List Branch) (point t j : ℕ) → isExploring (getD bs j noBranch) ≡ false →
     getD (backtracked bound bs point t .path) j noBranch ≡ getD bs j noBranch
@@ -172,20 +169,3 @@ backtracked-kept (atMost n) bs point t j e =
     let same = markedAt-kept (atMost n) bs first t (exploringBelow-explores bs (point + 1)) j e in
     let f : isExploring (getD (m .path) j noBranch) ≡ false = ap isExploring same ∙ e in
     markedBefore-kept (atMost n) m first t j f ∙ same
-
--- Marks keep the length
-
-pub markedAt-length : (bound : Bound) (bs : List Branch) (l : Last) (t : ℕ) → length (markedAt bound bs l t .path) ≡ length bs
-markedAt-length bound bs none t = refl
-markedAt-length bound bs (at k s) t = length-set bs k (schedule (scheduleMarked bound s t))
-
-markedBefore-length : (bound : Bound) (m : Marked) (first : Last) (t : ℕ) → length (markedBefore bound m first t .path) ≡ length (m .path)
-unfolding markedBefore
-markedBefore-length bound m first t = markedAt-length bound (m .path) (switchFrom (m .path) (length (m .path)) (before (m .path) first)) t
-
-pub backtracked-length : (bound : Bound) (bs : List Branch) (point t : ℕ) → length (backtracked bound bs point t .path) ≡ length bs
-unfolding backtracked
-backtracked-length unbounded bs point t = markedAt-length unbounded bs (exploringBelow bs (point + 1)) t
-backtracked-length (atMost n) bs point t =
-    let first = exploringBelow bs (point + 1) in
-    markedBefore-length (atMost n) (markedAt (atMost n) bs first t) first t ∙ markedAt-length (atMost n) bs first t

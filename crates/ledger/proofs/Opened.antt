@@ -1,26 +1,25 @@
 -- What is open after a tick is what was open, and what the tick has opened.
---     Gained                  records marked, and fresh ones added after them
+--     Gained                  records marked, and proper ones added after them
 --     opened-open             the names
 use Prim.Native.Nat.{ℕ, _+_}
 use mathlib.Core.List.{List, [], _∷_, _++_, map, map-append, append-nil, Perm, Perm·refl, Perm·cons, Perm·trans, Perm·symm, Perm·map, perm-middle}
-use mathlib.Core.Bool.{Bool, true, false, cond, _&&_}
+use mathlib.Core.Bool.{Bool, true, false, cond}
 use mathlib.Core.Path.{_≡_, refl, subst}
 use mathlib.Core.Logic.{inl, inr}
-use native.Mathlib.Omega.{arith}
 use lib.Dec.{eqb}
-use borrow.Author.Tests.{eqb-true}
-use Rattle.rules.specs.Path.{Branch, schedule, load, spurious, Schedule, choiceOf, skip, pending, marked}
-use Rattle.ledger.specs.Course.{Every}
+use Rattle.rules.specs.Path.{Branch, schedule, load, spurious, Schedule, choiceOf, pending, marked}
+use Rattle.ledger.specs.History.{Every}
 use Rattle.ledger.specs.Turning.{threadsFrom, running, alternatives, alone, beyond, openNames, newlyPending, markedAlternatives, openedNames}
-use Rattle.ledger.proofs.Marking.{StatesMarked, states-refl, states-trans, marked-states, Marking, same, mark, marking-choice, AllMarking}
+use Rattle.ledger.proofs.Events.{StatesMarked, states-refl, states-trans, marked-states, not-both}
+use Rattle.ledger.proofs.Marking.{Marking, same, mark, marking-choice, AllMarking}
 use Rattle.ledger.proofs.Growth.{Grown}
-use Rattle.ledger.proofs.Proper.{Proper, proper-marking, Fresh}
+use Rattle.ledger.proofs.Proper.{Proper, proper-marking}
 use Rattle.ledger.proofs.Lists.{shuffled}
 
 -- Paths of one execution
 
 abbrev pub Gained : List Branch → List Branch → Type 0
-Gained [] cs = Every Fresh cs
+Gained [] cs = Every Proper cs
 Gained (b ∷ bs) [] = ⊥
 Gained (b ∷ bs) (c ∷ cs) = Marking b c × Gained bs cs
 
@@ -35,31 +34,18 @@ marking-gained [] (c ∷ cs) m = absurd m
 marking-gained (b ∷ bs) [] m = absurd m
 marking-gained (b ∷ bs) (c ∷ cs) m = (m .0, marking-gained bs cs (m .1))
 
-pub gained-added : (bs cs : List Branch) (b : Branch) → AllMarking bs cs → Fresh b → Gained bs (cs ++ (b ∷ []))
+pub gained-added : (bs cs : List Branch) (b : Branch) → AllMarking bs cs → Proper b → Gained bs (cs ++ (b ∷ []))
 gained-added [] [] b m f = (f, tt)
 gained-added [] (c ∷ cs) b m f = absurd m
 gained-added (a ∷ bs) [] b m f = absurd m
 gained-added (a ∷ bs) (c ∷ cs) b m f = (m .0, gained-added bs cs b (m .1) f)
 
-fresh-proper : (cs : List Branch) → Every Fresh cs → Every Proper cs
-fresh-proper [] e = tt
-fresh-proper (c ∷ cs) e = (e .0 .proper, fresh-proper cs (e .1))
-
 pub gained-proper : (bs cs : List Branch) → Gained bs cs → Every Proper bs → Every Proper cs
-gained-proper [] cs g e = fresh-proper cs g
+gained-proper [] cs g e = g
 gained-proper (b ∷ bs) [] g e = absurd g
 gained-proper (b ∷ bs) (c ∷ cs) g e = (proper-marking (g .0) (e .0), gained-proper bs cs (g .1) (e .1))
 
 -- Threads
-
-not-both : (x : ℕ) → (eqb x skip && eqb x pending) ≡ false
-not-both x = go (eqb x skip) refl (eqb x pending) refl
-  where
-    go : (a : Bool) → eqb x skip ≡ a → (b : Bool) → eqb x pending ≡ b → (a && b) ≡ false
-    go true e true f = let p = eqb-true x skip e in let q = eqb-true x pending f in absurd (omega arith)
-    go true e false f = refl
-    go false e true f = refl
-    go false e false f = refl
 
 threads-made : (t : ℕ) (xs ys : List ℕ) → StatesMarked xs ys →
     Perm (threadsFrom t pending ys) (newlyPending t xs ys ++ threadsFrom t pending xs)
@@ -118,14 +104,9 @@ marked-opened b (spurious u) k = rw k (Perm·refl (alternatives (spurious u)))
 
 -- Paths
 
-added-opened : (cs : List Branch) → Every Fresh cs → openNames cs ≡ openedNames [] cs
-unfolding openNames openedNames
-added-opened [] e = refl
-added-opened (c ∷ cs) e = let h = added-opened cs (e .1) in let k = e .0 .opens in rw (h, k)
-
 pub opened-open : (bs cs : List Branch) → Gained bs cs → Perm (openNames cs) (openedNames bs cs ++ openNames bs)
 unfolding openNames openedNames
-opened-open [] cs g = rw (added-opened cs g, append-nil) (Perm·refl (openedNames [] cs))
+opened-open [] cs g = rw append-nil (Perm·refl (openNames cs))
 opened-open (b ∷ bs) [] g = absurd g
 opened-open (b ∷ bs) (c ∷ cs) g =
     let e : choiceOf c ≡ choiceOf b = marking-choice (g .0) in

@@ -14,7 +14,7 @@ use Rattle.rules.specs.Event as Event
 use Rattle.rules.specs.Event.{Machine, asks, Entry, Question, whichThread, whichSlot, whichBit, offers, slotsOf, Answer}
 use Rattle.rules.specs.Explorer.{Limits, Walk, Tick, goes, over, faulted, says, unexpected, reply}
 use Rattle.rules.specs.Explorer.{pushes, orFault, pushed, loadPushed}
-use Rattle.ledger.specs.Replay.{Agrees, seeded}
+use Rattle.ledger.specs.Replay.{Agrees, here}
 use Rattle.ledger.proofs.Marking.{AllMarking}
 use Rattle.ledger.proofs.Growth.{Grown}
 use Rattle.ledger.proofs.Records.{Answers}
@@ -48,7 +48,7 @@ pub pushed-agrees : (B : ℕ) (bs : List Branch) (x : Bool) (q : Question) (b : 
 unfolding pushed threadAdded spuriousAdded
 pushed-agrees B bs x (whichThread points initial standings) b k e h =
     let z = only-branch (leb B (length bs)) (ltb 255 (preemptionsAfter (lastSchedule bs))) _ b e in
-    rw (← z) (refl, seeded)
+    rw (← z) (refl, here)
 pushed-agrees B bs x (whichSlot (offers slots)) b k e h = load-agrees B bs x slots b k e h
 pushed-agrees B bs x (whichSlot Event.equal) b k e h = let z : _≡_ {A = ℕ} 0 1 = cc in absurd (omega arith)
 pushed-agrees B bs x whichBit b k e h = let z = just-branch (leb B (length bs)) _ b e in rw (← z) refl
@@ -57,20 +57,20 @@ pushed-agrees B bs x whichBit b k e h = let z = just-branch (leb B (length bs)) 
 
 module _ (M : Machine) (limits : Limits) where
   -- a branch that is passed has been asked for, and its record agrees
-  abbrev pub Passed : Event.Event (M .State) → Walk (M .State) → Walk (M .State) → Type 0
+  abbrev pub Passed : Event.Move (M .State) → Walk (M .State) → Walk (M .State) → Type 0
   Passed e w v =
       w .pos < v .pos →
       (s : M .State) × (es : List Entry) × (x : Bool) × (q : Question) × (e ≡ asks s es x q) ×
       Agrees x (getD (v .ledger .path) (w .pos) noBranch) q
 
-  -- the path left, from the place where this tick began, leads from there
-  abbrev pub Back : ℕ → Walk (M .State) → List Branch → Event.Event (M .State) → List Branch → Type 0
+  -- the path left, from the place where this tick site, leads from there
+  abbrev pub Back : ℕ → Walk (M .State) → List Branch → Event.Move (M .State) → List Branch → Type 0
   Back n w pre e whole =
       (pre′ : List Branch) × (rest : List Branch) × (whole ≡ pre′ ++ rest) × AllMarking pre pre′ ×
       Asks M limits (Leads M limits n) (w .trace) (w .pos) rest e
 
   -- it goes on
-  pub record Stays (n : ℕ) (w : Walk (M .State)) (pre : List Branch) (e : Event.Event (M .State)) (v : Walk (M .State)) : Type 0 where
+  pub record Stays (n : ℕ) (w : Walk (M .State)) (pre : List Branch) (e : Event.Move (M .State)) (v : Walk (M .State)) : Type 0 where
     pub done : List Branch
     pub rest : List Branch
     pub path-is : v .ledger .path ≡ done ++ rest
@@ -82,19 +82,19 @@ module _ (M : Machine) (limits : Limits) where
     pub passed : Passed e w v
 
   -- the execution is over
-  pub record Overs (n : ℕ) (w : Walk (M .State)) (pre : List Branch) (e : Event.Event (M .State)) (v : Walk (M .State)) : Type 0 where
+  pub record Overs (n : ℕ) (w : Walk (M .State)) (pre : List Branch) (e : Event.Move (M .State)) (v : Walk (M .State)) : Type 0 where
     pub at-end : v .pos ≡ length (v .ledger .path)
     pub grown : Grown (w .ledger .path) (v .ledger .path)
     pub back : Back n w pre e (v .ledger .path)
     pub passed : Passed e w v
 
   -- it has met a fault
-  pub record Ends (w : Walk (M .State)) (e : Event.Event (M .State)) (v : Walk (M .State)) : Type 0 where
+  pub record Ends (w : Walk (M .State)) (e : Event.Move (M .State)) (v : Walk (M .State)) : Type 0 where
     pub within : v .pos ≤ length (v .ledger .path)
     pub grown : Grown (w .ledger .path) (take (v .pos) (v .ledger .path))
     pub passed : Passed e w v
 
-  abbrev pub Fine : ℕ → Walk (M .State) → List Branch → Event.Event (M .State) → Tick (M .State) → Type 0
+  abbrev pub Fine : ℕ → Walk (M .State) → List Branch → Event.Move (M .State) → Tick (M .State) → Type 0
   Fine n w pre e (goes v) = Stays n w pre e v
   Fine n w pre e (over v) = Overs n w pre e v
   Fine n w pre e (faulted f s v) = Ends w e v

@@ -9,10 +9,9 @@ use lib.ListN.{length, take, getD}
 use borrow.Author.Tests.{eqb-true, eq-eqb}
 use Rattle.rules.specs.Vector.{Whom, nobody, thread}
 use Rattle.rules.specs.Path.{Choice, runs, reads}
-use Rattle.rules.specs.Explorer.{Execution}
-use Rattle.ledger.specs.Course.{Course, executed}
+use Rattle.ledger.specs.History.{Course, executed}
 use Rattle.ledger.specs.Tree.{noChoice}
-use Rattle.ledger.specs.Turning.{Name, sameWhom, sameBit, sameChoice, parting, partings, turningPoint, choicesOf, others, Turns, Each}
+use Rattle.ledger.specs.Turning.{sameWhom, sameBit, sameChoice, parting, partings, turningPoint, choicesOf, others, Turns, Each}
 
 -- The test of choices
 

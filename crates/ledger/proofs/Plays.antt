@@ -1,23 +1,25 @@
 -- An execution along a path that leads is the machine played with its choices.
 --     agreed-answer           a record that agrees answers as its choice does
+--     pushed-faults           the faults that a question meets
 --     tick-plays              one tick
 --     walk-plays              an execution
 use Prim.Native.Nat.{ℕ, zero, suc, _+_}
 use mathlib.Core.List.{List, [], _∷_, _++_, map, map-append, append-assoc, append-nil}
 use mathlib.Core.Bool.{Bool, true, false, cond, _&&_}
 use mathlib.Core.Path.{_≡_, refl, ap, sym, subst, _∙_}
+use mathlib.Core.Logic.{inl, inr}
 use native.Mathlib.Omega.{arith}
-use lib.Dec.{ltb}
+use lib.Dec.{ltb, leb}
 use lib.ListN.{length, getD, take, length-append}
 use lib.Seq.{getD-at, take-at}
 use borrow.Author.Tests.{eq-eqb, ne-eqb}
-use Rattle.rules.specs.Path.{Branch, schedule, load, spurious, Choice, choiceOf, noBranch}
+use Rattle.rules.specs.Path.{Branch, schedule, load, spurious, Choice, choiceOf, noBranch, Added, added, threadAdded, loadAdded, spuriousAdded, lastSchedule, preemptionsAfter}
 use Rattle.rules.specs.Event as Event
-use Rattle.rules.specs.Event.{Machine, moves, asks, stops, ends, Entry, Question, whichThread, whichSlot, whichBit, offers, Answer, readSlot}
-use Rattle.rules.specs.Explorer.{Limits, Ledger, Walk, Tick, goes, over, faulted, Reply, says, unexpected, reply, Pushed, pushes, faults, pushed, withBranch, withState, noted, allBelow, maxSlots, firstMarked, followed, replied, newBranch, met, asked, taken, tick, walked}
+use Rattle.rules.specs.Event.{Machine, moves, asks, stops, ends, Entry, Question, whichThread, whichSlot, whichBit, offers, Answer, readSlot, Fault, impossible, Site}
+use Rattle.rules.specs.Explorer.{Limits, Ledger, Walk, Tick, goes, over, faulted, Reply, says, unexpected, reply, Pushed, pushes, faults, orFault, pushed, withBranch, withState, noted, allBelow, maxSlots, firstMarked, followed, replied, newBranch, met, asked, taken, tick, walked}
 use Rattle.ledger.specs.History.{leftBy}
 use Rattle.ledger.specs.Replay.{Agrees}
-use Rattle.ledger.specs.Play.{finalOf, answerTo, afterAnswer, atTick, played}
+use Rattle.ledger.specs.Play.{answerTo, afterAnswer, atTick, played, AtQuestion, EndsAs}
 use Rattle.ledger.proofs.Marking.{AllMarking, all-length, all-split, marking-choice, firstMarked-marks}
 use Rattle.ledger.proofs.Growth.{Grown, grown-append, marking-grown}
 use Rattle.ledger.proofs.Records.{Answers}
@@ -59,6 +61,25 @@ all-choices [] (c ∷ cs) m = absurd m
 all-choices (b ∷ bs) [] m = absurd m
 all-choices (b ∷ bs) (c ∷ cs) m = let e = marking-choice (m .0) in let f = all-choices bs cs (m .1) in cc
 
+-- The faults of a question
+
+only-fault : (c d : Bool) (b : Branch) (f : Fault) → orFault (cond c Added.full (cond d Added.preempted (added b))) ≡ faults f → AtQuestion f
+only-fault true d b f e = let z : Event.full ≡ f = cc in subst AtQuestion z tt
+only-fault false true b f e = let z : Event.preemptions ≡ f = cc in subst AtQuestion z tt
+only-fault false false b f e = let z : _≡_ {A = ℕ} 0 1 = cc in absurd (omega arith)
+
+just-fault : (c : Bool) (b : Branch) (f : Fault) → orFault (cond c Added.full (added b)) ≡ faults f → AtQuestion f
+just-fault true b f e = let z : Event.full ≡ f = cc in subst AtQuestion z tt
+just-fault false b f e = let z : _≡_ {A = ℕ} 0 1 = cc in absurd (omega arith)
+
+pushed-faults : (B : ℕ) (bs : List Branch) (x : Bool) (q : Question) (f : Fault) → pushed B bs x q ≡ faults f → AtQuestion f
+unfolding pushed threadAdded loadAdded spuriousAdded
+pushed-faults B bs x (whichThread points initial standings) f e =
+    only-fault (leb B (length bs)) (ltb 255 (preemptionsAfter (lastSchedule bs))) _ f e
+pushed-faults B bs x (whichSlot (offers slots)) f e = just-fault (leb B (length bs)) _ f e
+pushed-faults B bs x (whichSlot Event.equal) f e = let z : Event.equalOrders ≡ f = cc in subst AtQuestion z tt
+pushed-faults B bs x whichBit f e = just-fault (leb B (length bs)) _ f e
+
 -- One tick
 
 -- the choices of the branches passed
@@ -67,22 +88,22 @@ made w = map choiceOf (take (w .pos) (w .ledger .path))
 
 module _ (M : Machine) (limits : Limits) where
   -- it goes on, and so does the play, with the choices made in this tick used up
-  pub record Along (n : ℕ) (w : Walk (M .State)) (pre : List Branch) (e : Event.Event (M .State)) (v : Walk (M .State)) : Type 0 where
+  pub record Along (n : ℕ) (w : Walk (M .State)) (pre : List Branch) (site : Site) (e : Event.Move (M .State)) (v : Walk (M .State)) : Type 0 where
     pub used : List Choice
     pub made-is : made v ≡ map choiceOf pre ++ used
     pub plays : (ds : List Choice) →
-        atTick M limits (played M limits n) (w .trace) (w .pos) (used ++ ds) e ≡ played M limits n (v .state) (v .trace) (v .pos) ds
+        atTick M limits (played M limits n) site (w .trace) (w .pos) (used ++ ds) e ≡ played M limits n (v .state) (v .trace) (v .pos) ds
 
-  -- it stops, and so does the play
-  pub record There (n : ℕ) (w : Walk (M .State)) (pre : List Branch) (e : Event.Event (M .State)) (v : Walk (M .State)) : Type 0 where
+  -- it ends, and so does the play
+  pub record There (n : ℕ) (w : Walk (M .State)) (pre : List Branch) (site : Site) (e : Event.Move (M .State)) (t : Tick (M .State)) : Type 0 where
     pub used : List Choice
-    pub made-is : made v ≡ map choiceOf pre ++ used
-    pub plays : atTick M limits (played M limits n) (w .trace) (w .pos) used e ≡ finalOf v
+    pub made-is : made (leftBy t) ≡ map choiceOf pre ++ used
+    pub plays : EndsAs t (atTick M limits (played M limits n) site (w .trace) (w .pos) used e)
 
-  abbrev pub Plays : ℕ → Walk (M .State) → List Branch → Event.Event (M .State) → Tick (M .State) → Type 0
-  Plays n w pre e (goes v) = Along n w pre e v
-  Plays n w pre e (over v) = There n w pre e v
-  Plays n w pre e (faulted f s v) = There n w pre e v
+  abbrev pub Plays : ℕ → Walk (M .State) → List Branch → Site → Event.Move (M .State) → Tick (M .State) → Type 0
+  Plays n w pre site e (goes v) = Along n w pre site e v
+  Plays n w pre site e (over v) = There n w pre site e (over v)
+  Plays n w pre site e (faulted f s v) = There n w pre site e (faulted f s v)
 
 -- After an answer
 
@@ -104,67 +125,67 @@ module _ (M : Machine) (limits : Limits) (n : ℕ) (w : Walk (M .State)) (pre : 
       rw (t, map-append, all-choices pre (p .pre₁) (p .marking))
 
   -- the play at this question, with this record's choice first
-  at-answer : (l : Ledger) (bs : List Branch) (a : Answer) (p : Pass l bs a) (ds : List Choice) (ev : Event.Event (M .State)) →
+  at-answer : (site : Site) (l : Ledger) (bs : List Branch) (a : Answer) (p : Pass l bs a) (ds : List Choice) (ev : Event.Move (M .State)) →
       M .answered s a ≡ ev →
-      atTick M limits (played M limits n) (w .trace) (w .pos) (choiceOf (p .b) ∷ ds) (asks s es x q)
-      ≡ afterAnswer M limits (played M limits n) (w .trace ++ es) (w .pos + 1) ds ev
-  at-answer l bs a p ds ev e =
+      atTick M limits (played M limits n) site (w .trace) (w .pos) (choiceOf (p .b) ∷ ds) (asks s es x q)
+      ≡ afterAnswer M limits (played M limits n) site (w .trace ++ es) (w .pos + 1) ds ev
+  at-answer site l bs a p ds ev e =
       let r : answerTo (w .pos) (choiceOf (p .b)) q ≡ says a =
       agreed-answer (w .pos) x (p .b) q (p .agrees) (rw (p .answers) tt) ∙ p .answers in
       rw (fit, r, e)
 
-  followed-plays : (began : M .State) (l : Ledger) (bs : List Branch) (a : Answer) → Pass l bs a → (ev : Event.Event (M .State)) →
+  followed-plays : (site : Site) (l : Ledger) (bs : List Branch) (a : Answer) → Pass l bs a → (ev : Event.Move (M .State)) →
       M .answered s a ≡ ev →
-      Plays M limits n w pre (asks s es x q) (followed M limits began (at-next l s (w .trace ++ es)) ev)
-  followed-plays began l bs a p (moves s₂ es₂) e = go (room M limits (w .trace ++ es) es₂) refl
+      Plays M limits n w pre site (asks s es x q) (followed M limits site (at-next l s (w .trace ++ es)) ev)
+  followed-plays site l bs a p (moves s₂ es₂) e = go (room M limits (w .trace ++ es) es₂) refl
     where
       go : (y : Bool) → room M limits (w .trace ++ es) es₂ ≡ y →
-          Plays M limits n w pre (asks s es x q) (cond y (goes (at-next l s₂ (w .trace ++ es ++ es₂))) (faulted Event.impossible began (at-next l s₂ (w .trace ++ es))))
+          Plays M limits n w pre site (asks s es x q) (cond y (goes (at-next l s₂ (w .trace ++ es ++ es₂))) (faulted Event.impossible site (at-next l s₂ (w .trace ++ es))))
       go true f =
           record {
             used = choiceOf (p .b) ∷ [];
             made-is = passed-choices l bs a p;
-            plays = λ ds. at-answer l bs a p ds (moves s₂ es₂) e ∙ rw f;
+            plays = λ ds. at-answer site l bs a p ds (moves s₂ es₂) e ∙ rw f;
           }
       go false f =
           record {
             used = choiceOf (p .b) ∷ [];
             made-is = passed-choices l bs a p;
-            plays = at-answer l bs a p [] (moves s₂ es₂) e ∙ rw f;
+            plays = inl (at-answer site l bs a p [] (moves s₂ es₂) e ∙ rw f);
           }
-  followed-plays began l bs a p (asks s₂ es₂ x₂ q₂) e =
-      record { used = choiceOf (p .b) ∷ []; made-is = passed-choices l bs a p; plays = at-answer l bs a p [] (asks s₂ es₂ x₂ q₂) e }
-  followed-plays began l bs a p (stops s₂ f) e =
-      record { used = choiceOf (p .b) ∷ []; made-is = passed-choices l bs a p; plays = at-answer l bs a p [] (stops s₂ f) e }
-  followed-plays began l bs a p (ends s₂) e =
-      record { used = choiceOf (p .b) ∷ []; made-is = passed-choices l bs a p; plays = at-answer l bs a p [] (ends s₂) e }
-
-  -- where no branch is passed
-  asks-nothing : (l : Ledger) (pre₁ rest₁ : List Branch) → l .path ≡ pre₁ ++ rest₁ → AllMarking pre pre₁ →
-      There M limits n w pre (asks s es x q) (record { state = s; ledger = l; pos = w .pos; trace = w .trace ++ es })
-  asks-nothing l pre₁ rest₁ e m =
-      let k : length pre₁ ≡ w .pos = all-length pre pre₁ m ∙ sym pos-is in
-      let t : take (w .pos) (l .path) ≡ pre₁ = rw e (take-at pre₁ rest₁ (w .pos) k) in
-      record { used = []; made-is = rw (t, append-nil) (all-choices pre pre₁ m); plays = rw fit }
-
-  -- A question meets the path
+  followed-plays site l bs a p (asks s₂ es₂ x₂ q₂) e =
+      record { used = choiceOf (p .b) ∷ []; made-is = passed-choices l bs a p; plays = inl (at-answer site l bs a p [] (asks s₂ es₂ x₂ q₂) e) }
+  followed-plays site l bs a p (stops s₂ f) e =
+      record { used = choiceOf (p .b) ∷ []; made-is = passed-choices l bs a p; plays = inl (at-answer site l bs a p [] (stops s₂ f) e) }
+  followed-plays site l bs a p (ends s₂) e =
+      record { used = choiceOf (p .b) ∷ []; made-is = passed-choices l bs a p; plays = at-answer site l bs a p [] (ends s₂) e }
 
   abbrev asker : Ledger → Walk (M .State)
   asker l = record { state = s; ledger = l; pos = w .pos; trace = w .trace ++ es }
 
-  known-plays : (began : M .State) (l : Ledger) (pre₁ : List Branch) (b : Branch) (bs : List Branch) → l .path ≡ pre₁ ++ (b ∷ bs) →
+  -- where no branch is passed
+  asks-nothing : (site : Site) (l : Ledger) (pre₁ rest₁ : List Branch) (f : Fault) → l .path ≡ pre₁ ++ rest₁ → AllMarking pre pre₁ → AtQuestion f →
+      There M limits n w pre site (asks s es x q) (faulted f site (asker l))
+  asks-nothing site l pre₁ rest₁ f e m a =
+      let k : length pre₁ ≡ w .pos = all-length pre pre₁ m ∙ sym pos-is in
+      let t : take (w .pos) (l .path) ≡ pre₁ = rw e (take-at pre₁ rest₁ (w .pos) k) in
+      record { used = []; made-is = rw (t, append-nil) (all-choices pre pre₁ m); plays = inr (a, rw fit) }
+
+  -- A question meets the path
+
+  known-plays : (site : Site) (l : Ledger) (pre₁ : List Branch) (b : Branch) (bs : List Branch) → l .path ≡ pre₁ ++ (b ∷ bs) →
       AllMarking pre pre₁ →
       Grown (w .ledger .path) (l .path) → Agrees x b q → (r : Reply) → reply (w .pos) b q ≡ r →
-      Plays M limits n w pre (asks s es x q) (replied M limits began (asker l) r)
-  known-plays began l pre₁ b bs e m g h (says a) k =
-      followed-plays began l bs a (record { pre₁ = pre₁; b = b; path-is = e; marking = m; grown = g; agrees = h; answers = k }) (M .answered s a) refl
-  known-plays began l pre₁ b bs e m g h unexpected k = asks-nothing l pre₁ (b ∷ bs) e m
+      Plays M limits n w pre site (asks s es x q) (replied M limits site (asker l) r)
+  known-plays site l pre₁ b bs e m g h (says a) k =
+      followed-plays site l bs a (record { pre₁ = pre₁; b = b; path-is = e; marking = m; grown = g; agrees = h; answers = k }) (M .answered s a) refl
+  known-plays site l pre₁ b bs e m g h unexpected k = asks-nothing site l pre₁ (b ∷ bs) impossible e m tt
 
-  added-plays : (began : M .State) (l : Ledger) (b : Branch) → AllMarking pre (l .path) → Grown (w .ledger .path) (l .path) →
+  added-plays : (site : Site) (l : Ledger) (b : Branch) → AllMarking pre (l .path) → Grown (w .ledger .path) (l .path) →
       pushed (limits .branches) (l .path) x q ≡ pushes b → (r : Reply) → reply (w .pos) b q ≡ r →
-      Plays M limits n w pre (asks s es x q) (replied M limits began (asker (withBranch l b)) r)
-  added-plays began l b m g k (says a) h =
-      followed-plays began (withBranch l b) [] a
+      Plays M limits n w pre site (asks s es x q) (replied M limits site (asker (withBranch l b)) r)
+  added-plays site l b m g k (says a) h =
+      followed-plays site (withBranch l b) [] a
       (record {
         pre₁ = l .path;
         b = b;
@@ -175,38 +196,39 @@ module _ (M : Machine) (limits : Limits) (n : ℕ) (w : Walk (M .State)) (pre : 
         answers = h;
       })
       (M .answered s a) refl
-  added-plays began l b m g k unexpected h = asks-nothing (withBranch l b) (l .path) (b ∷ []) refl m
+  added-plays site l b m g k unexpected h = asks-nothing site (withBranch l b) (l .path) (b ∷ []) impossible refl m tt
 
-  new-plays : (began : M .State) (l : Ledger) → AllMarking pre (l .path) → Grown (w .ledger .path) (l .path) →
+  new-plays : (site : Site) (l : Ledger) → AllMarking pre (l .path) → Grown (w .ledger .path) (l .path) →
       (P : Pushed) → pushed (limits .branches) (l .path) x q ≡ P →
-      Plays M limits n w pre (asks s es x q) (newBranch M limits began (asker l) q P)
-  new-plays began l m g (pushes b) k = added-plays began l b m g k (reply (w .pos) b q) refl
-  new-plays began l m g (faults f) k = asks-nothing l (l .path) [] (sym (append-nil (l .path))) m
+      Plays M limits n w pre site (asks s es x q) (newBranch M limits site (asker l) q P)
+  new-plays site l m g (pushes b) k = added-plays site l b m g k (reply (w .pos) b q) refl
+  new-plays site l m g (faults f) k =
+      asks-nothing site l (l .path) [] f (sym (append-nil (l .path))) m (pushed-faults (limits .branches) (l .path) x q f k)
 
-  met-plays : (began : M .State) (l : Ledger) (pre₁ rest₁ : List Branch) → l .path ≡ pre₁ ++ rest₁ → AllMarking pre pre₁ →
+  met-plays : (site : Site) (l : Ledger) (pre₁ rest₁ : List Branch) → l .path ≡ pre₁ ++ rest₁ → AllMarking pre pre₁ →
       Grown (w .ledger .path) (l .path) →
       Asks M limits (Leads M limits n) (w .trace) (w .pos) rest₁ (asks s es x q) →
-      Plays M limits n w pre (asks s es x q) (met M limits began (asker l) x q)
-  met-plays began l pre₁ [] e m g o =
+      Plays M limits n w pre site (asks s es x q) (met M limits site (asker l) x q)
+  met-plays site l pre₁ [] e m g o =
       let f : l .path ≡ pre₁ = e ∙ append-nil pre₁ in
       let i : length pre₁ ≡ w .pos = all-length pre pre₁ m ∙ sym pos-is in
       rw (eq-eqb (w .pos) (length (l .path)) (rw f (sym i)))
-      (new-plays began l (rw f m) g (pushed (limits .branches) (l .path) x q) refl)
-  met-plays began l pre₁ (b ∷ bs) e m g o =
+      (new-plays site l (rw f m) g (pushed (limits .branches) (l .path) x q) refl)
+  met-plays site l pre₁ (b ∷ bs) e m g o =
       let i : length pre₁ ≡ w .pos = all-length pre pre₁ m ∙ sym pos-is in
       let j : length (l .path) ≡ length pre₁ + suc (length bs) = rw (e, length-append) refl in
       let k : getD (l .path) (w .pos) noBranch ≡ b = rw e (getD-at pre₁ b bs noBranch (w .pos) i) in
       rw (ne-eqb (w .pos) (length (l .path)) (λ z. omega arith), k)
-      (known-plays began l pre₁ b bs e m g (o .1) (reply (w .pos) b q) refl)
+      (known-plays site l pre₁ b bs e m g (o .1) (reply (w .pos) b q) refl)
 
-  asked-plays : (began : M .State) (rest : List Branch) → w .ledger .path ≡ pre ++ rest →
+  asked-plays : (site : Site) (rest : List Branch) → w .ledger .path ≡ pre ++ rest →
       Asks M limits (Leads M limits n) (w .trace) (w .pos) rest (asks s es x q) →
-      Plays M limits n w pre (asks s es x q) (asked M limits began (noted w s es) x q)
-  asked-plays began rest e o =
+      Plays M limits n w pre site (asks s es x q) (asked M limits site (noted w s es) x q)
+  asked-plays site rest e o =
       let l = firstMarked (limits .bound) (w .ledger) q in
       let m = firstMarked-marks (limits .bound) (w .ledger) q in
       let r = all-split pre rest (l .path) (subst (λ (z : List Branch). AllMarking z (l .path)) e m) in
-      met-plays began l (r .0) (r .1) (r .2) (r .3) (marking-grown (w .ledger .path) (l .path) m)
+      met-plays site l (r .0) (r .1) (r .2) (r .3) (marking-grown (w .ledger .path) (l .path) m)
       (asks-marking M limits (Leads M limits n) (leads-marking M limits n) (w .trace) (w .pos) rest (r .1) (asks s es x q) (r .4) o)
 
 -- A tick
@@ -215,54 +237,55 @@ module _ (M : Machine) (limits : Limits) (n : ℕ) (w : Walk (M .State)) (pre re
   so-far : made w ≡ map choiceOf pre ++ []
   so-far = rw (path-is, take-at pre rest (w .pos) (sym pos-is), append-nil)
 
-  taken-plays : (e : Event.Event (M .State)) → Asks M limits (Leads M limits n) (w .trace) (w .pos) rest e →
-      Plays M limits n w pre e (taken M limits w e)
-  taken-plays (moves s es) o = go (room M limits (w .trace) es) refl
+  taken-plays : (site : Site) (e : Event.Move (M .State)) → Asks M limits (Leads M limits n) (w .trace) (w .pos) rest e →
+      Plays M limits n w pre site e (taken M limits site w e)
+  taken-plays site (moves s es) o = go (room M limits (w .trace) es) refl
     where
       go : (y : Bool) → room M limits (w .trace) es ≡ y →
-          Plays M limits n w pre (moves s es) (cond y (goes (noted w s es)) (faulted Event.impossible (w .state) (withState w s)))
+          Plays M limits n w pre site (moves s es) (cond y (goes (noted w s es)) (faulted Event.impossible site (withState w s)))
       go true f = record { used = []; made-is = so-far; plays = λ ds. rw f }
-      go false f = record { used = []; made-is = so-far; plays = rw f }
-  taken-plays (asks s es x q) o = go (room M limits (w .trace) es) refl
+      go false f = record { used = []; made-is = so-far; plays = inl (rw f) }
+  taken-plays site (asks s es x q) o = go (room M limits (w .trace) es) refl
     where
       go : (y : Bool) → room M limits (w .trace) es ≡ y →
-          Plays M limits n w pre (asks s es x q) (cond y (asked M limits (w .state) (noted w s es) x q) (faulted Event.impossible (w .state) (withState w s)))
-      go true f = asked-plays M limits n w pre pos-is s es x q f (w .state) rest path-is o
-      go false f = record { used = []; made-is = so-far; plays = rw f }
-  taken-plays (stops s f) o = record { used = []; made-is = so-far; plays = refl }
-  taken-plays (ends s) o = record { used = []; made-is = so-far; plays = refl }
+          Plays M limits n w pre site (asks s es x q) (cond y (asked M limits site (noted w s es) x q) (faulted Event.impossible site (withState w s)))
+      go true f = asked-plays M limits n w pre pos-is s es x q f site rest path-is o
+      go false f = record { used = []; made-is = so-far; plays = inl (rw f) }
+  taken-plays site (stops s f) o = record { used = []; made-is = so-far; plays = inl refl }
+  taken-plays site (ends s) o = record { used = []; made-is = so-far; plays = refl }
 
   pub tick-plays : Leads M limits (suc n) (w .state) (w .trace) (w .pos) rest →
-      Plays M limits n w pre (M .next (w .state)) (tick M limits w)
+      Plays M limits n w pre (M .next (w .state) .site) (M .next (w .state) .move) (tick M limits w)
   unfolding tick Leads
-  tick-plays o = taken-plays (M .next (w .state)) o
+  tick-plays o = taken-plays (M .next (w .state) .site) (M .next (w .state) .move) o
 
 -- An execution
 
 module _ (M : Machine) (limits : Limits) where
   -- the choices that it makes from here on, and the play with them
-  abbrev pub Whole : ℕ → Walk (M .State) → List Branch → Walk (M .State) → Type 0
-  Whole n w pre v = (ds : List Choice) × (made v ≡ map choiceOf pre ++ ds) × (played M limits n (w .state) (w .trace) (w .pos) ds ≡ finalOf v)
+  abbrev pub Whole : ℕ → Walk (M .State) → List Branch → Tick (M .State) → Type 0
+  Whole n w pre t =
+      (ds : List Choice) × (made (leftBy t) ≡ map choiceOf pre ++ ds) × EndsAs t (played M limits n (w .state) (w .trace) (w .pos) ds)
 
-  on-from : (n : ℕ) (w : Walk (M .State)) (pre : List Branch) (t : Tick (M .State)) → Fine M limits n w pre (M .next (w .state)) t →
-      Plays M limits n w pre (M .next (w .state)) t →
-      ((v : Walk (M .State)) (r : Stays M limits n w pre (M .next (w .state)) v) → Whole n v (r .done) (leftBy (walked M limits n v))) →
-      Whole (suc n) w pre (leftBy (elim t [ goes v ↦ walked M limits n v | over v ↦ over v | faulted f s v ↦ faulted f s v ]))
+  on-from : (n : ℕ) (w : Walk (M .State)) (pre : List Branch) (t : Tick (M .State)) → Fine M limits n w pre (M .next (w .state) .move) t →
+      Plays M limits n w pre (M .next (w .state) .site) (M .next (w .state) .move) t →
+      ((v : Walk (M .State)) (r : Stays M limits n w pre (M .next (w .state) .move) v) → Whole n v (r .done) (walked M limits n v)) →
+      Whole (suc n) w pre (elim t [ goes v ↦ walked M limits n v | over v ↦ over v | faulted f s v ↦ faulted f s v ])
   unfolding played
   on-from n w pre (goes v) r p h =
       let k = h v r in
       let d : made v ≡ map choiceOf (r .done) = rw (r .path-is, take-at (r .done) (r .rest) (v .pos) (sym (r .pos-is))) in (
         p .used ++ k .0,
         k .1 ∙ ap (λ (l : List Choice). l ++ k .0) (sym d ∙ p .made-is) ∙ append-assoc (map choiceOf pre) (p .used) (k .0),
-        p .plays (k .0) ∙ k .2,
+        rw (p .plays (k .0)) (k .2),
       )
   on-from n w pre (over v) r p h = (p .used, p .made-is, p .plays)
   on-from n w pre (faulted f s v) r p h = (p .used, p .made-is, p .plays)
 
   pub walk-plays : (n : ℕ) (w : Walk (M .State)) (pre rest : List Branch) → w .pos ≡ length pre → w .ledger .path ≡ pre ++ rest →
-      Leads M limits n (w .state) (w .trace) (w .pos) rest → Whole n w pre (leftBy (walked M limits n w))
+      Leads M limits n (w .state) (w .trace) (w .pos) rest → Whole n w pre (walked M limits n w)
   unfolding walked played
-  walk-plays zero w pre rest k e o = ([], rw (e, take-at pre rest (w .pos) (sym k), append-nil), refl)
+  walk-plays zero w pre rest k e o = ([], rw (e, take-at pre rest (w .pos) (sym k), append-nil), inl refl)
   walk-plays (suc n) w pre rest k e o =
       on-from n w pre (tick M limits w) (tick-fine M limits n w pre k rest e o) (tick-plays M limits n w pre rest k e o)
       (λ v r. walk-plays n v (r .done) (r .rest) (r .pos-is) (r .path-is) (r .ahead))

@@ -11,7 +11,7 @@ use lib.Dec.{ltb}
 use lib.ListN.{length, take, getD}
 use borrow.Author.Tests.{ltb-true}
 use Rattle.rules.specs.Path.{Branch, Choice, choiceOf, stepped, orTurned, turnedBranch, openAt}
-use Rattle.ledger.specs.Course.{Every}
+use Rattle.ledger.specs.History.{Every}
 use Rattle.ledger.specs.Tree.{noChoice}
 use Rattle.ledger.proofs.Marking.{marking-choice}
 use Rattle.ledger.proofs.Growth.{Grown}

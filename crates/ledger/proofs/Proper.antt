@@ -1,9 +1,9 @@
 -- What every record has, whatever was asked: a schedule has at most one Active, and a load's values rise.
 --     Lacks, One                         no thread, at most one thread in a state
 --     Proper                             such a record
---     proper-marking, proper-turned, proper-pushed     marks and visits keep it, and a record that is added has it
+--     proper-marking, proper-turned, pushed-proper     marks and visits keep it, and a record that is added has it
 --     turned-choice                      a visit turns to the first Pending
-use Prim.Native.Nat.{ℕ, zero, suc, _+_, _<_}
+use Prim.Native.Nat.{ℕ, zero, suc, _<_}
 use mathlib.Core.List.{List, [], _∷_, map}
 use mathlib.Core.Bool.{Bool, true, false, cond}
 use mathlib.Core.Path.{_≡_, refl, ap, sym, _∙_}
@@ -14,13 +14,13 @@ use lib.ListN.{length, getD, set, length-set, List·getD-eq-default}
 use lib.Seq.{getD-set-same, getD-set-other}
 use borrow.Author.Tests.{ltb-true, ltb-false, eqb-true, eqb-false}
 use Rattle.rules.specs.Vector.{Whom, nobody, thread}
-use Rattle.rules.specs.Path.{Branch, schedule, load, spurious, Schedule, Choice, pending, active, visited, yield, firstIn, activeIn, toActive, toVisited, left, unlessActive, toggled, turned, pendings, openAt, turnedBranch, marked, stepped, orTurned, lastSchedule, preemptionsAfter, threadAdded, loadAdded, spuriousAdded}
+use Rattle.rules.specs.Path.{Branch, schedule, load, spurious, pending, active, visited, yield, firstIn, activeIn, toActive, toVisited, left, unlessActive, toggled, turned, pendings, openAt, turnedBranch, marked, stepped, orTurned, lastSchedule, preemptionsAfter, threadAdded, loadAdded, spuriousAdded}
 use Rattle.rules.specs.Event as Event
-use Rattle.rules.specs.Event.{Standing, yielded, cannotRun, other, Question, whichThread, whichSlot, whichBit, offers, slotsOf}
+use Rattle.rules.specs.Event.{Standing, yielded, cannotRun, other, Question, whichThread, whichSlot, whichBit, offers}
 use Rattle.rules.specs.Explorer.{seedOf, seedState, pushed, pushes}
-use Rattle.ledger.specs.Course.{Every}
-use Rattle.ledger.specs.Turning.{threadsFrom, alternatives, addedAlternatives}
-use Rattle.ledger.proofs.Marking.{StatesMarked, marked-states, Marking, same, mark}
+use Rattle.ledger.specs.History.{Every}
+use Rattle.ledger.proofs.Events.{StatesMarked, marked-states}
+use Rattle.ledger.proofs.Marking.{Marking, same, mark}
 use Rattle.ledger.proofs.States.{found, present, some-pending, left-at, turned-shape}
 use Rattle.ledger.proofs.Records.{Sound, open-pending, open-values}
 use Rattle.ledger.proofs.Outcomes.{only-branch, just-branch}
@@ -64,23 +64,6 @@ seed-lacks-active (yielded ∷ standings) (suc i) p = seed-lacks-active standing
 seed-lacks-active (cannotRun ∷ standings) (suc i) p = seed-lacks-active standings i p
 seed-lacks-active (other ∷ standings) (suc i) p = seed-lacks-active standings i p
 
-seed-lacks-pending : (standings : List Standing) → Lacks pending (map seedState standings)
-seed-lacks-pending [] i p = omega arith
-seed-lacks-pending (yielded ∷ standings) zero p = omega arith
-seed-lacks-pending (cannotRun ∷ standings) zero p = omega arith
-seed-lacks-pending (other ∷ standings) zero p = omega arith
-seed-lacks-pending (yielded ∷ standings) (suc i) p = seed-lacks-pending standings i p
-seed-lacks-pending (cannotRun ∷ standings) (suc i) p = seed-lacks-pending standings i p
-seed-lacks-pending (other ∷ standings) (suc i) p = seed-lacks-pending standings i p
-
-active-lacks-pending : (xs : List ℕ) (w : Whom) → Lacks pending xs → Lacks pending (toActive w xs)
-active-lacks-pending xs nobody n i p = n i p
-active-lacks-pending [] (thread t) n i p = n i p
-active-lacks-pending (x ∷ xs) (thread zero) n zero p = omega arith
-active-lacks-pending (x ∷ xs) (thread zero) n (suc i) p = n (suc i) p
-active-lacks-pending (x ∷ xs) (thread (suc t)) n zero p = n zero p
-active-lacks-pending (x ∷ xs) (thread (suc t)) n (suc i) p = active-lacks-pending xs (thread t) (λ j. n (suc j)) i p
-
 seed-one : (initial : Whom) (standings : List Standing) → One (seedOf initial standings)
 unfolding seedOf
 seed-one nobody standings = lacks-one (map seedState standings) (seed-lacks-active standings)
@@ -97,26 +80,6 @@ toggled-one xs o = go (activeIn xs) refl
     go : (w : Whom) → activeIn xs ≡ w → One (unlessActive w xs)
     go nobody e = on (firstIn yield xs) (unfound xs e)
     go (thread t) e = o
-
-toggled-lacks-pending : (initial : Whom) (standings : List Standing) → Lacks pending (toggled (seedOf initial standings))
-unfolding toggled seedOf
-toggled-lacks-pending initial standings = go (activeIn (toActive initial (map seedState standings)))
-  where
-    n : Lacks pending (toActive initial (map seedState standings))
-    n = active-lacks-pending (map seedState standings) initial (seed-lacks-pending standings)
-
-    go : (w : Whom) → Lacks pending (unlessActive w (toActive initial (map seedState standings)))
-    go nobody = active-lacks-pending (toActive initial (map seedState standings)) (firstIn yield (toActive initial (map seedState standings))) n
-    go (thread t) = n
-
-pub threads-none : (t x : ℕ) (xs : List ℕ) → Lacks x xs → threadsFrom t x xs ≡ []
-unfolding threadsFrom
-threads-none t x [] n = refl
-threads-none t x (y ∷ ys) n = go (eqb y x) refl (threads-none (t + 1) x ys (λ i. n (suc i)))
-  where
-    go : (b : Bool) → eqb y x ≡ b → threadsFrom (t + 1) x ys ≡ [] → cond b (t ∷ threadsFrom (t + 1) x ys) (threadsFrom (t + 1) x ys) ≡ []
-    go true e h = absurd (n zero (eqb-true y x e))
-    go false e h = h
 
 -- marks and visits
 
@@ -186,40 +149,16 @@ proper-turned (schedule s) h p = turned-one (s .states) (open-pending s h) p
 proper-turned (load l) h p = (p .0, λ k. open-values l h)
 proper-turned (spurious u) h p = tt
 
--- a record that is added: it is proper, and what it has open is what it opens
-pub record Fresh (b : Branch) : Type 0 where
-  pub proper : Proper b
-  pub opens : alternatives b ≡ addedAlternatives b
-
-schedule-fresh : (initial : Whom) (standings : List Standing) (s : Schedule) → s .states ≡ toggled (seedOf initial standings) →
-    Fresh (schedule s)
-unfolding alternatives addedAlternatives
-schedule-fresh initial standings s e =
-    record {
-      proper = rw e (toggled-one (seedOf initial standings) (seed-one initial standings));
-      opens = rw (e, threads-none 0 pending (toggled (seedOf initial standings)) (toggled-lacks-pending initial standings)) (go (s .exploring));
-    }
-  where
-    go : (x : Bool) → _≡_ {A = List Choice} (cond x [] []) []
-    go true = refl
-    go false = refl
-
-load-fresh : (x : Bool) (slots : List Bool) → Fresh (load (record { exploring = x; values = slotsOf slots; pos = 0 }))
-unfolding alternatives addedAlternatives
-load-fresh x slots = record { proper = (slots-rising 0 slots, λ h. absurd (omega arith)); opens = refl }
-
-spurious-fresh : (x : Bool) → Fresh (spurious (record { exploring = x; bit = false }))
-unfolding alternatives addedAlternatives
-spurious-fresh x = record { proper = tt; opens = refl }
-
-pub pushed-fresh : (B : ℕ) (bs : List Branch) (x : Bool) (q : Question) (b : Branch) → pushed B bs x q ≡ pushes b → Fresh b
+-- a record that is added
+pub pushed-proper : (B : ℕ) (bs : List Branch) (x : Bool) (q : Question) (b : Branch) → pushed B bs x q ≡ pushes b → Proper b
 unfolding pushed threadAdded loadAdded spuriousAdded
-pushed-fresh B bs x (whichThread points initial standings) b e =
+pushed-proper B bs x (whichThread points initial standings) b e =
     let z = only-branch (leb B (length bs)) (ltb 255 (preemptionsAfter (lastSchedule bs))) _ b e in
-    rw (← z) (schedule-fresh initial standings _ refl)
-pushed-fresh B bs x (whichSlot (offers slots)) b e = let z = just-branch (leb B (length bs)) _ b e in rw (← z) (load-fresh x slots)
-pushed-fresh B bs x (whichSlot Event.equal) b e = let z : _≡_ {A = ℕ} 0 1 = cc in absurd (omega arith)
-pushed-fresh B bs x whichBit b e = let z = just-branch (leb B (length bs)) _ b e in rw (← z) (spurious-fresh x)
+    rw (← z) (toggled-one (seedOf initial standings) (seed-one initial standings))
+pushed-proper B bs x (whichSlot (offers slots)) b e =
+    let z = just-branch (leb B (length bs)) _ b e in rw (← z) (slots-rising 0 slots, λ h. absurd (omega arith))
+pushed-proper B bs x (whichSlot Event.equal) b e = let z : _≡_ {A = ℕ} 0 1 = cc in absurd (omega arith)
+pushed-proper B bs x whichBit b e = let z = just-branch (leb B (length bs)) _ b e in rw (← z) tt
 
 -- Paths
 

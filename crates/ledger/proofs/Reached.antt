@@ -13,7 +13,7 @@ use lib.Dec.{ltb}
 use lib.ListN.{length, length-append, length-map}
 use borrow.Author.Tests.{ltb-true}
 use Rattle.rules.specs.Path.{Branch, Choice, choiceOf, stepped, orTurned, turnedBranch, openAt, openIn}
-use Rattle.ledger.specs.Course.{Every}
+use Rattle.ledger.specs.History.{Every}
 use Rattle.ledger.specs.Tree.{noChoice}
 use Rattle.ledger.specs.Turning.{Name, alternatives, alone, beyond, openNames}
 use Rattle.ledger.proofs.Marking.{marking-choice}

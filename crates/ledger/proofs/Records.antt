@@ -19,7 +19,8 @@ use Rattle.rules.specs.Path.{active, visited, activeIn, turned, pendings, openA
 use Rattle.rules.specs.Event.{Question, whichThread, whichSlot, whichBit, slotsOf, readSlot}
 use Rattle.rules.specs.Explorer.{reply, Reply, says, unexpected, allBelow, maxSlots}
 use Rattle.ledger.specs.Replay.{marks, visits, Agrees}
-use Rattle.ledger.proofs.Marking.{Marking, same, mark, states-active, states-visited, marked-states}
+use Rattle.ledger.proofs.Events.{states-active, states-visited, marked-states}
+use Rattle.ledger.proofs.Marking.{Marking, same, mark}
 use Rattle.ledger.proofs.States.{found, turned-visited, turned-leaves, turned-someone}
 use Rattle.ledger.proofs.Lists.{rising-at, slots-rising}
 

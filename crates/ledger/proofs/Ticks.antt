@@ -63,7 +63,7 @@ module _ (M : Machine) (limits : Limits) (n : ℕ) (w : Walk (M .State)) (pre : 
       }
 
   -- a record after marks, before what leads on
-  back-by : (l : Ledger) (bs : List Branch) (a : Answer) (p : Passing l bs a) (ev : Event.Event (M .State)) → M .answered s a ≡ ev →
+  back-by : (l : Ledger) (bs : List Branch) (a : Answer) (p : Passing l bs a) (ev : Event.Move (M .State)) → M .answered s a ≡ ev →
       (pre′ rest′ : List Branch) → AllMarking (p .pre₁ ++ (p .b ∷ [])) pre′ →
       Onward M limits (Leads M limits n) (w .trace ++ es) (w .pos + 1) rest′ ev →
       Back M limits n w pre (asks s es x q) (pre′ ++ rest′)
@@ -111,11 +111,11 @@ module _ (M : Machine) (limits : Limits) (n : ℕ) (w : Walk (M .State)) (pre : 
         passed = passed-by l [] a p (leaver l s₂) refl;
       }
 
-  followed-fine : (began : M .State) (l : Ledger) (bs : List Branch) (a : Answer) → Passing l bs a → (ev : Event.Event (M .State)) →
+  followed-fine : (site : Event.Site) (l : Ledger) (bs : List Branch) (a : Answer) → Passing l bs a → (ev : Event.Move (M .State)) →
       M .answered s a ≡ ev →
       Onward M limits (Leads M limits n) (w .trace ++ es) (w .pos + 1) bs ev →
-      Fine M limits n w pre (asks s es x q) (followed M limits began (passer l) ev)
-  followed-fine began l bs a p (moves s₂ es₂) e o = go (room M limits (w .trace ++ es) es₂) refl
+      Fine M limits n w pre (asks s es x q) (followed M limits site (passer l) ev)
+  followed-fine site l bs a p (moves s₂ es₂) e o = go (room M limits (w .trace ++ es) es₂) refl
     where
       no-room : (bs : List Branch) → Passing l bs a → room M limits (w .trace ++ es) es₂ ≡ false →
           Onward M limits (Leads M limits n) (w .trace ++ es) (w .pos + 1) bs (moves s₂ es₂) →
@@ -124,15 +124,15 @@ module _ (M : Machine) (limits : Limits) (n : ℕ) (w : Walk (M .State)) (pre : 
       no-room (b ∷ bs) p f o = absurd (true≢false (sym (o .0) ∙ f))
 
       go : (y : Bool) → room M limits (w .trace ++ es) es₂ ≡ y →
-          Fine M limits n w pre (asks s es x q) (cond y (goes (noted (passer l) s₂ es₂)) (faulted Event.impossible began (leaver l s₂)))
+          Fine M limits n w pre (asks s es x q) (cond y (goes (noted (passer l) s₂ es₂)) (faulted Event.impossible site (leaver l s₂)))
       go true f = stays-here l bs a p s₂ es₂ e f o
       go false f = no-room bs p f o
-  followed-fine began l [] a p (asks s₂ es₂ x₂ q₂) e o = ends-here l a p s₂
-  followed-fine began l (b ∷ bs) a p (asks s₂ es₂ x₂ q₂) e o = absurd o
-  followed-fine began l [] a p (stops s₂ f) e o = ends-here l a p s₂
-  followed-fine began l (b ∷ bs) a p (stops s₂ f) e o = absurd o
-  followed-fine began l [] a p (ends s₂) e o = overs-here l a p s₂ e
-  followed-fine began l (b ∷ bs) a p (ends s₂) e o = absurd o
+  followed-fine site l [] a p (asks s₂ es₂ x₂ q₂) e o = ends-here l a p s₂
+  followed-fine site l (b ∷ bs) a p (asks s₂ es₂ x₂ q₂) e o = absurd o
+  followed-fine site l [] a p (stops s₂ f) e o = ends-here l a p s₂
+  followed-fine site l (b ∷ bs) a p (stops s₂ f) e o = absurd o
+  followed-fine site l [] a p (ends s₂) e o = overs-here l a p s₂ e
+  followed-fine site l (b ∷ bs) a p (ends s₂) e o = absurd o
 
   -- A question meets the path
 
@@ -140,20 +140,20 @@ module _ (M : Machine) (limits : Limits) (n : ℕ) (w : Walk (M .State)) (pre : 
   abbrev asker : Ledger → Walk (M .State)
   asker l = record { state = s; ledger = l; pos = w .pos; trace = w .trace ++ es }
 
-  known-fine : (began : M .State) (l : Ledger) (pre₁ : List Branch) (b : Branch) (bs : List Branch) → l .path ≡ pre₁ ++ (b ∷ bs) →
+  known-fine : (site : Event.Site) (l : Ledger) (pre₁ : List Branch) (b : Branch) (bs : List Branch) → l .path ≡ pre₁ ++ (b ∷ bs) →
       AllMarking pre pre₁ →
       Grown (w .ledger .path) (l .path) → Agrees x b q → (r : Reply) → reply (w .pos) b q ≡ r →
       Replies M limits (Leads M limits n) s (w .trace ++ es) (w .pos) bs r →
-      Fine M limits n w pre (asks s es x q) (replied M limits began (asker l) r)
-  known-fine began l pre₁ b bs e m g h (says a) k o =
-      followed-fine began l bs a (record { pre₁ = pre₁; b = b; path-is = e; marking = m; grown = g; agrees = h; answers = k }) (M .answered s a) refl o
-  known-fine began l pre₁ b bs e m g h unexpected k o = absurd o
+      Fine M limits n w pre (asks s es x q) (replied M limits site (asker l) r)
+  known-fine site l pre₁ b bs e m g h (says a) k o =
+      followed-fine site l bs a (record { pre₁ = pre₁; b = b; path-is = e; marking = m; grown = g; agrees = h; answers = k }) (M .answered s a) refl o
+  known-fine site l pre₁ b bs e m g h unexpected k o = absurd o
 
-  added-fine : (began : M .State) (l : Ledger) (b : Branch) → AllMarking pre (l .path) → Grown (w .ledger .path) (l .path) →
+  added-fine : (site : Event.Site) (l : Ledger) (b : Branch) → AllMarking pre (l .path) → Grown (w .ledger .path) (l .path) →
       pushed (limits .branches) (l .path) x q ≡ pushes b → (r : Reply) → reply (w .pos) b q ≡ r →
-      Fine M limits n w pre (asks s es x q) (replied M limits began (asker (withBranch l b)) r)
-  added-fine began l b m g k (says a) h =
-      followed-fine began (withBranch l b) [] a
+      Fine M limits n w pre (asks s es x q) (replied M limits site (asker (withBranch l b)) r)
+  added-fine site l b m g k (says a) h =
+      followed-fine site (withBranch l b) [] a
       (record {
         pre₁ = l .path;
         b = b;
@@ -164,7 +164,7 @@ module _ (M : Machine) (limits : Limits) (n : ℕ) (w : Walk (M .State)) (pre : 
         answers = h;
       })
       (M .answered s a) refl tt
-  added-fine began l b m g k unexpected h =
+  added-fine site l b m g k unexpected h =
       let i : length (l .path) ≡ w .pos = all-length pre (l .path) m ∙ sym pos-is in
       record {
         within = rw length-append (omega arith);
@@ -172,11 +172,11 @@ module _ (M : Machine) (limits : Limits) (n : ℕ) (w : Walk (M .State)) (pre : 
         passed = λ j. absurd (omega arith);
       }
 
-  new-fine : (began : M .State) (l : Ledger) → AllMarking pre (l .path) → Grown (w .ledger .path) (l .path) →
+  new-fine : (site : Event.Site) (l : Ledger) → AllMarking pre (l .path) → Grown (w .ledger .path) (l .path) →
       (P : Pushed) → pushed (limits .branches) (l .path) x q ≡ P →
-      Fine M limits n w pre (asks s es x q) (newBranch M limits began (asker l) q P)
-  new-fine began l m g (pushes b) k = added-fine began l b m g k (reply (w .pos) b q) refl
-  new-fine began l m g (faults f) k =
+      Fine M limits n w pre (asks s es x q) (newBranch M limits site (asker l) q P)
+  new-fine site l m g (pushes b) k = added-fine site l b m g k (reply (w .pos) b q) refl
+  new-fine site l m g (faults f) k =
       let i : length (l .path) ≡ w .pos = all-length pre (l .path) m ∙ sym pos-is in
       record {
         within = omega arith;
@@ -184,37 +184,37 @@ module _ (M : Machine) (limits : Limits) (n : ℕ) (w : Walk (M .State)) (pre : 
         passed = λ j. absurd (omega arith);
       }
 
-  met-fine : (began : M .State) (l : Ledger) (pre₁ rest₁ : List Branch) → l .path ≡ pre₁ ++ rest₁ → AllMarking pre pre₁ →
+  met-fine : (site : Event.Site) (l : Ledger) (pre₁ rest₁ : List Branch) → l .path ≡ pre₁ ++ rest₁ → AllMarking pre pre₁ →
       Grown (w .ledger .path) (l .path) →
       Asks M limits (Leads M limits n) (w .trace) (w .pos) rest₁ (asks s es x q) →
-      Fine M limits n w pre (asks s es x q) (met M limits began (asker l) x q)
-  met-fine began l pre₁ [] e m g o =
+      Fine M limits n w pre (asks s es x q) (met M limits site (asker l) x q)
+  met-fine site l pre₁ [] e m g o =
       let f : l .path ≡ pre₁ = e ∙ append-nil pre₁ in
       let i : length pre₁ ≡ w .pos = all-length pre pre₁ m ∙ sym pos-is in
       rw (eq-eqb (w .pos) (length (l .path)) (rw f (sym i)))
-      (new-fine began l (rw f m) g (pushed (limits .branches) (l .path) x q) refl)
-  met-fine began l pre₁ (b ∷ bs) e m g o =
+      (new-fine site l (rw f m) g (pushed (limits .branches) (l .path) x q) refl)
+  met-fine site l pre₁ (b ∷ bs) e m g o =
       let i : length pre₁ ≡ w .pos = all-length pre pre₁ m ∙ sym pos-is in
       let j : length (l .path) ≡ length pre₁ + suc (length bs) = rw (e, length-append) refl in
       let k : getD (l .path) (w .pos) noBranch ≡ b = rw e (getD-at pre₁ b bs noBranch (w .pos) i) in
       rw (ne-eqb (w .pos) (length (l .path)) (λ z. omega arith), k)
-      (known-fine began l pre₁ b bs e m g (o .1) (reply (w .pos) b q) refl (o .2))
+      (known-fine site l pre₁ b bs e m g (o .1) (reply (w .pos) b q) refl (o .2))
 
-  asked-fine : (began : M .State) (rest : List Branch) → w .ledger .path ≡ pre ++ rest →
+  asked-fine : (site : Event.Site) (rest : List Branch) → w .ledger .path ≡ pre ++ rest →
       Asks M limits (Leads M limits n) (w .trace) (w .pos) rest (asks s es x q) →
-      Fine M limits n w pre (asks s es x q) (asked M limits began (noted w s es) x q)
-  asked-fine began rest e o =
+      Fine M limits n w pre (asks s es x q) (asked M limits site (noted w s es) x q)
+  asked-fine site rest e o =
       let l = firstMarked (limits .bound) (w .ledger) q in
       let m = firstMarked-marks (limits .bound) (w .ledger) q in
       let r = all-split pre rest (l .path) (subst (λ (z : List Branch). AllMarking z (l .path)) e m) in
-      met-fine began l (r .0) (r .1) (r .2) (r .3) (marking-grown (w .ledger .path) (l .path) m)
+      met-fine site l (r .0) (r .1) (r .2) (r .3) (marking-grown (w .ledger .path) (l .path) m)
       (asks-marking M limits (Leads M limits n) (leads-marking M limits n) (w .trace) (w .pos) rest (r .1) (asks s es x q) (r .4) o)
 
 -- A tick
 
 module _ (M : Machine) (limits : Limits) (n : ℕ) (w : Walk (M .State)) (pre : List Branch) (pos-is : w .pos ≡ length pre) where
   -- where nothing is left of the path, and no branch is passed
-  idle-ends : (e : Event.Event (M .State)) (s : M .State) → w .ledger .path ≡ pre ++ [] → Ends M limits w e (withState w s)
+  idle-ends : (e : Event.Move (M .State)) (s : M .State) → w .ledger .path ≡ pre ++ [] → Ends M limits w e (withState w s)
   idle-ends e s p =
       let i : length (w .ledger .path) ≡ w .pos = rw (p, append-nil) (sym pos-is) in
       record {
@@ -224,7 +224,7 @@ module _ (M : Machine) (limits : Limits) (n : ℕ) (w : Walk (M .State)) (pre : 
       }
 
   -- where there is no room for the entries
-  full-ends : (e : Event.Event (M .State)) (es : List Entry) (s : M .State) (rest : List Branch) → w .ledger .path ≡ pre ++ rest →
+  full-ends : (e : Event.Move (M .State)) (es : List Entry) (s : M .State) (rest : List Branch) → w .ledger .path ≡ pre ++ rest →
       room M limits (w .trace) es ≡ false → ((b : Branch) (bs : List Branch) → rest ≡ b ∷ bs → room M limits (w .trace) es ≡ true) →
       Ends M limits w e (withState w s)
   full-ends e es s [] p f t = idle-ends e s p
@@ -263,33 +263,33 @@ module _ (M : Machine) (limits : Limits) (n : ℕ) (w : Walk (M .State)) (pre : 
   asks-room s es x q [] o b bs e = let z : _≡_ {A = ℕ} 0 1 = cc in absurd (omega arith)
   asks-room s es x q (c ∷ cs) o b bs e = o .0
 
-  taken-fine : (e : Event.Event (M .State)) (rest : List Branch) → w .ledger .path ≡ pre ++ rest →
+  taken-fine : (site : Event.Site) (e : Event.Move (M .State)) (rest : List Branch) → w .ledger .path ≡ pre ++ rest →
       Asks M limits (Leads M limits n) (w .trace) (w .pos) rest e →
-      Fine M limits n w pre e (taken M limits w e)
-  taken-fine (moves s es) rest p o = go (room M limits (w .trace) es) refl
+      Fine M limits n w pre e (taken M limits site w e)
+  taken-fine site (moves s es) rest p o = go (room M limits (w .trace) es) refl
     where
       go : (y : Bool) → room M limits (w .trace) es ≡ y →
-          Fine M limits n w pre (moves s es) (cond y (goes (noted w s es)) (faulted Event.impossible (w .state) (withState w s)))
+          Fine M limits n w pre (moves s es) (cond y (goes (noted w s es)) (faulted Event.impossible site (withState w s)))
       go true f = moves-fine s es rest p f (moves-ahead s es rest o)
       go false f = full-ends (moves s es) es s rest p f (moves-room s es rest o)
-  taken-fine (asks s es x q) rest p o = go (room M limits (w .trace) es) refl
+  taken-fine site (asks s es x q) rest p o = go (room M limits (w .trace) es) refl
     where
       go : (y : Bool) → room M limits (w .trace) es ≡ y →
-          Fine M limits n w pre (asks s es x q) (cond y (asked M limits (w .state) (noted w s es) x q) (faulted Event.impossible (w .state) (withState w s)))
-      go true f = asked-fine M limits n w pre pos-is s es x q f (w .state) rest p o
+          Fine M limits n w pre (asks s es x q) (cond y (asked M limits site (noted w s es) x q) (faulted Event.impossible site (withState w s)))
+      go true f = asked-fine M limits n w pre pos-is s es x q f site rest p o
       go false f = full-ends (asks s es x q) es s rest p f (asks-room s es x q rest o)
-  taken-fine (stops s f) [] p o = idle-ends (stops s f) s p
-  taken-fine (stops s f) (b ∷ bs) p o = absurd o
-  taken-fine (ends s) [] p o =
+  taken-fine site (stops s f) [] p o = idle-ends (stops s f) s p
+  taken-fine site (stops s f) (b ∷ bs) p o = absurd o
+  taken-fine site (ends s) [] p o =
       record {
         at-end = rw (p, append-nil) pos-is;
         grown = grown-refl (w .ledger .path);
         back = (pre, [], p, all-refl pre, tt);
         passed = λ j. absurd (omega arith);
       }
-  taken-fine (ends s) (b ∷ bs) p o = absurd o
+  taken-fine site (ends s) (b ∷ bs) p o = absurd o
 
   pub tick-fine : (rest : List Branch) → w .ledger .path ≡ pre ++ rest → Leads M limits (suc n) (w .state) (w .trace) (w .pos) rest →
-      Fine M limits n w pre (M .next (w .state)) (tick M limits w)
+      Fine M limits n w pre (M .next (w .state) .move) (tick M limits w)
   unfolding tick Leads
-  tick-fine rest p o = taken-fine (M .next (w .state)) rest p o
+  tick-fine rest p o = taken-fine (M .next (w .state) .site) (M .next (w .state) .move) rest p o

@@ -1,22 +1,23 @@
 -- The tree of executions: each execution parts from every earlier one.
-use Prim.Native.Nat.{ℕ, zero, suc, _+_, _<_}
-use mathlib.Core.List.{List, [], _∷_, _++_}
+use Prim.Native.Nat.{ℕ, _+_, _<_}
+use mathlib.Core.List.{List, [], _∷_, _++_, map, append-nil}
 use mathlib.Core.Bool.{Bool, true, false}
-use mathlib.Core.Path.{_≡_, refl}
+use mathlib.Core.Path.{_≡_, refl, sym, subst}
 use native.Mathlib.Omega.{arith}
-use lib.Dec.{ltb, eqb}
+use lib.Dec.{ltb}
 use lib.ListN.{length, getD, take, length-append, List·getD-append}
-use lib.Seq.{getD-at, take-all}
+use lib.Seq.{getD-at, append-snoc}
 use borrow.Author.Tests.{ltb-true, ltb-false}
 use Rattle.rules.specs.Path.{stepped, openIn}
 use Rattle.rules.specs.Event.{Machine}
-use Rattle.rules.specs.Explorer.{Limits, Ledger, Walk, Tick, goes, over, faulted, fresh, execution, Execution, executionOf, nextLedger, runFrom, run}
-use Rattle.ledger.specs.Course.{Every}
+use Rattle.rules.specs.Explorer.{Limits, Ledger, Walk, over, execution, Execution, executionOf, Verdict, nextLedger, empty, run}
+use Rattle.ledger.specs.History.{leftBy, Every, Course, courseOf, courses, executed, Made, Real}
 use Rattle.ledger.specs.Tree.{Parted, noExecution, Tree}
 use Rattle.ledger.proofs.Growth.{Grown}
 use Rattle.ledger.proofs.Lists.{every-map, every-append, every-at}
-use Rattle.ledger.proofs.Leads.{leads-nil, leads-stepped, leads-sound}
-use Rattle.ledger.proofs.Runs.{Walked, Completed, Known, execution-fine, completed-known, run-by}
+use Rattle.ledger.proofs.Leads.{leads-nil, leads-sound}
+use Rattle.ledger.proofs.Runs.{Known, next-known, grown-end, whole}
+use Rattle.ledger.proofs.History.{real}
 use Rattle.ledger.proofs.Behind.{Behind, behind-grown, behind-stepped, left-stepped, behind-parted, some-open}
 
 -- Pairs
@@ -50,51 +51,46 @@ module _ (M : Machine) (limits : Limits) where
     pairs : Pairs past
 
   -- the next one parts from all before, whatever it comes to
-  parts : (l : Ledger) (past : List Execution) → Kept l past → (w : Walk (M .State)) → Grown (l .path) (take (w .pos) (w .ledger .path)) →
-      Pairs (past ++ (executionOf w ∷ []))
-  parts l past i w g =
+  parts : (l : Ledger) (past : List Execution) → Kept l past → Pairs (past ++ (executed (courseOf M limits l) ∷ []))
+  unfolding courseOf
+  parts l past i =
+      let w = leftBy (execution M limits l) in
       pairs-snoc past (executionOf w) (i .pairs)
       (every-map (λ h. Behind (l .path) (h .choices)) (λ h. Parted (h .choices) (executionOf w .choices)) past
-      (λ h b. behind-parted (l .path) (take (w .pos) (w .ledger .path)) (h .choices) (leads-sound M limits (limits .ticks) (M .start) [] 0 (l .path) (i .known)) g b)
+      (λ h b. behind-parted (l .path) (take (w .pos) (w .ledger .path)) (h .choices) (leads-sound M limits (limits .ticks) (M .start) [] 0 (l .path) (i .known)) (grown-end M limits l (i .known)) b)
       (i .behind))
 
-  fine : (l : Ledger) (past : List Execution) → Kept l past → (t : Tick (M .State)) → execution M limits l ≡ t →
-      Walked M limits (limits .ticks) (fresh M limits l) [] t
-  fine l past i t e = rw e at (execution-fine M limits l (i .known))
-
-  whole : (l : Ledger) (w : Walk (M .State)) → Completed M limits (limits .ticks) (fresh M limits l) [] w →
-      take (w .pos) (w .ledger .path) ≡ w .ledger .path
-  whole l w c = take-all (w .pos) (w .ledger .path) (omega (arith, c .at-end))
-
-  parts-over : (l : Ledger) (past : List Execution) → Kept l past → (w : Walk (M .State)) → execution M limits l ≡ over w →
-      Pairs (past ++ (executionOf w ∷ []))
-  parts-over l past i w e = let c = fine l past i (over w) e in parts l past i w (rw (whole l w c) (c .grown))
-
   kept-on : (l : Ledger) (past : List Execution) → Kept l past → (w : Walk (M .State)) → execution M limits l ≡ over w →
-      eqb (openIn (w .ledger .path)) 0 ≡ false → Kept (nextLedger (w .ledger)) (past ++ (executionOf w ∷ []))
+      0 < openIn (w .ledger .path) → Kept (nextLedger (w .ledger)) (past ++ (executed (courseOf M limits l) ∷ []))
+  unfolding courseOf
   kept-on l past i w e o =
-      let c = fine l past i (over w) e in
-      let n = some-open (w .ledger .path) o in
       let bs = w .ledger .path in
+      let n = some-open bs o in
+      let z = whole M limits l (i .known) w e in
+      let g : Grown (l .path) bs = rw (e, z) at (grown-end M limits l (i .known)) in
       record {
-        known = leads-stepped M limits (limits .ticks) (M .start) [] 0 bs (completed-known M limits l w c);
-        behind = every-append (λ h. Behind (stepped bs) (h .choices)) past (executionOf w ∷ [])
+        known = next-known M limits l (i .known) w e;
+        behind = every-append (λ h. Behind (stepped bs) (h .choices)) past (executionOf (leftBy (execution M limits l)) ∷ [])
             (every-map (λ h. Behind (l .path) (h .choices)) (λ h. Behind (stepped bs) (h .choices)) past
-            (λ h b. behind-stepped bs (h .choices) n (behind-grown (l .path) bs (h .choices) (c .grown) b)) (i .behind))
-            (rw (whole l w c) (left-stepped bs n), tt);
-        pairs = parts-over l past i w e;
+            (λ h b. behind-stepped bs (h .choices) n (behind-grown (l .path) bs (h .choices) g b)) (i .behind))
+            (rw (e, z) (left-stepped bs n), tt);
+        pairs = parts l past i;
       }
 
+  all-part : (n : ℕ) (w : Walk (M .State)) (v : Verdict) (l : Ledger) (past : List Execution) (cs : List (Course (M .State))) → Kept l past →
+      Made M limits n w v l cs → Pairs (past ++ map executed cs)
+  all-part n w v l past [] i m = rw append-nil (i .pairs)
+  all-part n w v l past (c ∷ []) i m = rw (m .0) (parts l past i)
+  all-part n w v l past (c ∷ d ∷ cs) i m =
+      let e = executed (courseOf M limits l) in
+      rw (m .0)
+      (subst Pairs (append-snoc past e (map executed (d ∷ cs)))
+      (all-part n w v (nextLedger (m .1 .ledger)) (past ++ (e ∷ [])) (d ∷ cs) (kept-on l past i (m .1) (m .2) (m .3)) (m .5)))
+
 pub tree : Tree
-unfolding Tree run runFrom
-tree M limits zero i j h k = absurd (omega arith)
-tree M limits (suc n) i j h k =
-    run-by M limits (Kept M limits) (λ r. Pairs (r .history))
-    (λ l past p w e. fine M limits l past p (goes w) e)
-    (λ l past p w e o. kept-on M limits l past p w e o)
-    (λ l past p w e o. parts-over M limits l past p w e)
-    (λ l past p w e o. parts-over M limits l past p w e)
-    (λ l past p f s w e. parts M limits l past p w (fine M limits l past p (faulted f s w) e .grown))
-    n (record { path = []; opened = 0 }) []
+unfolding Tree Real
+tree M limits n =
+    subst Pairs (sym (real M limits n .history))
+    (all-part M limits n (run M limits n .walk) (run M limits n .verdict) empty [] (courses M limits n)
     (record { known = leads-nil M limits (limits .ticks) (M .start) [] 0; behind = tt; pairs = λ a b c d. absurd (omega arith) })
-    i j h k
+    (real M limits n .made))

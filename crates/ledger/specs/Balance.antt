@@ -1,23 +1,25 @@
 -- Demand 3, the balance, of every run of every machine. Assumes nothing of the machine.
 --     begun, opened, open      the three counts of a run that has stopped
 --     Balance, Balanced        what they come to
+--     Begun                    the executions begun are those of the history
+--     Adds, Added              what a record opens that is added
 --     Quiet                    records that are not exploring
 --     Counted                  what a mark is counted for
 use Prim.Native.Nat.{ℕ, _+_, _-_, _≤_, _<_}
-use mathlib.Core.List.{List, [], _∷_}
-use mathlib.Core.Bool.{false, cond, _&&_}
+use mathlib.Core.List.{List}
+use mathlib.Core.Bool.{Bool, false, cond}
 use mathlib.Core.Path.{_≡_}
-use lib.Dec.{eqb}
 use lib.ListN.{length, getD}
-use Rattle.rules.specs.Path.{Branch, Bound, isExploring, openAt, openIn, openedBy, backtracked, noBranch, skip, pending, marked, openedAt, visited}
-use Rattle.rules.specs.Event.{Machine}
-use Rattle.rules.specs.Explorer.{Limits, Stop, run, exhausted, spent}
+use Rattle.rules.specs.Path.{Branch, Bound, isExploring, openAt, openIn, backtracked, noBranch, skip, marked, madePending, pendings, visited}
+use Rattle.rules.specs.Vector.{Whom}
+use Rattle.rules.specs.Event.{Machine, Place, Standing, offers, slotsOf, whichThread, whichSlot, whichBit}
+use Rattle.rules.specs.Explorer.{pushed, pushes, Limits, Stop, run, exhausted, spent}
 
 -- The three counts
 
--- "executions begun": each has its place in the history, the last one too, however it stopped
+-- "executions begun", as the report gives it
 abbrev pub begun : {S : Type 0} → Stop S → ℕ
-begun r = length (r .history)
+begun r = r .walk .ledger .begun
 
 -- "choices opened in the whole history"
 abbrev pub opened : {S : Type 0} → Stop S → ℕ
@@ -43,27 +45,35 @@ pub record Balance {S : Type 0} (n : ℕ) (r : Stop S) : Type 0 where
   -- "execution budget N"
   pub budget : (1 ≤ begun r) × (begun r ≤ n)
 
--- "whenever the run stops": exhausted, with the budget spent, or at whatever fault
+-- "at every stop": exhausted, with the budget spent, or at whatever fault
 unfoldable pub Balanced : Type 1
 Balanced = (M : Machine) (limits : Limits) (n : ℕ) → 1 ≤ n → Balance n (run M limits n)
 
--- "Records that are not exploring open nothing and keep nothing open."
+-- Each execution begun has its place in the history, the last one too, however it stopped
+unfoldable pub Begun : Type 1
+Begun = (M : Machine) (limits : Limits) (n : ℕ) → begun (run M limits n) ≡ length (run M limits n .history)
+
+-- What an added record opens is what it then has open. "Opened: .. len−1 at each exploring load added; 1 at each exploring spurious
+-- added": so it is; and a schedule opens none, for no thread of a seed is Pending
+pub record Adds (B : ℕ) (bs : List Branch) (exploring : Bool) (b : Branch) : Type 0 where
+  pub a-schedule : (points : List Place) (initial : Whom) (standings : List Standing) →
+      pushed B bs exploring (whichThread points initial standings) ≡ pushes b → openAt b ≡ 0
+  pub a-load : (slots : List Bool) → pushed B bs exploring (whichSlot (offers slots)) ≡ pushes b →
+      openAt b ≡ cond exploring (length (slotsOf slots) - 1) 0
+  pub a-bit : pushed B bs exploring whichBit ≡ pushes b → openAt b ≡ cond exploring 1 0
+
+unfoldable pub Added : Type 0
+Added = (B : ℕ) (bs : List Branch) (exploring : Bool) (b : Branch) → Adds B bs exploring b
+
+-- Records that are not exploring open nothing and keep nothing open
 pub record Quiet : Type 0 where
-  -- nothing when they are added
-  pub adds-none : (b : Branch) → isExploring b ≡ false → openedBy b ≡ 0
-  -- no mark later
+  -- they take no mark
   pub takes-no-mark : (bound : Bound) (bs : List Branch) (point t k : ℕ) → isExploring (getD bs k noBranch) ≡ false →
       getD (backtracked bound bs point t .path) k noBranch ≡ getD bs k noBranch
-  -- and nothing left
+  -- and have nothing open, so that none is opened when they are added
   pub keeps-none : (b : Branch) → isExploring b ≡ false → openAt b ≡ 0
 
--- how many threads are Skip in the first and Pending in the second
-unfoldable pub madePending : List ℕ → List ℕ → ℕ
-madePending [] ys = 0
-madePending (x ∷ xs) [] = 0
-madePending (x ∷ xs) (y ∷ ys) = cond (eqb x skip && eqb y pending) 1 0 + madePending xs ys
-
--- "Opened: each Skip turned Pending": a mark is counted for just these, and it turns no other state
+-- "Opened: each Skip turned Pending": a mark is counted for those that it makes Pending, and it turns no other state
 pub record Counted : Type 0 where
-  pub each : (states : List ℕ) (t : ℕ) → openedAt states t ≡ madePending states (marked states t)
+  pub each : (states : List ℕ) (t : ℕ) → pendings (marked states t) ≡ pendings states + madePending states (marked states t)
   pub only : (states : List ℕ) (t k : ℕ) → (getD states k visited ≡ skip → ⊥) → getD (marked states t) k visited ≡ getD states k visited

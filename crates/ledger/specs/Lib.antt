@@ -1,5 +1,4 @@
 pub mod Balance
-pub mod Course
 pub mod History
 pub mod Named
 pub mod Play

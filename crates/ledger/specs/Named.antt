@@ -6,9 +6,10 @@ use mathlib.Core.Path.{_≡_}
 use lib.ListN.{length}
 use Rattle.rules.specs.Vector.{nobody}
 use Rattle.rules.specs.Path.{unbounded, runs, reads}
-use Rattle.ledger.specs.Small.{small, limitsOf, storeEntry, loadEntry}
-use Rattle.ledger.specs.Course.{Course, courses}
-use Rattle.ledger.specs.Play.{played}
+use Rattle.rules.specs.Event.{Entry}
+use Rattle.ledger.specs.Small.{small, limitsOf}
+use Rattle.ledger.specs.History.{Course, end, courses}
+use Rattle.ledger.specs.Play.{isOver, unanswered, played}
 use Rattle.ledger.specs.Turning.{Name, running, openedOf, turnedOf, openOf}
 
 -- the loading thread is chosen first, instead of the storing one
@@ -27,11 +28,18 @@ storerNext = running 1 ∷ running 0 ∷ []
 abbrev pub thenOne : Name
 thenOne = running 1 ∷ running 0 ∷ running 1 ∷ reads 1 ∷ []
 
+-- "Trace entry": the store, in slot 1; the load of that slot, with both offered
+abbrev pub storeEntry : Entry
+storeEntry = record { thread = 0; row = 0; opcode = 1; slot = 1; mask = 0; value = 1 }
+
+abbrev pub loadEntry : Entry
+loadEntry = record { thread = 1; row = 0; opcode = 0; slot = 1; mask = 3; value = 1 }
+
 abbrev pub knownTo : {S : Type 0} → Course S → ℕ
 knownTo c = length (c .known)
 
 abbrev pub passedBy : {S : Type 0} → Course S → ℕ
-passedBy c = c .end .pos
+passedBy c = end c .pos
 
 pub record Named : Type 0 where
   -- "P3 .. 5 executions .. opened 4", in the order in which they were opened
@@ -46,4 +54,7 @@ pub record Named : Type 0 where
   pub known : map knownTo (courses small (limitsOf 16 unbounded) 100) ≡ 0 ∷ 4 ∷ 1 ∷ 2 ∷ 4 ∷ []
   pub passed : map passedBy (courses small (limitsOf 16 unbounded) 100) ≡ 5 ∷ 5 ∷ 5 ∷ 5 ∷ 5 ∷ []
   -- the last one's choices, played without a path: the store's entry, then the load of 1, with both slots offered
-  pub play : played small (limitsOf 16 unbounded) 32 (small .start) [] 0 (thenOne ++ (runs nobody ∷ [])) .trace ≡ storeEntry ∷ loadEntry 1 (0 ∷ 1 ∷ []) ∷ []
+  pub play : played small (limitsOf 16 unbounded) 32 (small .start) [] 0 (thenOne ++ (runs nobody ∷ [])) .trace ≡ storeEntry ∷ loadEntry ∷ []
+  -- then it is over; with one choice less thread 1 asks at its end who runs next
+  pub play-over : played small (limitsOf 16 unbounded) 32 (small .start) [] 0 (thenOne ++ (runs nobody ∷ [])) .ending ≡ isOver
+  pub play-short : played small (limitsOf 16 unbounded) 32 (small .start) [] 0 thenOne .ending ≡ unanswered (record { thread = 1; row = 1 })

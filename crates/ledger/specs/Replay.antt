@@ -1,5 +1,5 @@
 -- Demand 3, replay, over any machine: an execution that goes along a known path asks there what was asked before.
---     Comes        states that come from a seed by marks and visits alone
+--     Comes        states that come from others by marks and visits alone
 --     Agrees       a record that agrees with the question asked at it
 --     Replay       the statement
 use Prim.Native.Nat.{ℕ, _≤_, _<_}
@@ -10,23 +10,22 @@ use lib.ListN.{length, getD}
 use Rattle.rules.specs.Path.{Branch, schedule, load, spurious, toggled, marked, turned, pendings, noBranch}
 use Rattle.rules.specs.Event.{Machine, Entry, Question, whichThread, whichSlot, whichBit, offers, slotsOf, asks}
 use Rattle.rules.specs.Explorer.{Limits, Walk, tick, seedOf}
-use Rattle.ledger.specs.Course.{Every, Course, courses, executed}
-use Rattle.ledger.specs.History.{leftBy}
-use Rattle.ledger.specs.Play.{finalOf, played}
+use Rattle.ledger.specs.History.{Every, Course, courses, end, executed, leftBy}
+use Rattle.ledger.specs.Play.{EndsAs, played}
 
--- "the states come from this seed by marks and visits alone": a mark is the definition's, and a visit is made where
+-- states that come from a record's first ones by marks and visits alone: a mark is the definition's, and a visit is made where
 -- something is Pending: the Active becomes Visited and the first Pending Active
-pub data Comes (seed : List ℕ) : List ℕ → Type 0 where
-  seeded : Comes seed (toggled seed)
-  marks : {states : List ℕ} (t : ℕ) → Comes seed states → Comes seed (marked states t)
-  visits : {states : List ℕ} → 0 < pendings states → Comes seed states → Comes seed (turned states)
+pub data Comes (first : List ℕ) : List ℕ → Type 0 where
+  here : Comes first first
+  marks : {states : List ℕ} (t : ℕ) → Comes first states → Comes first (marked states t)
+  visits : {states : List ℕ} → 0 < pendings states → Comes first states → Comes first (turned states)
 
--- "for a load the recorded values are the offers of this very execution, judged as the slot is chosen; for a schedule the
--- states come from this seed by marks and visits alone; for a spurious branch it is one". A record is exploring where the
--- asker is
+-- For a load the recorded values are the offers of this very execution, judged as the slot is chosen; for a schedule the states
+-- come by marks and visits alone from those that a record added for this question has; for a spurious branch it is one. A record
+-- is exploring where the asker is
 abbrev pub Agrees : Bool → Branch → Question → Type 0
 Agrees exploring (schedule s) (whichThread points initial standings) =
-    (s .exploring ≡ exploring) × Comes (seedOf initial standings) (s .states)
+    (s .exploring ≡ exploring) × Comes (toggled (seedOf initial standings)) (s .states)
 Agrees exploring (schedule s) (whichSlot m) = ⊥
 Agrees exploring (schedule s) whichBit = ⊥
 Agrees exploring (load l) (whichThread points initial standings) = ⊥
@@ -50,17 +49,17 @@ module _ (M : Machine) (limits : Limits) where
       (es : List Entry) ×
       (exploring : Bool) ×
       (q : Question) ×
-      (M .next (w .state) ≡ asks s es exploring q) ×
+      (M .next (w .state) .move ≡ asks s es exploring q) ×
       Agrees exploring (getD (leftBy (tick M limits w) .ledger .path) (w .pos) noBranch) q
 
   -- an execution: each branch is answered by a record that agrees; the known path has been gone through whenever it is over or
-  -- has met a fault; and how it is left is a function of its choices
+  -- has met a fault; and it comes out as the play of its choices ends
   pub record Follows (c : Course (M .State)) : Type 0 where
     pub answered : Every Answered (c .ticks)
-    pub gone-through : length (c .known) ≤ c .end .pos
-    pub by-choices : finalOf (c .end) ≡ played M limits (limits .ticks) (M .start) [] 0 (executed c .choices)
+    pub gone-through : length (c .known) ≤ end c .pos
+    pub by-choices : EndsAs (c .outcome) (played M limits (limits .ticks) (M .start) [] 0 (executed c .choices))
 
--- "At every branch of every execution the record that answers agrees with the question asked there .. So an execution is a
--- function of its choices, and a fault never comes before the known path has been gone through."
+-- At every branch of every execution the record that answers agrees with the question asked there. So an execution is a
+-- function of its choices, and a fault never comes before the known path has been gone through
 unfoldable pub Replay : Type 1
 Replay = (M : Machine) (limits : Limits) (n : ℕ) → Every (Follows M limits) (courses M limits n)

@@ -24,7 +24,7 @@ pub record Parted (xs ys : List Choice) : Type 0 where
   pub equal-before : take branch xs ≡ take branch ys
   pub different : getD xs branch noChoice ≢ getD ys branch noChoice
 
--- "Any two different executions of a run made equal choices up to some branch, which both reach, and then different ones."
+-- "Any two executions made equal choices up to some branch, which both reach, then different ones."
 unfoldable pub Tree : Type 1
 Tree =
     (M : Machine) (limits : Limits) (n i j : ℕ) →

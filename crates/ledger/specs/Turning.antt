@@ -1,7 +1,7 @@
 -- Demand 3, turning points, over any machine: which choices were opened, which were turned to, and which are open.
 --     Name                        an opened choice: the choices before it, and the alternative
 --     alternatives, openNames     what a record, a path has open
---     newlyPending, addedAlternatives, openedNames      what is opened from one path to the next of the same execution
+--     newlyPending, openedNames   what is opened from one path to the next of the same execution
 --     openedOf, turnedOf, openOf  the three lists of a run
 --     Turning                     the statement
 use Prim.Native.Nat.{ℕ, suc, _+_, _<_}
@@ -14,13 +14,12 @@ use lib.ListN.{length, take, drop, getD}
 use Rattle.rules.specs.Vector.{Whom, nobody, thread}
 use Rattle.rules.specs.Path.{Branch, schedule, load, spurious, Choice, runs, reads, choiceOf, skip, pending}
 use Rattle.rules.specs.Event.{Machine}
-use Rattle.rules.specs.Explorer.{Limits, Walk, tick, run, exhausted, Execution, executionOf}
-use Rattle.ledger.specs.Course.{Course, courses}
-use Rattle.ledger.specs.History.{leftBy}
+use Rattle.rules.specs.Explorer.{Limits, Walk, tick, run, exhausted, Execution}
+use Rattle.ledger.specs.History.{Course, courses, executed, leftBy}
 use Rattle.ledger.specs.Tree.{noChoice}
-use Rattle.ledger.specs.Balance.{opened}
+use Rattle.ledger.specs.Balance.{opened, open-in}
 
--- "A choice is one at a place in the tree: the choices before it and the alternative", which stands last
+-- a choice is one at a place in the tree: the choices before it and the alternative, which stands last
 abbrev pub Name : Type 0
 Name = List Choice
 
@@ -66,16 +65,10 @@ markedAlternatives (schedule s) (spurious u) = []
 markedAlternatives (load l) c = []
 markedAlternatives (spurious u) c = []
 
--- "len−1 at each exploring load added; 1 at each exploring spurious added"
-unfoldable pub addedAlternatives : Branch → List Choice
-addedAlternatives (schedule s) = []
-addedAlternatives (load l) = cond (l .exploring) (map reads (drop 1 (l .values))) []
-addedAlternatives (spurious u) = cond (u .exploring) (Choice.says true ∷ []) []
-
--- from a path to a later one of the same execution: marks on the records that it had, and records added after them
+-- from a path to a later one of the same execution: marks on the records that it had, and records added after them, which open
+-- what they then have open
 unfoldable pub openedNames : List Branch → List Branch → List Name
-openedNames [] [] = []
-openedNames [] (c ∷ cs) = map alone (addedAlternatives c) ++ map (beyond (choiceOf c)) (openedNames [] cs)
+openedNames [] cs = openNames cs
 openedNames (b ∷ bs) [] = []
 openedNames (b ∷ bs) (c ∷ cs) = map alone (markedAlternatives b c) ++ map (beyond (choiceOf c)) (openedNames bs cs)
 
@@ -90,7 +83,7 @@ abbrev pub turningPoint : {S : Type 0} → Course S → Name
 turningPoint c = map choiceOf (c .known)
 
 abbrev pub choicesOf : {S : Type 0} → Course S → List Choice
-choicesOf c = executionOf (c .end) .choices
+choicesOf c = executed c .choices
 
 -- the same from the history alone: the choices up to the first that the execution before did not make, with it
 abbrev pub sameWhom : Whom → Whom → Bool
@@ -162,18 +155,20 @@ Each R (x ∷ []) = Unit {0}
 Each R (x ∷ y ∷ xs) = R x y × Each R (y ∷ xs)
 
 pub record Turned (M : Machine) (limits : Limits) (n : ℕ) : Type 0 where
-  -- "Each execution but the first has one turning point, an opened choice"
+  -- each execution but the first has one turning point, which the one before has not passed
   pub turns : Each Turns (courses M limits n)
   -- it is where the execution parts from the one before
   pub parts : turnedOf M limits n ≡ partings (run M limits n .history)
-  -- "no two executions have the same"
+  -- no two executions have the same
   pub different : List·Nodup (turnedOf M limits n)
-  -- "at any stop the opened ones are the turned ones together with the open ones, without repetition"
+  -- at any stop the opened ones are the turned ones together with the open ones, without repetition
   pub together : Perm (openedOf M limits n) (turnedOf M limits n ++ openOf M limits n)
   pub once : List·Nodup (openedOf M limits n)
   -- they are those that the run counts
   pub counted : length (openedOf M limits n) ≡ opened (run M limits n)
-  -- "at exhaustion nothing is open and every opened choice is the turning point of exactly one execution"
+  -- and the open ones are those that it has open
+  pub as-many : length (openOf M limits n) ≡ open-in (run M limits n)
+  -- "At exhaustion nothing is open and each opened choice was the turning point of exactly one execution."
   pub in-the-end : run M limits n .verdict ≡ exhausted → (openOf M limits n ≡ []) × Perm (openedOf M limits n) (turnedOf M limits n)
 
 unfoldable pub Turning : Type 1

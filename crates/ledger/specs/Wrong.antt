@@ -1,148 +1,141 @@
--- Wrong explorers, for which the balance fails: the definition's explorer over three of its parts, and one part changed at a
--- time. With the definition's own parts it is the definition's explorer (`Same`). Assumes nothing.
---     Parts, right        what a mark makes of the states, what it is counted for, the step
+-- Wrong explorers, for which the balance fails, or the history is not real: the definition's explorer over two of its parts, and
+-- one part exchanged at a time. With the definition's own parts it is the definition's explorer (`Same`). Assumes nothing.
+--     Parts, right        the marks that a question makes, and what follows an execution
 --     runBy               the explorer with given parts
 --     Same                it is the definition's
---     droppingStep, uncounted, reopening     a wrong part each
---     Unbalanced          what they come to
+--     droppingStep, uncounted, reopening, inventing     a wrong part each
+--     Unbalanced, Untold  what they come to
 use Prim.Native.Nat.{ℕ, zero, suc, _+_, _-_}
-use mathlib.Core.List.{List, [], _∷_, _++_}
-use mathlib.Core.Bool.{Bool, cond, _||_}
+use mathlib.Core.List.{List, [], _∷_}
+use mathlib.Core.Bool.{Bool, cond}
 use mathlib.Core.Path.{_≡_}
 use lib.Dec.{ltb, eqb}
-use lib.ListN.{length, getD, set}
-use Rattle.rules.specs.Path.{Branch, schedule, Schedule, Bound, unbounded, atMost, Last, none, at, Marked, unmarked, both, skip, pending, visited}
-use Rattle.rules.specs.Path.{marked, openedAt, stepped, takesMarks, withStates, exploringBelow, before, switchFrom, openAt, openIn, turnedBranch}
+use lib.ListN.{getD, set}
+use Rattle.rules.specs.Path.{Branch, schedule, Bound, unbounded, Last, none, at, pending, visited}
+use Rattle.rules.specs.Path.{withStates, exploringBelow, openAt, turnedBranch}
 use Rattle.rules.specs.Event as Event
-use Rattle.rules.specs.Event.{Place, nowhere, branch, Question, whichThread, whichSlot, whichBit, Machine, moves, asks, stops, ends}
-use Rattle.rules.specs.Explorer.{Limits, Ledger, Walk, Tick, goes, over, faulted, Execution, executionOf, Stop, stop, stopped, exhausted, spent, After, stopsHere, goesOn}
-use Rattle.rules.specs.Explorer.{withState, withLedger, noted, fits, met, fresh, run}
+use Rattle.rules.specs.Event.{Place, nowhere, branch, Question, whichThread, whichSlot, whichBit, Site, noSite, Move, Machine, moves, asks, stops, ends}
+use Rattle.rules.specs.State.{State}
+use Rattle.rules.specs.Explorer.{Limits, Ledger, Walk, Tick, goes, over, faulted, Execution, Stop, stop, stopped, After, stopsHere, goesOn}
+use Rattle.rules.specs.Explorer.{firstMarked, withState, withLedger, noted, fits, met, taken, fresh, oneBegun, empty, after, run}
+use Rattle.ledger.specs.History.{leftBy, Course, Told}
 use Rattle.ledger.specs.Balance.{begun, opened, open-in}
-use Rattle.ledger.specs.Small.{Small, small, limitsOf}
+use Rattle.ledger.specs.Small.{small, limitsOf}
 
--- what a mark makes of the states, what it is counted for, the next path
-pub record Parts : Type 0 where
-  pub mark : List ℕ → ℕ → List ℕ
-  pub count : List ℕ → ℕ → ℕ
-  pub step : List Branch → List Branch
+pub record Parts (S : Type 0) : Type 0 where
+  pub marks : Bound → Ledger → Question → Ledger
+  pub follows : Bool → List Execution → Tick S → After S
 
-abbrev pub right : Parts
-right = record { mark = marked; count = openedAt; step = stepped }
+abbrev pub right : {S : Type 0} → Parts S
+right = record { marks = firstMarked; follows = after }
 
 -- The definition's explorer, with its parts left open
 
-module _ (P : Parts) where
-  abbrev pub scheduleMarkedBy : Bound → Schedule → ℕ → Schedule
-  scheduleMarkedBy bound s t = cond (takesMarks bound s) (withStates s (P .mark (s .states) t)) s
+module _ (M : Machine) (limits : Limits) (P : Parts (M .State)) where
+  abbrev pub takenBy : Site → Walk (M .State) → Move (M .State) → Tick (M .State)
+  takenBy site w (moves s es) = taken M limits site w (moves s es)
+  takenBy site w (asks s es exploring q) =
+      cond (fits M limits w es)
+      (met M limits site (withLedger (noted w s es) (P .marks (limits .bound) (w .ledger) q)) exploring q)
+      (faulted Event.impossible site (withState w s))
+  takenBy site w (stops s f) = taken M limits site w (stops s f)
+  takenBy site w (ends s) = taken M limits site w (ends s)
 
-  abbrev pub scheduleOpenedBy : Bound → Schedule → ℕ → ℕ
-  scheduleOpenedBy bound s t = cond (takesMarks bound s) (P .count (s .states) t) 0
-
-  abbrev pub markedAtBy : Bound → List Branch → Last → ℕ → Marked
-  markedAtBy bound bs none t = unmarked bs
-  markedAtBy bound bs (at k s) t = record {
-    path = set bs k (schedule (scheduleMarkedBy bound s t));
-    opened = scheduleOpenedBy bound s t;
-  }
-
-  unfoldable pub markedBeforeBy : Bound → Marked → Last → ℕ → Marked
-  markedBeforeBy bound m first t =
-      both (m .opened) (markedAtBy bound (m .path) (switchFrom (m .path) (length (m .path)) (before (m .path) first)) t)
-
-  unfoldable pub backtrackedBy : Bound → List Branch → ℕ → ℕ → Marked
-  backtrackedBy unbounded bs point t = markedAtBy unbounded bs (exploringBelow bs (point + 1)) t
-  backtrackedBy (atMost n) bs point t =
-      markedBeforeBy (atMost n) (markedAtBy (atMost n) bs (exploringBelow bs (point + 1)) t) (exploringBelow bs (point + 1)) t
-
-  abbrev pub backtrackFromBy : Bound → Ledger → Place → ℕ → Ledger
-  backtrackFromBy bound l nowhere t = l
-  backtrackFromBy bound l (branch point) t = record {
-    path = backtrackedBy bound (l .path) point t .path;
-    opened = l .opened + backtrackedBy bound (l .path) point t .opened;
-  }
-
-  unfoldable pub allMarkedBy : Bound → Ledger → List Place → ℕ → Ledger
-  allMarkedBy bound l [] t = l
-  allMarkedBy bound l (p ∷ points) t = allMarkedBy bound (backtrackFromBy bound l p t) points (t + 1)
-
-  abbrev pub firstMarkedBy : Bound → Ledger → Question → Ledger
-  firstMarkedBy bound l (whichThread points initial standings) = allMarkedBy bound l points 0
-  firstMarkedBy bound l (whichSlot m) = l
-  firstMarkedBy bound l whichBit = l
-
-  abbrev pub nextLedgerBy : Ledger → Ledger
-  nextLedgerBy l = record { path = P .step (l .path); opened = l .opened }
-
-  unfoldable pub afterBy : {S : Type 0} → Bool → List Execution → Tick S → After S
-  afterBy last past (goes w) = stopsHere (stop (stopped Event.impossible) (w .state) w past)
-  afterBy last past (over w) =
-      cond (eqb (openIn (w .ledger .path)) 0) (stopsHere (stop exhausted (w .state) w past))
-      (cond last (stopsHere (stop spent (w .state) w past))
-      (goesOn (nextLedgerBy (w .ledger)) (past ++ (executionOf w ∷ []))))
-  afterBy last past (faulted f began w) = stopsHere (stop (stopped f) began w past)
-
-module _ (P : Parts) (M : Machine) (limits : Limits) where
-  abbrev pub askedBy : M .State → Walk (M .State) → Bool → Question → Tick (M .State)
-  askedBy began w exploring q = met M limits began (withLedger w (firstMarkedBy P (limits .bound) (w .ledger) q)) exploring q
-
-  abbrev pub takenBy : Walk (M .State) → Event.Event (M .State) → Tick (M .State)
-  takenBy w (moves s es) = cond (fits M limits w es) (goes (noted w s es)) (faulted Event.impossible (w .state) (withState w s))
-  takenBy w (asks s es exploring q) =
-      cond (fits M limits w es) (askedBy (w .state) (noted w s es) exploring q) (faulted Event.impossible (w .state) (withState w s))
-  takenBy w (stops s f) = faulted f (w .state) (withState w s)
-  takenBy w (ends s) = over (withState w s)
+  abbrev pub tickBy : Walk (M .State) → Tick (M .State)
+  tickBy w = takenBy (M .next (w .state) .site) w (M .next (w .state) .move)
 
   unfoldable pub walkedBy : ℕ → Walk (M .State) → Tick (M .State)
-  walkedBy zero w = faulted Event.impossible (w .state) w
-  walkedBy (suc n) w = elim (takenBy w (M .next (w .state))) [ goes v ↦ walkedBy n v | over v ↦ over v | faulted f s v ↦ faulted f s v ]
+  walkedBy zero w = faulted Event.impossible noSite w
+  walkedBy (suc n) w = elim (tickBy w) [ goes v ↦ walkedBy n v | over v ↦ over v | faulted f s v ↦ faulted f s v ]
+
+  abbrev pub executionBy : Ledger → Tick (M .State)
+  executionBy l = walkedBy (limits .ticks) (fresh M limits (oneBegun M limits l))
 
   unfoldable pub runFromBy : ℕ → Ledger → List Execution → Stop (M .State)
-  runFromBy zero l past = record { verdict = stopped Event.impossible; began = M .start; walk = fresh M limits l; history = past }
+  runFromBy zero l past = record { verdict = stopped Event.impossible noSite; walk = fresh M limits l; history = past }
   runFromBy (suc n) l past =
-      elim (afterBy P (eqb n 0) past (walkedBy (limits .ticks) (fresh M limits l))) [ stopsHere r ↦ r | goesOn m more ↦ runFromBy n m more ]
+      elim (P .follows (eqb n 0) past (executionBy l)) [ stopsHere r ↦ r | goesOn m more ↦ runFromBy n m more ]
 
   unfoldable pub runBy : ℕ → Stop (M .State)
-  runBy n = runFromBy n (record { path = []; opened = 0 }) []
+  runBy n = runFromBy n empty []
 
 -- with the definition's parts it is the definition's explorer
 unfoldable pub Same : Type 1
-Same = (M : Machine) (limits : Limits) (n : ℕ) → runBy right M limits n ≡ run M limits n
+Same = (M : Machine) (limits : Limits) (n : ℕ) → runBy M limits right n ≡ run M limits n
 
--- A part changed
+-- A part exchanged
+
+-- what follows an execution, with another next path
+abbrev pub steppingBy : {S : Type 0} → (List Branch → List Branch) → Parts S
+steppingBy step = record {
+  marks = firstMarked;
+  follows = λ last past t.
+      elim (after last past t) [
+        | stopsHere r ↦ stopsHere r
+        | goesOn l more ↦ goesOn (record { path = step (leftBy t .ledger .path); opened = l .opened; begun = l .begun }) more
+      ];
+}
 
 -- a step that drops a record with something open: it turns the first branch with an open choice, and drops what stands after
 unfoldable pub steppedFirst : List Branch → List Branch
 steppedFirst [] = []
 steppedFirst (b ∷ bs) = cond (ltb 0 (openAt b)) (turnedBranch b ∷ []) (b ∷ steppedFirst bs)
 
-abbrev pub droppingStep : Parts
-droppingStep = record { mark = marked; count = openedAt; step = steppedFirst }
+abbrev pub droppingStep : {S : Type 0} → Parts S
+droppingStep = steppingBy steppedFirst
 
--- a mark that is not counted
-abbrev pub uncounted : Parts
-uncounted = record { mark = marked; count = λ states t. 0; step = stepped }
+-- marks that are not counted
+abbrev pub uncounted : {S : Type 0} → Parts S
+uncounted = record {
+  marks = λ bound l q. record { path = firstMarked bound l q .path; opened = l .opened; begun = l .begun };
+  follows = after;
+}
 
--- a backtrack that opens Visited
-abbrev pub exploredAgain : ℕ → ℕ
-exploredAgain s = cond (eqb s skip || eqb s visited) pending s
+-- marks that open Visited: those of the definition, and then each target that is Visited
+abbrev pub openedAgain : List Branch → Last → ℕ → List Branch
+openedAgain bs none t = bs
+openedAgain bs (at k s) t =
+    cond (eqb (getD (s .states) t pending) visited) (set bs k (schedule (withStates s (set (s .states) t pending)))) bs
 
-unfoldable pub markedAgain : List ℕ → ℕ → List ℕ
-markedAgain states t = set states t (exploredAgain (getD states t visited))
+unfoldable pub againFrom : List Branch → List Place → ℕ → List Branch
+againFrom bs [] t = bs
+againFrom bs (nowhere ∷ points) t = againFrom bs points (t + 1)
+againFrom bs (branch point ∷ points) t = againFrom (openedAgain bs (exploringBelow bs (point + 1)) t) points (t + 1)
 
-abbrev pub reopening : Parts
-reopening = record { mark = markedAgain; count = openedAt; step = stepped }
+abbrev pub againFor : List Branch → Question → List Branch
+againFor bs (whichThread points initial standings) = againFrom bs points 0
+againFor bs (whichSlot m) = bs
+againFor bs whichBit = bs
+
+abbrev pub reopening : {S : Type 0} → Parts S
+reopening = record {
+  marks = λ bound l q.
+      record { path = againFor (firstMarked bound l q .path) q; opened = firstMarked bound l q .opened; begun = l .begun };
+  follows = after;
+}
+
+-- an explorer that stops after its first execution, with a fault that it has not met
+abbrev pub inventing : {S : Type 0} → Parts S
+inventing = record {
+  marks = firstMarked;
+  follows = λ last past t. stopsHere (stop (stopped Event.deadlock noSite) (leftBy t) past);
+}
 
 -- What they come to, on the small machine with a budget of ten executions
 
-abbrev pub wrongRun : Parts → Stop Small
-wrongRun P = runBy P small (limitsOf 16 unbounded) 10
+abbrev pub wrongRun : Parts State → Stop State
+wrongRun P = runBy small (limitsOf 16 unbounded) P 10
 
-pub record Unbalanced (P : Parts) (executions choices left : ℕ) : Type 0 where
+pub record Unbalanced (P : Parts State) (executions choices left : ℕ) : Type 0 where
   pub begun-is : begun (wrongRun P) ≡ executions
   pub opened-is : opened (wrongRun P) ≡ choices
   pub open-is : open-in (wrongRun P) ≡ left
   -- "executions begun = 1 + choices opened in the whole history − choices open in the path left": not so
   pub fails : begun (wrongRun P) ≡ 1 + opened (wrongRun P) - open-in (wrongRun P) → ⊥
+
+-- no list of executions is that of its history
+abbrev pub Untold : Parts State → Type 0
+Untold P = (cs : List (Course State)) → Told small (limitsOf 16 unbounded) 10 cs (wrongRun P) → ⊥
 
 pub record Wrong : Type 0 where
   -- the load that the first execution opened is dropped, its second value never read
@@ -151,3 +144,6 @@ pub record Wrong : Type 0 where
   pub silent : Unbalanced uncounted 5 2 0
   -- the two threads of the second branch take turns for ever
   pub again : Unbalanced reopening 10 6 2
+  -- it balances, with one execution begun and two choices opened that are open still; but none has met the fault
+  pub invented : Untold inventing
+  pub balances : begun (wrongRun inventing) ≡ 1 + opened (wrongRun inventing) - open-in (wrongRun inventing)
