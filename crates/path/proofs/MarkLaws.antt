@@ -1,84 +1,26 @@
--- The laws of marks in a schedule's record. Assumes nothing.
---     explore-here, explore-not        one thread
---     all-..                           the walk up that explores each
---     Changed, changed-..              the states marked, by the target's state
---     marks-by, bound-by               the record marked, and one that takes no mark
-use Prim.Native.Nat.{ℕ, zero, suc, _+_, _*_, _≤_, _<_}
-use mathlib.Core.List.{List, [], _∷_, map}
-use mathlib.Core.Bool.{Bool, true, false, cond, not, _&&_}
+-- The laws of a mark in the schedule at a position, with a bound. Assumes nothing.
+--     length-marked        as many states as before
+--     marked-skeleton      a mark leaves the prev
+--     marks-by, bound-by   the schedule marked, and one that takes no mark
+use Prim.Native.Nat.{ℕ, _≤_}
+use mathlib.Core.List.{List, map}
+use mathlib.Core.Bool.{Bool, true, false, cond, not}
 use mathlib.Core.Path.{_≡_, refl, ap, sym, _∙_}
-use mathlib.Core.Logic.{_≢_}
 use native.Mathlib.Omega.{arith}
-use native.Mathlib.Numerals.{add-one}
-use borrow.Author.Tests.{eq-eqb, ne-eqb}
 use lib.Dec.{eqb}
-use lib.ListN.{length, getD, set, length-set, length-map, List·getD-eq-default}
-use lib.Seq.{set-getD, set-out}
-use Rattle.rules.specs.Path.{Branch, Schedule, schedule, explored, isSkip, skips, marked, openedAt, takesMarks, scheduleMarked, scheduleOpened, noBranch, skip, disabled, visited}
-use Rattle.path.specs.Fields.{fieldOf, withField, statesAt, withStatesAt}
-use Rattle.path.specs.Schedules.{HoldsAt, boundOf, Explores, ExploresAll, MarksAt}
-use Rattle.path.proofs.HoldsLaws.{holds-states-put}
-use Rattle.path.proofs.StatesLaws.{length-statesAt, state-at, state-put, states-same, states-now, states-again}
-use Rattle.path.proofs.ScheduleLaws.{inside, at-five, at-states, at-preemptions}
-
--- Lists of states
-
-getD-any : (l : List ℕ) (n d e : ℕ) → n < length l → getD l n d ≡ getD l n e
-getD-any [] n d e h = absurd (omega arith)
-getD-any (x ∷ l) zero d e h = refl
-getD-any (x ∷ l) (suc n) d e h = getD-any l n d e (omega arith)
-
--- the first n explored
-unfoldable pub exploredTo : ℕ → List ℕ → List ℕ
-exploredTo zero l = l
-exploredTo (suc n) [] = []
-exploredTo (suc n) (x ∷ l) = explored x ∷ exploredTo n l
-
-length-to : (n : ℕ) (l : List ℕ) → length (exploredTo n l) ≡ length l
-unfolding exploredTo
-length-to zero l = refl
-length-to (suc n) [] = refl
-length-to (suc n) (x ∷ l) = ap suc (length-to n l)
-
-to-next : (n : ℕ) (l : List ℕ) → getD (exploredTo n l) n visited ≡ getD l n visited
-unfolding exploredTo
-to-next zero l = refl
-to-next (suc n) [] = refl
-to-next (suc n) (x ∷ l) = to-next n l
-
-to-on : (n : ℕ) (l : List ℕ) → set (exploredTo n l) n (explored (getD l n visited)) ≡ exploredTo (suc n) l
-unfolding exploredTo
-to-on zero [] = refl
-to-on zero (x ∷ l) = refl
-to-on (suc n) [] = refl
-to-on (suc n) (x ∷ l) = ap (λ (y : List ℕ). explored x ∷ y) (to-on n l)
-
-to-all : (n : ℕ) (l : List ℕ) → length l ≤ n → exploredTo n l ≡ map explored l
-unfolding exploredTo
-to-all zero [] h = refl
-to-all zero (x ∷ l) h = absurd (omega arith)
-to-all (suc n) [] h = refl
-to-all (suc n) (x ∷ l) h = ap (λ (y : List ℕ). explored x ∷ y) (to-all n l (omega arith))
-
--- of the first n, how many are Skip
-unfoldable pub skipsTo : ℕ → List ℕ → ℕ
-skipsTo zero l = 0
-skipsTo (suc n) [] = 0
-skipsTo (suc n) (x ∷ l) = isSkip x + skipsTo n l
-
-skips-on : (n : ℕ) (l : List ℕ) → skipsTo n l + isSkip (getD l n visited) ≡ skipsTo (suc n) l
-unfolding skipsTo
-skips-on zero [] = refl
-skips-on zero (x ∷ l) = omega arith
-skips-on (suc n) [] = refl
-skips-on (suc n) (x ∷ l) = omega (arith, skips-on n l)
-
-skips-all : (n : ℕ) (l : List ℕ) → length l ≤ n → skipsTo n l ≡ skips l
-unfolding skipsTo skips
-skips-all zero [] h = refl
-skips-all zero (x ∷ l) h = absurd (omega arith)
-skips-all (suc n) [] h = refl
-skips-all (suc n) (x ∷ l) h = ap (λ (y : ℕ). isSkip x + y) (skips-all n l (omega arith))
+use lib.ListN.{length, getD, set, length-set, length-map}
+use lib.Seq.{set-getD}
+use Rattle.rules.specs.Path as rules
+use Rattle.rules.specs.Path.{Branch, Schedule, schedule, explored, marked, madePending, takesMarks, scheduleMarked, withStates, noBranch, disabled, visited}
+use Rattle.rules.proofs.MarkLaws.{made-same}
+use Rattle.record.specs.Fields.{fieldOf, withStatesAt}
+use Rattle.record.specs.Schedules as one
+use Rattle.record.proofs.ScheduleLaws.{stands-preemptions}
+use Rattle.path.specs.Bounds.{boundOf, reaches}
+use Rattle.path.specs.Walks.{HoldsAt, MarksAt}
+use Rattle.path.specs.declared.Bound.{Bound}
+use Rattle.path.specs.declared.Bound.the-variants.{Unbounded, AtMost}
+use Rattle.path.proofs.HoldsLaws.{at-stands, at-five, at-states, holds-states-put}
 
 length-either : (b : Bool) (l m n : List ℕ) → length m ≡ length l → length n ≡ length l → length (cond b m n) ≡ length l
 length-either true l m n e f = e
@@ -89,144 +31,43 @@ unfolding marked
 length-marked l t =
     length-either (eqb (getD l t visited) disabled) l (map explored l) (set l t (explored (getD l t visited))) (length-map l explored) (length-set l t (explored (getD l t visited)))
 
--- the states marked in the record at a position, and how many choices that opens
-pub record Changed (entry exit : List ℕ) (k t r : ℕ) : Type 0 where
-  pub puts : exit ≡ withStatesAt entry k (marked (statesAt entry k) t)
-  pub opens : r ≡ openedAt (statesAt entry k) t
-
-module _ (bytes : List ℕ) (k : ℕ) (fits : 16 * k + 16 ≤ length bytes) where
-  abbrev own : List ℕ
-  own = statesAt bytes k
-
-  five : length own ≡ 5
-  five = length-statesAt bytes k fits
-
-  -- One thread: f is the byte that was read
-
-  module _ (t f : ℕ) (b : t < 5) (e : f ≡ fieldOf bytes k (2 + t)) where
-    state-is : f ≡ getD own t visited
-    state-is = e ∙ state-at bytes k fits t b ∙ getD-any own t 0 visited (omega (arith, five))
-
-    pub explore-here : f ≡ 1 → (exit : List ℕ) → exit ≡ withField bytes k (2 + t) 3 → Explores bytes exit k t 1
-    explore-here q exit p =
-        let z : eqb (getD own t visited) skip ≡ true = eq-eqb (getD own t visited) skip (sym state-is ∙ q) in
-        record { few = omega arith; opens = rw z; puts = rw z (p ∙ state-put bytes k fits t 3 b) }
-
-    pub explore-not : f ≢ 1 → Explores bytes bytes k t 0
-    explore-not q =
-        let z : eqb (getD own t visited) skip ≡ false = ne-eqb (getD own t visited) skip (λ w. q (state-is ∙ w)) in
-        record {
-          few = omega arith;
-          opens = rw z;
-          puts = rw z (sym (states-same bytes k fits) ∙ ap (withStatesAt bytes k) (sym (set-getD own t visited)));
-        }
-
-    pub changed-all : f ≡ 0 → (exit : List ℕ) (r : ℕ) → ExploresAll bytes exit k r → Changed bytes exit k t r
-    unfolding marked openedAt
-    changed-all q exit r h =
-        let z : eqb (getD own t visited) disabled ≡ true = eq-eqb (getD own t visited) disabled (sym state-is ∙ q) in
-        record { puts = rw z (h .puts); opens = rw z (h .opens) }
-
-    pub changed-one : f ≢ 0 → (exit : List ℕ) (r : ℕ) → Explores bytes exit k t r → Changed bytes exit k t r
-    unfolding marked openedAt
-    changed-one q exit r h =
-        let z : eqb (getD own t visited) disabled ≡ false = ne-eqb (getD own t visited) disabled (λ w. q (state-is ∙ w)) in
-        record { puts = rw z (h .puts); opens = rw z (h .opens) }
-
-  -- a thread that is none
-  pub changed-none : (t : ℕ) → 5 ≤ t → Changed bytes bytes k t 0
-  unfolding marked openedAt
-  changed-none t b =
-      let z : getD own t visited ≡ visited = List·getD-eq-default own visited {n = t} (omega (arith, five)) in
-      record {
-        puts = rw z (sym (states-same bytes k fits) ∙ ap (withStatesAt bytes k) (sym (set-out own t visited (omega (arith, five)))));
-        opens = rw z;
-      }
-
-  -- All threads
-
-  pub all-none : bytes ≡ withStatesAt bytes k (exploredTo 0 own)
-  unfolding exploredTo
-  all-none = sym (states-same bytes k fits)
-
-  pub skips-none : 0 ≡ skipsTo 0 own
-  unfolding skipsTo
-  skips-none = refl
-
-  module _ (n : ℕ) (p : List ℕ) (e : p ≡ withStatesAt bytes k (exploredTo n own)) (q : List ℕ) (r : ℕ) (h : Explores p q k n r) where
-    five-to : length (exploredTo n own) ≡ 5
-    five-to = length-to n own ∙ five
-
-    own-now : statesAt p k ≡ exploredTo n own
-    own-now = ap (λ (x : List ℕ). statesAt x k) e ∙ states-now bytes k fits (exploredTo n own) five-to
-
-    state-now : getD (statesAt p k) n visited ≡ getD own n visited
-    state-now = ap (λ (x : List ℕ). getD x n visited) own-now ∙ to-next n own
-
-    pub all-on : q ≡ withStatesAt bytes k (exploredTo (n + 1) own)
-    all-on =
-        h .puts
-        ∙ ap (λ (x : ℕ). withStatesAt p k (set (statesAt p k) n (explored x))) state-now
-        ∙ ap (λ (x : List ℕ). withStatesAt p k (set x n (explored (getD own n visited)))) own-now
-        ∙ ap (withStatesAt p k) (to-on n own)
-        ∙ ap (λ (x : List ℕ). withStatesAt x k (exploredTo (suc n) own)) e
-        ∙ states-again bytes k fits (exploredTo n own) five-to (exploredTo (suc n) own)
-        ∙ ap (λ (x : ℕ). withStatesAt bytes k (exploredTo x own)) (sym (add-one n))
-
-    pub more-on : (m : ℕ) → m ≡ skipsTo n own → m + r ≡ skipsTo (n + 1) own
-    more-on m f =
-        let g : r ≡ isSkip (getD own n visited) = h .opens ∙ ap isSkip state-now in
-        let s : skipsTo (suc n) own ≡ skipsTo (n + 1) own = ap (λ (x : ℕ). skipsTo x own) (sym (add-one n)) in
-        omega (arith, skips-on n own)
-
-  pub all-done : (n : ℕ) (p : List ℕ) (r : ℕ) → 5 ≤ n → r ≤ 5 → p ≡ withStatesAt bytes k (exploredTo n own) → r ≡ skipsTo n own → ExploresAll bytes p k r
-  all-done n p r b few e f = record {
-    few = few;
-    opens = f ∙ skips-all n own (omega (arith, five));
-    puts = e ∙ ap (withStatesAt bytes k) (to-all n own (omega (arith, five)));
-  }
-
--- A record marked
-
-takes-by : (bounded : Bool) (n : ℕ) (s : Schedule) (f : ℕ) → f ≡ s .preemptions → takesMarks (boundOf bounded n) s ≡ not (bounded && eqb f n)
+takes-by : (bound : Bound) (s : Schedule) (f : ℕ) → f ≡ s .preemptions → takesMarks (boundOf bound) s ≡ not (reaches bound f)
 unfolding takesMarks
-takes-by true n s f e = ap (λ (x : ℕ). not (eqb x n)) (sym e)
-takes-by false n s f e = refl
+takes-by Unbounded s f e = refl
+takes-by (AtMost n) s f e = ap (λ (x : ℕ). not (eqb x n)) (sym e)
 
-module _ (bytes : List ℕ) (k : ℕ) (bounded : Bool) (n t : ℕ) (full : Bool) (e : full ≡ bounded && eqb (fieldOf bytes k 7) n) where
-  takes : {bs : List Branch} {s : Schedule} → HoldsAt bytes bs k s → takesMarks (boundOf bounded n) s ≡ not full
-  takes {bs} {s} h = takes-by bounded n s (fieldOf bytes k 7) (at-preemptions h) ∙ ap not (sym e)
+module _ (bytes : List ℕ) (k : ℕ) (bound : Bound) (t : ℕ) (full : Bool) (e : full ≡ reaches bound (fieldOf bytes k 7)) where
+  takes : {bs : List Branch} {s : Schedule} → HoldsAt bytes bs k s → takesMarks (boundOf bound) s ≡ not full
+  takes {bs} {s} h = takes-by bound s (fieldOf bytes k 7) (stands-preemptions (at-stands h)) ∙ ap not (sym e)
 
-  pub marks-by : full ≡ false → (exit : List ℕ) (r : ℕ) → Changed bytes exit k t r → r ≤ 5 → MarksAt bytes exit k (boundOf bounded n) t r
-  unfolding scheduleMarked scheduleOpened
-  marks-by f exit r c few = record {
-    few = few;
+  pub marks-by : full ≡ false → (exit : List ℕ) (r : ℕ) → one.Marks bytes exit k t r → MarksAt bytes exit k (boundOf bound) t r
+  unfolding scheduleMarked
+  marks-by f exit r c = record {
+    few = c .few;
     marks = λ bs s h.
-        let y : takesMarks (boundOf bounded n) s ≡ true = takes h ∙ ap not f in
+        let y : takesMarks (boundOf bound) s ≡ true = takes h ∙ ap not f in
         let p : exit ≡ withStatesAt bytes k (marked (s .states) t) = c .puts ∙ ap (λ (x : List ℕ). withStatesAt bytes k (marked x t)) (at-states h) in
         let l : length (marked (s .states) t) ≡ 5 = length-marked (s .states) t ∙ at-five h in
         record {
-          holds = rw (y, p) (holds-states-put (h .path) k s (inside h) (h .there) (marked (s .states) t) l);
-          opens = rw y (c .opens ∙ ap (λ (x : List ℕ). openedAt x t) (at-states h));
+          holds = rw (y, p) (holds-states-put h (marked (s .states) t) l);
+          opens = rw y (c .opens ∙ ap (λ (x : List ℕ). madePending x (marked x t)) (at-states h));
         };
   }
 
-  pub bound-by : full ≡ true → MarksAt bytes bytes k (boundOf bounded n) t 0
-  unfolding scheduleMarked scheduleOpened
+  pub bound-by : full ≡ true → MarksAt bytes bytes k (boundOf bound) t 0
+  unfolding scheduleMarked
   bound-by f = record {
     few = omega arith;
     marks = λ bs s h.
-        let y : takesMarks (boundOf bounded n) s ≡ false = takes h ∙ ap not f in
+        let y : takesMarks (boundOf bound) s ≡ false = takes h ∙ ap not f in
         let p : set bs k (schedule s) ≡ bs = ap (set bs k) (sym (h .there)) ∙ set-getD bs k noBranch in
-        record { holds = rw (y, p) (h .path); opens = rw y };
+        record { holds = rw (y, p) (h .path); opens = rw y (sym (made-same (s .states))) };
   }
 
 -- Whether it takes marks
 
-pub bound-off : (b x : Bool) → not b ≡ true → false ≡ b && x
-bound-off true x e = let z : _≡_ {A = ℕ} 0 1 = cc in absurd (omega arith)
-bound-off false x e = refl
+pub bound-off : (b : Bound) (f : ℕ) → b ≡ Unbounded → false ≡ reaches b f
+bound-off b f e = rw e
 
-pub bound-on : (b : Bool) (f g n : ℕ) → not b ≡ false → f ≡ g → eqb f n ≡ b && eqb g n
-bound-on true f g n e q = ap (λ (x : ℕ). eqb x n) q
-bound-on false f g n e q = let z : _≡_ {A = ℕ} 0 1 = cc in absurd (omega arith)
+pub bound-on : (b : Bound) (f g n : ℕ) → b ≡ AtMost n → f ≡ g → eqb f n ≡ reaches b g
+bound-on b f g n e q = rw (e, q)

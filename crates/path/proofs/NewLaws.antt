@@ -12,47 +12,50 @@ use lib.Dec.{leb, ltb, eqb}
 use lib.ListN.{length, set, replicate, length-append, length-set}
 use lib.Seq.{take-at, drop-at}
 use Rattle.rules.specs.Path as rules
-use Rattle.rules.specs.Path.{Branch, Schedule, Last, schedule, none, at, encoded, flag, activeIn, activeOf, orNone, toggled, lastSchedule, preemptionsAfter, initialAfter, prevOf, newSchedule, threadAdded, openedBy, noThread}
+use Rattle.rules.specs.Path.{Branch, Schedule, Last, schedule, none, at, encoded, flag, activeIn, activeOf, orNone, toggled, lastSchedule, preemptionsAfter, initialAfter, prevOf, newSchedule, threadAdded, openAt, pendings, noThread}
 use Rattle.rules.specs.Records.{recordAt, withRecord}
 use Rattle.rules.proofs.RecordLaws.{record-now, record-again, record-other}
-use Rattle.path.specs.Fields.{withField, begun, statesIn, withStatesIn, statesAt, withStatesAt}
+use Rattle.record.specs.Fields.{withField, begun, statesIn, withStatesIn, statesAt, withStatesAt}
 use Rattle.path.specs.Holds.{Holds}
-use Rattle.path.specs.Places.{foundBelow}
-use Rattle.path.specs.Pushes.{pushedOf, grown}
-use Rattle.path.specs.Schedules.{foundOf, positionOf, standsIn, initialAt, PreemptionsBefore}
-use Rattle.path.specs.Walks.{LastOf, PushesThread}
+use Rattle.record.specs.Places.{foundBelow}
+use Rattle.record.specs.Answers.{Counts}
+use Rattle.record.specs.Schedules.{positionOf, initialAt}
+use Rattle.path.specs.Pushes.{PushesThread, pushedOf, grown}
+use Rattle.path.specs.Places.{recordsOf}
+use Rattle.path.specs.Walks.{foundOf, standsIn, LastOf, PreemptionsBefore}
 use Rattle.path.specs.declared.Pushed.the-variants.{Added, Full, Preempted}
-use Rattle.path.specs.declared.schedule.Found.{Found}
-use Rattle.path.proofs.FieldLaws.{put-again}
-use Rattle.path.proofs.HoldsLaws.{holds-blank, holds-added}
+use Rattle.record.specs.declared.schedule.Found.{Found}
+use Rattle.record.proofs.FieldLaws.{put-again}
+use Rattle.record.proofs.ThreadLaws.{length-toggled}
+use Rattle.path.proofs.HoldsLaws.{holds-blank, holds-added, at-states}
 use Rattle.path.proofs.PushLaws.{no-room, has-room}
-use Rattle.path.proofs.ScheduleLaws.{at-states}
-use Rattle.path.proofs.ThreadLaws.{length-toggled}
 use Rattle.path.proofs.WalkLaws.{last-stands}
 
 -- It is not added
 
 module _ (bytes : List ℕ) (len : ℕ) (exploring : Bool) (seed : List ℕ) where
   abbrev answer : List Branch → rules.Added
-  answer bs = threadAdded (length bytes / 16) bs exploring seed
+  answer bs = threadAdded (recordsOf bytes) bs exploring seed
 
-  as-full : (bs : List Branch) → leb (length bytes / 16) (length bs) ≡ true → answer bs ≡ rules.full
+  as-full : (bs : List Branch) → leb (recordsOf bytes) (length bs) ≡ true → answer bs ≡ rules.full
   unfolding threadAdded
   as-full bs e = rw e
 
-  as-preempted : (bs : List Branch) → leb (length bytes / 16) (length bs) ≡ false → ltb 255 (preemptionsAfter (lastSchedule bs)) ≡ true → answer bs ≡ rules.preempted
+  as-preempted : (bs : List Branch) → leb (recordsOf bytes) (length bs) ≡ false → ltb 255 (preemptionsAfter (lastSchedule bs)) ≡ true → answer bs ≡ rules.preempted
   unfolding threadAdded
   as-preempted bs e f = rw (e, f)
 
-  as-added : (bs : List Branch) → leb (length bytes / 16) (length bs) ≡ false → ltb 255 (preemptionsAfter (lastSchedule bs)) ≡ false → answer bs ≡ rules.added (schedule (newSchedule exploring (lastSchedule bs) (toggled seed)))
+  as-added : (bs : List Branch) → leb (recordsOf bytes) (length bs) ≡ false → ltb 255 (preemptionsAfter (lastSchedule bs)) ≡ false → answer bs ≡ rules.added (schedule (newSchedule exploring (lastSchedule bs) (toggled seed)))
   unfolding threadAdded
   as-added bs e f = rw (e, f)
 
-  pub thread-refused : 16 * len ≤ length bytes → length bytes - 16 * len < 16 → PushesThread bytes bytes len exploring seed Full
-  thread-refused h l =
-      let is : (bs : List Branch) → length bs ≡ len → answer bs ≡ rules.full = λ bs e. as-full bs (rw e (no-room (length bytes) len h l)) in
+  pub thread-refused : recordsOf bytes ≤ len → PushesThread bytes bytes len exploring seed Full
+  thread-refused h =
+      let is : (bs : List Branch) → length bs ≡ len → answer bs ≡ rules.full = λ bs e. as-full bs (rw e (no-room bytes len h)) in
       record {
-        within = omega arith;
+        within = record { because = omega arith; same = refl };
+        full = λ l. refl;
+        keeps = refl;
         says = λ bs q e. ap pushedOf (sym (is bs e));
         holds = λ bs q e z. subst (λ (a : rules.Added). Holds bytes (grown bs a)) (sym (is bs e)) q;
       }
@@ -66,9 +69,11 @@ module _ (bytes : List ℕ) (len : ℕ) (exploring : Bool) (seed : List ℕ) whe
         let is : (bs : List Branch) → Holds bytes bs → length bs ≡ len → answer bs ≡ rules.preempted =
         λ bs q e.
         let m : p ≡ preemptionsAfter (lastSchedule bs) = before-is q e in
-        as-preempted bs (rw e (has-room (length bytes) len room)) (lt-ltb 255 (preemptionsAfter (lastSchedule bs)) (omega arith)) in
+        as-preempted bs (rw e (has-room bytes len room)) (lt-ltb 255 (preemptionsAfter (lastSchedule bs)) (omega arith)) in
         record {
-          within = room;
+          within = record { because = room; same = refl };
+          full = λ l. absurd (omega arith);
+          keeps = refl;
           says = λ bs q e. ap pushedOf (sym (is bs q e));
           holds = λ bs q e z. subst (λ (a : rules.Added). Holds bytes (grown bs a)) (sym (is bs q e)) q;
         }
@@ -212,33 +217,66 @@ module _ (bytes : List ℕ) (len : ℕ) (exploring : Bool) (seed : List ℕ) (ro
         prev-small none b z = refl
         prev-small (at k s) b z = omega arith
 
-        all-written : len ≤ 65536 → b₆ ≡ withRecord bytes len (encoded (schedule new))
-        unfolding encoded
-        all-written z =
+        abbrev lowByte : ℕ
+        lowByte = prevOf last % 256
+
+        -- the bytes of the record, with prev cut to two
+        cut-written : b₆ ≡ withRecord bytes len (1 ∷ flag exploring ∷ (toggledSeed ++ (preemptionsAfter last ∷ initialAfter last (orNone (activeIn toggledSeed)) ∷ lowByte ∷ prevOf last / 256 % 256 ∷ replicate 5 0)))
+        cut-written =
             e₆
             ∙ ap (λ (x : ℕ). withField (withField b₅ len 9 (x % 256)) len 10 (x / 256 % 256)) position-now
-            ∙ ap (λ (x : ℕ). withField (withField b₅ len 9 (prevOf last % 256)) len 10 x) (prev-small last last-below z)
-            ∙ ap (λ (x : List ℕ). withField (withField x len 9 (prevOf last % 256)) len 10 (prevOf last / 256))
+            ∙ ap (λ (x : List ℕ). withField (withField x len 9 lowByte) len 10 (prevOf last / 256 % 256))
             (e₅
             ∙ ap (withField b₄ len 7) preemptions-now
             ∙ ap (λ (x : List ℕ). withField x len 7 (preemptionsAfter last))
             (e₄ ∙ ap (withField b₃ len 8) initial-now ∙ ap (λ (x : List ℕ). withField x len 8 (initialAfter last (orNone (activeIn toggledSeed)))) with-toggled))
-            ∙ kept-fields bytes len room exploring toggledSeed five-toggled (preemptionsAfter last) (initialAfter last (orNone (activeIn toggledSeed))) (prevOf last % 256) (prevOf last / 256)
+            ∙ kept-fields bytes len room exploring toggledSeed five-toggled (preemptionsAfter last) (initialAfter last (orNone (activeIn toggledSeed))) lowByte (prevOf last / 256 % 256)
+
+        states-now : statesAt b₆ len ≡ toggledSeed
+        unfolding statesAt statesIn
+        states-now =
+            let r : List ℕ = preemptionsAfter last ∷ initialAfter last (orNone (activeIn toggledSeed)) ∷ lowByte ∷ prevOf last / 256 % 256 ∷ replicate 5 0 in
+            let w : length (1 ∷ flag exploring ∷ (toggledSeed ++ r)) ≡ 16 = simp length-append (omega (arith, five-toggled)) in
+            ap (λ (x : List ℕ). statesIn (recordAt x len)) cut-written
+            ∙ ap statesIn (record-now bytes len room (1 ∷ flag exploring ∷ (toggledSeed ++ r)) w)
+            ∙ take-at toggledSeed r 5 five-toggled
+
+        all-written : len ≤ 65536 → b₆ ≡ withRecord bytes len (encoded (schedule new))
+        unfolding encoded
+        all-written z =
+            cut-written
+            ∙ ap (λ (x : ℕ). withRecord bytes len (1 ∷ flag exploring ∷ (toggledSeed ++ (preemptionsAfter last ∷ initialAfter last (orNone (activeIn toggledSeed)) ∷ lowByte ∷ x ∷ replicate 5 0)))) (prev-small last last-below z)
 
         added-is : answer bytes len exploring seed bs ≡ rules.added (schedule new)
         added-is =
             let m : p ≡ preemptionsAfter last = before-is bytes len exploring seed room prev found p many h same in
-            as-added bytes len exploring seed bs (rw same (has-room (length bytes) len room)) (le-ltb 255 (preemptionsAfter last) (omega arith))
+            as-added bytes len exploring seed bs (rw same (has-room bytes len room)) (le-ltb 255 (preemptionsAfter last) (omega arith))
 
         holds-new : len ≤ 65536 → Holds b₆ (bs ++ (schedule new ∷ []))
         holds-new z =
             let fits : 16 * length bs + 16 ≤ length bytes = omega arith in
-            rw (all-written z, ← same) (holds-added h fits (schedule new) (eq-eqb (length toggledSeed) 5 five-toggled))
+            rw (all-written z, ← same) (holds-added h fits (schedule new) (eq-eqb (length toggledSeed) 5 five-toggled) its-prev)
+          where
+            its-prev : (q : Schedule) → schedule new ≡ schedule q → q .prev ≡ prevOf (lastSchedule bs)
+            its-prev q e = let f : new ≡ q = cc in ap (λ (x : Schedule). x .prev) (sym f)
 
-      pub thread-added : PushesThread bytes b₆ len exploring seed (Added 0)
-      unfolding openedBy
-      thread-added = record {
-        within = record { room = room; few = omega arith };
-        says = λ bs h e. ap pushedOf (sym (added-is h e));
-        holds = λ bs h e z. subst (λ (a : rules.Added). Holds b₆ (grown bs a)) (sym (added-is h e)) (holds-new h e z);
+        opens-is : (n : ℕ) → n ≡ cond exploring (pendings (statesAt b₆ len)) 0 → Added n ≡ pushedOf (answer bytes len exploring seed bs)
+        unfolding openAt
+        opens-is n e = ap Added (e ∙ ap (λ (x : List ℕ). cond exploring (pendings x) 0) states-now) ∙ ap pushedOf (sym added-is)
+
+      pub thread-added : length b₆ ≡ length bytes → (n : ℕ) → n ≤ 5 → n ≡ cond exploring (pendings (statesAt b₆ len)) 0 → PushesThread bytes b₆ len exploring seed (Added n)
+      thread-added keeps n most e = record {
+        within = record { room = room; few = most };
+        full = λ l. absurd (omega arith);
+        keeps = keeps;
+        says = λ bs h q. opens-is h q n e;
+        holds = λ bs h q z. subst (λ (a : rules.Added). Holds b₆ (grown bs a)) (sym (added-is h q)) (holds-new h q z);
       }
+
+-- What it opens
+
+pub opens-some : {exploring : Bool} {n m : ℕ} → exploring ≡ true → Counts 5 m n → n ≡ cond exploring m 0
+opens-some {exploring} {n} {m} e c = c .is ∙ sym (ap (λ (x : Bool). cond x m 0) e)
+
+pub opens-nothing : {exploring : Bool} (m : ℕ) → exploring ≡ false → 0 ≡ cond exploring m 0
+opens-nothing {exploring} m e = sym (ap (λ (x : Bool). cond x m 0) e)

@@ -1,52 +1,55 @@
--- What the branch at a position chooses, as each function answers it. Assumes nothing.
---     offers                        a slot, with the mask of all that are offered
---     offeredBy, OfLoad, Reads      what a load chooses, and what a function that asks for it promises
---     saidBy, Says                  the same for a spurious branch
-use Prim.Native.Nat.{ℕ, _<_}
-use mathlib.Core.List.{List, [], _∷_}
-use mathlib.Core.Bool.{Bool, true, cond, _&&_}
+-- What the branch at a position chooses, as each function answers it. Where there is no record of the kind that is asked for,
+-- the answer is Unexpected whatever the bytes are. Assumes nothing.
+--     Reads                    what a function that asks a load promises
+--     saidBy, Says             the same for a spurious branch
+--     chosenOf, Chooses        the same for a schedule
+use Prim.Native.Nat.{ℕ, _+_, _*_, _<_}
+use mathlib.Core.List.{List}
+use mathlib.Core.Bool.{false}
 use mathlib.Core.Path.{_≡_}
-use lib.Dec.{ltb}
+use lib.Dec.{eqb}
 use lib.ListN.{length, getD}
-use Rattle.rules.specs.Machine.{maskOf}
+use Rattle.rules.specs.Vector.{Whom, nobody, thread}
 use Rattle.rules.specs.Path as rules
-use Rattle.path.specs.Answers.{offeredSlot}
+use Rattle.record.specs.Answers.{offeredSlot}
+use Rattle.record.specs.Choices.{offeredBy}
+use Rattle.record.specs.Fields.{fieldOf}
+use Rattle.record.specs.declared.Offered.{Offered}
+use Rattle.record.specs.declared.Offered.the-variants as offered
+use Rattle.path.specs.Answers.{chosenThread}
 use Rattle.path.specs.Holds.{Holds}
-use Rattle.path.specs.declared.Offered.{Offered}
-use Rattle.path.specs.declared.Offered.the-variants as offered
+use Rattle.path.specs.declared.Chosen.{Chosen}
+use Rattle.path.specs.declared.Chosen.the-variants as chosen
 use Rattle.path.specs.declared.Spurious.{Spurious}
 use Rattle.path.specs.declared.Spurious.the-variants as said
 
--- each is one of the seven slots
-unfoldable pub allSlots : List ℕ → Bool
-allSlots [] = true
-allSlots (v ∷ vs) = ltb v 7 && allSlots vs
-
--- the mask has the bits that it had, and one for each of the offers
-unfoldable pub offers : ℕ → ℕ → List ℕ → Offered
-offers slot mask vs = cond (allSlots vs) (offered.Slot slot (maskOf mask vs)) offered.Unexpected
-
--- a load whose position is none of its values, or one of whose values is no slot, is expected nowhere: no run has it
-unfoldable pub offeredBy : rules.Branch → Offered
-offeredBy (rules.schedule s) = offered.Unexpected
-offeredBy (rules.load l) =
-    cond (ltb (l .pos) (length (l .values))) (offers (getD (l .values) (l .pos) 0) 0 (l .values)) offered.Unexpected
-offeredBy (rules.spurious u) = offered.Unexpected
-
--- what is answered at a record that is a load's
-pub record OfLoad (path : List ℕ) (at : ℕ) (r : Offered) : Type 0 where
+pub record Reads (path : List ℕ) (pos : ℕ) (r : Offered) : Type 0 where
   pub slot : offeredSlot r
-  pub is : (bs : List rules.Branch) (l : rules.Load) → Holds path bs → at < length bs → getD bs at rules.noBranch ≡ rules.load l → r ≡ offeredBy (rules.load l)
-
--- and at any
-pub record Reads (path : List ℕ) (at : ℕ) (r : Offered) : Type 0 where
-  pub slot : offeredSlot r
-  pub is : (bs : List rules.Branch) → Holds path bs → at < length bs → r ≡ offeredBy (getD bs at rules.noBranch)
+  pub past : length path < 16 * pos + 16 → r ≡ offered.Unexpected
+  pub other : eqb (fieldOf path pos 0) 2 ≡ false → r ≡ offered.Unexpected
+  pub is : (bs : List rules.Branch) → Holds path bs → r ≡ offeredBy (getD bs pos rules.noBranch)
 
 unfoldable pub saidBy : rules.Branch → Spurious
 saidBy (rules.schedule s) = said.Unexpected
 saidBy (rules.load l) = said.Unexpected
 saidBy (rules.spurious u) = said.Bit (u .bit)
 
-pub record Says (path : List ℕ) (at : ℕ) (r : Spurious) : Type 0 where
-  pub is : (bs : List rules.Branch) → Holds path bs → at < length bs → r ≡ saidBy (getD bs at rules.noBranch)
+pub record Says (path : List ℕ) (pos : ℕ) (r : Spurious) : Type 0 where
+  pub past : length path < 16 * pos + 16 → r ≡ said.Unexpected
+  pub other : eqb (fieldOf path pos 0) 3 ≡ false → r ≡ said.Unexpected
+  pub is : (bs : List rules.Branch) → Holds path bs → r ≡ saidBy (getD bs pos rules.noBranch)
+
+abbrev pub chosenIn : Whom → Chosen
+chosenIn nobody = chosen.Nobody
+chosenIn (thread t) = chosen.Thread t
+
+abbrev pub chosenOf : rules.Last → Chosen
+chosenOf rules.none = chosen.Unexpected
+chosenOf (rules.at k s) = chosenIn (rules.activeIn (s .states))
+
+-- the Active thread of the branch at a position
+pub record Chooses (path : List ℕ) (pos : ℕ) (r : Chosen) : Type 0 where
+  pub within : chosenThread r
+  pub past : length path < 16 * pos + 16 → r ≡ chosen.Unexpected
+  pub other : eqb (fieldOf path pos 0) 1 ≡ false → r ≡ chosen.Unexpected
+  pub says : (bs : List rules.Branch) → Holds path bs → r ≡ chosenOf (rules.scheduleAt bs pos)

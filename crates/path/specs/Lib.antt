@@ -1,9 +1,8 @@
 pub mod Answers
+pub mod Bounds
 pub mod Choices
-pub mod Fields
 pub mod Holds
 pub mod Places
 pub mod Pushes
-pub mod Schedules
 pub mod Steps
 pub mod Walks

@@ -1,40 +1,65 @@
--- What the functions on a whole path promise, by the definition. Assumes nothing.
+-- What the functions that walk through a path's schedules promise, by the definition. Assumes nothing.
+--     foundOf                               the definition's schedule as the function's answer
+--     HoldsAt, standsIn                     a schedule that stands in a path
 --     LastOf, ExploringFrom, SwitchFrom     which schedule is found
---     MarksBefore, Backtracks               the marks that are made
---     Chooses                               the thread that a schedule has Active
---     PushesThread                          a schedule added
-use Prim.Native.Nat.{ℕ, _+_, _/_, _≤_}
+--     PreemptionsBefore                     the preemptions up to it
+--     Marks, MarksAt, MarksBefore, Backtracks      the marks that are made
+use Prim.Native.Nat.{ℕ, _+_, _≤_}
 use mathlib.Core.List.{List}
-use mathlib.Core.Bool.{Bool}
 use mathlib.Core.Path.{_≡_}
-use lib.ListN.{length}
-use Rattle.rules.specs.Vector.{Whom, nobody, thread}
+use lib.ListN.{length, getD}
 use Rattle.rules.specs.Path as rules
-use Rattle.rules.specs.Path.{Branch, Schedule, Last, Bound, Marked}
-use Rattle.path.specs.Answers.{pushedWithin, chosenThread}
+use Rattle.rules.specs.Path.{Branch, Schedule, Last, Bound, Marked, noBranch}
+use Rattle.record.specs.Places.{foundBelow}
+use Rattle.record.specs.declared.schedule.Found.{Found}
+use Rattle.record.specs.declared.schedule.Found.the-variants.{At, Nowhere}
 use Rattle.path.specs.Holds.{Holds}
-use Rattle.path.specs.Places.{foundBelow}
-use Rattle.path.specs.Pushes.{pushedOf, grown}
-use Rattle.path.specs.Schedules.{HoldsAt, foundOf, Marks}
-use Rattle.path.specs.declared.Pushed.{Pushed}
-use Rattle.path.specs.declared.Chosen.{Chosen}
-use Rattle.path.specs.declared.Chosen.the-variants as chosen
-use Rattle.path.specs.declared.schedule.Found.{Found}
+use Rattle.path.specs.Places.{recordsOf}
+
+abbrev pub foundOf : Last → Found
+foundOf rules.none = Nowhere
+foundOf (rules.at k s) = At k
+
+-- the bytes hold this path, and it has this schedule at a position
+pub record HoldsAt (bytes : List ℕ) (bs : List Branch) (k : ℕ) (s : Schedule) : Type 0 where
+  pub path : Holds bytes bs
+  pub there : getD bs k noBranch ≡ rules.schedule s
+
+-- a schedule that stands in a path where it says
+abbrev pub standsIn : List Branch → Last → Type 0
+standsIn bs rules.none = Unit
+standsIn bs (rules.at k s) = getD bs k noBranch ≡ rules.schedule s
 
 -- the last schedule
 pub record LastOf (path : List ℕ) (len : ℕ) (r : Found) : Type 0 where
   pub below : foundBelow len r
   pub says : (bs : List Branch) → Holds path bs → length bs ≡ len → r ≡ foundOf (rules.lastSchedule bs)
 
--- the last exploring one that does not stand after a point
+-- the preemptions up to the schedule that was found, if one was
+pub record PreemptionsBefore (path : List ℕ) (prev : Found) (r : ℕ) : Type 0 where
+  pub few : r ≤ 256
+  pub says : (bs : List Branch) → Holds path bs → (l : Last) → standsIn bs l → prev ≡ foundOf l → r ≡ rules.preemptionsAfter l
+
+-- the last exploring one that does not stand after a point: one of the buffer's records
 pub record ExploringFrom (path : List ℕ) (point : ℕ) (r : Found) : Type 0 where
-  pub below : foundBelow (point + 1) r
+  pub below : foundBelow (recordsOf path) r
   pub says : (bs : List Branch) → Holds path bs → r ≡ foundOf (rules.exploringBelow bs (point + 1))
 
--- the last exploring one, by prev from one on, that chooses another thread than the one before
+-- from a schedule downwards the last exploring one that chooses another thread than the one before
 pub record SwitchFrom (path : List ℕ) (from : ℕ) (r : Found) : Type 0 where
   pub below : foundBelow (from + 1) r
-  pub says : (bs : List Branch) (s : Schedule) → HoldsAt path bs from s → r ≡ foundOf (rules.switchFrom bs (length bs) (rules.at from s))
+  pub says :
+      (bs : List Branch) (s : Schedule) → HoldsAt path bs from s → r ≡ foundOf (rules.switchIn (rules.schedulesBelow bs (from + 1)))
+
+-- the bytes hold the path with its marks, and so many choices were opened
+pub record Marks (exit : List ℕ) (m : Marked) (r : ℕ) : Type 0 where
+  pub holds : Holds exit (m .path)
+  pub opens : r ≡ m .opened
+
+-- a thread marked in the schedule at a position
+pub record MarksAt (entry exit : List ℕ) (at : ℕ) (bound : Bound) (t r : ℕ) : Type 0 where
+  pub few : r ≤ 5
+  pub marks : (bs : List Branch) (s : Schedule) → HoldsAt entry bs at s → Marks exit (rules.markedAt bound bs (rules.at at s) t) r
 
 -- the second mark, after a first one at a position
 pub record MarksBefore (entry exit : List ℕ) (at bound t r : ℕ) : Type 0 where
@@ -46,25 +71,5 @@ pub record MarksBefore (entry exit : List ℕ) (at bound t r : ℕ) : Type 0 whe
 -- both marks
 pub record Backtracks (entry exit : List ℕ) (point : ℕ) (bound : Bound) (t r : ℕ) : Type 0 where
   pub few : r ≤ 10
+  pub keeps : length exit ≡ length entry
   pub marks : (bs : List Branch) → Holds entry bs → Marks exit (rules.backtracked bound bs point t) r
-
-abbrev pub chosenIn : Whom → Chosen
-chosenIn nobody = chosen.Nobody
-chosenIn (thread t) = chosen.Thread t
-
-abbrev pub chosenOf : Last → Chosen
-chosenOf rules.none = chosen.Unexpected
-chosenOf (rules.at k s) = chosenIn (rules.activeIn (s .states))
-
--- the Active thread of the branch at a position
-pub record Chooses (path : List ℕ) (pos : ℕ) (r : Chosen) : Type 0 where
-  pub within : chosenThread r
-  pub says : (bs : List Branch) → Holds path bs → r ≡ chosenOf (rules.scheduleAt bs pos)
-
--- A schedule added. Two bytes say the position of the last one, so the path has at most 65536 branches.
-pub record PushesThread (entry exit : List ℕ) (len : ℕ) (exploring : Bool) (seed : List ℕ) (r : Pushed) : Type 0 where
-  pub within : pushedWithin entry len 0 r
-  pub says : (bs : List Branch) → Holds entry bs → length bs ≡ len → r ≡ pushedOf (rules.threadAdded (length entry / 16) bs exploring seed)
-  pub holds :
-      (bs : List Branch) → Holds entry bs → length bs ≡ len → len ≤ 65536
-      → Holds exit (grown bs (rules.threadAdded (length entry / 16) bs exploring seed))

@@ -1,26 +1,28 @@
 // The execution path, after loom's rt/path.rs: records of 16 bytes in a buffer that the caller
 // lends, the first `len` of them in use and every byte after those zero. As many branches can be
-// added as the buffer has records.
-mod fields;
-mod load;
-mod schedule;
-
-ghost use Prim.Native.Nat.{_+_, _*_, _≤_};
-ghost use mathlib.Core.Bool.{cond};
-ghost use lib.Dec.{eqb};
+// added as the buffer has records. Every function takes any bytes, any length and any position: no
+// room is Full, and a place without the record that is asked for is Unexpected.
+ghost use Prim.Native.Nat.{_+_, _*_, _/_, _≤_};
+ghost use mathlib.Core.Path.{_≡_};
+ghost use mathlib.Core.Bool.{_&&_};
+ghost use lib.Dec.{eqb, ltb};
 ghost use lib.ListN.{length, take};
-ghost use Rattle.rules.specs.Path.{spuriousAdded, loadAdded};
-ghost use Rattle.path.specs.Choices.{Reads, Says};
-ghost use Rattle.path.specs.Pushes.{Pushes};
-ghost use Rattle.path.specs.Answers.{Counts};
-ghost use Rattle.path.specs.Fields.{fieldOf};
-ghost use Rattle.path.specs.Schedules.{boundOf};
-ghost use Rattle.path.specs.Steps.{OpenAt, AnyOpen, OpenIn, Sets, StepsAt, Steps};
-ghost use Rattle.path.specs.Walks.{LastOf, ExploringFrom, SwitchFrom, MarksBefore, Backtracks, Chooses, PushesThread};
-use fields::RECORD;
-use fields::field;
-use fields::put;
-use schedule::Found;
+ghost use Rattle.rules.specs.Path.{spuriousAdded, loadAdded, threadAdded};
+ghost use Rattle.record.specs.Fields.{fieldOf};
+ghost use Rattle.record.specs.Places.{foundBelow};
+ghost use Rattle.path.specs.Choices.{Reads, Says, Chooses};
+ghost use Rattle.path.specs.Pushes.{Pushes, PushesThread, Seven};
+ghost use Rattle.path.specs.Bounds.{boundOf, reaches};
+ghost use Rattle.path.specs.Places.{Present, Through, HasKind};
+ghost use Rattle.path.specs.Steps.{AnyOpen, OpenIn, Steps};
+ghost use Rattle.path.specs.Walks.{LastOf, PreemptionsBefore, ExploringFrom, SwitchFrom, MarksAt, MarksBefore, Backtracks};
+pub use record::Offered;
+use record::fields;
+use record::fields::RECORD;
+use record::fields::field;
+use record::load;
+use record::schedule;
+use record::schedule::Found;
 
 // What became of a new branch: it was added and opened so many choices; there is no room for it
 // (answer 11); or its preemptions would pass 255 (answer 17). In the last two cases the path is as
@@ -38,29 +40,28 @@ pub enum Chosen {
     Unexpected,
 }
 
-// The slot that a load branch chooses, and the mask of all that it offers. Unexpected where the
-// branch is no load, or one that no push_load has written.
-pub enum Offered {
-    Slot { slot: usize, mask: u8 },
-    Unexpected,
-}
-
 // What a spurious branch chooses. Unexpected where the branch is none.
 pub enum Spurious {
     Bit(bool),
     Unexpected,
 }
 
-// Adds a schedule branch with the seed's thread states. It opens nothing yet: backtrack does.
+// How many preemptions an execution may have.
+pub enum Bound {
+    Unbounded,
+    AtMost(u8),
+}
+
+// Adds a schedule branch with the seed's thread states. It opens what the seed has Pending, which
+// is nothing in a run: backtrack opens.
 pub fn push_thread(path: &mut [u8], len: usize, exploring: bool, seed: [u8; 5]) -> Pushed
-    requires { ⌜ 16 * len ≤ length (now path) ⌝ }
     ensures { λ r. ⌜ PushesThread (now (path .entry)) (now (path .exit)) len exploring seed r ⌝ }
 {
-    if path.len() - RECORD * len < RECORD {
+    if path.len() / RECORD <= len {
         return Pushed::Full;
     }
     let prev = last_schedule(path, len);
-    let preemptions = schedule::preemptions_before(path, len, prev);
+    let preemptions = preemptions_before(path, len, prev);
     if fields::MAX_PREEMPTIONS < preemptions {
         return Pushed::Preempted;
     }
@@ -68,17 +69,19 @@ pub fn push_thread(path: &mut [u8], len: usize, exploring: bool, seed: [u8; 5]) 
     schedule::put_threads(path, len, seed);
     schedule::toggle_yield(path, len);
     schedule::put_initial_active(path, len, prev);
-    put(path, len, fields::PREEMPTIONS, (preemptions % 256) as u8);
+    fields::put(path, len, fields::PREEMPTIONS, (preemptions % 256) as u8);
     schedule::put_prev(path, len, prev);
+    if exploring {
+        return Pushed::Added(schedule::pending(path, len));
+    }
     Pushed::Added(0)
 }
 
 // The thread that the branch at a position has Active.
 pub fn branch_thread(path: &[u8], pos: usize) -> Chosen
-    requires { ⌜ 16 * pos + 16 ≤ length (now path) ⌝ }
     ensures { λ r. ⌜ Chooses (now (path .entry)) pos r ⌝ }
 {
-    if !fields::is_kind(path, pos, fields::SCHEDULE) {
+    if !has_kind(path, pos, fields::SCHEDULE) {
         return Chosen::Unexpected;
     }
     let thread = schedule::active_thread_index(path, pos);
@@ -91,12 +94,12 @@ pub fn branch_thread(path: &[u8], pos: usize) -> Chosen
 // Adds a load branch that offers the seed's first n slots, of which it chooses the first. The
 // others are opened where it is explored.
 pub fn push_load(path: &mut [u8], len: usize, exploring: bool, seed: [u8; 7], n: usize) -> Pushed
-    requires { ⌜ (16 * len ≤ length (now path)) × (n ≤ 7) ⌝ }
     ensures { λ r. ⌜ Pushes (now (path .entry)) (now (path .exit)) len 6 (λ B bs. loadAdded B bs exploring (take n seed)) r ⌝ }
 {
-    if path.len() - RECORD * len < RECORD {
+    if path.len() / RECORD <= len {
         return Pushed::Full;
     }
+    let n = at_most_seven(n);
     fields::begin(path, len, fields::LOAD, exploring);
     load::put_values(path, len, seed, n);
     if exploring {
@@ -107,10 +110,9 @@ pub fn push_load(path: &mut [u8], len: usize, exploring: bool, seed: [u8; 7], n:
 
 // The slot that the branch at a position chooses now, with its offers.
 pub fn branch_load(path: &[u8], pos: usize) -> Offered
-    requires { ⌜ 16 * pos + 16 ≤ length (now path) ⌝ }
     ensures { λ r. ⌜ Reads (now (path .entry)) pos r ⌝ }
 {
-    if !fields::is_kind(path, pos, fields::LOAD) {
+    if !has_kind(path, pos, fields::LOAD) {
         return Offered::Unexpected;
     }
     load::offered(path, pos)
@@ -118,10 +120,9 @@ pub fn branch_load(path: &[u8], pos: usize) -> Offered
 
 // Adds a spurious branch, which says no first. Its yes is opened where it is explored.
 pub fn push_spurious(path: &mut [u8], len: usize, exploring: bool) -> Pushed
-    requires { ⌜ 16 * len ≤ length (now path) ⌝ }
     ensures { λ r. ⌜ Pushes (now (path .entry)) (now (path .exit)) len 1 (λ B bs. spuriousAdded B bs exploring) r ⌝ }
 {
-    if path.len() - RECORD * len < RECORD {
+    if path.len() / RECORD <= len {
         return Pushed::Full;
     }
     fields::begin(path, len, fields::SPURIOUS, exploring);
@@ -133,40 +134,39 @@ pub fn push_spurious(path: &mut [u8], len: usize, exploring: bool) -> Pushed
 
 // What the branch at a position says now.
 pub fn branch_spurious(path: &[u8], pos: usize) -> Spurious
-    requires { ⌜ 16 * pos + 16 ≤ length (now path) ⌝ }
     ensures { λ r. ⌜ Says (now (path .entry)) pos r ⌝ }
 {
-    if !fields::is_kind(path, pos, fields::SPURIOUS) {
+    if !has_kind(path, pos, fields::SPURIOUS) {
         return Spurious::Unexpected;
     }
     Spurious::Bit(field(path, pos, fields::SPUR) != 0)
 }
 
 // Marks a thread to be explored at the last exploring schedule from a point downwards, and answers
-// how many choices that opened. With a bound an earlier schedule is marked too.
-pub fn backtrack(path: &mut [u8], point: usize, thread: usize, bounded: bool, bound: u8) -> u64
-    requires { ⌜ 16 * point + 16 ≤ length (now path) ⌝ }
-    ensures { λ r. ⌜ Backtracks (now (path .entry)) (now (path .exit)) point (boundOf bounded bound) thread r ⌝ }
+// how many choices that opened. The branch at the point may be no schedule, or one that is not
+// explored and so is never set to another choice: the mark goes to the next below that can take it.
+// With a bound an earlier schedule is marked too.
+pub fn backtrack(path: &mut [u8], point: usize, thread: usize, bound: Bound) -> u64
+    ensures { λ r. ⌜ Backtracks (now (path .entry)) (now (path .exit)) point (boundOf bound) thread r ⌝ }
 {
     let Found::At(at) = exploring_from(path, point) else {
         return 0;
     };
-    let opened = schedule::backtrack(path, at, thread, bounded, bound);
-    if !bounded {
+    let opened = backtrack_at(path, at, thread, bound);
+    let Bound::AtMost(most) = bound else {
         return opened;
-    }
-    opened + backtrack_before(path, at, thread, bound)
+    };
+    opened + backtrack_before(path, at, thread, most)
 }
 
 // Whether some choice is open. It looks at the last records first, where most open choices are.
 pub fn any_open(path: &[u8], len: usize) -> bool
-    requires { ⌜ 16 * len ≤ length (now path) ⌝ }
     ensures { λ r. ⌜ AnyOpen (now (path .entry)) len r ⌝ }
 {
-    let mut last = len;
+    let mut last = present(path, len);
     while 0 < last {
         last -= 1;
-        if 0 < open_at(path, last) {
+        if 0 < record::open_at(path, last) {
             return true;
         }
     }
@@ -175,13 +175,13 @@ pub fn any_open(path: &[u8], len: usize) -> bool
 
 // How many choices are open.
 pub fn open(path: &[u8], len: usize) -> u64
-    requires { ⌜ 16 * len ≤ length (now path) ⌝ }
     ensures { λ r. ⌜ OpenIn (now (path .entry)) len r ⌝ }
 {
+    let all = present(path, len);
     let mut count = 0;
     let mut at = 0;
-    while at < len {
-        count += open_at(path, at);
+    while at < all {
+        count += record::open_at(path, at);
         at += 1;
     }
     count
@@ -191,19 +191,60 @@ pub fn open(path: &[u8], len: usize) -> u64
 // answers how many branches are left: none where no choice was open. So the tree of choices is
 // walked depth first.
 pub fn step(path: &mut [u8], len: usize) -> usize
-    requires { ⌜ 16 * len ≤ length (now path) ⌝ }
     ensures { λ r. ⌜ Steps (now (path .entry)) (now (path .exit)) len r ⌝ }
 {
-    let mut left = len;
+    let mut left = present(path, len);
     while 0 < left {
         let last = left - 1;
-        if step_at(path, last) {
+        if record::step_at(path, last) {
             return left;
         }
         fields::clear(path, last);
         left = last;
     }
     0
+}
+
+// The first records of the buffer: so many, or all where it has fewer.
+fn present(path: &[u8], len: usize) -> usize
+    ensures { λ r. ⌜ Present (now (path .entry)) len r ⌝ }
+{
+    let records = path.len() / RECORD;
+    if records < len {
+        return records;
+    }
+    len
+}
+
+// The records up to a point and with it, or all where it lies past them.
+fn through(path: &[u8], point: usize) -> usize
+    ensures { λ r. ⌜ Through (now (path .entry)) point r ⌝ }
+{
+    let records = path.len() / RECORD;
+    if records <= point {
+        return records;
+    }
+    point + 1
+}
+
+// Whether there is a record at a position and it is of a kind.
+fn has_kind(path: &[u8], pos: usize, kind: u8) -> bool
+    ensures { λ r. ⌜ HasKind (now (path .entry)) pos kind r ⌝ }
+{
+    if path.len() / RECORD <= pos {
+        return false;
+    }
+    fields::is_kind(path, pos, kind)
+}
+
+// As many values as a record can have.
+fn at_most_seven(n: usize) -> usize
+    ensures { λ r. ⌜ Seven n r ⌝ }
+{
+    if fields::MAX_ATOMIC_HISTORY < n {
+        return fields::MAX_ATOMIC_HISTORY;
+    }
+    n
 }
 
 // The last schedule record of the path.
@@ -221,12 +262,22 @@ fn last_schedule(path: &[u8], len: usize) -> Found
     Found::Nowhere
 }
 
+// The preemptions before a new branch at a position, by the schedule record before it.
+fn preemptions_before(path: &[u8], at: usize, prev: Found) -> usize
+    requires { ⌜ (16 * at ≤ length (now path)) × foundBelow at prev ⌝ }
+    ensures { λ r. ⌜ PreemptionsBefore (now (path .entry)) prev r ⌝ }
+{
+    let Found::At(p) = prev else {
+        return 0;
+    };
+    schedule::preemptions(path, p)
+}
+
 // The last exploring schedule record that does not stand after the point.
 fn exploring_from(path: &[u8], point: usize) -> Found
-    requires { ⌜ 16 * point + 16 ≤ length (now path) ⌝ }
     ensures { λ r. ⌜ ExploringFrom (now (path .entry)) point r ⌝ }
 {
-    let mut at = point + 1;
+    let mut at = through(path, point);
     while 0 < at {
         at -= 1;
         if fields::is_kind(path, at, fields::SCHEDULE) {
@@ -238,9 +289,31 @@ fn exploring_from(path: &[u8], point: usize) -> Found
     Found::Nowhere
 }
 
-// The second mark of a bounded search, at a schedule before this one: it covers cases that the
-// bound makes the first one miss, also where that left no mark. Answers how many choices it
-// opened.
+// A mark in the schedule at a position: none where its preemptions have reached the bound.
+fn backtrack_at(path: &mut [u8], at: usize, thread: usize, bound: Bound) -> u64
+    requires { ⌜ 16 * at + 16 ≤ length (now path) ⌝ }
+    ensures { λ r. ⌜ MarksAt (now (path .entry)) (now (path .exit)) at (boundOf bound) thread r ⌝ }
+{
+    if is_bound(path, at, bound) {
+        return 0;
+    }
+    schedule::backtrack(path, at, thread)
+}
+
+// Whether the preemptions before the record are as many as the bound.
+fn is_bound(path: &[u8], at: usize, bound: Bound) -> bool
+    requires { ⌜ 16 * at + 16 ≤ length (now path) ⌝ }
+    ensures { λ r. ⌜ r ≡ reaches bound (fieldOf (now (path .entry)) at 7) ⌝ }
+{
+    let Bound::AtMost(most) = bound else {
+        return false;
+    };
+    field(path, at, fields::PREEMPTIONS) == most
+}
+
+// The second mark of a bounded search, at a schedule before this one: a search that bounds
+// preemptions has to be careful and add another point, to cover cases that the bound makes it miss.
+// It is made also where the first left no mark. Answers how many choices it opened.
 fn backtrack_before(path: &mut [u8], at: usize, thread: usize, bound: u8) -> u64
     requires { ⌜ 16 * at + 16 ≤ length (now path) ⌝ }
     ensures { λ r. ⌜ MarksBefore (now (path .entry)) (now (path .exit)) at bound thread r ⌝ }
@@ -251,7 +324,7 @@ fn backtrack_before(path: &mut [u8], at: usize, thread: usize, bound: u8) -> u64
     let Found::At(curr) = switch_from(path, prev) else {
         return 0;
     };
-    schedule::backtrack(path, curr, thread, true, bound)
+    backtrack_at(path, curr, thread, Bound::AtMost(bound))
 }
 
 // The last exploring schedule, from one downwards, whose Active thread is not that of the schedule
@@ -278,62 +351,4 @@ fn switch_from(path: &[u8], from: usize) -> Found
         }
         curr = prev;
     }
-}
-
-// How many choices are open at the record at a position: none where it is not explored.
-fn open_at(path: &[u8], at: usize) -> u64
-    requires { ⌜ 16 * at + 16 ≤ length (now path) ⌝ }
-    ensures { λ r. ⌜ OpenAt (now (path .entry)) at r ⌝ }
-{
-    if !fields::is_exploring(path, at) {
-        return 0;
-    }
-    let kind = field(path, at, fields::KIND);
-    match kind {
-        fields::SCHEDULE => schedule::pending(path, at),
-        fields::LOAD => load::open(path, at),
-        fields::SPURIOUS => open_spurious(path, at),
-        _ => 0,
-    }
-}
-
-// Sets the record at a position to its next choice, and answers whether there was one. Where it is
-// not explored there is none.
-fn step_at(path: &mut [u8], at: usize) -> bool
-    requires { ⌜ 16 * at + 16 ≤ length (now path) ⌝ }
-    ensures { λ r. ⌜ StepsAt (now (path .entry)) (now (path .exit)) at r ⌝ }
-{
-    if !fields::is_exploring(path, at) {
-        return false;
-    }
-    let kind = field(path, at, fields::KIND);
-    match kind {
-        fields::SCHEDULE => schedule::step(path, at),
-        fields::LOAD => load::step(path, at),
-        fields::SPURIOUS => step_spurious(path, at),
-        _ => false,
-    }
-}
-
-// A spurious branch that says no can still say yes.
-fn open_spurious(path: &[u8], at: usize) -> u64
-    requires { ⌜ 16 * at + 16 ≤ length (now path) ⌝ }
-    ensures { λ r. ⌜ Counts 1 (cond (eqb (fieldOf (now (path .entry)) at 2) 0) 1 0) r ⌝ }
-{
-    if field(path, at, fields::SPUR) == 0 {
-        return 1;
-    }
-    0
-}
-
-// From no to yes. Answers whether it said no.
-fn step_spurious(path: &mut [u8], at: usize) -> bool
-    requires { ⌜ 16 * at + 16 ≤ length (now path) ⌝ }
-    ensures { λ r. ⌜ Sets (now (path .entry)) (now (path .exit)) at r ⌝ }
-{
-    if field(path, at, fields::SPUR) == 0 {
-        put(path, at, fields::SPUR, 1);
-        return true;
-    }
-    false
 }

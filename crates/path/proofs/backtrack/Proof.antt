@@ -1,7 +1,7 @@
 use borrow.Author.Needs.{needs}
 use Rattle.path.proofs.WalkLaws.{mark-none, mark-one, mark-two}
 use native.Mathlib.Omega.{arith}
-use Rattle.path.proofs.Places.{place-below}
+use Rattle.record.proofs.Places.{place-below}
 use Rattle.path.proofs.backtrack.Statement.{statement}
 use Rattle.path.proofs.backtrack.Tie as tie
 
@@ -20,33 +20,39 @@ same-length c = search needs
 returns : tie.Need-returns
 returns c =
     let start = c .before .before .before .before .before in
-    record { few = search needs; marks = λ bs h. mark-none _ (start .args .bound) (start .args .thread) _ (c .before .before .exploring-from .ensures) h (start .args .bounded) (c .enum-told .given .1) }
+    record { few = search needs; keeps = search needs; marks = λ bs h. mark-none _ (start .args .thread) _ (c .before .before .exploring-from .ensures) h (start .args .bound) (c .enum-told .given .1) }
 
-backtrack-requires : tie.Need-backtrack-requires
-backtrack-requires c κs =
+backtrack-at-requires : tie.Need-backtrack-at-requires
+backtrack-at-requires c κs =
     let at = c .before .before in
     omega (arith, place-below (at .at .given .1) (at .before .before .exploring-from .ensures .below))
+
+enum-known-bound : tie.Need-enum-known-bound
+enum-known-bound c = search needs
+
+enum-told-2 : tie.Need-enum-told-2
+enum-told-2 c = search needs
 
 same-length-2 : tie.Need-same-length-2
 same-length-2 c = search needs
 
 returns-2 : tie.Need-returns-2
 returns-2 c =
-    let first = c .before .before .before in
+    let first = c .before .before .before .before in
     let at = first .before .before .before in
     let start = at .before .before .before .before .before in
-    record { few = omega (arith, first .backtrack .ensures .few); marks = λ bs h. mark-one _ (start .args .bound) (start .args .thread) _ (at .before .before .exploring-from .ensures) h _ (at .at .given .1) (start .args .bounded) (c .if1 .taken) _ _ (first .backtrack .ensures) }
+    record { few = omega (arith, first .backtrack-at .ensures .few); keeps = search needs; marks = λ bs h. mark-one _ (start .args .thread) _ (at .before .before .exploring-from .ensures) h _ (at .at .given .1) (start .args .bound) (c .enum-told2 .given .1) _ _ (first .backtrack-at .ensures) }
 
 backtrack-before-requires : tie.Need-backtrack-before-requires
 backtrack-before-requires c κs =
-    let at = c .before .before .before .before .before .before .before in
+    let at = c .before .before .before .before .before .before .before .before .before in
     omega (arith, place-below (at .at .given .1) (at .before .before .exploring-from .ensures .below))
 
 add-result : tie.Need-add-result
 add-result c =
     let second = c .before .before in
-    let first = second .before .before .before .before .before in
-    omega (arith, first .backtrack .ensures .few, second .backtrack-before .ensures .few)
+    let first = second .before .before .before .before .before .before .before in
+    omega (arith, first .backtrack-at .ensures .few, second .backtrack-before .ensures .few)
 
 same-length-3 : tie.Need-same-length-3
 same-length-3 c = search needs
@@ -54,11 +60,11 @@ same-length-3 c = search needs
 returns-3 : tie.Need-returns-3
 returns-3 c =
     let second = c .before .before in
-    let two = second .before .before in
-    let first = two .before .before .before in
+    let most = second .before .before .before in
+    let first = most .before .before .before .before in
     let at = first .before .before .before in
     let start = at .before .before .before .before .before in
-    record { few = omega (arith, first .backtrack .ensures .few, second .backtrack-before .ensures .few); marks = λ bs h. mark-two _ (start .args .bound) (start .args .thread) _ (at .before .before .exploring-from .ensures) h _ (at .at .given .1) (start .args .bounded) (two .if1 .left) _ _ _ _ (first .backtrack .ensures) (second .backtrack-before .ensures) }
+    record { few = omega (arith, first .backtrack-at .ensures .few, second .backtrack-before .ensures .few); keeps = search needs; marks = λ bs h. mark-two _ (start .args .thread) _ (at .before .before .exploring-from .ensures) h _ (at .at .given .1) (start .args .bound) _ (most .bound .given .1) _ _ _ _ (first .backtrack-at .ensures) (second .backtrack-before .ensures) }
 
 pub backtrack-spec : {M : Type 1} → statement M
 backtrack-spec =
@@ -69,7 +75,9 @@ backtrack-spec =
     enum-told
     same-length
     returns
-    backtrack-requires
+    backtrack-at-requires
+    enum-known-bound
+    enum-told-2
     same-length-2
     returns-2
     backtrack-before-requires

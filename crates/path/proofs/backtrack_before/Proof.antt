@@ -1,7 +1,7 @@
 use borrow.Author.Needs.{needs}
 use Rattle.path.proofs.WalkLaws.{second-none, second-nowhere, second-at}
 use native.Mathlib.Omega.{arith}
-use Rattle.path.proofs.Places.{place-below}
+use Rattle.record.proofs.Places.{place-below}
 use Rattle.path.proofs.backtrack_before.Statement.{statement}
 use Rattle.path.proofs.backtrack_before.Tie as tie
 
@@ -18,7 +18,8 @@ same-length : tie.Need-same-length
 same-length c = search needs
 
 returns : tie.Need-returns
-returns c = record { few = search needs; marks = λ m s h. second-none _ _ _ _ (c .before .before .prev .ensures) m s h (c .enum-told .given .1) }
+returns c =
+    record { few = search needs; marks = λ m s h. second-none _ _ _ _ (c .before .before .prev .ensures) m s h (c .enum-told .given .1) }
 
 switch-from-requires : tie.Need-switch-from-requires
 switch-from-requires c κs =
@@ -40,8 +41,8 @@ returns-2 c =
     let at = found .before .before .before in
     record { few = search needs; marks = λ m s h. second-nowhere _ _ _ _ (at .before .before .prev .ensures) m s h _ (at .prev2 .given .1) _ (found .switch-from .ensures) (c .enum-told2 .given .1) }
 
-backtrack-requires : tie.Need-backtrack-requires
-backtrack-requires c κs =
+backtrack-at-requires : tie.Need-backtrack-at-requires
+backtrack-at-requires c κs =
     let curr = c .before .before in
     let at = curr .before .before .before .before .before in
     omega (arith, place-below (curr .curr .given .1) (curr .before .before .switch-from .ensures .below), place-below (at .prev2 .given .1) (at .before .before .prev .ensures .below))
@@ -55,7 +56,7 @@ returns-3 c =
     let curr = marked .before .before .before in
     let found = curr .before .before in
     let at = found .before .before .before in
-    record { few = marked .backtrack .ensures .few; marks = λ m s h. second-at _ _ _ _ (at .before .before .prev .ensures) m s h _ (at .prev2 .given .1) _ (found .switch-from .ensures) _ (curr .curr .given .1) _ _ (marked .backtrack .ensures) }
+    record { few = marked .backtrack-at .ensures .few; marks = λ m s h. second-at _ _ _ _ (at .before .before .prev .ensures) m s h _ (at .prev2 .given .1) _ (found .switch-from .ensures) _ (curr .curr .given .1) _ _ (marked .backtrack-at .ensures) }
 
 pub backtrack-before-spec : {M : Type 1} → statement M
 backtrack-before-spec =
@@ -71,6 +72,6 @@ backtrack-before-spec =
     enum-told-2
     same-length-2
     returns-2
-    backtrack-requires
+    backtrack-at-requires
     same-length-3
     returns-3)

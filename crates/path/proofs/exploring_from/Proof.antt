@@ -1,26 +1,27 @@
 use borrow.Author.Needs.{needs}
-use mathlib.Core.Path.{_≡_, refl, ap, sym, _∙_}
-use Rattle.path.specs.Schedules.{foundOf}
+use mathlib.Core.Path.{_≡_, ap, sym, _∙_}
+use Rattle.path.specs.Walks.{foundOf}
 use Rattle.path.specs.Holds.{Holds}
 use Rattle.rules.specs.Path.{Branch, exploringBelow}
 use mathlib.Core.List.{List}
-use Rattle.path.proofs.WalkLaws.{look-other, look-quiet, look-here, look-none}
-use Prim.Native.Nat.{_≤_, _+_}
+use Rattle.path.proofs.WalkLaws.{look-start, look-other, look-quiet, look-here, look-none}
+use Prim.Native.Nat.{_≤_, _+_, _*_}
+use lib.ListN.{length}
 use Rattle.path.proofs.exploring_from.Statement.{statement}
 use Rattle.path.proofs.exploring_from.Tie as tie
 
 abbrev Inv-loop : tie.InvT-loop
 Inv-loop path point at₀ at =
-    (at ≤ point + 1) × ((bs : List Branch) → Holds path bs → exploringBelow bs (point + 1) ≡ exploringBelow bs at)
+    (16 * at ≤ length path) × ((bs : List Branch) → Holds path bs → exploringBelow bs (point + 1) ≡ exploringBelow bs at)
 
 abbrev μ-loop : tie.MeasureT-loop
 μ-loop path point at₀ at = at
 
-add-at : tie.Need-add-at Inv-loop μ-loop
-add-at c = search needs
+through-requires : tie.Need-through-requires Inv-loop μ-loop
+through-requires c κs = search needs
 
 loop-holds : tie.Need-loop-holds Inv-loop μ-loop
-loop-holds c = (search needs, λ bs h. refl)
+loop-holds c = (c .through .ensures .fits, λ bs h. look-start _ _ _ (c .through .ensures) h)
 
 sub-at : tie.Need-sub-at Inv-loop μ-loop
 sub-at c = search needs
@@ -58,7 +59,8 @@ loop-again-2 c =
     (search needs, λ bs h. loop .loop .inv .1 bs h ∙ look-other _ _ (kind .before .loop-test .taken) _ (kind .is-kind .ensures) h (c .if1 .left))
 
 returns-2 : tie.Need-returns-2 Inv-loop μ-loop
-returns-2 c = record { below = search needs; says = λ bs h. look-none bs _ (c .loop-test .left) ∙ ap foundOf (sym (c .before .loop .inv .1 bs h)) }
+returns-2 c =
+    record { below = search needs; says = λ bs h. look-none bs _ (c .loop-test .left) ∙ ap foundOf (sym (c .before .loop .inv .1 bs h)) }
 
 pub exploring-from-spec : {M : Type 1} → statement M
 exploring-from-spec =
@@ -66,7 +68,7 @@ exploring-from-spec =
     (tie.spec
     Inv-loop
     μ-loop
-    add-at
+    through-requires
     loop-holds
     sub-at
     is-kind-requires

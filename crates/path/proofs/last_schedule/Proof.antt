@@ -2,7 +2,7 @@ use borrow.Author.Needs.{needs}
 use native.Mathlib.Omega.{arith}
 use lib.ListN.{length, take}
 use mathlib.Core.Path.{_≡_, ap, sym, _∙_}
-use Rattle.path.specs.Schedules.{foundOf}
+use Rattle.path.specs.Walks.{foundOf}
 use Rattle.path.specs.Holds.{Holds}
 use Rattle.rules.specs.Path.{Branch, lastSchedule}
 use mathlib.Core.List.{List}

@@ -8,14 +8,13 @@ use Rattle.path.proofs.push_load.Tie as tie
 seven : (c : tie.Start) → length (c .args .seed) ≡ 7
 seven c = search needs
 
-mul-if1 : tie.Need-mul-if1
-mul-if1 c = search needs
-
-sub-if1 : tie.Need-sub-if1
-sub-if1 c = search needs
-
 returns : tie.Need-returns
-returns c = load-refused _ _ _ (c .before .before .args .seed) (c .before .before .args .n) (c .before .before .pre .0) (c .if1 .taken)
+returns c =
+    let start = c .before .before in
+    load-refused _ _ _ (start .args .seed) (start .args .n) (c .if1 .taken)
+
+at-most-seven-requires : tie.Need-at-most-seven-requires
+at-most-seven-requires c κs = search needs
 
 begin-requires : tie.Need-begin-requires
 begin-requires c κs = search needs
@@ -33,8 +32,10 @@ returns-2 : tie.Need-returns-2
 returns-2 c =
     let values = c .before .before .before .before in
     let begin = values .before .before .before .before in
-    let start = begin .before .before .before .before in
-    load-added _ _ _ (start .args .seed) _ (search needs) (seven start) (start .pre .1) _ _ _ (opens-left (c .before .if2 .taken) (start .pre .1) (c .left .ensures)) (c .left .ensures .few) (begin .begin .ensures) (values .put-values .ensures)
+    let n = begin .before .before in
+    let start = n .before .before .before in
+    let few = n .at-most-seven .ensures .few in
+    load-added _ _ _ (start .args .seed) _ (search needs) (seven start) few (start .args .n) (n .at-most-seven .ensures .is _ (seven start)) _ _ (search needs) _ (opens-left (c .before .if2 .taken) few (c .left .ensures)) (c .left .ensures .few) (begin .begin .ensures) (values .put-values .ensures)
 
 same-length-2 : tie.Need-same-length-2
 same-length-2 c = search needs
@@ -43,16 +44,16 @@ returns-3 : tie.Need-returns-3
 returns-3 c =
     let values = c .before .before .before in
     let begin = values .before .before .before .before in
-    let start = begin .before .before .before .before in
-    load-added _ _ _ (start .args .seed) _ (search needs) (seven start) (start .pre .1) _ _ _ (opens-none _ (c .if2 .left)) (search needs) (begin .begin .ensures) (values .put-values .ensures)
+    let n = begin .before .before in
+    let start = n .before .before .before in
+    load-added _ _ _ (start .args .seed) _ (search needs) (seven start) (n .at-most-seven .ensures .few) (start .args .n) (n .at-most-seven .ensures .is _ (seven start)) _ _ (search needs) _ (opens-none _ (c .if2 .left)) (search needs) (begin .begin .ensures) (values .put-values .ensures)
 
 pub push-load-spec : {M : Type 1} → statement M
 push-load-spec =
     tie.close
     (tie.spec
-    mul-if1
-    sub-if1
     returns
+    at-most-seven-requires
     begin-requires
     put-values-requires
     left-requires

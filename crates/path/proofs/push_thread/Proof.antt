@@ -2,21 +2,15 @@ use borrow.Author.Needs.{needs}
 use Prim.Native.Nat.{_+_, _*_, _≤_}
 use lib.ListN.{length}
 use mathlib.Core.Path.{_≡_}
-use Rattle.path.proofs.NewLaws.{thread-refused, thread-preempted, thread-added}
+use Rattle.path.proofs.NewLaws.{thread-refused, thread-preempted, thread-added, opens-some, opens-nothing}
 use Rattle.path.proofs.push_thread.Statement.{statement}
 use Rattle.path.proofs.push_thread.Tie as tie
 
 five : (c : tie.Start) → length (c .args .seed) ≡ 5
 five c = search needs
 
-mul-if1 : tie.Need-mul-if1
-mul-if1 c = search needs
-
-sub-if1 : tie.Need-sub-if1
-sub-if1 c = search needs
-
 returns : tie.Need-returns
-returns c = thread-refused _ _ _ _ (c .before .before .pre) (c .if1 .taken)
+returns c = thread-refused _ _ _ _ (c .if1 .taken)
 
 last-schedule-requires : tie.Need-last-schedule-requires
 last-schedule-requires c κs = search needs
@@ -54,12 +48,16 @@ put-requires c κs = search needs
 put-prev-requires : tie.Need-put-prev-requires
 put-prev-requires c κs = search needs
 
+pending-requires : tie.Need-pending-requires
+pending-requires c κs = search needs
+
 same-length-2 : tie.Need-same-length-2
 same-length-2 c = search needs
 
 returns-3 : tie.Need-returns-3
 returns-3 c =
-    let prev = c .before .before in
+    let test = c .before .before in
+    let prev = test .before .before .before in
     let put = prev .before .before .before .before in
     let initial = put .before .before .before .before in
     let toggle = initial .before .before .before .before in
@@ -70,14 +68,30 @@ returns-3 c =
     let last = many .before .before in
     let start = last .before .before .before .before in
     let room : 16 * start .args .len + 16 ≤ length (start .args .path .now) = search needs in
-    thread-added _ _ _ _ room _ (last .last-schedule .ensures) _ (many .preemptions-before .ensures) (few .if2 .left) (five start) _ _ _ _ _ _ (begin .begin .ensures) (threads .put-threads .ensures) (toggle .toggle-yield .ensures) (initial .put-initial-active .ensures) (put .put .ensures) (prev .put-prev .ensures)
+    thread-added _ _ _ _ room _ (last .last-schedule .ensures) _ (many .preemptions-before .ensures) (few .if2 .left) (five start) _ _ _ _ _ _ (begin .begin .ensures) (threads .put-threads .ensures) (toggle .toggle-yield .ensures) (initial .put-initial-active .ensures) (put .put .ensures) (prev .put-prev .ensures) (search needs) _ (c .pending .ensures .few) (opens-some (test .if3 .taken) (c .pending .ensures))
+
+same-length-3 : tie.Need-same-length-3
+same-length-3 c = search needs
+
+returns-4 : tie.Need-returns-4
+returns-4 c =
+    let prev = c .before .before .before in
+    let put = prev .before .before .before .before in
+    let initial = put .before .before .before .before in
+    let toggle = initial .before .before .before .before in
+    let threads = toggle .before .before .before .before in
+    let begin = threads .before .before .before .before in
+    let few = begin .before .before in
+    let many = few .before in
+    let last = many .before .before in
+    let start = last .before .before .before .before in
+    let room : 16 * start .args .len + 16 ≤ length (start .args .path .now) = search needs in
+    thread-added _ _ _ _ room _ (last .last-schedule .ensures) _ (many .preemptions-before .ensures) (few .if2 .left) (five start) _ _ _ _ _ _ (begin .begin .ensures) (threads .put-threads .ensures) (toggle .toggle-yield .ensures) (initial .put-initial-active .ensures) (put .put .ensures) (prev .put-prev .ensures) (search needs) _ (search needs) (opens-nothing _ (c .if3 .left))
 
 pub push-thread-spec : {M : Type 1} → statement M
 push-thread-spec =
     tie.close
     (tie.spec
-    mul-if1
-    sub-if1
     returns
     last-schedule-requires
     preemptions-before-requires
@@ -90,5 +104,8 @@ push-thread-spec =
     cast-put
     put-requires
     put-prev-requires
+    pending-requires
     same-length-2
-    returns-3)
+    returns-3
+    same-length-3
+    returns-4)

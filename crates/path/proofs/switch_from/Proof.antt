@@ -1,7 +1,7 @@
 use borrow.Author.Needs.{needs}
 use Rattle.path.proofs.WalkLaws.{Walks, walk-none, walk-first, walk-nowhere, walk-here, walk-quiet, walk-same}
 use native.Mathlib.Omega.{arith}
-use Rattle.path.proofs.Places.{place-below}
+use Rattle.record.proofs.Places.{place-below}
 use Prim.Native.Nat.{_≤_}
 use Rattle.path.proofs.switch_from.Statement.{statement}
 use Rattle.path.proofs.switch_from.Tie as tie

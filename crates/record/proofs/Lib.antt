@@ -1,0 +1,11 @@
+pub mod ChoiceLaws
+pub mod FieldLaws
+pub mod LoadLaws
+pub mod MarkLaws
+pub mod OpenLaws
+pub mod Places
+pub mod ScheduleLaws
+pub mod StandsLaws
+pub mod StatesLaws
+pub mod StepLaws
+pub mod ThreadLaws

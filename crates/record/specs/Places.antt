@@ -1,0 +1,23 @@
+-- Where a schedule record that was found stands, and which thread of it. Assumes nothing.
+use Prim.Native.Nat.{ℕ, _<_, _≤_}
+use mathlib.Core.Path.{_≡_}
+use mathlib.Core.List.{List}
+use Rattle.rules.specs.Vector.{Whom, nobody, thread}
+use Rattle.rules.specs.Path.{firstIn}
+use Rattle.record.specs.declared.schedule.Found.{Found}
+use Rattle.record.specs.declared.schedule.Found.the-variants.{At, Nowhere}
+
+-- it stands below a position
+abbrev pub foundBelow : ℕ → Found → Type 0
+foundBelow n (At p) = p < n
+foundBelow n Nowhere = Unit
+
+-- a thread as an index: five where it is none
+abbrev pub orFive : Whom → ℕ
+orFive nobody = 5
+orFive (thread t) = t
+
+-- the lowest thread of these that is in a state
+pub record First (states : List ℕ) (x r : ℕ) : Type 0 where
+  pub few : r ≤ 5
+  pub is : r ≡ orFive (firstIn x states)
