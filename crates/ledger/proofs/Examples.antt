@@ -69,7 +69,7 @@ unfolding Cell.loadSynced Cell.storeSynced Cell.fateFrom Cell.loadFate Cell.matc
     Path.openIn Path.turned Path.turnedBranch Path.stepped Path.choiceOf Seen.seenThrough Seen.seen Seen.seenBeforeYield
     Seen.touched Seen.touchedAt Table.u16At Table.u32At Table.u64At Table.countsOf Table.firstRows Table.startValue
     Table.rowFrom Table.rowAt Table.changeDecoded Table.rowDecoded Table.opAt Vector.atMost Vector.equal Vector.less
-    Vector.joined Vector.ahead Vector.raised Worked.rowsAsBytes Worked.threadsAsBytes Worked.table Worked.loadsIn
+    Vector.joined Vector.ahead Vector.raised Worked.rowsAsBytes Worked.threadsAsBytes Worked.valuesAsBytes Worked.table Worked.loadsIn
     Worked.loadsInAll ticksFrom courseOf coursesFrom courses threadsFrom alternatives openNames newlyPending
     markedAlternatives openedNames joinedOver openedOf turnedOf openOf parting partings played walkedBy runFromBy runBy
     steppedFirst againFrom steppedTwice
