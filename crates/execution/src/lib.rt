@@ -1,96 +1,164 @@
-// One execution of a program: threads, their scheduling and what each row does, after loom's rt/execution.rs and
-// rt/thread.rs. The machine never sees the path: where a choice is to be made it asks, and goes on with the answer.
-ghost use Prim.Native.Nat.{_<_, _≤_};
-use atomic::state;
-use atomic::state::Clocks;
-use atomic::state::Marks;
-use atomic::state::NEXT_ROW;
-use atomic::state::Numbers;
-use atomic::state::Values;
-use table::Row;
+// One execution of a program, a tick at a time, after loom's rt/execution.rs. The machine never sees the path: where a choice
+// is to be made it asks, and goes on with the answer. `tick` is the definition's `next`, `answered` its `answered`.
+ghost use mathlib.Core.Path.{_≡_};
+ghost use Prim.Native.Nat.{ℕ, _<_, _≤_, _+_};
+ghost use lib.ListN.{getD};
+ghost use Rattle.rules.specs.Event.{Matched};
+ghost use Rattle.rules.specs.Machine as machine;
+ghost use Rattle.rules.specs.State as rules;
+ghost use Rattle.rules.specs.Table.{cellsOf, opcodeOf, opcodeIn};
+ghost use Rattle.layout.specs.Tables.{state};
+ghost use Rattle.event.specs.Moves.{moveOf, matchedFor};
+ghost use Rattle.table.specs.Ops.{opOf, decodedOf, inRange, opWithin};
+ghost use Rattle.execution.specs.Answers.{Answers, choiceWithin};
+use event::Choice;
+use event::Event;
+use event::Fault;
+use event::Question;
+use event::Site;
+use layout::Clocks;
+use layout::Marks;
+use layout::Numbers;
+use layout::Values;
+use layout::register_at;
+use layout::thread::REGISTER;
+use layout::wide16;
+use table::CELLS;
+use table::COUNTS;
+use table::Decoded;
+use table::Op;
+use table::Shape;
 
-pub mod accesses;
-pub mod rows;
-pub mod schedule;
-pub mod start;
-pub mod threads;
-
-// Why a run stops within an execution: document 01's answers from 10 on. Impossible stands for a number read back that
-// no run from a fresh start can have written.
-pub enum Fault {
-    Deadlock,
-    Full,
-    Rows,
-    Equal,
-    Race { kind: u8, other: usize },
-    Check,
-    Flags,
-    Preempted,
-    Impossible,
-}
-
-// What one tick of the active thread comes to.
-pub enum Event {
-    // A row has begun and asks nothing.
-    Moves,
-    // A row is complete: the slot (or 255) and the value of its trace entry.
-    Done { slot: u8, value: u64 },
-    // The scheduling is called, by a yield that is complete or by a row that is not.
-    Switches { yielded: bool },
-    // A load or a read-modify-write asks for its store.
-    Loads,
-    // `branch_spurious` asks for its bit.
-    Chances,
-    Stops(Fault),
-}
-
-// Where the shape of a table has its row counts and first rows, by thread.
-pub const THREADS: usize = 0;
-
-pub const CELLS: usize = 1;
-
-pub const COUNTS: usize = 2;
-
-pub const FIRSTS: usize = 7;
-
-pub type Shape = [u16; 12];
-
-// How many threads there are.
-pub fn threads_of(shape: &Shape) -> usize
-    ensures { λ r. ⌜ r ≤ 5 ⌝ }
-{
-    let threads = state::wide(shape[THREADS]);
-    if threads < 5 { threads } else { 5 }
-}
-
-// The row that a thread is at; past its last row it is no row of the thread, and is not looked at.
-pub fn row_of(table: &[u8], shape: &Shape, thread: usize, number: u16) -> Row
-    requires { ⌜ thread < 5 ⌝ }
-{
-    let first = state::wide(shape[FIRSTS + thread]);
-    let cells = state::wide(shape[CELLS]);
-    table::row_at(table, cells, first + state::wide(number))
-}
-
-// One tick of the active thread at its row: it begins the row, or ends past its last one, or acts.
+// One tick of the active thread at its row: past its last row it ends; else it begins the row or, if that has begun, acts.
 pub fn tick(
-    row: Row,
-    shape: &Shape,
-    limit: u16,
-    thread: usize,
     clocks: &mut Clocks,
     marks: &mut Marks,
     values: &mut Values,
     numbers: &mut Numbers,
+    shape: &Shape,
+    limit: u16,
+    site: Site,
+    row: Decoded,
 ) -> Event
+    requires { ⌜ (site .thread < 5) × (getD (now shape) 1 0 ≤ 4) × opWithin row ⌝ }
+    ensures { λ r. ⌜ ((p : machine.Program) → p .operations ≡ limit → cellsOf (p .table) ≡ getD (now (shape .entry)) 1 0 → machine.rowCount p (site .thread) ≡ getD (now (shape .entry)) (2 + site .thread) 0 → machine.rowOf p (site .thread) (site .row) ≡ decodedOf row → moveOf r (site .thread) (site .row) (opcodeIn (decodedOf row)) (matchedFor (state (now (clocks .exit)) (now (marks .exit)) (now (values .exit)) (now (numbers .exit))) (site .thread) (decodedOf row)) (state (now (clocks .exit)) (now (marks .exit)) (now (values .exit)) (now (numbers .exit))) ≡ machine.nextAt p (state (now (clocks .entry)) (now (marks .entry)) (now (values .entry)) (now (numbers .entry))) (site .thread) (site .row)) ⌝ }
+{
+    let thread = site.thread;
+    let to_begin = thread::is_to_begin(numbers, thread);
+    if to_begin {
+        if shape[COUNTS + thread] <= site.row {
+            thread::end(numbers, thread);
+            return Event::Asks {
+                question: Question::Thread,
+                yielded: false,
+            };
+        }
+    }
+    let Decoded::Row(op) = row else {
+        return Event::Stops(Fault::Impossible);
+    };
+    if to_begin {
+        return rows::begin(numbers, thread, limit, op);
+    }
+    act(clocks, marks, values, numbers, site, wide16(shape[CELLS]), op)
+}
+
+// What a row does once it has begun, and its thread was chosen if it called the scheduling.
+pub fn act(
+    clocks: &mut Clocks,
+    marks: &mut Marks,
+    values: &mut Values,
+    numbers: &mut Numbers,
+    site: Site,
+    cells: usize,
+    op: Op,
+) -> Event
+    requires { ⌜ (site .thread < 5) × (cells ≤ 4) × inRange op ⌝ }
+    ensures { λ r. ⌜ ((p : machine.Program) → cellsOf (p .table) ≡ cells → moveOf r (site .thread) (site .row) (opcodeOf (opOf op)) (matchedFor (state (now (clocks .exit)) (now (marks .exit)) (now (values .exit)) (now (numbers .exit))) (site .thread) (decodedOf (Decoded.Row op))) (state (now (clocks .exit)) (now (marks .exit)) (now (values .exit)) (now (numbers .exit))) ≡ machine.acts p (state (now (clocks .entry)) (now (marks .entry)) (now (values .entry)) (now (numbers .entry))) (site .thread) (site .row) (opOf op)) ⌝ }
+{
+    let thread = site.thread;
+    match op {
+        Op::Load { .. } => ask_slot(clocks, thread),
+        Op::Store { cell, order, value } => {
+            accesses::store_row(clocks, marks, values, numbers, site, cell, order, value)
+        }
+        Op::StoreRegister { cell, order, register } => {
+            let value = values[REGISTER + register_at(thread, register)];
+            accesses::store_row(clocks, marks, values, numbers, site, cell, order, value)
+        }
+        Op::Rmw { .. } => ask_slot(clocks, thread),
+        Op::Fence { order } => rows::fence_row(clocks, marks, numbers, site, cells, order),
+        Op::UnsyncLoad { cell, register } => {
+            accesses::unsync_load_row(clocks, values, numbers, site, cell, register)
+        }
+        Op::WithMut { cell, change, register } => {
+            accesses::with_mut_row(clocks, values, numbers, site, cell, change, register)
+        }
+        Op::Yield => rows::yield_row(clocks, numbers, site),
+        Op::Join { thread: target } => rows::join_row(clocks, numbers, site, target),
+        _ => act_alone(values, numbers, site, op),
+    }
+}
+
+// The rows that concern their own thread alone.
+fn act_alone(values: &Values, numbers: &mut Numbers, site: Site, op: Op) -> Event
+    requires { ⌜ (site .thread < 5) × inRange op ⌝ }
+{
+    let thread = site.thread;
+    match op {
+        Op::Jump { target } => rows::jump_row(numbers, site, true, target),
+        Op::JumpIf { register, a, target } => {
+            let equal = values[REGISTER + register_at(thread, register)] == a;
+            rows::jump_row(numbers, site, equal, target)
+        }
+        Op::JumpUnless { register, a, target } => {
+            let equal = values[REGISTER + register_at(thread, register)] == a;
+            rows::jump_row(numbers, site, !equal, target)
+        }
+        Op::Check { register, a } => {
+            let equal = values[REGISTER + register_at(thread, register)] == a;
+            rows::check_row(numbers, site, equal)
+        }
+        Op::Critical => rows::explore_row(numbers, site, false),
+        Op::ExploreState => rows::explore_row(numbers, site, true),
+        Op::SkipBranch => rows::skip_branch(numbers, site),
+        _ => Event::Asks {
+            question: Question::Bit,
+            yielded: false,
+        },
+    }
+}
+
+// A load or a read-modify-write raises its version, and asks for its store.
+fn ask_slot(clocks: &mut Clocks, thread: usize) -> Event
     requires { ⌜ thread < 5 ⌝ }
 {
-    if threads::is_fresh(numbers, thread) {
-        if shape[COUNTS + thread] <= numbers[NEXT_ROW + thread] {
-            threads::end(numbers, thread);
-            return Event::Switches { yielded: false };
-        }
-        return rows::begin(row, limit, numbers, thread);
+    thread::raise(clocks, thread);
+    Event::Asks {
+        question: Question::Slot,
+        yielded: false,
     }
-    rows::act(row, shape, thread, clocks, marks, values, numbers)
+}
+
+// Goes on with an answer, at the row that asked.
+pub fn answered(
+    clocks: &mut Clocks,
+    marks: &mut Marks,
+    values: &mut Values,
+    numbers: &mut Numbers,
+    site: Site,
+    row: Decoded,
+    choice: Choice,
+) -> Event
+    requires { ⌜ (site .thread < 5) × opWithin row × choiceWithin choice ⌝ }
+    ensures { λ r. ⌜ ((m : Matched) → Answers choice (decodedOf row) (site .thread) (site .row) (state (now (clocks .entry)) (now (marks .entry)) (now (values .entry)) (now (numbers .entry))) (moveOf r (site .thread) (site .row) (opcodeIn (decodedOf row)) m (state (now (clocks .exit)) (now (marks .exit)) (now (values .exit)) (now (numbers .exit))))) ⌝ }
+{
+    match choice {
+        Choice::Thread { chosen, branch } => schedule::switch(clocks, numbers, chosen, branch),
+        Choice::Nobody => schedule::nobody(numbers),
+        Choice::Slot { slot, mask } => {
+            accesses::read_from(clocks, marks, values, numbers, site, slot, mask, row)
+        }
+        Choice::Bit(bit) => rows::take_bit(values, numbers, site, bit, row),
+    }
 }

@@ -1,35 +1,34 @@
 // A run: one execution after another, until nothing is open, the budget is spent or a fault stops it.
-ghost use Prim.Native.Nat.{_≤_};
+ghost use mathlib.Core.Bool.{true};
+ghost use mathlib.Core.Path.{_≡_};
+ghost use Prim.Native.Nat.{_*_};
 ghost use lib.ListN.{length};
+ghost use Rattle.rules.specs.Explored as rules;
+ghost use Rattle.rules.specs.Table.{judged, good};
+ghost use Rattle.explorer.specs.Explores.{settingsOf, exploredOf, Ready};
 use crate::Settings;
-use crate::report;
-use crate::report::Answer;
-use crate::report::Report;
-use crate::turn::Bound;
-use crate::turn::Ledger;
-use crate::turn::RECORD;
-use crate::turn::Turn;
-use crate::turn::Turned;
-use crate::turn::stops;
-use crate::turn::take_turn;
-use atomic::state;
-use atomic::state::BEGUN;
-use atomic::state::Clocks;
-use atomic::state::Marks;
-use atomic::state::NONE;
-use atomic::state::Numbers;
-use atomic::state::Values;
-use execution::CELLS;
-use execution::Fault;
-use execution::Shape;
-use execution::THREADS;
-use execution::start::start;
-
-// More ticks than an execution of `operations` rows can take: a row begins, may block once, and acts; each thread ends, and
-// may free four others.
-pub fn ticks(operations: u64) -> u64 {
-    3 * (operations % 65536) + 26
-}
+use event::Fault;
+use layout::CLOCKS;
+use layout::Clocks;
+use layout::MAX_THREADS;
+use layout::Marks;
+use layout::NONE;
+use layout::NUMBERS;
+use layout::Numbers;
+use layout::VALUES;
+use layout::Values;
+use layout::wide16;
+use report::Answer;
+use report::Counts;
+use report::Report;
+use table::CELLS;
+use table::Shape;
+use table::THREADS;
+use trace::ENTRY;
+use walk::Cursor;
+use walk::Limits;
+use walk::Tick;
+use walk::Ticked;
 
 // What an execution that is over says of the run.
 pub enum Verdict {
@@ -37,142 +36,97 @@ pub enum Verdict {
     Answers(Answer),
 }
 
+// More ticks than an execution of so many rows can take: one more than the definition's measure of its start.
+fn ticks(operations: u16) -> u64 {
+    3 * (operations as u64) + 26
+}
+
 // Runs an accepted table with settings in range and buffers of the right lengths.
-pub fn run(table: &[u8], settings: Settings, path: &mut [u8], trace: &mut [u8]) -> Report {
+pub fn run(path: &mut [u8], trace: &mut [u8], table: &[u8], settings: Settings) -> Report
+    requires { ⌜ Ready (now table) settings (now path) (now trace) ⌝ }
+    ensures { λ r. ⌜ exploredOf r (now (path .exit)) (now (trace .exit)) ≡ rules.ran (length (now (path .entry))) (length (now (trace .entry))) (rules.stopOf (now (table .entry)) (settingsOf settings)) ⌝ }
+{
     clear_all(path);
     clear_all(trace);
     let shape = table::shape(table);
-    let mut clocks = [[0u16; 5]; 124];
+    let bound = settings.bound;
+    let limits = Limits {
+        operations: (settings.operations % 65536) as u16,
+        bound,
+    };
+    let mut clocks = [[0u16; MAX_THREADS]; CLOCKS];
     let mut marks = [[[NONE; 5]; 7]; 4];
-    let mut values = [0u64; 48];
-    let mut numbers = [0u16; 89];
-    let mut ledger = nothing();
+    let mut values = [0u64; VALUES];
+    let mut numbers = [0u16; NUMBERS];
+    let mut cursor = nothing();
     let mut longest = 0;
     let mut begun = 0;
-    while begun < settings.executions {
+    loop {
         begun += 1;
-        let turned = once(
-            table,
-            &shape,
-            settings,
+        let over = execute(
             &mut clocks,
             &mut marks,
             &mut values,
             &mut numbers,
             path,
             trace,
-            ledger,
+            table,
+            &shape,
+            limits,
+            settings.exploring,
+            again(cursor),
         );
-        let next = turned.ledger;
-        let turn = turned.turn;
-        ledger = next;
-        longest = greater(longest, ledger.entries);
-        if let Verdict::Answers(answer) = judge_end(
-            turn,
-            path,
-            ledger.len,
-            begun == settings.executions,
-        ) {
-            return finish(
-                answer,
-                begun,
-                ledger,
-                longest,
-                path,
-                trace,
-                &clocks,
-                &numbers,
-            );
+        let tick = over.tick;
+        let next = over.cursor;
+        cursor = next;
+        longest = greater(longest, cursor.entries);
+        if let Verdict::Answers(answer) = judge_end(path, tick, cursor.len, begun == settings.executions) {
+            trace::clear(trace, ENTRY * cursor.entries, ENTRY * longest);
+            return finish(&clocks, &numbers, path, answer, begun, cursor);
         }
-        ledger.len = step(path, ledger.len);
+        cursor.len = path::step(path, cursor.len);
     }
-    report::refused(Answer::Stopped(Fault::Impossible))
 }
 
-// One execution, from its start. The trace begins anew, the path is what the last one left.
-fn once(
-    table: &[u8],
-    shape: &Shape,
-    settings: Settings,
+// One execution, from its start to its end or fault. The trace begins anew, the path is what the last one left.
+fn execute(
     clocks: &mut Clocks,
     marks: &mut Marks,
     values: &mut Values,
     numbers: &mut Numbers,
     path: &mut [u8],
     trace: &mut [u8],
-    mut ledger: Ledger,
-) -> Turned {
-    let threads = state::wide(shape[THREADS]);
-    let cells = state::wide(shape[CELLS]);
-    if 5 < threads {
-        return stops(Fault::Impossible, ledger);
+    table: &[u8],
+    shape: &Shape,
+    limits: Limits,
+    exploring: bool,
+    cursor: Cursor,
+) -> Ticked {
+    let threads = wide16(shape[THREADS]);
+    let cells = wide16(shape[CELLS]);
+    start::start(clocks, marks, values, numbers, table, threads, cells, exploring);
+    let fuel = ticks(limits.operations);
+    let mut now = cursor;
+    let mut tick = 0;
+    while tick < fuel {
+        let ticked = walk::tick(
+            clocks, marks, values, numbers, path, trace, table, shape, limits, now,
+        );
+        let how = ticked.tick;
+        let Tick::Goes = how else {
+            return ticked;
+        };
+        let next = ticked.cursor;
+        now = next;
+        tick += 1;
     }
-    if 4 < cells {
-        return stops(Fault::Impossible, ledger);
-    }
-    ledger.pos = 0;
-    ledger.entries = 0;
-    start(
-        table,
-        threads,
-        cells,
-        settings.exploring,
-        clocks,
-        marks,
-        values,
-        numbers,
-    );
-    execute(
-        table,
-        shape,
-        settings,
-        clocks,
-        marks,
-        values,
-        numbers,
-        path,
-        trace,
-        ledger,
-    )
-}
-
-// The report of a run that stops here, with the trace cleared past its last entry.
-fn finish(
-    answer: Answer,
-    begun: u64,
-    ledger: Ledger,
-    longest: usize,
-    path: &[u8],
-    trace: &mut [u8],
-    clocks: &Clocks,
-    numbers: &Numbers,
-) -> Report {
-    clear_entries(trace, ledger.entries, longest);
-    finished(answer, begun, ledger, path, clocks, numbers)
-}
-
-fn nothing() -> Ledger {
-    Ledger {
-        len: 0,
-        pos: 0,
-        opened: 0,
-        entries: 0,
-        thread: 0,
-        row: 0,
-    }
-}
-
-fn greater(x: usize, y: usize) -> usize {
-    if x < y { y } else { x }
+    walk::stops(Fault::Impossible, walk::nowhere(), now)
 }
 
 // A fault is the answer. An execution that ended answers 0 if nothing is open, and 1 if it was the last allowed.
-fn judge_end(turn: Turn, path: &[u8], len: usize, last: bool) -> Verdict {
-    if let Turn::Stops(fault) = turn {
-        return Verdict::Answers(Answer::Stopped(fault));
-    }
-    if path.len() / RECORD < len {
-        return Verdict::Answers(Answer::Stopped(Fault::Impossible));
+fn judge_end(path: &[u8], tick: Tick, len: usize, last: bool) -> Verdict {
+    if let Tick::Stops { fault, site } = tick {
+        return Verdict::Answers(Answer::Stopped { fault, site });
     }
     if !path::any_open(path, len) {
         return Verdict::Answers(Answer::Exhausted);
@@ -183,137 +137,39 @@ fn judge_end(turn: Turn, path: &[u8], len: usize, last: bool) -> Verdict {
     Verdict::GoesOn
 }
 
-// One execution, from its start to its end or fault.
-fn execute(
-    table: &[u8],
-    shape: &Shape,
-    settings: Settings,
-    clocks: &mut Clocks,
-    marks: &mut Marks,
-    values: &mut Values,
-    numbers: &mut Numbers,
-    path: &mut [u8],
-    trace: &mut [u8],
-    ledger: Ledger,
-) -> Turned {
-    let limit = (settings.operations % 65536) as u16;
-    let fuel = ticks(settings.operations);
-    let bounded = settings.bounded;
-    let most = settings.bound;
-    let mut now = ledger;
-    let mut tick = 0;
-    while tick < fuel {
-        let bound = Bound {
-            bounded,
-            bound: most,
-        };
-        let turned = take_turn(
-            table,
-            shape,
-            limit,
-            bound,
-            clocks,
-            marks,
-            values,
-            numbers,
-            path,
-            trace,
-            now,
-        );
-        let turn = turned.turn;
-        let Turn::Goes = turn else {
-            return turned;
-        };
-        let next = turned.ledger;
-        now = next;
-        tick += 1;
-    }
-    stops(Fault::Impossible, now)
-}
-
-// The report of a run that began something.
-fn finished(
-    answer: Answer,
-    begun: u64,
-    ledger: Ledger,
-    path: &[u8],
-    clocks: &Clocks,
-    numbers: &Numbers,
-) -> Report {
-    let mut thread = 255;
-    let mut row = 255;
-    if names_place(answer) {
-        thread = ledger.thread as u64;
-        row = ledger.row as u64;
-    }
-    let threads = report::summaries(clocks, numbers);
-    let rows = state::wide(numbers[BEGUN]);
-    let len = ledger.len;
-    let open = open_choices(path, len);
-    Report {
-        answer,
+// The report of a run that stops here.
+fn finish(clocks: &Clocks, numbers: &Numbers, path: &[u8], answer: Answer, begun: u64, cursor: Cursor) -> Report {
+    let counts = Counts {
         begun,
-        opened: ledger.opened,
-        open,
-        rows: rows as u64,
-        thread,
-        row,
-        threads,
+        opened: cursor.opened,
+        open: path::open(path, cursor.len),
+    };
+    report::finished(clocks, numbers, answer, counts)
+}
+
+// Nothing known, nothing opened.
+fn nothing() -> Cursor {
+    Cursor {
+        len: 0,
+        pos: 0,
+        opened: 0,
+        entries: 0,
     }
 }
 
-// Answers 0, 1 and 10 name no thread and row.
-fn names_place(answer: Answer) -> bool {
-    match answer {
-        Answer::Stopped(fault) => match fault {
-            Fault::Deadlock => false,
-            _ => true,
-        },
-        _ => false,
-    }
+// The next execution starts at the path's first branch, with an empty trace.
+fn again(mut cursor: Cursor) -> Cursor {
+    cursor.pos = 0;
+    cursor.entries = 0;
+    cursor
 }
 
-// The path moves to its next choice.
-fn step(path: &mut [u8], len: usize) -> usize {
-    if path.len() / RECORD < len {
-        return 0;
-    }
-    path::step(path, len)
-}
-
-// The choices open in the path.
-fn open_choices(path: &[u8], len: usize) -> u64 {
-    if path.len() / RECORD < len {
-        return 0;
-    }
-    path::open(path, len)
-}
-
-// Clears what an earlier, longer execution left in the trace past the entries of the last.
-fn clear_entries(trace: &mut [u8], entries: usize, longest: usize) {
-    let room = trace.len() / RECORD;
-    if room < longest {
-        return;
-    }
-    if room < entries {
-        return;
-    }
-    clear(trace, RECORD * entries, RECORD * longest);
+fn greater(x: usize, y: usize) -> usize {
+    if x < y { y } else { x }
 }
 
 // Sets all bytes to zero.
 fn clear_all(bytes: &mut [u8]) {
     let to = bytes.len();
-    clear(bytes, 0, to);
-}
-
-// Sets the bytes from `from` up to `to` to zero.
-pub fn clear(bytes: &mut [u8], from: usize, to: usize)
-    requires { ⌜ to ≤ length (now bytes) ⌝ }
-{
-    let mut i = from;
-    while i < to {
-        bytes[i] = 0;
-        i += 1;
-    }
+    trace::clear(bytes, 0, to);
 }

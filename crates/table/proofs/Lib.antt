@@ -1,4 +1,5 @@
-pub mod Arms
 pub mod Header
 pub mod Places
+pub mod RowLaws
 pub mod Walks
+pub mod Within

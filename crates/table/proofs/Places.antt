@@ -4,7 +4,7 @@ use mathlib.Core.List.{List}
 use mathlib.Core.Path.{_≡_}
 use lib.ListN.{length}
 use borrow.Author.Tests.{lt-ltb, le-ltb, le-leb, lt-leb}
-use Rattle.rules.specs.Table.{maxCells, allRows, headerBytes, valueBytes, rowBytes, sizeOf, u64At, startValue, rowFrom, noRow, rowAt}
+use Rattle.rules.specs.Table.{maxCells, allRows, headerBytes, valueBytes, rowBytes, sizeOf, u64At, startValue, rowFrom, noRow, rowAt, maxThreads, Row, Op, Decoded, refused, rowDecoded, opAt}
 
 module _ (t : List ℕ) (cell : ℕ) where
   pub value-held : cell < maxCells → headerBytes + valueBytes * cell + valueBytes ≤ length t →
@@ -39,3 +39,13 @@ module _ (t : List ℕ) (cells index : ℕ) where
   pub row-none : maxCells < cells → noRow ≡ rowAt t cells index
   unfolding rowAt
   row-none h = rw (lt-leb cells maxCells h)
+
+module _ (t : List ℕ) (threads cells count index : ℕ) where
+  pub op-read : threads ≤ maxThreads → {row : Row} → row ≡ rowAt t cells index →
+      {d : Decoded Op} → d ≡ rowDecoded threads cells count row → d ≡ opAt t threads cells count index
+  unfolding opAt
+  op-read h e f = rw (le-leb threads maxThreads h, ← e) f
+
+  pub op-none : maxThreads < threads → refused ≡ opAt t threads cells count index
+  unfolding opAt
+  op-none h = rw (lt-leb threads maxThreads h)

@@ -10,7 +10,7 @@ use lib.ListN.{length, getD, drop, drop-of-length-le}
 use lib.Seq.{drop-cons}
 use borrow.Author.Tests.{lt-ltb, le-ltb}
 use lib.Dec.{ltb}
-use Rattle.rules.specs.Table.{maxThreads, headerBytes, countsOf, countFine, countsFine, firstNot, firstBad, rowFine, rowAt, rowsJudged, badRow, good, badHeader, judged, headerFine, threadsOf, cellsOf}
+use Rattle.rules.specs.Table.{maxThreads, headerBytes, countsOf, countFine, countsFine, firstNot, firstBad, isFine, opAt, rowsJudged, badRow, good, badHeader, judged, headerFine, threadsOf, cellsOf}
 use Rattle.table.proofs.Header.{counts-length, counts-at}
 
 -- a search for the first that is not fine
@@ -31,7 +31,7 @@ module _ (fine : ℕ → Bool) (n i : ℕ) where
 
 -- the rows of one thread that are left at i
 abbrev pub badLeft : List ℕ → ℕ → ℕ → ℕ → ℕ → ℕ → ℕ
-badLeft t threads cells first c i = firstNot (λ (j : ℕ). rowFine threads cells c (rowAt t cells (first + j))) (c - i) i
+badLeft t threads cells first c i = firstNot (λ (j : ℕ). isFine (opAt t threads cells c (first + j))) (c - i) i
 
 pub bad-all : (t : List ℕ) (threads cells first c : ℕ) → badLeft t threads cells first c 0 ≡ firstBad t threads cells first c
 unfolding firstBad

@@ -1,2 +1,2 @@
-pub mod Verdict
-pub mod Wide
+pub mod Judged
+pub mod Ops

@@ -1,26 +1,41 @@
-// The table: which bytes are one, which row of one is the first bad one, and what stands in a row.
+// The table: which bytes are one, which row of one is the first bad one, and what a row says.
 // Each promise is an equation with the definition in rules (Table).
 ghost use mathlib.Core.Path.{_≡_};
 ghost use Prim.Native.Nat.{_+_, _<_, _≤_, _^_};
-ghost use lib.ListN.{length};
-ghost use Rattle.rules.specs.Table.{headerBytes, rowBytes, headerFine, countFine, countsFine, countsOf, firstBad, judged, shapeOf, startValue, rowAt, rowFrom};
-ghost use Rattle.table.specs.Verdict.{verdictOf, rowOf};
+ghost use lib.ListN.{length, getD};
+ghost use Rattle.rules.specs.Table.{headerBytes, rowBytes, headerFine, countFine, countsFine, countsOf, firstBad, judged, shapeOf, startValue, rowAt, rowFrom, opcodeOf};
+ghost use Rattle.table.specs.Judged.{judgedOf};
+ghost use Rattle.table.specs.Ops.{opOf, rowOf, OpAt};
 
 pub mod limits;
 pub mod little;
 mod rows;
 
+use change::Change;
+use layout::MAX_CELLS;
+use layout::MAX_THREADS;
+use layout::short8;
+use layout::wide8;
+use layout::wide16;
 use limits::ALL_ROWS;
 use limits::HEADER;
-use limits::MAX_CELLS;
 use limits::MAX_ROWS;
-use limits::MAX_THREADS;
 use limits::ROW;
 use limits::VALUE;
 
-// Where the header has its row counts, and its zero.
-const COUNTS: usize = 2;
+// A table's shape: threads, cells, the five row counts, and the number of each thread's first row among all rows. Its first
+// seven numbers are the header's, in their places.
+pub type Shape = [u16; 12];
 
+pub const THREADS: usize = 0;
+
+pub const CELLS: usize = 1;
+
+pub const COUNTS: usize = 2;
+
+pub const FIRSTS: usize = 7;
+
+// Where the header has its zero.
 const ZERO: usize = 7;
 
 // Where a shape has the last thread's row count and first row, whose sum is the number of all rows.
@@ -29,63 +44,133 @@ const LAST_COUNT: usize = 6;
 const LAST_FIRST: usize = 11;
 
 // What is wrong with a table, if anything is: the header or the length, or else the first bad row in byte order.
-pub enum Verdict {
+pub enum Judged {
     Accepted,
     Header,
     Row { thread: usize, row: usize },
 }
 
-// `object` is the cell or the thread.
-pub struct Row {
-    pub opcode: u8,
-    pub object: u8,
-    pub order: u8,
-    pub failure: u8,
-    pub kind: u8,
-    pub register: u8,
-    pub target: u16,
-    pub a: u64,
-    pub b: u64,
+// What a row does, with the fields that its opcode uses.
+pub enum Op {
+    Load {
+        cell: usize,
+        order: u8,
+        register: usize,
+    },
+    Store {
+        cell: usize,
+        order: u8,
+        value: u64,
+    },
+    StoreRegister {
+        cell: usize,
+        order: u8,
+        register: usize,
+    },
+    Rmw {
+        cell: usize,
+        order: u8,
+        failure: u8,
+        change: Change,
+        register: usize,
+    },
+    Fence {
+        order: u8,
+    },
+    UnsyncLoad {
+        cell: usize,
+        register: usize,
+    },
+    WithMut {
+        cell: usize,
+        change: Change,
+        register: usize,
+    },
+    Yield,
+    Join {
+        thread: usize,
+    },
+    Jump {
+        target: u16,
+    },
+    JumpIf {
+        register: usize,
+        a: u64,
+        target: u16,
+    },
+    JumpUnless {
+        register: usize,
+        a: u64,
+        target: u16,
+    },
+    Check {
+        register: usize,
+        a: u64,
+    },
+    Critical,
+    ExploreState,
+    SkipBranch,
+    Spurious {
+        register: usize,
+    },
+}
+
+// What a row says, or that it is refused.
+pub enum Decoded {
+    Refused,
+    Row(Op),
+}
+
+// The fields of a row as they stand. `object` is the cell or the thread.
+struct Row {
+    opcode: u8,
+    object: u8,
+    order: u8,
+    failure: u8,
+    kind: u8,
+    register: u8,
+    target: u16,
+    a: u64,
+    b: u64,
 }
 
 // Whether these bytes are a table, and if not, what is wrong first. The header and the length are judged before any row.
-pub fn judge(table: &[u8]) -> Verdict
-    ensures { λ r. ⌜ verdictOf r ≡ judged (now (table .entry)) ⌝ }
+pub fn judge(table: &[u8]) -> Judged
+    ensures { λ r. ⌜ judgedOf r ≡ judged (now (table .entry)) ⌝ }
 {
     if !header_fine(table) {
-        return Verdict::Header;
+        return Judged::Header;
     }
-    let threads = little::wide(table[0]);
-    let cells = little::wide(table[1]);
+    let threads = wide8(table[0]);
+    let cells = wide8(table[1]);
     let mut thread = 0;
     let mut first = 0;
     while thread < MAX_THREADS {
-        let count = little::wide(table[COUNTS + thread]);
+        let count = wide8(table[COUNTS + thread]);
         let row = first_bad(table, threads, cells, first, count);
         if row < count {
-            return Verdict::Row { thread, row };
+            return Judged::Row { thread, row };
         }
         first += count;
         thread += 1;
     }
-    Verdict::Accepted
+    Judged::Accepted
 }
 
-// Threads, cells, the five row counts, and the number of each thread's first row among all rows. Zeros where the table is
-// shorter than a header.
-pub fn shape(table: &[u8]) -> [u16; 12]
+// The shape; zeros where the table is shorter than a header.
+pub fn shape(table: &[u8]) -> Shape
     ensures { λ r. ⌜ r ≡ shapeOf (now (table .entry)) ⌝ }
 {
     if table.len() < HEADER {
         return [0; 12];
     }
-    let threads = little::short(table[0]);
-    let cells = little::short(table[1]);
-    let n0 = little::short(table[2]);
-    let n1 = little::short(table[3]);
-    let n2 = little::short(table[4]);
-    let n3 = little::short(table[5]);
-    let n4 = little::short(table[6]);
+    let threads = short8(table[0]);
+    let cells = short8(table[1]);
+    let n0 = short8(table[2]);
+    let n1 = short8(table[3]);
+    let n2 = short8(table[4]);
+    let n3 = short8(table[5]);
+    let n4 = short8(table[6]);
     let first2 = n0 + n1;
     let first3 = first2 + n2;
     let first4 = first3 + n3;
@@ -118,9 +203,58 @@ pub fn start_value(table: &[u8], cell: usize) -> u64
     0
 }
 
+// What row `number` of this thread does, in a table of this shape.
+pub fn row_of(table: &[u8], shape: &Shape, thread: usize, number: u16) -> Decoded
+    requires { ⌜ thread < 5 ⌝ }
+    ensures { λ r. ⌜ OpAt (now (table .entry)) (getD (now (shape .entry)) 0 0) (getD (now (shape .entry)) 1 0) (getD (now (shape .entry)) (2 + thread) 0) (getD (now (shape .entry)) (7 + thread) 0 + number) r ⌝ }
+{
+    let threads = wide16(shape[THREADS]);
+    let cells = wide16(shape[CELLS]);
+    let count = wide16(shape[COUNTS + thread]);
+    let first = wide16(shape[FIRSTS + thread]);
+    op_at(table, threads, cells, count, first + wide16(number))
+}
+
+// What the row of this number among all rows does, in a table of so many threads and cells, as one of a thread of `count` rows.
+// Refused where the table does not hold it, and where there are more threads or cells than there can be.
+pub fn op_at(table: &[u8], threads: usize, cells: usize, count: usize, index: usize) -> Decoded
+    ensures { λ r. ⌜ OpAt (now (table .entry)) threads cells count index r ⌝ }
+{
+    if threads <= MAX_THREADS {
+        let row = row_at(table, cells, index);
+        return rows::row_decoded(row, threads, cells, count);
+    }
+    Decoded::Refused
+}
+
+// The opcode's number.
+pub fn opcode(op: Op) -> u8
+    ensures { λ r. ⌜ r ≡ opcodeOf (opOf op) ⌝ }
+{
+    match op {
+        Op::Load { .. } => 0,
+        Op::Store { .. } => 1,
+        Op::StoreRegister { .. } => 2,
+        Op::Rmw { .. } => 3,
+        Op::Fence { .. } => 4,
+        Op::UnsyncLoad { .. } => 5,
+        Op::WithMut { .. } => 6,
+        Op::Yield => 7,
+        Op::Join { .. } => 8,
+        Op::Jump { .. } => 9,
+        Op::JumpIf { .. } => 10,
+        Op::JumpUnless { .. } => 11,
+        Op::Check { .. } => 12,
+        Op::Critical => 13,
+        Op::ExploreState => 14,
+        Op::SkipBranch => 15,
+        Op::Spurious { .. } => 16,
+    }
+}
+
 // The row of this number among all rows of a table with this many cells. Where the table does not hold it, a row of opcode
 // 255, which is refused.
-pub fn row_at(table: &[u8], cells: usize, index: usize) -> Row
+fn row_at(table: &[u8], cells: usize, index: usize) -> Row
     ensures { λ r. ⌜ rowOf r ≡ rowAt (now (table .entry)) cells index ⌝ }
 {
     if cells <= MAX_CELLS {
@@ -169,10 +303,10 @@ fn header_fine(table: &[u8]) -> bool
     if table.len() < HEADER {
         return false;
     }
-    let threads = little::wide(table[0]);
-    let cells = little::wide(table[1]);
+    let threads = wide8(table[0]);
+    let cells = wide8(table[1]);
     let s = shape(table);
-    let rows = little::wide16(s[LAST_COUNT]) + little::wide16(s[LAST_FIRST]);
+    let rows = wide16(s[LAST_COUNT]) + wide16(s[LAST_FIRST]);
     let size = HEADER + VALUE * cells + ROW * rows;
     ((1 <= threads) & (threads <= MAX_THREADS))
         & ((1 <= cells) & (cells <= MAX_CELLS))
@@ -188,7 +322,7 @@ fn counts_fine(table: &[u8], threads: usize) -> bool
 {
     let mut thread = 0;
     while thread < MAX_THREADS {
-        let count = little::wide(table[COUNTS + thread]);
+        let count = wide8(table[COUNTS + thread]);
         if !count_fine(thread, threads, count) {
             return false;
         }
@@ -215,10 +349,9 @@ fn first_bad(table: &[u8], threads: usize, cells: usize, first: usize, count: us
 {
     let mut i = 0;
     while i < count {
-        let row = row_at(table, cells, first + i);
-        if !rows::acceptable(row, threads, cells, count) {
+        let Decoded::Row(_) = op_at(table, threads, cells, count, first + i) else {
             return i;
-        }
+        };
         i += 1;
     }
     count

@@ -1,7 +1,5 @@
-// The limits and sizes of a table, here alone.
-pub const MAX_THREADS: usize = 5;
-
-pub const MAX_CELLS: usize = 4;
+// The sizes of a table, here alone. Threads and cells have their limits in crate layout.
+use layout::MAX_THREADS;
 
 // The rows of one thread, and of the largest table.
 pub const MAX_ROWS: usize = 32;
@@ -14,5 +12,3 @@ pub const HEADER: usize = 8;
 pub const VALUE: usize = 8;
 
 pub const ROW: usize = 24;
-
-pub const REGISTERS: u8 = 4;

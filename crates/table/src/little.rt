@@ -2,34 +2,15 @@
 ghost use mathlib.Core.Path.{_≡_};
 ghost use Prim.Native.Nat.{_+_, _≤_};
 ghost use lib.ListN.{length};
-ghost use Rattle.table.specs.Wide.{Wide};
 ghost use Rattle.rules.specs.Table.{u16At, u32At, u64At};
-
-// A byte, and then a number of two bytes, as a number of more bits.
-pub fn short(x: u8) -> u16
-    ensures { λ r. ⌜ Wide 255 x r ⌝ }
-{
-    x as u16
-}
-
-pub fn wide(x: u8) -> usize
-    ensures { λ r. ⌜ Wide 255 x r ⌝ }
-{
-    x as usize
-}
-
-pub fn wide16(x: u16) -> usize
-    ensures { λ r. ⌜ Wide 65535 x r ⌝ }
-{
-    x as usize
-}
+use layout::short8;
 
 // The number that stands at this byte, lowest byte first.
 pub fn u16_at(bytes: &[u8], at: usize) -> u16
     requires { ⌜ at + 2 ≤ length (now bytes) ⌝ }
     ensures { λ r. ⌜ r ≡ u16At (now (bytes .entry)) at ⌝ }
 {
-    short(bytes[at]) + 256 * short(bytes[at + 1])
+    short8(bytes[at]) + 256 * short8(bytes[at + 1])
 }
 
 pub fn u32_at(bytes: &[u8], at: usize) -> u32

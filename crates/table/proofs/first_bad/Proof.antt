@@ -1,8 +1,8 @@
 use Prim.Native.Nat.{_≤_, _-_, _+_}
 use mathlib.Core.Path.{_≡_, sym, _∙_}
 use mathlib.Core.Bool.{true, false}
-use borrow.Author.Tests.{not-true, not-false}
-use Rattle.rules.specs.Table.{rowFine, rowAt, firstBad}
+use Rattle.rules.specs.Table.{isFine, opAt, firstBad}
+use Rattle.table.proofs.RowLaws.{fine}
 use Rattle.table.proofs.Walks.{badLeft, bad-all, first-on, first-found, first-none}
 use borrow.Author.Needs.{needs}
 use Rattle.table.proofs.first_bad.Statement.{statement}
@@ -18,21 +18,24 @@ abbrev μ-loop : tie.MeasureT-loop
 loop-holds : tie.Need-loop-holds Inv-loop μ-loop
 loop-holds c = (search needs, bad-all _ _ _ _ _)
 
-add-row-at : tie.Need-add-row-at Inv-loop μ-loop
-add-row-at c = search needs
+add-op-at : tie.Need-add-op-at Inv-loop μ-loop
+add-op-at c = search needs
 
-row-at-requires : tie.Need-row-at-requires Inv-loop μ-loop
-row-at-requires c κs = search needs
+op-at-requires : tie.Need-op-at-requires Inv-loop μ-loop
+op-at-requires c κs = search needs
 
-acceptable-requires : tie.Need-acceptable-requires Inv-loop μ-loop
-acceptable-requires c κs = search needs
+enum-told : tie.Need-enum-told Inv-loop μ-loop
+enum-told c = search needs
+
+enum-told-2 : tie.Need-enum-told-2 Inv-loop μ-loop
+enum-told-2 c = search needs
 
 returns : tie.Need-returns Inv-loop μ-loop
 returns c =
     let turn = c .before .before .before in
     let at = turn .before in
     let g = at .before .before .args in
-    let e : rowFine (g .threads) (g .cells) (g .count) (rowAt (g .table .now) (g .cells) (g .first + at .loop .i)) ≡ false = cc (not-true (c .before .acceptable .result) (c .if1 .taken)) in
+    let e : isFine (opAt (g .table .now) (g .threads) (g .cells) (g .count) (g .first + at .loop .i)) ≡ false = fine (c .enum-told2 .given .1) (c .before .before .op-at .ensures .is) in
     sym (first-found _ _ _ (turn .loop-test .taken) e) ∙ at .loop .inv .1
 
 add-i : tie.Need-add-i Inv-loop μ-loop
@@ -46,7 +49,7 @@ loop-again c =
     let turn = c .before .before .before in
     let at = turn .before in
     let g = at .before .before .args in
-    let e : rowFine (g .threads) (g .cells) (g .count) (rowAt (g .table .now) (g .cells) (g .first + at .loop .i)) ≡ true = cc (not-false (c .before .acceptable .result) (c .if1 .left)) in
+    let e : isFine (opAt (g .table .now) (g .threads) (g .cells) (g .count) (g .first + at .loop .i)) ≡ true = fine (c .enum-told .given .1) (c .before .before .op-at .ensures .is) in
     (search needs, first-on _ _ _ (turn .loop-test .taken) e ∙ at .loop .inv .1)
 
 returns-2 : tie.Need-returns-2 Inv-loop μ-loop
@@ -61,9 +64,10 @@ first-bad-spec =
     Inv-loop
     μ-loop
     loop-holds
-    add-row-at
-    row-at-requires
-    acceptable-requires
+    add-op-at
+    op-at-requires
+    enum-told
+    enum-told-2
     returns
     add-i
     loop-less

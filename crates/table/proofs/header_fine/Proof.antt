@@ -6,17 +6,17 @@ use Rattle.table.proofs.header_fine.Tie as tie
 returns : tie.Need-returns
 returns c = header-short _ (c .if1 .taken)
 
-shared-slice-read-wide : tie.Need-shared-slice-read-wide
-shared-slice-read-wide c = search needs
+shared-slice-read-wide8 : tie.Need-shared-slice-read-wide8
+shared-slice-read-wide8 c = search needs
 
-wide-requires : tie.Need-wide-requires
-wide-requires c κs = search needs
+wide8-requires : tie.Need-wide8-requires
+wide8-requires c κs = search needs
 
-shared-slice-read-wide-2 : tie.Need-shared-slice-read-wide-2
-shared-slice-read-wide-2 c = search needs
+shared-slice-read-wide8-2 : tie.Need-shared-slice-read-wide8-2
+shared-slice-read-wide8-2 c = search needs
 
-wide-requires-2 : tie.Need-wide-requires-2
-wide-requires-2 c κs = search needs
+wide8-requires-2 : tie.Need-wide8-requires-2
+wide8-requires-2 c κs = search needs
 
 shape-requires : tie.Need-shape-requires
 shape-requires c κs = search needs
@@ -58,8 +58,8 @@ returns-2 : tie.Need-returns-2
 returns-2 c =
     let read = c .before .before .before .before in
     header-made _ (read .before .before .before .before .before .if1 .left)
-    (read .before .before .before .wide .ensures .same)
-    (read .before .wide2 .ensures .same)
+    (read .before .before .before .wide8 .ensures .same)
+    (read .before .wide82 .ensures .same)
     (read .shape .ensures)
     (c .before .before .before .wide16 .ensures .same)
     (c .before .before .wide162 .ensures .same)
@@ -70,10 +70,10 @@ header-fine-spec =
     tie.close
     (tie.spec
     returns
-    shared-slice-read-wide
-    wide-requires
-    shared-slice-read-wide-2
-    wide-requires-2
+    shared-slice-read-wide8
+    wide8-requires
+    shared-slice-read-wide8-2
+    wide8-requires-2
     shape-requires
     array-read-wide16
     wide16-requires

@@ -4,20 +4,20 @@ use borrow.Author.Needs.{needs}
 use Rattle.table.proofs.little.u16_at.Statement.{statement}
 use Rattle.table.proofs.little.u16_at.Tie as tie
 
-shared-slice-read-short : tie.Need-shared-slice-read-short
-shared-slice-read-short c = search needs
+shared-slice-read-short8 : tie.Need-shared-slice-read-short8
+shared-slice-read-short8 c = search needs
 
-short-requires : tie.Need-short-requires
-short-requires c κs = search needs
+short8-requires : tie.Need-short8-requires
+short8-requires c κs = search needs
 
-add-short : tie.Need-add-short
-add-short c = search needs
+add-short8 : tie.Need-add-short8
+add-short8 c = search needs
 
-shared-slice-read-short-2 : tie.Need-shared-slice-read-short-2
-shared-slice-read-short-2 c = search needs
+shared-slice-read-short8-2 : tie.Need-shared-slice-read-short8-2
+shared-slice-read-short8-2 c = search needs
 
-short-requires-2 : tie.Need-short-requires-2
-short-requires-2 c κs = search needs
+short8-requires-2 : tie.Need-short8-requires-2
+short8-requires-2 c κs = search needs
 
 mul-result : tie.Need-mul-result
 mul-result c = search needs
@@ -33,11 +33,11 @@ pub u16-at-spec : {M : Type 1} → statement M
 u16-at-spec =
     tie.close
     (tie.spec
-    shared-slice-read-short
-    short-requires
-    add-short
-    shared-slice-read-short-2
-    short-requires-2
+    shared-slice-read-short8
+    short8-requires
+    add-short8
+    shared-slice-read-short8-2
+    short8-requires-2
     mul-result
     add-result
     returns)

@@ -1,12 +1,25 @@
+use Rattle.table.specs.Ops.{rowOf}
+use Rattle.table.proofs.RowLaws.{check-is}
 use borrow.Author.Needs.{needs}
 use Rattle.table.proofs.rows.check_row.Statement.{statement}
 use Rattle.table.proofs.rows.check_row.Tie as tie
 
-unchanged-requires : tie.Need-unchanged-requires
-unchanged-requires c κs = search needs
+is-register-requires : tie.Need-is-register-requires
+is-register-requires c κs = search needs
+
+no-change-requires : tie.Need-no-change-requires
+no-change-requires c κs = search needs
+
+wide8-requires : tie.Need-wide8-requires
+wide8-requires c κs = search needs
+
+only-if-requires : tie.Need-only-if-requires
+only-if-requires c κs = search needs
 
 returns : tie.Need-returns
-returns c = cc
+returns c = let g = c .before .before .before .before .before .before .before .before .args in cc (check-is (rowOf (g .row)))
 
 pub check-row-spec : {M : Type 1} → statement M
-check-row-spec = tie.close (tie.spec unchanged-requires returns)
+check-row-spec =
+    tie.close
+    (tie.spec is-register-requires no-change-requires wide8-requires only-if-requires returns)

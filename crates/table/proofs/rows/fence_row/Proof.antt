@@ -1,15 +1,21 @@
+use Rattle.table.specs.Ops.{rowOf}
+use Rattle.table.proofs.RowLaws.{fence-is}
 use borrow.Author.Needs.{needs}
 use Rattle.table.proofs.rows.fence_row.Statement.{statement}
 use Rattle.table.proofs.rows.fence_row.Tie as tie
 
-unchanged-requires : tie.Need-unchanged-requires
-unchanged-requires c κs = search needs
+no-change-requires : tie.Need-no-change-requires
+no-change-requires c κs = search needs
 
 no-operands-requires : tie.Need-no-operands-requires
 no-operands-requires c κs = search needs
 
+only-if-requires : tie.Need-only-if-requires
+only-if-requires c κs = search needs
+
 returns : tie.Need-returns
-returns c = cc
+returns c = let g = c .before .before .before .before .before .before .before .before .args in cc (fence-is (rowOf (g .row)))
 
 pub fence-row-spec : {M : Type 1} → statement M
-fence-row-spec = tie.close (tie.spec unchanged-requires no-operands-requires returns)
+fence-row-spec =
+    tie.close (tie.spec no-change-requires no-operands-requires only-if-requires returns)

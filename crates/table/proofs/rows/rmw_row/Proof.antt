@@ -1,6 +1,20 @@
+use Rattle.table.specs.Ops.{rowOf}
+use Rattle.table.proofs.RowLaws.{meant, rmw-is, rmw-refused}
 use borrow.Author.Needs.{needs}
 use Rattle.table.proofs.rows.rmw_row.Statement.{statement}
 use Rattle.table.proofs.rows.rmw_row.Tie as tie
+
+change-of-requires : tie.Need-change-of-requires
+change-of-requires c κs = search needs
+
+enum-known-change : tie.Need-enum-known-change
+enum-known-change c = search needs
+
+enum-told : tie.Need-enum-told
+enum-told c = search needs
+
+returns : tie.Need-returns
+returns c = rmw-refused _ _ (meant (c .enum-told .given .1) (c .before .before .change-of .ensures))
 
 named-requires : tie.Need-named-requires
 named-requires c κs = search needs
@@ -8,12 +22,35 @@ named-requires c κs = search needs
 failure-order-requires : tie.Need-failure-order-requires
 failure-order-requires c κs = search needs
 
-change-operands-requires : tie.Need-change-operands-requires
-change-operands-requires c κs = search needs
+is-register-requires : tie.Need-is-register-requires
+is-register-requires c κs = search needs
 
-returns : tie.Need-returns
-returns c = cc
+wide8-requires : tie.Need-wide8-requires
+wide8-requires c κs = search needs
+
+wide8-requires-2 : tie.Need-wide8-requires-2
+wide8-requires-2 c κs = search needs
+
+only-if-requires : tie.Need-only-if-requires
+only-if-requires c κs = search needs
+
+returns-2 : tie.Need-returns-2
+returns-2 c =
+    let g = c .before .before .before .before .before .before .before .before .before .before .before .before .args in
+    cc (rmw-is (g .cells) (rowOf (g .row)) (meant (c .before .before .before .before .before .before .before .before .before .change .given .1) (c .before .before .before .before .before .before .before .before .before .before .before .change-of .ensures)))
 
 pub rmw-row-spec : {M : Type 1} → statement M
 rmw-row-spec =
-    tie.close (tie.spec named-requires failure-order-requires change-operands-requires returns)
+    tie.close
+    (tie.spec
+    change-of-requires
+    enum-known-change
+    enum-told
+    returns
+    named-requires
+    failure-order-requires
+    is-register-requires
+    wide8-requires
+    wide8-requires-2
+    only-if-requires
+    returns-2)

@@ -1,15 +1,34 @@
+use Rattle.table.specs.Ops.{rowOf}
+use Rattle.table.proofs.RowLaws.{spurious-is}
 use borrow.Author.Needs.{needs}
 use Rattle.table.proofs.rows.spurious_row.Statement.{statement}
 use Rattle.table.proofs.rows.spurious_row.Tie as tie
 
-unchanged-requires : tie.Need-unchanged-requires
-unchanged-requires c κs = search needs
+is-register-requires : tie.Need-is-register-requires
+is-register-requires c κs = search needs
+
+no-change-requires : tie.Need-no-change-requires
+no-change-requires c κs = search needs
 
 no-operands-requires : tie.Need-no-operands-requires
 no-operands-requires c κs = search needs
 
+wide8-requires : tie.Need-wide8-requires
+wide8-requires c κs = search needs
+
+only-if-requires : tie.Need-only-if-requires
+only-if-requires c κs = search needs
+
 returns : tie.Need-returns
-returns c = cc
+returns c = let g = c .before .before .before .before .before .before .before .before .args in cc (spurious-is (rowOf (g .row)))
 
 pub spurious-row-spec : {M : Type 1} → statement M
-spurious-row-spec = tie.close (tie.spec unchanged-requires no-operands-requires returns)
+spurious-row-spec =
+    tie.close
+    (tie.spec
+    is-register-requires
+    no-change-requires
+    no-operands-requires
+    wide8-requires
+    only-if-requires
+    returns)

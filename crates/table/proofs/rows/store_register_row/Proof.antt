@@ -1,3 +1,5 @@
+use Rattle.table.specs.Ops.{rowOf}
+use Rattle.table.proofs.RowLaws.{store-register-is}
 use borrow.Author.Needs.{needs}
 use Rattle.table.proofs.rows.store_register_row.Statement.{statement}
 use Rattle.table.proofs.rows.store_register_row.Tie as tie
@@ -8,16 +10,37 @@ named-requires c κs = search needs
 store-order-requires : tie.Need-store-order-requires
 store-order-requires c κs = search needs
 
-unchanged-requires : tie.Need-unchanged-requires
-unchanged-requires c κs = search needs
+is-register-requires : tie.Need-is-register-requires
+is-register-requires c κs = search needs
+
+no-change-requires : tie.Need-no-change-requires
+no-change-requires c κs = search needs
 
 no-operands-requires : tie.Need-no-operands-requires
 no-operands-requires c κs = search needs
 
+wide8-requires : tie.Need-wide8-requires
+wide8-requires c κs = search needs
+
+wide8-requires-2 : tie.Need-wide8-requires-2
+wide8-requires-2 c κs = search needs
+
+only-if-requires : tie.Need-only-if-requires
+only-if-requires c κs = search needs
+
 returns : tie.Need-returns
-returns c = cc
+returns c = let g = c .before .before .before .before .before .before .before .before .before .args in cc (store-register-is (g .cells) (rowOf (g .row)))
 
 pub store-register-row-spec : {M : Type 1} → statement M
 store-register-row-spec =
     tie.close
-    (tie.spec named-requires store-order-requires unchanged-requires no-operands-requires returns)
+    (tie.spec
+    named-requires
+    store-order-requires
+    is-register-requires
+    no-change-requires
+    no-operands-requires
+    wide8-requires
+    wide8-requires-2
+    only-if-requires
+    returns)

@@ -1,3 +1,5 @@
+use Rattle.table.specs.Ops.{rowOf}
+use Rattle.table.proofs.RowLaws.{store-is}
 use borrow.Author.Needs.{needs}
 use Rattle.table.proofs.rows.store_row.Statement.{statement}
 use Rattle.table.proofs.rows.store_row.Tie as tie
@@ -8,12 +10,25 @@ named-requires c κs = search needs
 store-order-requires : tie.Need-store-order-requires
 store-order-requires c κs = search needs
 
-unchanged-requires : tie.Need-unchanged-requires
-unchanged-requires c κs = search needs
+no-change-requires : tie.Need-no-change-requires
+no-change-requires c κs = search needs
+
+wide8-requires : tie.Need-wide8-requires
+wide8-requires c κs = search needs
+
+only-if-requires : tie.Need-only-if-requires
+only-if-requires c κs = search needs
 
 returns : tie.Need-returns
-returns c = cc
+returns c = let g = c .before .before .before .before .before .before .before .before .args in cc (store-is (g .cells) (rowOf (g .row)))
 
 pub store-row-spec : {M : Type 1} → statement M
 store-row-spec =
-    tie.close (tie.spec named-requires store-order-requires unchanged-requires returns)
+    tie.close
+    (tie.spec
+    named-requires
+    store-order-requires
+    no-change-requires
+    wide8-requires
+    only-if-requires
+    returns)

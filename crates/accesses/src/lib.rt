@@ -1,0 +1,249 @@
+// The rows that access a cell, each once its thread has been chosen, and how a load or an RMW goes on with the store it is
+// given.
+ghost use mathlib.Core.Path.{_≡_};
+ghost use Prim.Native.Nat.{ℕ, _<_};
+ghost use lib.Dec.{ltb};
+ghost use Rattle.rules.specs.Cell as cells;
+ghost use Rattle.rules.specs.Event.{Matched};
+ghost use Rattle.rules.specs.Machine as machine;
+ghost use Rattle.rules.specs.State as rules;
+ghost use Rattle.rules.specs.Table.{opcodeIn};
+ghost use Rattle.layout.specs.Tables.{state};
+ghost use Rattle.atomic.specs.Accesses.{accessOf};
+ghost use Rattle.change.specs.Changes.{changeMeant};
+ghost use Rattle.matches.specs.Offers.{scanned, offered};
+ghost use Rattle.event.specs.Moves.{moveOf, matchedFor};
+ghost use Rattle.table.specs.Ops.{opOf, decodedOf, inRange, opWithin};
+ghost use Rattle.accesses.specs.Reads.{readingMeans, readDone};
+use atomic::Loaded;
+use atomic::Mutated;
+use change::Change;
+use event::Event;
+use event::Fault;
+use event::Site;
+use layout::Access;
+use layout::Clocks;
+use layout::MAX_ATOMIC_HISTORY;
+use layout::MAX_THREADS;
+use layout::Marks;
+use layout::Numbers;
+use layout::Values;
+use layout::cell::COUNT;
+use layout::register_at;
+use layout::slots;
+use layout::thread::REGISTER;
+use layout::wide16;
+use matches::Matched;
+use table::Decoded;
+use table::Op;
+use track::Race;
+
+// What a row reads, if it is a load or a read-modify-write.
+pub enum Reading {
+    Nothing,
+    Of { cell: usize, register: usize },
+}
+
+// A store of a value: the version, the race, the store. Its slot is that of the count before it.
+pub fn store_row(
+    clocks: &mut Clocks,
+    marks: &mut Marks,
+    values: &mut Values,
+    numbers: &mut Numbers,
+    site: Site,
+    cell: usize,
+    order: u8,
+    value: u64,
+) -> Event
+    requires { ⌜ (site .thread < 5) × (cell < 4) ⌝ }
+    ensures { λ r. ⌜ ((opcode : ℕ) (m : Matched) → moveOf r (site .thread) (site .row) opcode m (state (now (clocks .exit)) (now (marks .exit)) (now (values .exit)) (now (numbers .exit))) ≡ machine.stores (state (now (clocks .entry)) (now (marks .entry)) (now (values .entry)) (now (numbers .entry))) (site .thread) (site .row) opcode cell order value) ⌝ }
+{
+    let thread = site.thread;
+    thread::raise(clocks, thread);
+    if let Race::With { kind, other } = track::track_store(clocks, thread, cell) {
+        return Event::Stops(Fault::Race { kind, other });
+    }
+    let slot = slots::index(numbers[COUNT + cell]);
+    let access = Access {
+        thread,
+        cell,
+        order,
+    };
+    atomic::store(clocks, marks, values, numbers, access, [0; MAX_THREADS], value);
+    thread::complete(numbers, thread, vv::one_more(site.row));
+    Event::Done {
+        slot: slot as u8,
+        mask: 0,
+        value,
+    }
+}
+
+// An unsynchronised load of the newest store.
+pub fn unsync_load_row(
+    clocks: &mut Clocks,
+    values: &mut Values,
+    numbers: &mut Numbers,
+    site: Site,
+    cell: usize,
+    register: usize,
+) -> Event
+    requires { ⌜ (site .thread < 5) × (cell < 4) × (register < 4) ⌝ }
+    ensures { λ r. ⌜ ((marks : rules.Marks) (opcode : ℕ) (m : Matched) → moveOf r (site .thread) (site .row) opcode m (state (now (clocks .exit)) marks (now (values .exit)) (now (numbers .exit))) ≡ machine.reads (cells.unsyncLoadDone (state (now (clocks .entry)) marks (now (values .entry)) (now (numbers .entry))) (site .thread) cell) (site .thread) (site .row) opcode register (cells.newest (rules.number (now (numbers .entry)) (rules.count cell))) 0) ⌝ }
+{
+    let thread = site.thread;
+    let loaded = atomic::unsync_load(clocks, values, numbers, thread, cell);
+    let slot = slots::newest(numbers[COUNT + cell]);
+    put_value(values, numbers, site, register, slot as u8, 0, loaded)
+}
+
+// An exclusive change. The register takes the value found, the trace the value left.
+pub fn with_mut_row(
+    clocks: &mut Clocks,
+    values: &mut Values,
+    numbers: &mut Numbers,
+    site: Site,
+    cell: usize,
+    change: Change,
+    register: usize,
+) -> Event
+    requires { ⌜ (site .thread < 5) × (cell < 4) × (register < 4) ⌝ }
+    ensures { λ r. ⌜ ((marks : rules.Marks) (opcode : ℕ) (m : Matched) → moveOf r (site .thread) (site .row) opcode m (state (now (clocks .exit)) marks (now (values .exit)) (now (numbers .exit))) ≡ machine.leavesIn (cells.mutDone (state (now (clocks .entry)) marks (now (values .entry)) (now (numbers .entry))) (site .thread) cell (changeMeant change)) (site .thread) (site .row) opcode cell register) ⌝ }
+{
+    let thread = site.thread;
+    match atomic::with_mut(clocks, values, numbers, thread, cell, change) {
+        Mutated::Raced { kind, other } => Event::Stops(Fault::Race { kind, other }),
+        Mutated::Values { read, left } => {
+            values[REGISTER + register_at(thread, register)] = read;
+            let slot = slots::newest(numbers[COUNT + cell]);
+            thread::complete(numbers, thread, vv::one_more(site.row));
+            Event::Done {
+                slot: slot as u8,
+                mask: 0,
+                value: left,
+            }
+        }
+    }
+}
+
+// The stores that a load or a read-modify-write is offered, their slots at the start of `dst`; a row of another kind is
+// offered none.
+pub fn offers(
+    clocks: &Clocks,
+    marks: &Marks,
+    numbers: &Numbers,
+    thread: usize,
+    row: Decoded,
+    dst: &mut [u8; MAX_ATOMIC_HISTORY],
+) -> Matched
+    requires { ⌜ (thread < 5) × opWithin row ⌝ }
+    ensures { λ r. ⌜ ((values : rules.Values) → scanned r (now (dst .exit)) ≡ offered (matchedFor (state (now (clocks .entry)) (now (marks .entry)) values (now (numbers .entry))) thread (decodedOf row)) (now (dst .entry))) ⌝ }
+{
+    let Decoded::Row(op) = row else {
+        return Matched::Offers(0);
+    };
+    match op {
+        Op::Load { cell, order, .. } => {
+            let access = Access { thread, cell, order };
+            matches::match_load_to_stores(clocks, marks[cell], numbers, access, dst)
+        }
+        Op::Rmw { cell, .. } => matches::match_rmw_to_stores(clocks, numbers, cell, dst),
+        _ => Matched::Offers(0),
+    }
+}
+
+// Goes on with the slot that was answered, if it is live: the load or the read-modify-write itself. No other row is given one.
+pub fn read_from(
+    clocks: &mut Clocks,
+    marks: &mut Marks,
+    values: &mut Values,
+    numbers: &mut Numbers,
+    site: Site,
+    slot: usize,
+    mask: u8,
+    row: Decoded,
+) -> Event
+    requires { ⌜ (site .thread < 5) × (slot < 7) × opWithin row ⌝ }
+    ensures { λ r. ⌜ ((m : Matched) → moveOf r (site .thread) (site .row) (opcodeIn (decodedOf row)) m (state (now (clocks .exit)) (now (marks .exit)) (now (values .exit)) (now (numbers .exit))) ≡ machine.readFrom (state (now (clocks .entry)) (now (marks .entry)) (now (values .entry)) (now (numbers .entry))) (site .thread) (site .row) slot mask (decodedOf row)) ⌝ }
+{
+    let Decoded::Row(op) = row else {
+        return Event::Stops(Fault::Impossible);
+    };
+    let Reading::Of { cell, register } = reading(op) else {
+        return Event::Stops(Fault::Impossible);
+    };
+    if !is_live(numbers, cell, slot) {
+        return Event::Stops(Fault::Impossible);
+    }
+    let loaded = read(clocks, marks, values, numbers, site.thread, slot, op);
+    put_value(values, numbers, site, register, slot as u8, mask, loaded)
+}
+
+// The cell that a load or a read-modify-write reads, and the register that takes the value.
+fn reading(op: Op) -> Reading
+    requires { ⌜ inRange op ⌝ }
+    ensures { λ r. ⌜ readingMeans r (opOf op) ⌝ }
+{
+    match op {
+        Op::Load { cell, register, .. } => Reading::Of { cell, register },
+        Op::Rmw { cell, register, .. } => Reading::Of { cell, register },
+        _ => Reading::Nothing,
+    }
+}
+
+// The load or the read-modify-write. Another row reads nothing.
+fn read(
+    clocks: &mut Clocks,
+    marks: &mut Marks,
+    values: &mut Values,
+    numbers: &mut Numbers,
+    thread: usize,
+    slot: usize,
+    op: Op,
+) -> Loaded
+    requires { ⌜ (thread < 5) × (slot < 7) × inRange op ⌝ }
+    ensures { λ r. ⌜ accessOf r (state (now (clocks .exit)) (now (marks .exit)) (now (values .exit)) (now (numbers .exit))) ≡ readDone (state (now (clocks .entry)) (now (marks .entry)) (now (values .entry)) (now (numbers .entry))) thread slot (opOf op) ⌝ }
+{
+    match op {
+        Op::Load { cell, order, .. } => {
+            let access = Access { thread, cell, order };
+            atomic::load(clocks, marks, values, numbers, access, slot)
+        }
+        Op::Rmw { cell, order, failure, change, .. } => {
+            let access = Access { thread, cell, order };
+            atomic::rmw(clocks, marks, values, numbers, access, slot, change, failure)
+        }
+        _ => Loaded::Value(0),
+    }
+}
+
+// Whether a slot holds a store: document 01's "live means slot < cnt".
+fn is_live(numbers: &Numbers, cell: usize, slot: usize) -> bool
+    requires { ⌜ cell < 4 ⌝ }
+    ensures { λ r. ⌜ r ≡ ltb slot (rules.number (now (numbers .entry)) (rules.count cell)) ⌝ }
+{
+    slot < wide16(numbers[COUNT + cell])
+}
+
+// The value read goes into the register and the trace, and the row is complete; a race stops the run.
+fn put_value(
+    values: &mut Values,
+    numbers: &mut Numbers,
+    site: Site,
+    register: usize,
+    slot: u8,
+    mask: u8,
+    loaded: Loaded,
+) -> Event
+    requires { ⌜ (site .thread < 5) × (register < 4) ⌝ }
+    ensures { λ r. ⌜ ((clocks : rules.Clocks) (marks : rules.Marks) (opcode : ℕ) (m : Matched) → moveOf r (site .thread) (site .row) opcode m (state clocks marks (now (values .exit)) (now (numbers .exit))) ≡ machine.reads (accessOf loaded (state clocks marks (now (values .entry)) (now (numbers .entry)))) (site .thread) (site .row) opcode register slot mask) ⌝ }
+{
+    let thread = site.thread;
+    match loaded {
+        Loaded::Raced { kind, other } => Event::Stops(Fault::Race { kind, other }),
+        Loaded::Value(value) => {
+            values[REGISTER + register_at(thread, register)] = value;
+            thread::complete(numbers, thread, vv::one_more(site.row));
+            Event::Done { slot, mask, value }
+        }
+    }
+}

@@ -1,0 +1,67 @@
+-- What a fault, an answer and an event of the code stand for in the definition, for every case. Assumes nothing.
+--     faultOf       a fault
+--     matchedFor    what a row that asks for a slot is offered
+--     moveOf        an event, with the state that it leaves
+use Prim.Native.Nat.{ℕ}
+use mathlib.Core.List.{[]}
+use mathlib.Core.Bool.{Bool, true, false}
+use Rattle.rules.specs.Event as rules
+use Rattle.rules.specs.Event.{Matched, Move}
+use Rattle.rules.specs.State.{State, marksOf}
+use Rattle.rules.specs.Cell.{matchedLoad, matchedRmw}
+use Rattle.rules.specs.Machine.{schedules, entry, noSlot, isExploring}
+use Rattle.rules.specs.Table as Table
+use Rattle.rules.specs.Table.{Op, Decoded}
+use Rattle.event.specs.declared.Fault.{Fault}
+use Rattle.event.specs.declared.Fault.the-variants as fault
+use Rattle.event.specs.declared.Question.{Question}
+use Rattle.event.specs.declared.Question.the-variants as question
+use Rattle.event.specs.declared.Event.{Event}
+use Rattle.event.specs.declared.Event.the-variants as event
+
+abbrev pub faultOf : Fault → rules.Fault
+faultOf fault.Deadlock = rules.deadlock
+faultOf fault.Full = rules.full
+faultOf fault.Rows = rules.rows
+faultOf fault.Equal = rules.equalOrders
+faultOf (fault.Race kind other) = rules.race kind other
+faultOf fault.Check = rules.check
+faultOf fault.Flags = rules.flags
+faultOf fault.Preempted = rules.preemptions
+faultOf fault.Impossible = rules.impossible
+
+-- what a load or an RMW of a thread is offered; every other row is offered nothing
+abbrev pub matchedFor : State → ℕ → Decoded Op → Matched
+matchedFor st t Table.refused = rules.offers []
+matchedFor st t (Table.decoded (Table.load c o r)) = matchedLoad (st .clocks) (marksOf (st .marks) c) (st .numbers) t c o
+matchedFor st t (Table.decoded (Table.rmw c o f change r)) = matchedRmw (st .clocks) (st .numbers) c
+matchedFor st t (Table.decoded (Table.store c o a)) = rules.offers []
+matchedFor st t (Table.decoded (Table.storeRegister c o r)) = rules.offers []
+matchedFor st t (Table.decoded (Table.fence o)) = rules.offers []
+matchedFor st t (Table.decoded (Table.unsyncLoad c r)) = rules.offers []
+matchedFor st t (Table.decoded (Table.exclusive c change r)) = rules.offers []
+matchedFor st t (Table.decoded Table.yield) = rules.offers []
+matchedFor st t (Table.decoded (Table.join target)) = rules.offers []
+matchedFor st t (Table.decoded (Table.jump target)) = rules.offers []
+matchedFor st t (Table.decoded (Table.jumpIf r a target)) = rules.offers []
+matchedFor st t (Table.decoded (Table.jumpUnless r a target)) = rules.offers []
+matchedFor st t (Table.decoded (Table.check r a)) = rules.offers []
+matchedFor st t (Table.decoded Table.critical) = rules.offers []
+matchedFor st t (Table.decoded Table.exploreState) = rules.offers []
+matchedFor st t (Table.decoded Table.skipBranch) = rules.offers []
+matchedFor st t (Table.decoded (Table.spurious r)) = rules.offers []
+
+-- the entry of a yield, which is complete before its scheduling; no other row that asks is complete
+abbrev pub askedBy : Question → Bool → ℕ → ℕ → ℕ → Matched → State → Move State
+askedBy question.Thread true t k opcode m st = schedules st (entry t k opcode noSlot 0 0)
+askedBy question.Thread false t k opcode m st = schedules st []
+askedBy question.Slot yielded t k opcode m st = rules.asks st [] (isExploring (st .numbers)) (rules.whichSlot m)
+askedBy question.Bit yielded t k opcode m st = rules.asks st [] (isExploring (st .numbers)) rules.whichBit
+
+-- of a thread at a row with this opcode, which is offered this where it asks for a slot; the state is the one left
+abbrev pub moveOf : Event → ℕ → ℕ → ℕ → Matched → State → Move State
+moveOf event.Moves t k opcode m st = rules.moves st []
+moveOf (event.Done slot mask value) t k opcode m st = rules.moves st (entry t k opcode slot mask value)
+moveOf (event.Asks q yielded) t k opcode m st = askedBy q yielded t k opcode m st
+moveOf event.Ends t k opcode m st = rules.ends st
+moveOf (event.Stops f) t k opcode m st = rules.stops st (faultOf f)

@@ -1,0 +1,54 @@
+// What the machine does at a tick, as the explorer is told it: document 01's faults, the questions that the path answers, and
+// how a tick comes out. Each stands for a case of the definition (specs/Moves).
+
+// Why a run stops within an execution: document 01's answers from 10 on. Impossible stands for a number read back that
+// no run from a fresh start can have written.
+pub enum Fault {
+    Deadlock,
+    Full,
+    Rows,
+    Equal,
+    Race { kind: u8, other: usize },
+    Check,
+    Flags,
+    Preempted,
+    Impossible,
+}
+
+// Where something happens: a thread, and its row.
+pub struct Site {
+    pub thread: usize,
+    pub row: u16,
+}
+
+// What is asked: which thread runs, which store is read, whether `branch_spurious` is set.
+pub enum Question {
+    Thread,
+    Slot,
+    Bit,
+}
+
+// What a branch of the path chooses: a thread, chosen at the branch with this position, or nobody; a slot, with the mask of all that were
+// offered; a bit.
+pub enum Choice {
+    Thread { chosen: usize, branch: u16 },
+    Nobody,
+    Slot { slot: usize, mask: u8 },
+    Bit(bool),
+}
+
+// What a tick, or going on with an answer, comes to.
+pub enum Event {
+    // It goes on, and no row is complete.
+    Moves,
+    // A row is complete: slot (or 255), offer mask and value of its trace entry.
+    Done { slot: u8, mask: u8, value: u64 },
+    // It asks; a yield is complete before it asks, and has its entry.
+    Asks { question: Question, yielded: bool },
+    // The execution has ended.
+    Ends,
+    Stops(Fault),
+}
+
+// A row without slot or value in its trace entry.
+pub const NO_SLOT: u8 = 255;

@@ -1,0 +1,23 @@
+use Rattle.report.proofs.CaseLaws.{no-fault, raceless}
+use borrow.Author.Needs.{needs}
+use Rattle.report.proofs.other_thread.Statement.{statement}
+use Rattle.report.proofs.other_thread.Tie as tie
+
+enum-known-answer : tie.Need-enum-known-answer
+enum-known-answer c = search needs
+
+returns : tie.Need-returns
+returns c = no-fault (c .before .args .answer) (c .match .keys2) .1
+
+enum-known-fault : tie.Need-enum-known-fault
+enum-known-fault c = search needs
+
+returns-2 : tie.Need-returns-2
+returns-2 c = raceless _ _ _ (c .before .before .answer .given .1) (c .match2 .keys2) .1
+
+returns-3 : tie.Need-returns-3
+returns-3 c = search needs
+
+pub other-thread-spec : {M : Type 1} → statement M
+other-thread-spec =
+    tie.close (tie.spec enum-known-answer returns enum-known-fault returns-2 returns-3)

@@ -1,0 +1,145 @@
+-- What each answer of a run stands for: document 01's number, race kind, other thread, thread and row, for every case; and the
+-- report. Assumes nothing.
+--     numberOf, kindOf, otherOf, threadOf, rowOf     of an answer
+--     summaryOf, reportOf                            the definition's summary and report
+--     refusal, ranReport                             the report of a refusal, and of a run that stopped
+--     answerFits, Fits                               an answer that says what a verdict of the definition says
+use Prim.Native.Nat.{ℕ}
+use mathlib.Core.List.{List, map}
+use mathlib.Core.Path.{_≡_}
+use Rattle.rules.specs.Event as rules
+use Rattle.rules.specs.Explorer as explorer
+use Rattle.rules.specs.Explorer.{Verdict}
+use Rattle.rules.specs.Explored as explored
+use Rattle.rules.specs.Explored.{Summary, Report, verdictNumber, verdictKind, verdictOther, verdictSite, refused, summary}
+use Rattle.rules.specs.Machine.{everyThread}
+use Rattle.rules.specs.State.{State, number, begun}
+use lib.ListN.{replicate}
+use Rattle.event.specs.Moves.{faultOf}
+use Rattle.event.specs.declared.Site.{Site}
+use Rattle.report.specs.declared.Answer.{Answer}
+use Rattle.report.specs.declared.Answer.the-variants as answer
+use Rattle.report.specs.declared.ThreadRecord.{ThreadRecord}
+use Rattle.report.specs.declared.Report as code
+
+abbrev pub siteOf : Site → rules.Site
+siteOf s = record { thread = s .thread; row = s .row }
+
+-- the answer's number: "0 an execution ended, no choice open", "1 N executions ended, some choice open", "2 B, L or N out of range",
+-- "3 path buffer length wrong", "4 trace buffer or thread list length wrong", "5 table refused", and those of the faults
+abbrev pub numberOf : Answer → ℕ
+numberOf answer.Exhausted = verdictNumber explorer.exhausted
+numberOf answer.Spent = verdictNumber explorer.spent
+numberOf answer.BadSettings = 2
+numberOf answer.BadPath = 3
+numberOf answer.BadTrace = 4
+numberOf (answer.BadTable t k) = 5
+numberOf (answer.Stopped f s) = verdictNumber (explorer.stopped (faultOf f) (siteOf s))
+
+-- "race kind (else 0)"
+abbrev pub kindOf : Answer → ℕ
+kindOf answer.Exhausted = verdictKind explorer.exhausted
+kindOf answer.Spent = verdictKind explorer.spent
+kindOf answer.BadSettings = 0
+kindOf answer.BadPath = 0
+kindOf answer.BadTrace = 0
+kindOf (answer.BadTable t k) = 0
+kindOf (answer.Stopped f s) = verdictKind (explorer.stopped (faultOf f) (siteOf s))
+
+-- "other thread (else 255)"
+abbrev pub otherOf : Answer → ℕ
+otherOf answer.Exhausted = verdictOther explorer.exhausted
+otherOf answer.Spent = verdictOther explorer.spent
+otherOf answer.BadSettings = 255
+otherOf answer.BadPath = 255
+otherOf answer.BadTrace = 255
+otherOf (answer.BadTable t k) = 255
+otherOf (answer.Stopped f s) = verdictOther (explorer.stopped (faultOf f) (siteOf s))
+
+-- "thread and row at fault (from 11 on the current thread and its row, the row count if it is ending; for 5 the first bad row, or
+-- 255, 255 if header or length is bad ..; 255, 255 for 0 to 4 and 10)"
+abbrev pub threadOf : Answer → ℕ
+threadOf answer.Exhausted = 255
+threadOf answer.Spent = 255
+threadOf answer.BadSettings = 255
+threadOf answer.BadPath = 255
+threadOf answer.BadTrace = 255
+threadOf (answer.BadTable t k) = t
+threadOf (answer.Stopped f s) = verdictSite (explorer.stopped (faultOf f) (siteOf s)) .thread
+
+abbrev pub rowOf : Answer → ℕ
+rowOf answer.Exhausted = 255
+rowOf answer.Spent = 255
+rowOf answer.BadSettings = 255
+rowOf answer.BadPath = 255
+rowOf answer.BadTrace = 255
+rowOf (answer.BadTable t k) = k
+rowOf (answer.Stopped f s) = verdictSite (explorer.stopped (faultOf f) (siteOf s)) .row
+
+abbrev pub summaryOf : ThreadRecord → Summary
+summaryOf r = record { state = r .state; rows = r .rows; yields = r .yields; version = r .version }
+
+abbrev pub summariesOf : List ThreadRecord → List Summary
+summariesOf rs = map summaryOf rs
+
+abbrev pub reportOf : code.Report → Report
+reportOf r = record {
+  answer = numberOf (r .answer);
+  begun = r .begun;
+  opened = r .opened;
+  stillOpen = r .open;
+  rows = r .rows;
+  thread = r .thread;
+  row = r .row;
+  kind = kindOf (r .answer);
+  other = otherOf (r .answer);
+  threads = summariesOf (r .threads);
+}
+
+-- the report of an answer that begins nothing
+abbrev pub refusal : Answer → Report
+refusal a = record {
+  answer = numberOf a;
+  begun = 0;
+  opened = 0;
+  stillOpen = 0;
+  rows = 0;
+  thread = threadOf a;
+  row = rowOf a;
+  kind = kindOf a;
+  other = otherOf a;
+  threads = replicate 5 explored.noSummary;
+}
+
+-- and of one that a run stopped with, in this state
+abbrev pub ranReport : Answer → ℕ → ℕ → ℕ → State → Report
+ranReport a executions opened stillOpen st = record {
+  answer = numberOf a;
+  begun = executions;
+  opened = opened;
+  stillOpen = stillOpen;
+  rows = number (st .numbers) begun;
+  thread = threadOf a;
+  row = rowOf a;
+  kind = kindOf a;
+  other = otherOf a;
+  threads = map (summary st) everyThread;
+}
+
+-- an answer that says what a verdict says: the same number, race kind, other thread, thread and row
+pub record Fits (a : Answer) (v : Verdict) : Type 0 where
+  pub number : numberOf a ≡ verdictNumber v
+  pub kind : kindOf a ≡ verdictKind v
+  pub other : otherOf a ≡ verdictOther v
+  pub thread : threadOf a ≡ verdictSite v .thread
+  pub row : rowOf a ≡ verdictSite v .row
+
+-- and such an answer by its case, for a run: a refusal is none of its verdicts
+abbrev pub answerFits : Answer → Verdict → Type 0
+answerFits answer.Exhausted v = v ≡ explorer.exhausted
+answerFits answer.Spent v = v ≡ explorer.spent
+answerFits answer.BadSettings v = ⊥
+answerFits answer.BadPath v = ⊥
+answerFits answer.BadTrace v = ⊥
+answerFits (answer.BadTable t k) v = ⊥
+answerFits (answer.Stopped f s) v = v ≡ explorer.stopped (faultOf f) (siteOf s)

@@ -1,0 +1,238 @@
+// What a run answers.
+ghost use mathlib.Core.Path.{_≡_};
+ghost use Prim.Native.Nat.{ℕ, _<_};
+ghost use Rattle.rules.specs.Event.{faultNumber, raceKind, otherThread};
+ghost use Rattle.rules.specs.Explored as rules;
+ghost use Rattle.rules.specs.State as State;
+ghost use Rattle.rules.specs.Machine.{everyThread};
+ghost use mathlib.Core.List.{map};
+ghost use lib.Dec.{leb};
+ghost use Rattle.layout.specs.Tables.{state};
+ghost use Rattle.event.specs.Moves.{faultOf};
+ghost use Rattle.report.specs.Answers.{numberOf, kindOf, otherOf, threadOf, rowOf, summaryOf, summariesOf, reportOf, refusal, ranReport};
+use event::Fault;
+use event::Site;
+use layout::Clocks;
+use layout::MAX_THREADS;
+use layout::Numbers;
+use layout::run::ROWS_BEGUN;
+use layout::thread::ROWS;
+use layout::thread::STATE;
+use layout::thread::YIELDS;
+use layout::wide16;
+
+// Document 01's table of answers: 0 and 1, the refusals 2 to 5, and the faults from 10 on, with where they were met.
+pub enum Answer {
+    Exhausted,
+    Spent,
+    BadSettings,
+    BadPath,
+    BadTrace,
+    BadTable { thread: usize, row: usize },
+    Stopped { fault: Fault, site: Site },
+}
+
+// One thread at the end of the last execution; all zero if it is absent.
+pub struct ThreadRecord {
+    pub state: u16,
+    pub rows: u16,
+    pub yields: u16,
+    pub version: u16,
+}
+
+pub struct Report {
+    pub answer: Answer,
+    // Executions begun, choices opened in the whole history, choices open in the path left, rows begun.
+    pub begun: u64,
+    pub opened: u64,
+    pub open: u64,
+    pub rows: u64,
+    // Thread and row at fault, or 255.
+    pub thread: u64,
+    pub row: u64,
+    pub threads: [ThreadRecord; MAX_THREADS],
+}
+
+// What is counted over the whole history, and in the path left.
+pub struct Counts {
+    pub begun: u64,
+    pub opened: u64,
+    pub open: u64,
+}
+
+// A thread that is absent, and every thread where nothing was begun.
+pub fn absent() -> ThreadRecord
+    ensures { λ r. ⌜ summaryOf r ≡ rules.noSummary ⌝ }
+{
+    ThreadRecord {
+        state: 0,
+        rows: 0,
+        yields: 0,
+        version: 0,
+    }
+}
+
+// A refusal begins nothing: all counts and summaries are zero.
+pub fn refused(answer: Answer) -> Report
+    ensures { λ r. ⌜ reportOf r ≡ refusal answer ⌝ }
+{
+    let thread = thread_of(answer);
+    let row = row_of(answer);
+    Report {
+        answer,
+        begun: 0,
+        opened: 0,
+        open: 0,
+        rows: 0,
+        thread,
+        row,
+        threads: [absent(); MAX_THREADS],
+    }
+}
+
+// The report of a run that stops here.
+pub fn finished(clocks: &Clocks, numbers: &Numbers, answer: Answer, counts: Counts) -> Report
+    ensures { λ r. ⌜ ((marks : State.Marks) (values : State.Values) → reportOf r ≡ ranReport answer (counts .begun) (counts .opened) (counts .open) (state (now (clocks .entry)) marks values (now (numbers .entry)))) ⌝ }
+{
+    let thread = thread_of(answer);
+    let row = row_of(answer);
+    let threads = summaries(clocks, numbers);
+    let rows = wide16(numbers[ROWS_BEGUN]);
+    Report {
+        answer,
+        begun: counts.begun,
+        opened: counts.opened,
+        open: counts.open,
+        rows: rows as u64,
+        thread,
+        row,
+        threads,
+    }
+}
+
+// The summary of one thread.
+pub fn summary(clocks: &Clocks, numbers: &Numbers, thread: usize) -> ThreadRecord
+    requires { ⌜ thread < 5 ⌝ }
+    ensures { λ r. ⌜ ((marks : State.Marks) (values : State.Values) → summaryOf r ≡ rules.summary (state (now (clocks .entry)) marks values (now (numbers .entry))) thread) ⌝ }
+{
+    let state = numbers[STATE + thread];
+    if state == thread::ABSENT {
+        return absent();
+    }
+    ThreadRecord {
+        state,
+        rows: numbers[ROWS + thread],
+        yields: numbers[YIELDS + thread],
+        version: thread::version(clocks, thread),
+    }
+}
+
+pub fn summaries(clocks: &Clocks, numbers: &Numbers) -> [ThreadRecord; MAX_THREADS]
+    ensures { λ r. ⌜ ((marks : State.Marks) (values : State.Values) → summariesOf r ≡ map (rules.summary (state (now (clocks .entry)) marks values (now (numbers .entry)))) everyThread) ⌝ }
+{
+    let a = summary(clocks, numbers, 0);
+    let b = summary(clocks, numbers, 1);
+    let c = summary(clocks, numbers, 2);
+    let d = summary(clocks, numbers, 3);
+    let e = summary(clocks, numbers, 4);
+    [a, b, c, d, e]
+}
+
+// The answer's number.
+pub fn number(answer: Answer) -> u64
+    ensures { λ r. ⌜ r ≡ numberOf answer ⌝ }
+{
+    match answer {
+        Answer::Exhausted => 0,
+        Answer::Spent => 1,
+        Answer::BadSettings => 2,
+        Answer::BadPath => 3,
+        Answer::BadTrace => 4,
+        Answer::BadTable { .. } => 5,
+        Answer::Stopped { fault, .. } => fault_number(fault),
+    }
+}
+
+// A fault's number. No run gives the last, which is kept for a path that does not fit the program.
+pub fn fault_number(fault: Fault) -> u64
+    ensures { λ r. ⌜ r ≡ faultNumber (faultOf fault) ⌝ }
+{
+    match fault {
+        Fault::Deadlock => 10,
+        Fault::Full => 11,
+        Fault::Rows => 12,
+        Fault::Equal => 13,
+        Fault::Race { .. } => 14,
+        Fault::Check => 15,
+        Fault::Flags => 16,
+        Fault::Preempted => 17,
+        Fault::Impossible => 20,
+    }
+}
+
+// The race kind, or 0.
+pub fn race_kind(answer: Answer) -> u64
+    ensures { λ r. ⌜ r ≡ kindOf answer ⌝ }
+{
+    let Answer::Stopped { fault, .. } = answer else {
+        return 0;
+    };
+    let Fault::Race { kind, .. } = fault else {
+        return 0;
+    };
+    kind as u64
+}
+
+// The race's other thread, or 255.
+pub fn other_thread(answer: Answer) -> u64
+    ensures { λ r. ⌜ r ≡ otherOf answer ⌝ }
+{
+    let Answer::Stopped { fault, .. } = answer else {
+        return 255;
+    };
+    let Fault::Race { other, .. } = fault else {
+        return 255;
+    };
+    other as u64
+}
+
+// The thread at fault or of the first bad row, or 255.
+pub fn thread_of(answer: Answer) -> u64
+    ensures { λ r. ⌜ r ≡ threadOf answer ⌝ }
+{
+    match answer {
+        Answer::BadTable { thread, .. } => thread as u64,
+        Answer::Stopped { fault, site } => {
+            if names_place(fault) {
+                site.thread as u64
+            } else {
+                255
+            }
+        }
+        _ => 255,
+    }
+}
+
+// The row at fault or the first bad row, or 255.
+pub fn row_of(answer: Answer) -> u64
+    ensures { λ r. ⌜ r ≡ rowOf answer ⌝ }
+{
+    match answer {
+        Answer::BadTable { row, .. } => row as u64,
+        Answer::Stopped { fault, site } => {
+            if names_place(fault) {
+                site.row as u64
+            } else {
+                255
+            }
+        }
+        _ => 255,
+    }
+}
+
+// From 11 on a fault names a thread and its row; a deadlock is nobody's.
+fn names_place(fault: Fault) -> bool
+    ensures { λ r. ⌜ r ≡ leb 11 (faultNumber (faultOf fault)) ⌝ }
+{
+    11 <= fault_number(fault)
+}

@@ -1,0 +1,35 @@
+-- What the answers of this crate stand for in the definition. Assumes nothing.
+--     placeOf            a branch's position
+--     operationMeans     a thread's pending operation
+--     orFive             a thread as an index
+use Prim.Native.Nat.{ℕ, _<_}
+use mathlib.Core.Path.{_≡_}
+use mathlib.Core.Logic.{_≢_}
+use Rattle.rules.specs.Event as rules
+use Rattle.rules.specs.State.{State}
+use Rattle.rules.specs.Vector.{Whom, nobody, thread}
+use Rattle.rules.specs.Machine.{operationOf, cellOf, noOperation}
+use Rattle.schedule.specs.declared.Place.{Place}
+use Rattle.schedule.specs.declared.Place.the-variants as place
+use Rattle.schedule.specs.declared.Operation.{Operation}
+use Rattle.schedule.specs.declared.Operation.the-variants as operation
+
+abbrev pub placeOf : Place → rules.Place
+placeOf place.Nowhere = rules.nowhere
+placeOf (place.Branch n) = rules.branch n
+
+-- an operation on a cell, as the thread's numbers have it
+pub record On (st : State) (t action cell : ℕ) : Type 0 where
+  pub is : operationOf st t ≡ action
+  pub some : action ≢ noOperation
+  pub on : cellOf st t ≡ cell
+  pub within : cell < 4
+
+abbrev pub operationMeans : Operation → State → ℕ → Type 0
+operationMeans operation.Nothing st t = operationOf st t ≡ noOperation
+operationMeans (operation.On action cell) st t = On st t action cell
+
+-- five where it is none
+abbrev pub orFive : Whom → ℕ
+orFive nobody = 5
+orFive (thread t) = t

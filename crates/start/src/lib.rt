@@ -1,0 +1,209 @@
+// The start of an execution: document 01's "Start of each execution".
+ghost use mathlib.Core.Path.{_≡_};
+ghost use mathlib.Core.Bool.{Bool, cond};
+ghost use Prim.Native.Nat.{_<_, _≤_};
+ghost use lib.ListN.{replicate};
+ghost use Rattle.rules.specs.Machine as machine;
+ghost use Rattle.rules.specs.Seen.{unseens};
+ghost use Rattle.rules.specs.Vector.{zeros};
+ghost use Rattle.rules.specs.State as rules;
+ghost use Rattle.rules.specs.Table.{threadsOf, cellsOf};
+ghost use Rattle.layout.specs.Tables.{state};
+use layout::Access;
+use layout::CLOCKS;
+use layout::Clocks;
+use layout::MAX_CELLS;
+use layout::MAX_THREADS;
+use layout::Marks;
+use layout::NONE;
+use layout::NUMBERS;
+use layout::Numbers;
+use layout::VALUES;
+use layout::Values;
+use layout::cell::ACCESS_BRANCH;
+use layout::cell::NON_LOAD_BRANCH;
+use layout::cell::UNSYNC_MUT_AT;
+use layout::order::RELEASE;
+use layout::run::EXPLORING;
+use layout::thread::CAUSALITY;
+use layout::thread::LAST_YIELD;
+use layout::thread::STATE;
+use synchronize::join_into;
+use thread::RUNNABLE;
+
+// Lays the tables anew, whatever they held: cells made by thread 0, then all threads runnable.
+pub fn start(
+    clocks: &mut Clocks,
+    marks: &mut Marks,
+    values: &mut Values,
+    numbers: &mut Numbers,
+    table: &[u8],
+    threads: usize,
+    cells: usize,
+    exploring: bool,
+)
+    requires { ⌜ (threads ≤ 5) × (cells ≤ 4) ⌝ }
+    ensures { λ _. ⌜ ((p : machine.Program) → p .table ≡ now (table .entry) → p .exploring ≡ exploring → threadsOf (p .table) ≡ threads → cellsOf (p .table) ≡ cells → state (now (clocks .exit)) (now (marks .exit)) (now (values .exit)) (now (numbers .exit)) ≡ machine.start p) ⌝ }
+{
+    clear(clocks, marks, values, numbers, exploring);
+    clocks[CAUSALITY] = [1, 0, 0, 0, 0];
+    make_cells(clocks, marks, values, numbers, table, cells);
+    start_threads(clocks, numbers, threads);
+}
+
+// Nothing is left over from the execution before.
+fn clear(
+    clocks: &mut Clocks,
+    marks: &mut Marks,
+    values: &mut Values,
+    numbers: &mut Numbers,
+    exploring: bool,
+)
+    ensures { λ _. ⌜ state (now (clocks .exit)) (now (marks .exit)) (now (values .exit)) (now (numbers .exit)) ≡ machine.blank exploring ⌝ }
+{
+    clear_clocks(clocks);
+    clear_marks(marks);
+    clear_values(values);
+    clear_numbers(numbers);
+    clear_yields(numbers);
+    clear_branches(numbers);
+    numbers[EXPLORING] = if exploring { 1 } else { 0 };
+}
+
+// The cells, in order.
+fn make_cells(
+    clocks: &mut Clocks,
+    marks: &mut Marks,
+    values: &mut Values,
+    numbers: &mut Numbers,
+    table: &[u8],
+    cells: usize,
+)
+    requires { ⌜ cells ≤ 4 ⌝ }
+    ensures { λ _. ⌜ state (now (clocks .exit)) (now (marks .exit)) (now (values .exit)) (now (numbers .exit)) ≡ machine.cellsMade (now (table .entry)) (state (now (clocks .entry)) (now (marks .entry)) (now (values .entry)) (now (numbers .entry))) cells 0 ⌝ }
+{
+    let mut cell = 0;
+    while cell < cells {
+        make_cell(clocks, marks, values, numbers, table, cell);
+        cell += 1;
+    }
+}
+
+// A cell takes thread 0's vector as its exclusive one, and a Release store of its start value.
+fn make_cell(
+    clocks: &mut Clocks,
+    marks: &mut Marks,
+    values: &mut Values,
+    numbers: &mut Numbers,
+    table: &[u8],
+    cell: usize,
+)
+    requires { ⌜ cell < 4 ⌝ }
+    ensures { λ _. ⌜ state (now (clocks .exit)) (now (marks .exit)) (now (values .exit)) (now (numbers .exit)) ≡ machine.cellMade (now (table .entry)) (state (now (clocks .entry)) (now (marks .entry)) (now (values .entry)) (now (numbers .entry))) cell ⌝ }
+{
+    join_into(clocks, UNSYNC_MUT_AT + cell, CAUSALITY);
+    let value = table::start_value(table, cell);
+    let access = Access {
+        thread: 0,
+        cell,
+        order: RELEASE,
+    };
+    atomic::store(
+        clocks,
+        marks,
+        values,
+        numbers,
+        access,
+        [0; MAX_THREADS],
+        value,
+    );
+}
+
+// Thread 0 is at (2,0,0,0,0), each other has seen its first version and is at 1 itself.
+fn start_threads(clocks: &mut Clocks, numbers: &mut Numbers, threads: usize)
+    requires { ⌜ threads ≤ 5 ⌝ }
+    ensures { λ _. ⌜ ((marks : rules.Marks) (values : rules.Values) → state (now (clocks .exit)) marks values (now (numbers .exit)) ≡ machine.threadsStarted (state (now (clocks .entry)) marks values (now (numbers .entry))) threads 0) ⌝ }
+{
+    let mut t = 0;
+    while t < threads {
+        clocks[CAUSALITY + t] = first_causality(t);
+        numbers[STATE + t] = RUNNABLE;
+        t += 1;
+    }
+}
+
+// What a thread has observed as it starts.
+fn first_causality(thread: usize) -> [u16; MAX_THREADS]
+    requires { ⌜ thread < 5 ⌝ }
+    ensures { λ r. ⌜ r ≡ machine.firstCausality thread ⌝ }
+{
+    if thread == 0 {
+        return [2, 0, 0, 0, 0];
+    }
+    let mut causality = [1, 0, 0, 0, 0];
+    causality[thread] = 1;
+    causality
+}
+
+fn clear_clocks(clocks: &mut Clocks)
+    ensures { λ _. ⌜ now (clocks .exit) ≡ replicate rules.vectorsHeld (zeros 5) ⌝ }
+{
+    let mut i = 0;
+    while i < CLOCKS {
+        clocks[i] = [0; MAX_THREADS];
+        i += 1;
+    }
+}
+
+fn clear_marks(marks: &mut Marks)
+    ensures { λ _. ⌜ now (marks .exit) ≡ replicate 4 (replicate 7 (unseens 5)) ⌝ }
+{
+    let mut i = 0;
+    while i < MAX_CELLS {
+        marks[i] = [[NONE; 5]; 7];
+        i += 1;
+    }
+}
+
+fn clear_values(values: &mut Values)
+    ensures { λ _. ⌜ now (values .exit) ≡ replicate rules.valuesHeld 0 ⌝ }
+{
+    let mut i = 0;
+    while i < VALUES {
+        values[i] = 0;
+        i += 1;
+    }
+}
+
+fn clear_numbers(numbers: &mut Numbers)
+    ensures { λ _. ⌜ now (numbers .exit) ≡ replicate rules.numbersHeld 0 ⌝ }
+{
+    let mut i = 0;
+    while i < NUMBERS {
+        numbers[i] = 0;
+        i += 1;
+    }
+}
+
+// No thread has yielded yet.
+fn clear_yields(numbers: &mut Numbers)
+    ensures { λ _. ⌜ now (numbers .exit) ≡ machine.forThreads machine.noYield 5 0 (now (numbers .entry)) ⌝ }
+{
+    let mut t = 0;
+    while t < MAX_THREADS {
+        numbers[LAST_YIELD + t] = NONE;
+        t += 1;
+    }
+}
+
+// No cell has a last access.
+fn clear_branches(numbers: &mut Numbers)
+    ensures { λ _. ⌜ now (numbers .exit) ≡ machine.forThreads machine.noAccess 4 0 (now (numbers .entry)) ⌝ }
+{
+    let mut cell = 0;
+    while cell < MAX_CELLS {
+        numbers[ACCESS_BRANCH + cell] = NONE;
+        numbers[NON_LOAD_BRANCH + cell] = NONE;
+        cell += 1;
+    }
+}
