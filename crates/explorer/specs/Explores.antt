@@ -2,6 +2,7 @@
 --     settingsOf      the settings
 --     exploredOf      a report with both buffers
 --     Ready           what is asked of a run: checks 2 to 5 have passed
+--     Refuses         what is left where one of them has not
 use Prim.Native.Nat.{ℕ, _*_}
 use mathlib.Core.List.{List}
 use mathlib.Core.Bool.{true}
@@ -26,8 +27,13 @@ settingsOf s = record {
 abbrev pub exploredOf : Report → List ℕ → List ℕ → rules.Explored
 exploredOf r path trace = record { report = reportOf r; path = path; trace = trace }
 
+-- "Checks run 2, 3, 4, 5"
 pub record Ready (table : List ℕ) (s : Settings) (path trace : List ℕ) : Type 0 where
   pub settings : rules.settingsFine (settingsOf s) ≡ true
   pub path : length path ≡ 16 * s .branches
   pub trace : length trace ≡ 16 * s .operations
   pub table : judged table ≡ good
+
+-- where the table, the settings or a buffer is refused, the report and both buffers are the definition's
+pub record Refuses (r : Report) (table : List ℕ) (s : Settings) (path exitPath trace exitTrace : List ℕ) : Type 0 where
+  pub refuses : (Ready table s path trace → ⊥) → exploredOf r exitPath exitTrace ≡ rules.explored table (settingsOf s) path trace

