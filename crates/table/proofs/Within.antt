@@ -9,8 +9,9 @@ use lib.ListN.{length}
 use borrow.Author.Tests.{ltb-true, leb-true}
 use Rattle.rules.specs.Change.{Change}
 use Rattle.rules.specs.Table.{Row, Op, Decoded, refused, decoded, onlyIf, isRegister, fenceOrder, load, store, storeRegister, rmw, fence, unsyncLoad, exclusive, yield, join, jump, jumpIf, jumpUnless, check, critical, exploreState, skipBranch, spurious, loadRow, storeRow, storeRegisterRow, rmwRow, fenceRow, unsyncLoadRow, exclusiveRow, bareRow, joinRow, jumpRow, jumpOnRow, checkRow, spuriousRow, changeDecoded, rowDecoded, sizeOf, rowFrom, noRow, rowAt, opAt}
-use Rattle.table.specs.declared.Decoded as row
-use Rattle.table.specs.Ops.{decodedOf, inRange, allInRange, OpAt}
+use Rattle.decode.specs.declared.Decoded as row
+use Rattle.decode.specs.Ops.{decodedOf, inRange, allInRange}
+use Rattle.table.specs.Answers.{OpAt}
 
 first : (a b : Bool) → a && b ≡ true → a ≡ true
 first a b e = and-eq-true-iff a b .0 e .0

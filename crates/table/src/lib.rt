@@ -3,15 +3,18 @@
 ghost use mathlib.Core.Path.{_≡_};
 ghost use Prim.Native.Nat.{_+_, _<_, _≤_, _^_};
 ghost use lib.ListN.{length, getD};
-ghost use Rattle.rules.specs.Table.{headerBytes, rowBytes, headerFine, countFine, countsFine, countsOf, firstBad, judged, shapeOf, startValue, rowAt, rowFrom, opcodeOf};
-ghost use Rattle.table.specs.Judged.{judgedOf};
-ghost use Rattle.table.specs.Ops.{opOf, rowOf, OpAt};
+ghost use Rattle.rules.specs.Table.{headerBytes, rowBytes, headerFine, countFine, countsFine, countsOf, firstBad, judged, shapeOf, startValue, rowAt, rowFrom};
+ghost use Rattle.decode.specs.Ops.{rowOf};
+ghost use Rattle.table.specs.Answers.{judgedOf, OpAt};
 
 pub mod limits;
 pub mod little;
-mod rows;
 
-use change::Change;
+pub use decode::Decoded;
+pub use decode::Op;
+use decode::Row;
+pub use decode::opcode;
+use decode::row_decoded;
 use layout::MAX_CELLS;
 use layout::MAX_THREADS;
 use layout::short8;
@@ -48,90 +51,6 @@ pub enum Judged {
     Accepted,
     Header,
     Row { thread: usize, row: usize },
-}
-
-// What a row does, with the fields that its opcode uses.
-pub enum Op {
-    Load {
-        cell: usize,
-        order: u8,
-        register: usize,
-    },
-    Store {
-        cell: usize,
-        order: u8,
-        value: u64,
-    },
-    StoreRegister {
-        cell: usize,
-        order: u8,
-        register: usize,
-    },
-    Rmw {
-        cell: usize,
-        order: u8,
-        failure: u8,
-        change: Change,
-        register: usize,
-    },
-    Fence {
-        order: u8,
-    },
-    UnsyncLoad {
-        cell: usize,
-        register: usize,
-    },
-    WithMut {
-        cell: usize,
-        change: Change,
-        register: usize,
-    },
-    Yield,
-    Join {
-        thread: usize,
-    },
-    Jump {
-        target: u16,
-    },
-    JumpIf {
-        register: usize,
-        a: u64,
-        target: u16,
-    },
-    JumpUnless {
-        register: usize,
-        a: u64,
-        target: u16,
-    },
-    Check {
-        register: usize,
-        a: u64,
-    },
-    Critical,
-    ExploreState,
-    SkipBranch,
-    Spurious {
-        register: usize,
-    },
-}
-
-// What a row says, or that it is refused.
-pub enum Decoded {
-    Refused,
-    Row(Op),
-}
-
-// The fields of a row as they stand. `object` is the cell or the thread.
-struct Row {
-    opcode: u8,
-    object: u8,
-    order: u8,
-    failure: u8,
-    kind: u8,
-    register: u8,
-    target: u16,
-    a: u64,
-    b: u64,
 }
 
 // Whether these bytes are a table, and if not, what is wrong first. The header and the length are judged before any row.
@@ -222,34 +141,9 @@ pub fn op_at(table: &[u8], threads: usize, cells: usize, count: usize, index: us
 {
     if threads <= MAX_THREADS {
         let row = row_at(table, cells, index);
-        return rows::row_decoded(row, threads, cells, count);
+        return row_decoded(row, threads, cells, count);
     }
     Decoded::Refused
-}
-
-// The opcode's number.
-pub fn opcode(op: Op) -> u8
-    ensures { λ r. ⌜ r ≡ opcodeOf (opOf op) ⌝ }
-{
-    match op {
-        Op::Load { .. } => 0,
-        Op::Store { .. } => 1,
-        Op::StoreRegister { .. } => 2,
-        Op::Rmw { .. } => 3,
-        Op::Fence { .. } => 4,
-        Op::UnsyncLoad { .. } => 5,
-        Op::WithMut { .. } => 6,
-        Op::Yield => 7,
-        Op::Join { .. } => 8,
-        Op::Jump { .. } => 9,
-        Op::JumpIf { .. } => 10,
-        Op::JumpUnless { .. } => 11,
-        Op::Check { .. } => 12,
-        Op::Critical => 13,
-        Op::ExploreState => 14,
-        Op::SkipBranch => 15,
-        Op::Spurious { .. } => 16,
-    }
 }
 
 // The row of this number among all rows of a table with this many cells. Where the table does not hold it, a row of opcode

@@ -2,8 +2,7 @@ use Prim.Native.Nat.{_≤_, _-_, _+_}
 use mathlib.Core.Path.{_≡_, sym, _∙_}
 use mathlib.Core.Bool.{true, false}
 use Rattle.rules.specs.Table.{isFine, opAt, firstBad}
-use Rattle.table.proofs.RowLaws.{fine}
-use Rattle.table.proofs.Walks.{badLeft, bad-all, first-on, first-found, first-none}
+use Rattle.table.proofs.Walks.{fine, badLeft, bad-all, first-on, first-found, first-none}
 use borrow.Author.Needs.{needs}
 use Rattle.table.proofs.first_bad.Statement.{statement}
 use Rattle.table.proofs.first_bad.Tie as tie

@@ -1,0 +1,23 @@
+use Rattle.decode.specs.Ops.{rowOf}
+use Rattle.decode.proofs.RowLaws.{fence-made}
+use borrow.Author.Needs.{needs}
+use Rattle.decode.proofs.fence_row.Statement.{statement}
+use Rattle.decode.proofs.fence_row.Tie as tie
+
+no-change-requires : tie.Need-no-change-requires
+no-change-requires c κs = search needs
+
+no-operands-requires : tie.Need-no-operands-requires
+no-operands-requires c κs = search needs
+
+only-if-requires : tie.Need-only-if-requires
+only-if-requires c κs = search needs
+
+returns : tie.Need-returns
+returns c =
+    let g = c .before .before .before .before .before .before .before .before .args in
+    fence-made (rowOf (g .row)) (c .only-if .ensures) (c .before .before .before .before .no-change .ensures) (c .before .no-operands .ensures)
+
+pub fence-row-spec : {M : Type 1} → statement M
+fence-row-spec =
+    tie.close (tie.spec no-change-requires no-operands-requires only-if-requires returns)

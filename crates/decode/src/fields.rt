@@ -1,0 +1,114 @@
+// What a field of a row may be, and the change that three of them say.
+ghost use mathlib.Core.Path.{_≡_};
+ghost use mathlib.Core.Bool.{_&&_};
+ghost use lib.Dec.{ltb, leb, eqb};
+ghost use Rattle.rules.specs.Table as rules;
+ghost use Rattle.change.specs.Changes.{changeMeant};
+ghost use Rattle.decode.specs.Ops.{changeDecodedOf};
+use crate::Row;
+use change::Change;
+use layout::REGISTERS;
+use layout::order::ACQ_REL;
+use layout::order::ACQUIRE;
+use layout::order::RELEASE;
+use layout::order::SEQ_CST;
+
+// The changes that may fail.
+const COMPARE: u8 = 11;
+
+const DECREMENT: u8 = 12;
+
+// A row's change with its operands, or that the row has none.
+pub enum ChangeDecoded {
+    Refused,
+    Change(Change),
+}
+
+// The change of this kind. All but the last use operand a; only compare and write uses operand b.
+pub fn change_of(kind: u8, a: u64, b: u64) -> ChangeDecoded
+    ensures { λ r. ⌜ changeDecodedOf r ≡ rules.changeDecoded kind a b ⌝ }
+{
+    match kind {
+        0 => change_if(b == 0, Change::Swap(a)),
+        1 => change_if(b == 0, Change::Add(a)),
+        2 => change_if(b == 0, Change::Subtract(a)),
+        3 => change_if(b == 0, Change::And(a)),
+        4 => change_if(b == 0, Change::Or(a)),
+        5 => change_if(b == 0, Change::Xor(a)),
+        6 => change_if(b == 0, Change::Nand(a)),
+        7 => change_if(b == 0, Change::Max(a)),
+        8 => change_if(b == 0, Change::Min(a)),
+        9 => change_if(b == 0, Change::SignedMax(a)),
+        10 => change_if(b == 0, Change::SignedMin(a)),
+        11 => ChangeDecoded::Change(Change::Compare(a, b)),
+        12 => change_if((a == 0) & (b == 0), Change::Decrement),
+        13..=255 => ChangeDecoded::Refused,
+    }
+}
+
+// The change, where the operands that it does not use are zero.
+fn change_if(fine: bool, change: Change) -> ChangeDecoded
+    ensures { λ r. ⌜ changeDecodedOf r ≡ rules.onlyIf fine (changeMeant change) ⌝ }
+{
+    if fine {
+        return ChangeDecoded::Change(change);
+    }
+    ChangeDecoded::Refused
+}
+
+// Whether a cell or a thread exists, where there are this many.
+pub fn named(object: u8, present: usize) -> bool
+    ensures { λ r. ⌜ r ≡ ltb object present ⌝ }
+{
+    (object as usize) < present
+}
+
+pub fn is_register(register: u8) -> bool
+    ensures { λ r. ⌜ r ≡ rules.isRegister register ⌝ }
+{
+    (register as usize) < REGISTERS
+}
+
+// Whether a jump ends at a row or at the row count.
+pub fn reached(target: u16, count: usize) -> bool
+    ensures { λ r. ⌜ r ≡ leb target count ⌝ }
+{
+    (target as usize) <= count
+}
+
+// The orders of a load, and of a change that failed.
+pub fn load_order(order: u8) -> bool
+    ensures { λ r. ⌜ r ≡ rules.loadOrder order ⌝ }
+{
+    (order <= SEQ_CST) & (order != RELEASE) & (order != ACQ_REL)
+}
+
+pub fn store_order(order: u8) -> bool
+    ensures { λ r. ⌜ r ≡ rules.storeOrder order ⌝ }
+{
+    (order <= SEQ_CST) & (order != ACQUIRE) & (order != ACQ_REL)
+}
+
+// Only a change that may fail uses a failure order.
+pub fn failure_order(kind: u8, failure: u8) -> bool
+    ensures { λ r. ⌜ r ≡ rules.failureOrder kind failure ⌝ }
+{
+    if (kind == COMPARE) | (kind == DECREMENT) {
+        return load_order(failure);
+    }
+    failure == 0
+}
+
+// What a row without a change leaves zero.
+pub fn no_change(row: Row) -> bool
+    ensures { λ r. ⌜ r ≡ (eqb (row .failure) 0 && eqb (row .kind) 0) ⌝ }
+{
+    (row.failure == 0) & (row.kind == 0)
+}
+
+// What a row without operands leaves zero.
+pub fn no_operands(row: Row) -> bool
+    ensures { λ r. ⌜ r ≡ (eqb (row .a) 0 && eqb (row .b) 0) ⌝ }
+{
+    (row.a == 0) & (row.b == 0)
+}

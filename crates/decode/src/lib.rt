@@ -1,0 +1,435 @@
+// What a row says: its fields decoded into an enum with those that its opcode uses. A field that the opcode and the change kind
+// do not use is zero, else the row is refused. Each promise is an equation with the definition in rules (Table).
+ghost use mathlib.Core.Path.{_≡_};
+ghost use Prim.Native.Nat.{ℕ};
+ghost use Rattle.rules.specs.Table as rules;
+ghost use Rattle.decode.specs.Ops.{opOf, decodedOf, rowOf};
+
+mod fields;
+
+use change::Change;
+use fields::ChangeDecoded;
+use fields::change_of;
+use fields::failure_order;
+use fields::is_register;
+use fields::load_order;
+use fields::named;
+use fields::no_change;
+use fields::no_operands;
+use fields::reached;
+use fields::store_order;
+use layout::order::RELAXED;
+use layout::order::SEQ_CST;
+use layout::wide8;
+
+// What a row does, with the fields that its opcode uses.
+pub enum Op {
+    Load {
+        cell: usize,
+        order: u8,
+        register: usize,
+    },
+    Store {
+        cell: usize,
+        order: u8,
+        value: u64,
+    },
+    StoreRegister {
+        cell: usize,
+        order: u8,
+        register: usize,
+    },
+    Rmw {
+        cell: usize,
+        order: u8,
+        failure: u8,
+        change: Change,
+        register: usize,
+    },
+    Fence {
+        order: u8,
+    },
+    UnsyncLoad {
+        cell: usize,
+        register: usize,
+    },
+    WithMut {
+        cell: usize,
+        change: Change,
+        register: usize,
+    },
+    Yield,
+    Join {
+        thread: usize,
+    },
+    Jump {
+        target: u16,
+    },
+    JumpIf {
+        register: usize,
+        a: u64,
+        target: u16,
+    },
+    JumpUnless {
+        register: usize,
+        a: u64,
+        target: u16,
+    },
+    Check {
+        register: usize,
+        a: u64,
+    },
+    Critical,
+    ExploreState,
+    SkipBranch,
+    Spurious {
+        register: usize,
+    },
+}
+
+// What a row says, or that it is refused.
+pub enum Decoded {
+    Refused,
+    Row(Op),
+}
+
+// The fields of a row as they stand. `object` is the cell or the thread.
+pub struct Row {
+    pub opcode: u8,
+    pub object: u8,
+    pub order: u8,
+    pub failure: u8,
+    pub kind: u8,
+    pub register: u8,
+    pub target: u16,
+    pub a: u64,
+    pub b: u64,
+}
+
+// What this row does, as one of a thread of `count` rows, in a table of so many threads and cells.
+pub fn row_decoded(row: Row, threads: usize, cells: usize, count: usize) -> Decoded
+    ensures { λ r. ⌜ decodedOf r ≡ rules.rowDecoded threads cells count (rowOf row) ⌝ }
+{
+    let opcode = row.opcode;
+    match opcode {
+        0 => load_row(row, cells),
+        1 => store_row(row, cells),
+        2 => store_register_row(row, cells),
+        3 => rmw_row(row, cells),
+        4 => fence_row(row),
+        5 => unsync_load_row(row, cells),
+        6 => with_mut_row(row, cells),
+        7 => bare_row(row, Op::Yield),
+        8 => join_row(row, threads),
+        9 => jump_row(row, count),
+        10 => jump_if_row(row, count),
+        11 => jump_unless_row(row, count),
+        12 => check_row(row),
+        13 => bare_row(row, Op::Critical),
+        14 => bare_row(row, Op::ExploreState),
+        15 => bare_row(row, Op::SkipBranch),
+        16 => spurious_row(row),
+        17..=255 => Decoded::Refused,
+    }
+}
+
+// A load uses cell, order and register.
+fn load_row(row: Row, cells: usize) -> Decoded
+    ensures { λ r. ⌜ decodedOf r ≡ rules.loadRow cells (rowOf row) ⌝ }
+{
+    only_if(
+        named(row.object, cells)
+            & load_order(row.order)
+            & is_register(row.register)
+            & no_change(row)
+            & (row.target == 0)
+            & no_operands(row),
+        Op::Load {
+            cell: wide8(row.object),
+            order: row.order,
+            register: wide8(row.register),
+        },
+    )
+}
+
+// A store of operand a uses cell and order beside it.
+fn store_row(row: Row, cells: usize) -> Decoded
+    ensures { λ r. ⌜ decodedOf r ≡ rules.storeRow cells (rowOf row) ⌝ }
+{
+    only_if(
+        named(row.object, cells)
+            & store_order(row.order)
+            & no_change(row)
+            & (row.register == 0)
+            & (row.target == 0)
+            & (row.b == 0),
+        Op::Store {
+            cell: wide8(row.object),
+            order: row.order,
+            value: row.a,
+        },
+    )
+}
+
+// A store of a register uses cell and order beside it.
+fn store_register_row(row: Row, cells: usize) -> Decoded
+    ensures { λ r. ⌜ decodedOf r ≡ rules.storeRegisterRow cells (rowOf row) ⌝ }
+{
+    only_if(
+        named(row.object, cells)
+            & store_order(row.order)
+            & is_register(row.register)
+            & no_change(row)
+            & (row.target == 0)
+            & no_operands(row),
+        Op::StoreRegister {
+            cell: wide8(row.object),
+            order: row.order,
+            register: wide8(row.register),
+        },
+    )
+}
+
+// An RMW uses cell, order, change kind and register, and what its change uses.
+fn rmw_row(row: Row, cells: usize) -> Decoded
+    ensures { λ r. ⌜ decodedOf r ≡ rules.rmwRow cells (rowOf row) (rules.changeDecoded (row .kind) (row .a) (row .b)) ⌝ }
+{
+    let ChangeDecoded::Change(change) = change_of(row.kind, row.a, row.b) else {
+        return Decoded::Refused;
+    };
+    only_if(
+        named(row.object, cells)
+            & (row.order <= SEQ_CST)
+            & failure_order(row.kind, row.failure)
+            & is_register(row.register)
+            & (row.target == 0),
+        Op::Rmw {
+            cell: wide8(row.object),
+            order: row.order,
+            failure: row.failure,
+            change,
+            register: wide8(row.register),
+        },
+    )
+}
+
+// A fence uses the order.
+fn fence_row(row: Row) -> Decoded
+    ensures { λ r. ⌜ decodedOf r ≡ rules.fenceRow (rowOf row) ⌝ }
+{
+    only_if(
+        ((row.order <= SEQ_CST) & (row.order != RELAXED))
+            & (row.object == 0)
+            & no_change(row)
+            & (row.register == 0)
+            & (row.target == 0)
+            & no_operands(row),
+        Op::Fence { order: row.order },
+    )
+}
+
+// An unsynchronised load uses cell and register.
+fn unsync_load_row(row: Row, cells: usize) -> Decoded
+    ensures { λ r. ⌜ decodedOf r ≡ rules.unsyncLoadRow cells (rowOf row) ⌝ }
+{
+    only_if(
+        named(row.object, cells)
+            & is_register(row.register)
+            & (row.order == 0)
+            & no_change(row)
+            & (row.target == 0)
+            & no_operands(row),
+        Op::UnsyncLoad {
+            cell: wide8(row.object),
+            register: wide8(row.register),
+        },
+    )
+}
+
+// An exclusive change uses cell, change kind and register, and the operands of its change.
+fn with_mut_row(row: Row, cells: usize) -> Decoded
+    ensures { λ r. ⌜ decodedOf r ≡ rules.exclusiveRow cells (rowOf row) (rules.changeDecoded (row .kind) (row .a) (row .b)) ⌝ }
+{
+    let ChangeDecoded::Change(change) = change_of(row.kind, row.a, row.b) else {
+        return Decoded::Refused;
+    };
+    only_if(
+        named(row.object, cells)
+            & is_register(row.register)
+            & (row.order == 0)
+            & (row.failure == 0)
+            & (row.target == 0),
+        Op::WithMut {
+            cell: wide8(row.object),
+            change,
+            register: wide8(row.register),
+        },
+    )
+}
+
+// A yield, and the three that steer exploring, use nothing.
+fn bare_row(row: Row, op: Op) -> Decoded
+    ensures { λ r. ⌜ decodedOf r ≡ rules.bareRow (opOf op) (rowOf row) ⌝ }
+{
+    only_if(
+        (row.object == 0)
+            & (row.order == 0)
+            & no_change(row)
+            & (row.register == 0)
+            & (row.target == 0)
+            & no_operands(row),
+        op,
+    )
+}
+
+// A join uses the thread.
+fn join_row(row: Row, threads: usize) -> Decoded
+    ensures { λ r. ⌜ decodedOf r ≡ rules.joinRow threads (rowOf row) ⌝ }
+{
+    only_if(
+        named(row.object, threads)
+            & (row.order == 0)
+            & no_change(row)
+            & (row.register == 0)
+            & (row.target == 0)
+            & no_operands(row),
+        Op::Join {
+            thread: wide8(row.object),
+        },
+    )
+}
+
+// A jump uses the target, which may be the row count.
+fn jump_row(row: Row, count: usize) -> Decoded
+    ensures { λ r. ⌜ decodedOf r ≡ rules.jumpRow count (rowOf row) ⌝ }
+{
+    only_if(
+        reached(row.target, count)
+            & (row.object == 0)
+            & (row.order == 0)
+            & no_change(row)
+            & (row.register == 0)
+            & no_operands(row),
+        Op::Jump { target: row.target },
+    )
+}
+
+// A jump on a test uses register, operand a and target.
+fn jump_if_row(row: Row, count: usize) -> Decoded
+    ensures { λ r. ⌜ decodedOf r ≡ rules.jumpOnRow rules.jumpIf count (rowOf row) ⌝ }
+{
+    let register = wide8(row.register);
+    let a = row.a;
+    let target = row.target;
+    jump_on_row(
+        row,
+        count,
+        Op::JumpIf {
+            register,
+            a,
+            target,
+        },
+    )
+}
+
+fn jump_unless_row(row: Row, count: usize) -> Decoded
+    ensures { λ r. ⌜ decodedOf r ≡ rules.jumpOnRow rules.jumpUnless count (rowOf row) ⌝ }
+{
+    let register = wide8(row.register);
+    let a = row.a;
+    let target = row.target;
+    jump_on_row(
+        row,
+        count,
+        Op::JumpUnless {
+            register,
+            a,
+            target,
+        },
+    )
+}
+
+// What both ask of a row that is to be this jump.
+fn jump_on_row(row: Row, count: usize, op: Op) -> Decoded
+    ensures { λ r. ⌜ decodedOf r ≡ rules.jumpOnRow (λ (register a target : ℕ). opOf op) count (rowOf row) ⌝ }
+{
+    only_if(
+        is_register(row.register)
+            & reached(row.target, count)
+            & (row.object == 0)
+            & (row.order == 0)
+            & no_change(row)
+            & (row.b == 0),
+        op,
+    )
+}
+
+// A check uses register and operand a.
+fn check_row(row: Row) -> Decoded
+    ensures { λ r. ⌜ decodedOf r ≡ rules.checkRow (rowOf row) ⌝ }
+{
+    only_if(
+        is_register(row.register)
+            & (row.object == 0)
+            & (row.order == 0)
+            & no_change(row)
+            & (row.target == 0)
+            & (row.b == 0),
+        Op::Check {
+            register: wide8(row.register),
+            a: row.a,
+        },
+    )
+}
+
+// A spurious choice uses the register.
+fn spurious_row(row: Row) -> Decoded
+    ensures { λ r. ⌜ decodedOf r ≡ rules.spuriousRow (rowOf row) ⌝ }
+{
+    only_if(
+        is_register(row.register)
+            & (row.object == 0)
+            & (row.order == 0)
+            & no_change(row)
+            & (row.target == 0)
+            & no_operands(row),
+        Op::Spurious {
+            register: wide8(row.register),
+        },
+    )
+}
+
+// The row, where it passed its tests.
+fn only_if(fine: bool, op: Op) -> Decoded
+    ensures { λ r. ⌜ decodedOf r ≡ rules.onlyIf fine (opOf op) ⌝ }
+{
+    if fine {
+        return Decoded::Row(op);
+    }
+    Decoded::Refused
+}
+
+// The opcode's number.
+pub fn opcode(op: Op) -> u8
+    ensures { λ r. ⌜ r ≡ rules.opcodeOf (opOf op) ⌝ }
+{
+    match op {
+        Op::Load { .. } => 0,
+        Op::Store { .. } => 1,
+        Op::StoreRegister { .. } => 2,
+        Op::Rmw { .. } => 3,
+        Op::Fence { .. } => 4,
+        Op::UnsyncLoad { .. } => 5,
+        Op::WithMut { .. } => 6,
+        Op::Yield => 7,
+        Op::Join { .. } => 8,
+        Op::Jump { .. } => 9,
+        Op::JumpIf { .. } => 10,
+        Op::JumpUnless { .. } => 11,
+        Op::Check { .. } => 12,
+        Op::Critical => 13,
+        Op::ExploreState => 14,
+        Op::SkipBranch => 15,
+        Op::Spurious { .. } => 16,
+    }
+}
