@@ -69,7 +69,15 @@ pub fn store_row(
         cell,
         order,
     };
-    atomic::store(clocks, marks, values, numbers, access, [0; MAX_THREADS], value);
+    atomic::store(
+        clocks,
+        marks,
+        values,
+        numbers,
+        access,
+        [0; MAX_THREADS],
+        value,
+    );
     thread::complete(numbers, thread, vv::one_more(site.row));
     Event::Done {
         slot: slot as u8,
@@ -143,7 +151,11 @@ pub fn offers(
     };
     match op {
         Op::Load { cell, order, .. } => {
-            let access = Access { thread, cell, order };
+            let access = Access {
+                thread,
+                cell,
+                order,
+            };
             matches::match_load_to_stores(clocks, marks[cell], numbers, access, dst)
         }
         Op::Rmw { cell, .. } => matches::match_rmw_to_stores(clocks, numbers, cell, dst),
@@ -205,12 +217,35 @@ fn read(
 {
     match op {
         Op::Load { cell, order, .. } => {
-            let access = Access { thread, cell, order };
+            let access = Access {
+                thread,
+                cell,
+                order,
+            };
             atomic::load(clocks, marks, values, numbers, access, slot)
         }
-        Op::Rmw { cell, order, failure, change, .. } => {
-            let access = Access { thread, cell, order };
-            atomic::rmw(clocks, marks, values, numbers, access, slot, change, failure)
+        Op::Rmw {
+            cell,
+            order,
+            failure,
+            change,
+            ..
+        } => {
+            let access = Access {
+                thread,
+                cell,
+                order,
+            };
+            atomic::rmw(
+                clocks,
+                marks,
+                values,
+                numbers,
+                access,
+                slot,
+                change,
+                failure,
+            )
         }
         _ => Loaded::Value(0),
     }

@@ -60,7 +60,15 @@ pub fn tick(
     if to_begin {
         return rows::begin(numbers, thread, limit, op);
     }
-    act(clocks, marks, values, numbers, site, wide16(shape[CELLS]), op)
+    act(
+        clocks,
+        marks,
+        values,
+        numbers,
+        site,
+        wide16(shape[CELLS]),
+        op,
+    )
 }
 
 // What a row does once it has begun, and its thread was chosen if it called the scheduling.
@@ -82,7 +90,11 @@ pub fn act(
         Op::Store { cell, order, value } => {
             accesses::store_row(clocks, marks, values, numbers, site, cell, order, value)
         }
-        Op::StoreRegister { cell, order, register } => {
+        Op::StoreRegister {
+            cell,
+            order,
+            register,
+        } => {
             let value = values[REGISTER + register_at(thread, register)];
             accesses::store_row(clocks, marks, values, numbers, site, cell, order, value)
         }
@@ -91,9 +103,11 @@ pub fn act(
         Op::UnsyncLoad { cell, register } => {
             accesses::unsync_load_row(clocks, values, numbers, site, cell, register)
         }
-        Op::WithMut { cell, change, register } => {
-            accesses::with_mut_row(clocks, values, numbers, site, cell, change, register)
-        }
+        Op::WithMut {
+            cell,
+            change,
+            register,
+        } => { accesses::with_mut_row(clocks, values, numbers, site, cell, change, register) }
         Op::Yield => rows::yield_row(clocks, numbers, site),
         Op::Join { thread: target } => rows::join_row(clocks, numbers, site, target),
         _ => act_alone(values, numbers, site, op),
@@ -107,11 +121,19 @@ fn act_alone(values: &Values, numbers: &mut Numbers, site: Site, op: Op) -> Even
     let thread = site.thread;
     match op {
         Op::Jump { target } => rows::jump_row(numbers, site, true, target),
-        Op::JumpIf { register, a, target } => {
+        Op::JumpIf {
+            register,
+            a,
+            target,
+        } => {
             let equal = values[REGISTER + register_at(thread, register)] == a;
             rows::jump_row(numbers, site, equal, target)
         }
-        Op::JumpUnless { register, a, target } => {
+        Op::JumpUnless {
+            register,
+            a,
+            target,
+        } => {
             let equal = values[REGISTER + register_at(thread, register)] == a;
             rows::jump_row(numbers, site, !equal, target)
         }

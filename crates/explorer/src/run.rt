@@ -79,7 +79,12 @@ pub fn run(path: &mut [u8], trace: &mut [u8], table: &[u8], settings: Settings) 
         let next = over.cursor;
         cursor = next;
         longest = greater(longest, cursor.entries);
-        if let Verdict::Answers(answer) = judge_end(path, tick, cursor.len, begun == settings.executions) {
+        if let Verdict::Answers(answer) = judge_end(
+            path,
+            tick,
+            cursor.len,
+            begun == settings.executions,
+        ) {
             trace::clear(trace, ENTRY * cursor.entries, ENTRY * longest);
             return finish(&clocks, &numbers, path, answer, begun, cursor);
         }
@@ -103,13 +108,31 @@ fn execute(
 ) -> Ticked {
     let threads = wide16(shape[THREADS]);
     let cells = wide16(shape[CELLS]);
-    start::start(clocks, marks, values, numbers, table, threads, cells, exploring);
+    start::start(
+        clocks,
+        marks,
+        values,
+        numbers,
+        table,
+        threads,
+        cells,
+        exploring,
+    );
     let fuel = ticks(limits.operations);
     let mut now = cursor;
     let mut tick = 0;
     while tick < fuel {
         let ticked = walk::tick(
-            clocks, marks, values, numbers, path, trace, table, shape, limits, now,
+            clocks,
+            marks,
+            values,
+            numbers,
+            path,
+            trace,
+            table,
+            shape,
+            limits,
+            now,
         );
         let how = ticked.tick;
         let Tick::Goes = how else {
@@ -137,7 +160,14 @@ fn judge_end(path: &[u8], tick: Tick, len: usize, last: bool) -> Verdict {
 }
 
 // The report of a run that stops here.
-fn finish(clocks: &Clocks, numbers: &Numbers, path: &[u8], answer: Answer, begun: u64, cursor: Cursor) -> Report {
+fn finish(
+    clocks: &Clocks,
+    numbers: &Numbers,
+    path: &[u8],
+    answer: Answer,
+    begun: u64,
+    cursor: Cursor,
+) -> Report {
     let counts = Counts {
         begun,
         opened: cursor.opened,

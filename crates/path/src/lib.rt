@@ -16,6 +16,8 @@ ghost use Rattle.path.specs.Bounds.{boundOf, reaches};
 ghost use Rattle.path.specs.Places.{Present, Through, HasKind};
 ghost use Rattle.path.specs.Steps.{AnyOpen, OpenIn, Steps};
 ghost use Rattle.path.specs.Walks.{LastOf, PreemptionsBefore, ExploringFrom, SwitchFrom, MarksAt, MarksBefore, Backtracks};
+use layout::MAX_ATOMIC_HISTORY;
+use layout::MAX_THREADS;
 pub use record::Offered;
 use record::fields;
 use record::fields::RECORD;
@@ -85,7 +87,7 @@ pub fn branch_thread(path: &[u8], pos: usize) -> Chosen
         return Chosen::Unexpected;
     }
     let thread = schedule::active_thread_index(path, pos);
-    if thread < fields::MAX_THREADS {
+    if thread < MAX_THREADS {
         return Chosen::Thread(thread);
     }
     Chosen::Nobody
@@ -241,8 +243,8 @@ fn has_kind(path: &[u8], pos: usize, kind: u8) -> bool
 fn at_most_seven(n: usize) -> usize
     ensures { λ r. ⌜ Seven n r ⌝ }
 {
-    if fields::MAX_ATOMIC_HISTORY < n {
-        return fields::MAX_ATOMIC_HISTORY;
+    if MAX_ATOMIC_HISTORY < n {
+        return MAX_ATOMIC_HISTORY;
     }
     n
 }

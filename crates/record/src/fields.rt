@@ -6,10 +6,6 @@ ghost use lib.Dec.{eqb};
 ghost use Rattle.rules.specs.Path.{flag};
 ghost use Rattle.record.specs.Fields.{fieldOf, withField, begun, cleared};
 
-pub const MAX_THREADS: usize = 5;
-
-pub const MAX_ATOMIC_HISTORY: usize = 7;
-
 // How many bytes a record has.
 pub const RECORD: usize = 16;
 
@@ -57,24 +53,6 @@ pub const LOAD: u8 = 2;
 
 // The kind of a spurious branch.
 pub const SPURIOUS: u8 = 3;
-
-// The thread cannot run.
-pub const DISABLED: u8 = 0;
-
-// The thread should not be explored.
-pub const SKIP: u8 = 1;
-
-// The thread has yielded.
-pub const YIELD: u8 = 2;
-
-// The thread is waiting to be explored.
-pub const PENDING: u8 = 3;
-
-// The thread is being explored.
-pub const ACTIVE: u8 = 4;
-
-// The thread has been explored.
-pub const VISITED: u8 = 5;
 
 // An initial active thread that is none.
 pub const NOBODY: u8 = 255;
@@ -134,13 +112,6 @@ pub fn is_exploring(path: &[u8], at: usize) -> bool
     ensures { λ r. ⌜ r ≡ eqb (fieldOf (now (path .entry)) at 1) 1 ⌝ }
 {
     field(path, at, EXPLORING) == 1
-}
-
-// A byte as a number that can count and be an index.
-pub fn wide8(b: u8) -> usize
-    ensures { λ r. ⌜ r ≡ b ⌝ }
-{
-    b as usize
 }
 
 fn flag(exploring: bool) -> u8

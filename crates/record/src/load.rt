@@ -9,10 +9,10 @@ ghost use Rattle.record.specs.Steps.{Moves};
 ghost use Rattle.record.specs.Answers.{Offers, Left};
 use crate::Offered;
 use crate::fields;
-use crate::fields::MAX_ATOMIC_HISTORY;
 use crate::fields::field;
 use crate::fields::put;
-use crate::fields::wide8;
+use layout::MAX_ATOMIC_HISTORY;
+use layout::wide8;
 
 // Sets the values to the seed's first n, and how many there are.
 pub fn put_values(path: &mut [u8], at: usize, seed: [u8; 7], n: usize)

@@ -9,10 +9,11 @@ ghost use Rattle.record.specs.Steps.{Visits};
 ghost use Rattle.record.specs.Places.{foundBelow, First};
 ghost use Rattle.record.specs.Schedules.{byteOf, positionOf, initialAt, Explores, ExploresAll, Marks, PrevOf, PreemptionsOf};
 use crate::fields;
-use crate::fields::MAX_THREADS;
 use crate::fields::field;
 use crate::fields::put;
-use crate::fields::wide8;
+use layout::MAX_THREADS;
+use layout::seed;
+use layout::wide8;
 
 // A schedule record of the path, by its position, or none.
 pub enum Found {
@@ -42,7 +43,7 @@ pub fn active_thread_index(path: &[u8], at: usize) -> usize
     requires { ⌜ 16 * at + 16 ≤ length (now path) ⌝ }
     ensures { λ r. ⌜ First (statesAt (now (path .entry)) at) active r ⌝ }
 {
-    first_in(path, at, fields::ACTIVE)
+    first_in(path, at, seed::ACTIVE)
 }
 
 // A thread as the byte of the initial active field: NOBODY where it is none of the five.
@@ -130,11 +131,11 @@ pub fn toggle_yield(path: &mut [u8], at: usize)
     if active_thread_index(path, at) < MAX_THREADS {
         return;
     }
-    let yielded = first_in(path, at, fields::YIELD);
+    let yielded = first_in(path, at, seed::YIELD);
     if MAX_THREADS <= yielded {
         return;
     }
-    put(path, at, fields::THREADS + yielded, fields::ACTIVE);
+    put(path, at, fields::THREADS + yielded, seed::ACTIVE);
 }
 
 // Sets the initial active thread.
@@ -171,7 +172,7 @@ pub fn backtrack(path: &mut [u8], at: usize, thread: usize) -> u64
     if MAX_THREADS <= thread {
         return 0;
     }
-    if field(path, at, fields::THREADS + thread) == fields::DISABLED {
+    if field(path, at, fields::THREADS + thread) == seed::DISABLED {
         return explore_all(path, at);
     }
     explore(path, at, thread)
@@ -182,8 +183,8 @@ fn explore(path: &mut [u8], at: usize, thread: usize) -> u64
     requires { ⌜ (16 * at + 16 ≤ length (now path)) × (thread < 5) ⌝ }
     ensures { λ r. ⌜ Explores (now (path .entry)) (now (path .exit)) at thread r ⌝ }
 {
-    if field(path, at, fields::THREADS + thread) == fields::SKIP {
-        put(path, at, fields::THREADS + thread, fields::PENDING);
+    if field(path, at, fields::THREADS + thread) == seed::SKIP {
+        put(path, at, fields::THREADS + thread, seed::PENDING);
         return 1;
     }
     0
@@ -211,7 +212,7 @@ pub fn pending(path: &[u8], at: usize) -> u64
     let mut count = 0;
     let mut thread = 0;
     while thread < MAX_THREADS {
-        if field(path, at, fields::THREADS + thread) == fields::PENDING {
+        if field(path, at, fields::THREADS + thread) == seed::PENDING {
             count += 1;
         }
         thread += 1;
@@ -226,9 +227,9 @@ pub fn step(path: &mut [u8], at: usize) -> bool
     ensures { λ r. ⌜ Visits (now (path .entry)) (now (path .exit)) at r ⌝ }
 {
     visit(path, at);
-    let next = first_in(path, at, fields::PENDING);
+    let next = first_in(path, at, seed::PENDING);
     if next < MAX_THREADS {
-        put(path, at, fields::THREADS + next, fields::ACTIVE);
+        put(path, at, fields::THREADS + next, seed::ACTIVE);
         return true;
     }
     false
@@ -241,6 +242,6 @@ fn visit(path: &mut [u8], at: usize)
 {
     let active = active_thread_index(path, at);
     if active < MAX_THREADS {
-        put(path, at, fields::THREADS + active, fields::VISITED);
+        put(path, at, fields::THREADS + active, seed::VISITED);
     }
 }

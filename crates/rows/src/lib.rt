@@ -200,7 +200,13 @@ pub fn skip_branch(numbers: &mut Numbers, site: Site) -> Event
 }
 
 // Goes on with the bit that was answered for `branch_spurious`. No other row is given one.
-pub fn take_bit(values: &mut Values, numbers: &mut Numbers, site: Site, bit: bool, row: Decoded) -> Event
+pub fn take_bit(
+    values: &mut Values,
+    numbers: &mut Numbers,
+    site: Site,
+    bit: bool,
+    row: Decoded,
+) -> Event
     requires { ⌜ (site .thread < 5) × opWithin row ⌝ }
     ensures { λ r. ⌜ ((clocks : rules.Clocks) (marks : rules.Marks) (m : Matched) → moveOf r (site .thread) (site .row) (opcodeIn (decodedOf row)) m (state clocks marks (now (values .exit)) (now (numbers .exit))) ≡ machine.bitTaken (state clocks marks (now (values .entry)) (now (numbers .entry))) (site .thread) (site .row) (cond bit 1 0) (decodedOf row)) ⌝ }
 {

@@ -111,7 +111,16 @@ pub fn tick(
     let here = Here { site, row };
     let bound = limits.bound;
     take(
-        clocks, marks, values, numbers, path, trace, bound, here, event, cursor,
+        clocks,
+        marks,
+        values,
+        numbers,
+        path,
+        trace,
+        bound,
+        here,
+        event,
+        cursor,
     )
 }
 
@@ -138,7 +147,15 @@ fn take(
     };
     let cursor = mark(clocks, numbers, path, bound, question, noted.cursor);
     meet(
-        clocks, marks, values, numbers, path, trace, here, question, cursor,
+        clocks,
+        marks,
+        values,
+        numbers,
+        path,
+        trace,
+        here,
+        question,
+        cursor,
     )
 }
 
@@ -191,7 +208,14 @@ fn add(
         Question::Slot => {
             let mut seed = [0u8; MAX_ATOMIC_HISTORY];
             let row = here.row;
-            let Matched::Offers(n) = accesses::offers(clocks, marks, numbers, site.thread, row, &mut seed) else {
+            let Matched::Offers(n) = accesses::offers(
+                clocks,
+                marks,
+                numbers,
+                site.thread,
+                row,
+                &mut seed,
+            ) else {
                 return stops(Fault::Equal, site, cursor);
             };
             path::push_load(path, len, exploring, seed, n)
@@ -290,7 +314,14 @@ fn note_if(trace: &mut [u8], yielded: bool, here: Here, cursor: Cursor) -> Ticke
 }
 
 // Adds the trace entry of a row that is complete. The trace of a run has room for it.
-fn note(trace: &mut [u8], here: Here, slot: u8, mask: u8, value: u64, mut cursor: Cursor) -> Ticked {
+fn note(
+    trace: &mut [u8],
+    here: Here,
+    slot: u8,
+    mask: u8,
+    value: u64,
+    mut cursor: Cursor,
+) -> Ticked {
     let site = here.site;
     let row = here.row;
     let entry = Entry {

@@ -20,8 +20,8 @@ returns : tie.Need-returns
 returns c =
     let wide2 = c .before in
     let field = wide2 .before .before .before in
-    let pos = wide2 .before .before .wide8 .ensures ∙ field .field .ensures in
-    let len = wide2 .wide82 .ensures ∙ wide2 .before .field2 .ensures in
+    let pos = wide2 .before .before .wide8 .ensures .same ∙ field .field .ensures in
+    let len = wide2 .wide82 .ensures .same ∙ wide2 .before .field2 .ensures in
     let fits = field .before .before .pre in
     offered-many _ _ fits _ _ pos len (c .if1 .taken)
 
@@ -29,8 +29,8 @@ returns-2 : tie.Need-returns-2
 returns-2 c =
     let wide2 = c .before .before in
     let field = wide2 .before .before .before in
-    let pos = wide2 .before .before .wide8 .ensures ∙ field .field .ensures in
-    let len = wide2 .wide82 .ensures ∙ wide2 .before .field2 .ensures in
+    let pos = wide2 .before .before .wide8 .ensures .same ∙ field .field .ensures in
+    let len = wide2 .wide82 .ensures .same ∙ wide2 .before .field2 .ensures in
     let fits = field .before .before .pre in
     offered-none _ _ fits _ _ pos len (c .if2 .taken)
 
@@ -47,10 +47,10 @@ returns-3 : tie.Need-returns-3
 returns-3 c =
     let wide2 = c .before .before .before .before .before in
     let field = wide2 .before .before .before in
-    let pos = wide2 .before .before .wide8 .ensures ∙ field .field .ensures in
-    let len = wide2 .wide82 .ensures ∙ wide2 .before .field2 .ensures in
+    let pos = wide2 .before .before .wide8 .ensures .same ∙ field .field .ensures in
+    let len = wide2 .wide82 .ensures .same ∙ wide2 .before .field2 .ensures in
     let fits = field .before .before .pre in
-    offered-bad _ _ fits _ _ pos len (c .before .before .before .before .if1 .left) (c .before .before .before .if2 .left) _ (c .before .wide83 .ensures ∙ c .before .before .field3 .ensures) (c .if3 .taken)
+    offered-bad _ _ fits _ _ pos len (c .before .before .before .before .if1 .left) (c .before .before .before .if2 .left) _ (c .before .wide83 .ensures .same ∙ c .before .before .field3 .ensures) (c .if3 .taken)
 
 with-mask-requires : tie.Need-with-mask-requires
 with-mask-requires c κs = search needs
@@ -59,10 +59,10 @@ returns-4 : tie.Need-returns-4
 returns-4 c =
     let wide2 = c .before .before .before .before .before .before in
     let field = wide2 .before .before .before in
-    let pos = wide2 .before .before .wide8 .ensures ∙ field .field .ensures in
-    let len = wide2 .wide82 .ensures ∙ wide2 .before .field2 .ensures in
+    let pos = wide2 .before .before .wide8 .ensures .same ∙ field .field .ensures in
+    let len = wide2 .wide82 .ensures .same ∙ wide2 .before .field2 .ensures in
     let fits = field .before .before .pre in
-    offered-some _ _ fits _ _ pos len (c .before .before .before .before .before .if1 .left) (c .before .before .before .before .if2 .left) _ (c .before .before .wide83 .ensures ∙ c .before .before .before .field3 .ensures) _ (c .with-mask .ensures)
+    offered-some _ _ fits _ _ pos len (c .before .before .before .before .before .if1 .left) (c .before .before .before .before .if2 .left) _ (c .before .before .wide83 .ensures .same ∙ c .before .before .before .field3 .ensures) _ (c .with-mask .ensures)
 
 pub offered-spec : {M : Type 1} → statement M
 offered-spec =

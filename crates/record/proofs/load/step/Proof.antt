@@ -33,7 +33,7 @@ returns c =
     let put = c .before .before in
     let wide2 = put .before .before .before in
     let wide = wide2 .before .before .before in
-    moved-by _ _ _ _ (wide .wide8 .ensures ∙ wide .before .field .ensures) (wide2 .wide82 .ensures ∙ wide2 .before .field2 .ensures) _ _ (put .before .before .if1 .taken) (search needs) (put .put .ensures)
+    moved-by _ _ _ _ (wide .wide8 .ensures .same ∙ wide .before .field .ensures) (wide2 .wide82 .ensures .same ∙ wide2 .before .field2 .ensures) _ _ (put .before .before .if1 .taken) (search needs) (put .put .ensures)
 
 same-length-2 : tie.Need-same-length-2
 same-length-2 c = search needs
@@ -42,7 +42,7 @@ returns-2 : tie.Need-returns-2
 returns-2 c =
     let wide2 = c .before in
     let wide = wide2 .before .before .before in
-    moved-not _ _ _ _ (wide .wide8 .ensures ∙ wide .before .field .ensures) (wide2 .wide82 .ensures ∙ wide2 .before .field2 .ensures) (c .if1 .left)
+    moved-not _ _ _ _ (wide .wide8 .ensures .same ∙ wide .before .field .ensures) (wide2 .wide82 .ensures .same ∙ wide2 .before .field2 .ensures) (c .if1 .left)
 
 pub step-spec : {M : Type 1} → statement M
 step-spec =

@@ -32,7 +32,7 @@ returns c =
     let wide = c .before in
     let loop = wide .before .before .before in
     let start = loop .before .before in
-    record { slot = search needs; is = mask-ends _ _ _ (start .pre .0) (start .pre .1) _ _ _ (wide .before .before .loop-test .taken) _ (wide .wide8 .ensures ∙ wide .before .field .ensures) (c .if1 .taken) ∙ loop .loop .inv .1 }
+    record { slot = search needs; is = mask-ends _ _ _ (start .pre .0) (start .pre .1) _ _ _ (wide .before .before .loop-test .taken) _ (wide .wide8 .ensures .same ∙ wide .before .field .ensures) (c .if1 .taken) ∙ loop .loop .inv .1 }
 
 cast-mask : tie.Need-cast-mask Inv-loop μ-loop
 cast-mask c = search needs
@@ -51,7 +51,7 @@ loop-again c =
     let wide = c .before in
     let loop = wide .before .before .before in
     let start = loop .before .before in
-    (search needs, mask-on _ _ _ (start .pre .0) (start .pre .1) _ _ _ (wide .before .before .loop-test .taken) _ (wide .wide8 .ensures ∙ wide .before .field .ensures) (c .if1 .left) ∙ loop .loop .inv .1)
+    (search needs, mask-on _ _ _ (start .pre .0) (start .pre .1) _ _ _ (wide .before .before .loop-test .taken) _ (wide .wide8 .ensures .same ∙ wide .before .field .ensures) (c .if1 .left) ∙ loop .loop .inv .1)
 
 returns-2 : tie.Need-returns-2 Inv-loop μ-loop
 returns-2 c =

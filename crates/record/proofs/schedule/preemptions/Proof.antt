@@ -17,7 +17,7 @@ returns : tie.Need-returns
 returns c =
     let initial = c .before in
     let many = initial .before in
-    record { few = search needs; says = λ s h. preempts-none h _ _ (many .wide8 .ensures ∙ many .before .field .ensures) (initial .field2 .ensures) (c .if1 .taken) }
+    record { few = search needs; says = λ s h. preempts-none h _ _ (many .wide8 .ensures .same ∙ many .before .field .ensures) (initial .field2 .ensures) (c .if1 .taken) }
 
 active-thread-index-requires : tie.Need-active-thread-index-requires
 active-thread-index-requires c κs = search needs
@@ -31,7 +31,7 @@ returns-2 c =
     let other = active .before in
     let initial = other .before in
     let many = initial .before in
-    record { few = search needs; says = λ s h. preempts-same h _ _ (many .wide8 .ensures ∙ many .before .field .ensures) (initial .field2 .ensures) _ (active .active-thread-index .ensures) (other .if1 .left) (c .if2 .taken ∙ c .before .thread-byte .ensures) }
+    record { few = search needs; says = λ s h. preempts-same h _ _ (many .wide8 .ensures .same ∙ many .before .field .ensures) (initial .field2 .ensures) _ (active .active-thread-index .ensures) (other .if1 .left) (c .if2 .taken ∙ c .before .thread-byte .ensures) }
 
 add-result : tie.Need-add-result
 add-result c = search needs
@@ -42,7 +42,7 @@ returns-3 c =
     let other = active .before in
     let initial = other .before in
     let many = initial .before in
-    record { few = search needs; says = λ s h. preempts-more h _ _ (many .wide8 .ensures ∙ many .before .field .ensures) (initial .field2 .ensures) _ (active .active-thread-index .ensures) (other .if1 .left) (λ q. c .if2 .left (q ∙ sym (c .before .thread-byte .ensures))) }
+    record { few = search needs; says = λ s h. preempts-more h _ _ (many .wide8 .ensures .same ∙ many .before .field .ensures) (initial .field2 .ensures) _ (active .active-thread-index .ensures) (other .if1 .left) (λ q. c .if2 .left (q ∙ sym (c .before .thread-byte .ensures))) }
 
 pub preemptions-spec : {M : Type 1} → statement M
 preemptions-spec =

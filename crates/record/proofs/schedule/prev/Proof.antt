@@ -27,7 +27,7 @@ returns : tie.Need-returns
 returns c =
     let high = c .before in
     let low = high .before .before in
-    record { below = search needs; is = prev-above _ _ _ _ (low .wide8 .ensures ∙ low .before .field .ensures) (high .wide82 .ensures ∙ high .before .field2 .ensures) (c .if1 .taken) }
+    record { below = search needs; is = prev-above _ _ _ _ (low .wide8 .ensures .same ∙ low .before .field .ensures) (high .wide82 .ensures .same ∙ high .before .field2 .ensures) (c .if1 .taken) }
 
 is-kind-requires : tie.Need-is-kind-requires
 is-kind-requires c κs = search needs
@@ -36,13 +36,13 @@ returns-2 : tie.Need-returns-2
 returns-2 c =
     let high = c .before .before .before in
     let low = high .before .before in
-    record { below = search needs; is = prev-other _ _ _ _ (low .wide8 .ensures ∙ low .before .field .ensures) (high .wide82 .ensures ∙ high .before .field2 .ensures) (c .before .before .if1 .left) _ (c .before .is-kind .ensures) (not-true _ (c .if2 .taken)) }
+    record { below = search needs; is = prev-other _ _ _ _ (low .wide8 .ensures .same ∙ low .before .field .ensures) (high .wide82 .ensures .same ∙ high .before .field2 .ensures) (c .before .before .if1 .left) _ (c .before .is-kind .ensures) (not-true _ (c .if2 .taken)) }
 
 returns-3 : tie.Need-returns-3
 returns-3 c =
     let high = c .before .before .before in
     let low = high .before .before in
-    record { below = search needs; is = prev-there _ _ _ _ (low .wide8 .ensures ∙ low .before .field .ensures) (high .wide82 .ensures ∙ high .before .field2 .ensures) (c .before .before .if1 .left) _ (c .before .is-kind .ensures) (not-false _ (c .if2 .left)) }
+    record { below = search needs; is = prev-there _ _ _ _ (low .wide8 .ensures .same ∙ low .before .field .ensures) (high .wide82 .ensures .same ∙ high .before .field2 .ensures) (c .before .before .if1 .left) _ (c .before .is-kind .ensures) (not-false _ (c .if2 .left)) }
 
 pub prev-spec : {M : Type 1} → statement M
 prev-spec =
