@@ -1,11 +1,13 @@
 // Document 01's scheduling rules, as loom's Execution::schedule has them, apart from the path: what is to be marked, the
 // seed of the branch, and what the thread that it chooses takes up.
 ghost use mathlib.Core.Path.{_≡_};
+ghost use mathlib.Core.Bool.{cond};
 ghost use mathlib.Core.List.{map};
-ghost use Prim.Native.Nat.{ℕ, _<_, _≤_};
+ghost use Prim.Native.Nat.{ℕ, _<_};
 ghost use Rattle.rules.specs.Event as events;
-ghost use Rattle.rules.specs.Explorer.{seedOf};
+ghost use Rattle.rules.specs.Explorer.{seedOf, seedState};
 ghost use Rattle.rules.specs.Machine as machine;
+ghost use Rattle.rules.specs.Path.{active};
 ghost use Rattle.rules.specs.State as rules;
 ghost use Rattle.rules.specs.Vector.{nobody, thread};
 ghost use Rattle.layout.specs.Tables.{state};
@@ -43,7 +45,7 @@ pub enum Operation {
 }
 
 // A thread's pending operation. One on a cell that is none, which no row sets, counts as none.
-pub fn operation(numbers: &Numbers, thread: usize) -> Operation
+pub fn pending_operation(numbers: &Numbers, thread: usize) -> Operation
     requires { ⌜ thread < 5 ⌝ }
     ensures { λ r. ⌜ ((clocks : rules.Clocks) (marks : rules.Marks) (values : rules.Values) → operationMeans r (state clocks marks values (now (numbers .entry))) thread) ⌝ }
 {
@@ -64,7 +66,7 @@ pub fn conflict(clocks: &Clocks, numbers: &Numbers, thread: usize) -> Place
     requires { ⌜ thread < 5 ⌝ }
     ensures { λ r. ⌜ ((marks : rules.Marks) (values : rules.Values) → placeOf r ≡ machine.conflict (state (now (clocks .entry)) marks values (now (numbers .entry))) thread) ⌝ }
 {
-    let Operation::On { action, cell } = operation(numbers, thread) else {
+    let Operation::On { action, cell } = pending_operation(numbers, thread) else {
         return Place::Nowhere;
     };
     if access::is_concurrent(clocks, numbers, thread, action, cell) {
@@ -120,7 +122,9 @@ pub fn seed(numbers: &Numbers) -> [u8; MAX_THREADS]
     states
 }
 
-fn seed_of(state: u16, first: bool) -> u8 {
+fn seed_of(state: u16, first: bool) -> u8
+    ensures { λ r. ⌜ ((numbers : rules.Numbers) (t : ℕ) → state ≡ rules.number numbers (rules.state t) → r ≡ cond first active (seedState (machine.standing numbers t))) ⌝ }
+{
     if first {
         return seed::ACTIVE;
     }
@@ -148,7 +152,7 @@ fn choose(clocks: &mut Clocks, numbers: &mut Numbers, chosen: usize, branch: u16
     ensures { λ _. ⌜ ((marks : rules.Marks) (values : rules.Values) → state (now (clocks .exit)) marks values (now (numbers .exit)) ≡ machine.switched (state (now (clocks .entry)) marks values (now (numbers .entry))) chosen branch) ⌝ }
 {
     numbers[ACTIVE] = chosen as u16;
-    if let Operation::On { action, cell } = operation(numbers, chosen) {
+    if let Operation::On { action, cell } = pending_operation(numbers, chosen) {
         access::set_last_access(clocks, numbers, chosen, action, cell, branch);
     }
     thread::reactivate(numbers);

@@ -1,17 +1,14 @@
 // The start of an execution: document 01's "Start of each execution".
 ghost use mathlib.Core.Path.{_≡_};
-ghost use mathlib.Core.Bool.{Bool, cond};
 ghost use Prim.Native.Nat.{_<_, _≤_};
-ghost use lib.ListN.{replicate};
 ghost use Rattle.rules.specs.Machine as machine;
-ghost use Rattle.rules.specs.Seen.{unseens};
-ghost use Rattle.rules.specs.Vector.{zeros};
 ghost use Rattle.rules.specs.State as rules;
 ghost use Rattle.rules.specs.Table.{threadsOf, cellsOf};
 ghost use Rattle.layout.specs.Tables.{state};
 use layout::Access;
 use layout::CLOCKS;
 use layout::Clocks;
+use layout::MAX_ATOMIC_HISTORY;
 use layout::MAX_CELLS;
 use layout::MAX_THREADS;
 use layout::Marks;
@@ -61,10 +58,10 @@ fn clear(
 )
     ensures { λ _. ⌜ state (now (clocks .exit)) (now (marks .exit)) (now (values .exit)) (now (numbers .exit)) ≡ machine.blank exploring ⌝ }
 {
-    clear_clocks(clocks);
-    clear_marks(marks);
-    clear_values(values);
-    clear_numbers(numbers);
+    *clocks = [[0; MAX_THREADS]; CLOCKS];
+    *marks = [[[NONE; MAX_THREADS]; MAX_ATOMIC_HISTORY]; MAX_CELLS];
+    *values = [0; VALUES];
+    *numbers = [0; NUMBERS];
     clear_yields(numbers);
     clear_branches(numbers);
     numbers[EXPLORING] = if exploring { 1 } else { 0 };
@@ -143,46 +140,6 @@ fn first_causality(thread: usize) -> [u16; MAX_THREADS]
     let mut causality = [1, 0, 0, 0, 0];
     causality[thread] = 1;
     causality
-}
-
-fn clear_clocks(clocks: &mut Clocks)
-    ensures { λ _. ⌜ now (clocks .exit) ≡ replicate rules.vectorsHeld (zeros 5) ⌝ }
-{
-    let mut i = 0;
-    while i < CLOCKS {
-        clocks[i] = [0; MAX_THREADS];
-        i += 1;
-    }
-}
-
-fn clear_marks(marks: &mut Marks)
-    ensures { λ _. ⌜ now (marks .exit) ≡ replicate 4 (replicate 7 (unseens 5)) ⌝ }
-{
-    let mut i = 0;
-    while i < MAX_CELLS {
-        marks[i] = [[NONE; 5]; 7];
-        i += 1;
-    }
-}
-
-fn clear_values(values: &mut Values)
-    ensures { λ _. ⌜ now (values .exit) ≡ replicate rules.valuesHeld 0 ⌝ }
-{
-    let mut i = 0;
-    while i < VALUES {
-        values[i] = 0;
-        i += 1;
-    }
-}
-
-fn clear_numbers(numbers: &mut Numbers)
-    ensures { λ _. ⌜ now (numbers .exit) ≡ replicate rules.numbersHeld 0 ⌝ }
-{
-    let mut i = 0;
-    while i < NUMBERS {
-        numbers[i] = 0;
-        i += 1;
-    }
 }
 
 // No thread has yielded yet.

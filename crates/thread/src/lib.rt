@@ -1,8 +1,6 @@
 // The states of threads: loom's rt/thread.rs over the lent tables.
 ghost use mathlib.Core.Path.{_≡_};
-ghost use mathlib.Core.Bool.{_||_};
 ghost use Prim.Native.Nat.{_<_};
-ghost use lib.Dec.{eqb};
 ghost use Rattle.rules.specs.Cell as cells;
 ghost use Rattle.rules.specs.Machine.{isIn, canRun, ended, completed, versionRaised, yieldDone, blockedOn, threadEnded, allAwake, allOver, someCanRun, isToBegin};
 ghost use Rattle.rules.specs.State as rules;
