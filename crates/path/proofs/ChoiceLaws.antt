@@ -2,7 +2,7 @@
 --     load-..          by whether the record there is a load's
 --     spurious-..      the same for a spurious branch
 --     chosen-..        the same for a schedule
-use Prim.Native.Nat.{ℕ, _+_, _*_, _≤_, _<_}
+use Prim.Native.Nat.{ℕ, _≤_, _<_}
 use mathlib.Core.List.{List}
 use mathlib.Core.Bool.{Bool, true, false, not, true≢false, false≢true}
 use mathlib.Core.Path.{_≡_, refl, ap, sym, _∙_}
@@ -12,7 +12,7 @@ use lib.Dec.{ltb, eqb}
 use lib.ListN.{length, getD, List·getD-eq-default}
 use Rattle.rules.specs.Vector.{Whom, nobody, thread}
 use Rattle.rules.specs.Path as rules
-use Rattle.rules.specs.Path.{Branch, Load, encoded, noBranch, flag, scheduleAt, theSchedule, activeIn, active}
+use Rattle.rules.specs.Path.{Branch, encoded, noBranch, flag, scheduleAt, theSchedule, activeIn, active}
 use Rattle.record.specs.Choices.{offeredBy, OfLoad}
 use Rattle.record.specs.Fields.{fieldOf, statesAt}
 use Rattle.record.specs.Places.{First, orFive}
@@ -26,7 +26,6 @@ use Rattle.path.specs.Choices.{Reads, saidBy, Says, chosenOf, Chooses}
 use Rattle.path.specs.Holds.{Holds}
 use Rattle.path.specs.Places.{HasKind}
 use Rattle.path.specs.Walks.{HoldsAt}
-use Rattle.path.specs.declared.Chosen.{Chosen}
 use Rattle.path.specs.declared.Chosen.the-variants as chosen
 use Rattle.path.specs.declared.Spurious.the-variants as said
 use Rattle.path.proofs.HoldsLaws.{holds-stands, at-stands, at-five}

@@ -2,9 +2,9 @@
 --     There, there, not-there      whether it is a schedule
 --     prev-says                    the schedule before one, by the prev of its record
 --     kind-..                      a record that was looked for: where there is one of that kind, and where not
-use Prim.Native.Nat.{ℕ, suc, _+_, _*_, _/_, _≤_, _<_}
+use Prim.Native.Nat.{ℕ, suc, _+_, _*_, _≤_, _<_}
 use mathlib.Core.List.{List}
-use mathlib.Core.Bool.{Bool, true, false, cond, _&&_, and-eq-true-iff}
+use mathlib.Core.Bool.{Bool, true, false, _&&_, and-eq-true-iff}
 use mathlib.Core.Path.{_≡_, refl, ap, sym, _∙_}
 use mathlib.Core.Logic.{_≢_}
 use native.Mathlib.Omega.{arith}
@@ -14,9 +14,7 @@ use lib.ListN.{length, getD, List·getD-eq-default}
 use Rattle.rules.specs.Path.{Branch, Schedule, Last, schedule, load, spurious, none, at, encoded, noBranch, scheduleAt, theSchedule, schedulesBelow, prevOf}
 use Rattle.record.specs.Fields.{fieldOf}
 use Rattle.record.specs.Schedules.{PrevOf, positionAt, prevIn}
-use Rattle.record.specs.Stands.{Stands}
 use Rattle.record.specs.declared.schedule.Found.{Found}
-use Rattle.record.specs.declared.schedule.Found.the-variants.{At, Nowhere}
 use Rattle.record.proofs.StandsLaws.{stands-field}
 use Rattle.record.proofs.ScheduleLaws.{stands-prev}
 use Rattle.path.specs.Holds.{Holds, lastIn}

@@ -6,5 +6,6 @@ pub mod MarkLaws
 pub mod NewLaws
 pub mod OpenWalks
 pub mod PrevLaws
+pub mod PrevWalk
 pub mod PushLaws
 pub mod WalkLaws

@@ -1,8 +1,7 @@
 -- The laws of a mark in the schedule at a position, with a bound. Assumes nothing.
 --     length-marked        as many states as before
---     marked-skeleton      a mark leaves the prev
 --     marks-by, bound-by   the schedule marked, and one that takes no mark
-use Prim.Native.Nat.{ℕ, _≤_}
+use Prim.Native.Nat.{ℕ}
 use mathlib.Core.List.{List, map}
 use mathlib.Core.Bool.{Bool, true, false, cond, not}
 use mathlib.Core.Path.{_≡_, refl, ap, sym, _∙_}
@@ -10,8 +9,7 @@ use native.Mathlib.Omega.{arith}
 use lib.Dec.{eqb}
 use lib.ListN.{length, getD, set, length-set, length-map}
 use lib.Seq.{set-getD}
-use Rattle.rules.specs.Path as rules
-use Rattle.rules.specs.Path.{Branch, Schedule, schedule, explored, marked, madePending, takesMarks, scheduleMarked, withStates, noBranch, disabled, visited}
+use Rattle.rules.specs.Path.{Branch, Schedule, schedule, explored, marked, madePending, takesMarks, scheduleMarked, noBranch, disabled, visited}
 use Rattle.rules.proofs.MarkLaws.{made-same}
 use Rattle.record.specs.Fields.{fieldOf, withStatesAt}
 use Rattle.record.specs.Schedules as one

@@ -2,7 +2,7 @@
 --     any-..       down, as long as nothing is open: what is open in the first n branches is what is open in all
 --     sum-..       up: what is open in the first n branches
 --     step-..      down, dropping branches: the first n have the same next path as all
-use Prim.Native.Nat.{ℕ, zero, suc, _+_, _*_, _-_, _/_, _≤_, _<_}
+use Prim.Native.Nat.{ℕ, zero, suc, _+_, _*_, _-_, _≤_, _<_}
 use mathlib.Core.List.{List, [], _∷_, _++_}
 use mathlib.Core.Bool.{Bool, true, false, cond}
 use mathlib.Core.Path.{_≡_, refl, ap, sym, subst, _∙_}
@@ -14,7 +14,7 @@ use lib.ListN.{length, getD, set, take, length-append}
 use lib.Seq.{take-all, take-suc, set-at, length-take-le, getD-take}
 use Rattle.rules.specs.Path.{Branch, schedule, load, spurious, noBranch, openAt, openIn, orTurned, stepped, turnedBranch}
 use Rattle.record.specs.Fields.{cleared}
-use Rattle.record.specs.Stands.{Stands, shaped}
+use Rattle.record.specs.Stands.{Stands}
 use Rattle.record.specs.Steps.{OpenAt, StepsAt, spent, tried}
 use Rattle.record.proofs.OpenLaws.{tried-open, tried-shaped}
 use Rattle.path.specs.Holds.{Holds}

@@ -4,7 +4,7 @@
 --     added-as                 it was written past the last
 --     spurious-.., load-..     the two that open what they add
 --     seven-..                 as many values as a record can have
-use Prim.Native.Nat.{ℕ, _+_, _*_, _-_, _/_, _≤_, _<_}
+use Prim.Native.Nat.{ℕ, _+_, _*_, _-_, _≤_, _<_}
 use mathlib.Core.List.{List, [], _∷_, _++_}
 use mathlib.Core.Bool.{Bool, true, false, cond}
 use mathlib.Core.Path.{_≡_, refl, ap, sym, subst, _∙_}
@@ -21,7 +21,6 @@ use Rattle.record.specs.Answers.{Left}
 use Rattle.record.specs.Fields.{begun, withValues}
 use Rattle.record.specs.Stands.{shaped}
 use Rattle.record.proofs.LoadLaws.{load-new, left-whole}
-use Rattle.path.specs.Answers.{Refused}
 use Rattle.path.specs.Holds.{Holds}
 use Rattle.path.specs.Places.{recordsOf}
 use Rattle.path.specs.Pushes.{Pushes, Seven, pushedOf, grown}

@@ -7,16 +7,16 @@
 --     second-..                        the second mark
 --     mark-..                          both marks
 --     length-backtracked               for callers: as many branches as before
-use Prim.Native.Nat.{ℕ, zero, suc, _+_, _*_, _-_, _/_, _≤_, _<_}
+use Prim.Native.Nat.{ℕ, zero, suc, _+_, _-_, _≤_, _<_}
 use mathlib.Core.List.{List, [], _∷_, _++_}
 use mathlib.Core.Bool.{Bool, true, false, cond}
 use mathlib.Core.Path.{_≡_, refl, ap, sym, _∙_}
 use mathlib.Core.Logic.{_≢_}
 use native.Mathlib.Omega.{arith}
 use native.Mathlib.Numerals.{add-one}
-use borrow.Author.Tests.{leb-true, leb-false, le-leb, lt-leb, eq-eqb, ne-eqb}
+use borrow.Author.Tests.{leb-true, le-leb, lt-leb, eq-eqb, ne-eqb}
 use lib.Dec.{leb, eqb}
-use lib.ListN.{length, getD, set, take, length-set, List·getD-eq-default}
+use lib.ListN.{length, getD, take, length-set, List·getD-eq-default}
 use lib.Seq.{take-suc, take-all, length-take-le, getD-set-same}
 use Rattle.rules.specs.Path as rules
 use Rattle.rules.specs.Path.{Branch, Schedule, Last, Marked, Placed, schedule, load, spurious, none, at, noBranch, scheduleAt, theSchedule, ifExploring, exploringBelow, lastSchedule, orFirst, further, schedulesBelow, switchIn, preemptionsAfter, active, activeIn, activeOf, scheduleMarked, markedAt, markedBefore, both, backtracked}

@@ -4,10 +4,8 @@
 // room is Full, and a place without the record that is asked for is Unexpected.
 ghost use Prim.Native.Nat.{_+_, _*_, _/_, _≤_};
 ghost use mathlib.Core.Path.{_≡_};
-ghost use mathlib.Core.Bool.{_&&_};
-ghost use lib.Dec.{eqb, ltb};
 ghost use lib.ListN.{length, take};
-ghost use Rattle.rules.specs.Path.{spuriousAdded, loadAdded, threadAdded};
+ghost use Rattle.rules.specs.Path.{spuriousAdded, loadAdded};
 ghost use Rattle.record.specs.Fields.{fieldOf};
 ghost use Rattle.record.specs.Places.{foundBelow};
 ghost use Rattle.path.specs.Choices.{Reads, Says, Chooses};

@@ -13,7 +13,7 @@ use borrow.Author.Tests.{eq-eqb, ne-eqb}
 use lib.Dec.{eqb}
 use lib.ListN.{length, getD, set, List·getD-eq-default}
 use lib.Seq.{set-getD, set-out}
-use Rattle.rules.specs.Path.{explored, marked, madePending, skip, disabled, visited}
+use Rattle.rules.specs.Path.{explored, marked, skip, disabled, visited}
 use Rattle.rules.proofs.MarkLaws.{isSkip, skips, made-same, made-set, made-all}
 use Rattle.record.specs.Fields.{fieldOf, withField, statesAt, withStatesAt}
 use Rattle.record.specs.Schedules.{Explores, ExploresAll, Marks}

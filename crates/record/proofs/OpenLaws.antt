@@ -2,7 +2,7 @@
 --     open-..      what is open at it, by its kind
 --     step-..      its next choice, by its kind
 --     tried-..     the branch that was asked for it
-use Prim.Native.Nat.{ℕ, _+_, _-_, _<_}
+use Prim.Native.Nat.{ℕ, _+_, _-_}
 use mathlib.Core.List.{List}
 use mathlib.Core.Bool.{Bool, true, false, cond}
 use mathlib.Core.Path.{_≡_, refl, ap, sym, _∙_}

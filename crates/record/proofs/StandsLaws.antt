@@ -5,15 +5,15 @@
 --     five-states, stands-states   a schedule's states
 --     stands-states-put            others in their place
 --     seven-values, stands-pos, -len, -values, -moved      a load's values and position
-use Prim.Native.Nat.{ℕ, _+_, _*_, _-_, _≤_, _<_}
-use mathlib.Core.List.{List, _++_}
+use Prim.Native.Nat.{ℕ, _-_, _≤_, _<_}
+use mathlib.Core.List.{List}
 use mathlib.Core.Bool.{true}
 use mathlib.Core.Path.{_≡_, refl, ap, sym, _∙_}
 use native.Mathlib.Omega.{arith}
 use borrow.Author.Tests.{eqb-true, leb-true}
 use lib.ListN.{length, getD, set, take, drop, length-append, length-replicate}
 use Rattle.rules.specs.Path.{Branch, schedule, load, spurious, Schedule, Load, encoded, withStates}
-use Rattle.rules.specs.Records.{recordAt, withRecord}
+use Rattle.rules.specs.Records.{withRecord}
 use Rattle.rules.proofs.RecordLaws.{byte-at, byte-put, record-same}
 use Rattle.record.specs.Fields.{fieldOf, withField, valuesAt, statesIn, withStatesIn, statesAt, withStatesAt}
 use Rattle.record.specs.Stands.{Stands, shaped}

@@ -1,4 +1,5 @@
-// The fields of a path record, and the numbers that stand in them. Nothing else knows where they stand among its 16 bytes.
+// The fields of a path record, and the numbers that stand in them. Nothing else knows where they
+// stand among its 16 bytes.
 ghost use mathlib.Core.Path.{_≡_};
 ghost use Prim.Native.Nat.{_+_, _*_, _≤_, _<_};
 ghost use lib.ListN.{length};

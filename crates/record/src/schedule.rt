@@ -4,7 +4,7 @@ ghost use Prim.Native.Nat.{_+_, _*_, _/_, _%_, _≤_, _<_};
 ghost use lib.ListN.{length};
 ghost use Rattle.rules.specs.Path.{active, toggled, pendings, left};
 ghost use Rattle.record.specs.Answers.{Counts};
-ghost use Rattle.record.specs.Fields.{fieldOf, withField, statesAt, withStatesAt};
+ghost use Rattle.record.specs.Fields.{withField, statesAt, withStatesAt};
 ghost use Rattle.record.specs.Steps.{Visits};
 ghost use Rattle.record.specs.Places.{foundBelow, First};
 ghost use Rattle.record.specs.Schedules.{byteOf, positionOf, initialAt, Explores, ExploresAll, Marks, PrevOf, PreemptionsOf};

@@ -1,4 +1,3 @@
-use borrow.Author.Needs.{needs}
 use Rattle.path.proofs.PushLaws.{seven-many, seven-few}
 use Rattle.path.proofs.at_most_seven.Statement.{statement}
 use Rattle.path.proofs.at_most_seven.Tie as tie

@@ -1,6 +1,5 @@
 use borrow.Author.Needs.{needs}
 use borrow.Author.Tests.{not-true, not-false}
-use native.Mathlib.Omega.{arith}
 use Rattle.path.proofs.ChoiceLaws.{chosen-other, chosen-thread, chosen-nobody}
 use Rattle.path.proofs.branch_thread.Statement.{statement}
 use Rattle.path.proofs.branch_thread.Tie as tie

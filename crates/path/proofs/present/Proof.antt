@@ -1,4 +1,3 @@
-use borrow.Author.Needs.{needs}
 use Rattle.path.proofs.OpenWalks.{present-few, present-all}
 use Rattle.path.proofs.present.Statement.{statement}
 use Rattle.path.proofs.present.Tie as tie

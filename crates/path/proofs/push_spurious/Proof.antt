@@ -1,5 +1,5 @@
 use borrow.Author.Needs.{needs}
-use mathlib.Core.Path.{_≡_, ap, sym}
+use mathlib.Core.Path.{ap, sym}
 use mathlib.Core.Bool.{Bool, cond}
 use Rattle.path.proofs.PushLaws.{spurious-refused, spurious-added}
 use Rattle.path.proofs.push_spurious.Statement.{statement}
