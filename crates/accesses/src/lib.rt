@@ -4,7 +4,7 @@ ghost use mathlib.Core.Path.{_≡_};
 ghost use Prim.Native.Nat.{ℕ, _<_};
 ghost use lib.Dec.{ltb};
 ghost use Rattle.rules.specs.Cell as cells;
-ghost use Rattle.rules.specs.Event.{Matched};
+ghost use Rattle.rules.specs.Event as events;
 ghost use Rattle.rules.specs.Machine as machine;
 ghost use Rattle.rules.specs.State as rules;
 ghost use Rattle.rules.specs.Table.{opcodeIn};
@@ -31,11 +31,13 @@ use layout::Values;
 use layout::cell::COUNT;
 use layout::register_at;
 use layout::slots;
+use layout::store::VALUE;
+use layout::store_at;
 use layout::thread::REGISTER;
 use layout::wide16;
 use matches::Matched;
-use table::Decoded;
-use table::Op;
+use decode::Decoded;
+use decode::Op;
 use track::Race;
 
 // What a row reads, if it is a load or a read-modify-write.
@@ -56,7 +58,7 @@ pub fn store_row(
     value: u64,
 ) -> Event
     requires { ⌜ (site .thread < 5) × (cell < 4) ⌝ }
-    ensures { λ r. ⌜ ((opcode : ℕ) (m : Matched) → moveOf r (site .thread) (site .row) opcode m (state (now (clocks .exit)) (now (marks .exit)) (now (values .exit)) (now (numbers .exit))) ≡ machine.stores (state (now (clocks .entry)) (now (marks .entry)) (now (values .entry)) (now (numbers .entry))) (site .thread) (site .row) opcode cell order value) ⌝ }
+    ensures { λ r. ⌜ ((opcode : ℕ) (m : events.Matched) → moveOf r (site .thread) (site .row) opcode m (state (now (clocks .exit)) (now (marks .exit)) (now (values .exit)) (now (numbers .exit))) ≡ machine.stores (state (now (clocks .entry)) (now (marks .entry)) (now (values .entry)) (now (numbers .entry))) (site .thread) (site .row) opcode cell order value) ⌝ }
 {
     let thread = site.thread;
     thread::raise(clocks, thread);
@@ -69,15 +71,7 @@ pub fn store_row(
         cell,
         order,
     };
-    atomic::store(
-        clocks,
-        marks,
-        values,
-        numbers,
-        access,
-        [0; MAX_THREADS],
-        value,
-    );
+    atomic::store(clocks, marks, values, numbers, access, [0; MAX_THREADS], value);
     thread::complete(numbers, thread, vv::one_more(site.row));
     Event::Done {
         slot: slot as u8,
@@ -96,7 +90,7 @@ pub fn unsync_load_row(
     register: usize,
 ) -> Event
     requires { ⌜ (site .thread < 5) × (cell < 4) × (register < 4) ⌝ }
-    ensures { λ r. ⌜ ((marks : rules.Marks) (opcode : ℕ) (m : Matched) → moveOf r (site .thread) (site .row) opcode m (state (now (clocks .exit)) marks (now (values .exit)) (now (numbers .exit))) ≡ machine.reads (cells.unsyncLoadDone (state (now (clocks .entry)) marks (now (values .entry)) (now (numbers .entry))) (site .thread) cell) (site .thread) (site .row) opcode register (cells.newest (rules.number (now (numbers .entry)) (rules.count cell))) 0) ⌝ }
+    ensures { λ r. ⌜ ((marks : rules.Marks) (opcode : ℕ) (m : events.Matched) → moveOf r (site .thread) (site .row) opcode m (state (now (clocks .exit)) marks (now (values .exit)) (now (numbers .exit))) ≡ machine.reads (cells.unsyncLoadDone (state (now (clocks .entry)) marks (now (values .entry)) (now (numbers .entry))) (site .thread) cell) (site .thread) (site .row) opcode register (cells.newest (rules.number (now (numbers .entry)) (rules.count cell))) 0) ⌝ }
 {
     let thread = site.thread;
     let loaded = atomic::unsync_load(clocks, values, numbers, thread, cell);
@@ -115,14 +109,15 @@ pub fn with_mut_row(
     register: usize,
 ) -> Event
     requires { ⌜ (site .thread < 5) × (cell < 4) × (register < 4) ⌝ }
-    ensures { λ r. ⌜ ((marks : rules.Marks) (opcode : ℕ) (m : Matched) → moveOf r (site .thread) (site .row) opcode m (state (now (clocks .exit)) marks (now (values .exit)) (now (numbers .exit))) ≡ machine.leavesIn (cells.mutDone (state (now (clocks .entry)) marks (now (values .entry)) (now (numbers .entry))) (site .thread) cell (changeMeant change)) (site .thread) (site .row) opcode cell register) ⌝ }
+    ensures { λ r. ⌜ ((marks : rules.Marks) (opcode : ℕ) (m : events.Matched) → moveOf r (site .thread) (site .row) opcode m (state (now (clocks .exit)) marks (now (values .exit)) (now (numbers .exit))) ≡ machine.leavesIn (cells.mutDone (state (now (clocks .entry)) marks (now (values .entry)) (now (numbers .entry))) (site .thread) cell (changeMeant change)) (site .thread) (site .row) opcode cell register) ⌝ }
 {
     let thread = site.thread;
     match atomic::with_mut(clocks, values, numbers, thread, cell, change) {
         Mutated::Raced { kind, other } => Event::Stops(Fault::Race { kind, other }),
-        Mutated::Values { read, left } => {
-            values[REGISTER + register_at(thread, register)] = read;
+        Mutated::Values { read, .. } => {
             let slot = slots::newest(numbers[COUNT + cell]);
+            let left = values[VALUE + store_at(cell, slot)];
+            values[REGISTER + register_at(thread, register)] = read;
             thread::complete(numbers, thread, vv::one_more(site.row));
             Event::Done {
                 slot: slot as u8,
@@ -151,11 +146,7 @@ pub fn offers(
     };
     match op {
         Op::Load { cell, order, .. } => {
-            let access = Access {
-                thread,
-                cell,
-                order,
-            };
+            let access = Access { thread, cell, order };
             matches::match_load_to_stores(clocks, marks[cell], numbers, access, dst)
         }
         Op::Rmw { cell, .. } => matches::match_rmw_to_stores(clocks, numbers, cell, dst),
@@ -175,12 +166,12 @@ pub fn read_from(
     row: Decoded,
 ) -> Event
     requires { ⌜ (site .thread < 5) × (slot < 7) × opWithin row ⌝ }
-    ensures { λ r. ⌜ ((m : Matched) → moveOf r (site .thread) (site .row) (opcodeIn (decodedOf row)) m (state (now (clocks .exit)) (now (marks .exit)) (now (values .exit)) (now (numbers .exit))) ≡ machine.readFrom (state (now (clocks .entry)) (now (marks .entry)) (now (values .entry)) (now (numbers .entry))) (site .thread) (site .row) slot mask (decodedOf row)) ⌝ }
+    ensures { λ r. ⌜ ((m : events.Matched) → moveOf r (site .thread) (site .row) (opcodeIn (decodedOf row)) m (state (now (clocks .exit)) (now (marks .exit)) (now (values .exit)) (now (numbers .exit))) ≡ machine.readFrom (state (now (clocks .entry)) (now (marks .entry)) (now (values .entry)) (now (numbers .entry))) (site .thread) (site .row) slot mask (decodedOf row)) ⌝ }
 {
     let Decoded::Row(op) = row else {
         return Event::Stops(Fault::Impossible);
     };
-    let Reading::Of { cell, register } = reading(op) else {
+    let Reading::Of { cell, register } = to_read(op) else {
         return Event::Stops(Fault::Impossible);
     };
     if !is_live(numbers, cell, slot) {
@@ -191,8 +182,8 @@ pub fn read_from(
 }
 
 // The cell that a load or a read-modify-write reads, and the register that takes the value.
-fn reading(op: Op) -> Reading
-    requires { ⌜ inRange op ⌝ }
+fn to_read(op: Op) -> Reading
+    requires { ⌜ inRange (opOf op) ⌝ }
     ensures { λ r. ⌜ readingMeans r (opOf op) ⌝ }
 {
     match op {
@@ -212,40 +203,17 @@ fn read(
     slot: usize,
     op: Op,
 ) -> Loaded
-    requires { ⌜ (thread < 5) × (slot < 7) × inRange op ⌝ }
+    requires { ⌜ (thread < 5) × (slot < 7) × inRange (opOf op) ⌝ }
     ensures { λ r. ⌜ accessOf r (state (now (clocks .exit)) (now (marks .exit)) (now (values .exit)) (now (numbers .exit))) ≡ readDone (state (now (clocks .entry)) (now (marks .entry)) (now (values .entry)) (now (numbers .entry))) thread slot (opOf op) ⌝ }
 {
     match op {
         Op::Load { cell, order, .. } => {
-            let access = Access {
-                thread,
-                cell,
-                order,
-            };
+            let access = Access { thread, cell, order };
             atomic::load(clocks, marks, values, numbers, access, slot)
         }
-        Op::Rmw {
-            cell,
-            order,
-            failure,
-            change,
-            ..
-        } => {
-            let access = Access {
-                thread,
-                cell,
-                order,
-            };
-            atomic::rmw(
-                clocks,
-                marks,
-                values,
-                numbers,
-                access,
-                slot,
-                change,
-                failure,
-            )
+        Op::Rmw { cell, order, failure, change, .. } => {
+            let access = Access { thread, cell, order };
+            atomic::rmw(clocks, marks, values, numbers, access, slot, change, failure)
         }
         _ => Loaded::Value(0),
     }
@@ -270,7 +238,7 @@ fn put_value(
     loaded: Loaded,
 ) -> Event
     requires { ⌜ (site .thread < 5) × (register < 4) ⌝ }
-    ensures { λ r. ⌜ ((clocks : rules.Clocks) (marks : rules.Marks) (opcode : ℕ) (m : Matched) → moveOf r (site .thread) (site .row) opcode m (state clocks marks (now (values .exit)) (now (numbers .exit))) ≡ machine.reads (accessOf loaded (state clocks marks (now (values .entry)) (now (numbers .entry)))) (site .thread) (site .row) opcode register slot mask) ⌝ }
+    ensures { λ r. ⌜ ((clocks : rules.Clocks) (marks : rules.Marks) (opcode : ℕ) (m : events.Matched) → moveOf r (site .thread) (site .row) opcode m (state clocks marks (now (values .exit)) (now (numbers .exit))) ≡ machine.reads (accessOf loaded (state clocks marks (now (values .entry)) (now (numbers .entry)))) (site .thread) (site .row) opcode register slot mask) ⌝ }
 {
     let thread = site.thread;
     match loaded {

@@ -133,10 +133,12 @@ pub fn row_decoded(row: Row, threads: usize, cells: usize, count: usize) -> Deco
     }
 }
 
-// A load uses cell, order and register.
+// A load uses cell, order and the register that it loads into.
 fn load_row(row: Row, cells: usize) -> Decoded
     ensures { λ r. ⌜ decodedOf r ≡ rules.loadRow cells (rowOf row) ⌝ }
 {
+    let cell = wide8(row.object);
+    let into = wide8(row.register);
     only_if(
         named(row.object, cells)
             & load_order(row.order)
@@ -145,9 +147,9 @@ fn load_row(row: Row, cells: usize) -> Decoded
             & (row.target == 0)
             & no_operands(row),
         Op::Load {
-            cell: wide8(row.object),
+            cell,
             order: row.order,
-            register: wide8(row.register),
+            register: into,
         },
     )
 }

@@ -10,7 +10,9 @@ use borrow.Author.Tests.{ltb-true, leb-true}
 use Rattle.rules.specs.Change.{Change}
 use Rattle.rules.specs.Table.{Row, Op, Decoded, refused, decoded, onlyIf, isRegister, fenceOrder, load, store, storeRegister, rmw, fence, unsyncLoad, exclusive, yield, join, jump, jumpIf, jumpUnless, check, critical, exploreState, skipBranch, spurious, loadRow, storeRow, storeRegisterRow, rmwRow, fenceRow, unsyncLoadRow, exclusiveRow, bareRow, joinRow, jumpRow, jumpOnRow, checkRow, spuriousRow, changeDecoded, rowDecoded, sizeOf, rowFrom, noRow, rowAt, opAt}
 use Rattle.decode.specs.declared.Decoded as row
-use Rattle.decode.specs.Ops.{decodedOf, inRange, allInRange}
+use Rattle.decode.specs.declared.Decoded.the-variants as rows
+use Rattle.decode.specs.declared.Op as code
+use Rattle.decode.specs.Ops.{opOf, decodedOf, inRange, allInRange}
 use Rattle.table.specs.Answers.{OpAt}
 
 first : (a b : Bool) → a && b ≡ true → a ≡ true
@@ -150,3 +152,8 @@ pub op-moved : {t : List ℕ} {threads cells count first number threads₁ cells
     threads ≡ threads₁ → cells ≡ cells₁ → count ≡ count₁ → first ≡ first₁ → number ≡ number₁ →
     OpAt t threads cells count (first + number) r → OpAt t threads₁ cells₁ count₁ (first₁ + number₁) r
 op-moved p q e f g o = rw (← p, ← q, ← e, ← f, ← g) o
+
+-- for callers: what a row names, once it is taken apart
+pub named-in-range : {t : List ℕ} {threads cells count index : ℕ} {r : row.Decoded} {op taken : code.Op} →
+    OpAt t threads cells count index r → r ≡ rows.Row op → op ≡ taken → inRange (opOf taken)
+named-in-range o e f = rw (← f) (rw e at (o .within))

@@ -4,6 +4,12 @@ use borrow.Author.Needs.{needs}
 use Rattle.decode.proofs.load_row.Statement.{statement}
 use Rattle.decode.proofs.load_row.Tie as tie
 
+wide8-requires : tie.Need-wide8-requires
+wide8-requires c κs = search needs
+
+wide8-requires-2 : tie.Need-wide8-requires-2
+wide8-requires-2 c κs = search needs
+
 named-requires : tie.Need-named-requires
 named-requires c κs = search needs
 
@@ -19,30 +25,24 @@ no-change-requires c κs = search needs
 no-operands-requires : tie.Need-no-operands-requires
 no-operands-requires c κs = search needs
 
-wide8-requires : tie.Need-wide8-requires
-wide8-requires c κs = search needs
-
-wide8-requires-2 : tie.Need-wide8-requires-2
-wide8-requires-2 c κs = search needs
-
 only-if-requires : tie.Need-only-if-requires
 only-if-requires c κs = search needs
 
 returns : tie.Need-returns
 returns c =
     let g = c .before .before .before .before .before .before .before .before .before .args in
-    load-made (g .cells) (rowOf (g .row)) (c .only-if .ensures) (c .before .before .before .before .before .before .before .before .named .ensures) (c .before .before .before .before .before .before .before .load-order .ensures) (c .before .before .before .before .before .before .is-register .ensures) (c .before .before .before .before .before .no-change .ensures) (c .before .before .before .no-operands .ensures) (c .before .before .wide8 .ensures .same) (c .before .wide82 .ensures .same)
+    load-made (g .cells) (rowOf (g .row)) (c .only-if .ensures) (c .before .before .before .before .before .before .named .ensures) (c .before .before .before .before .before .load-order .ensures) (c .before .before .before .before .is-register .ensures) (c .before .before .before .no-change .ensures) (c .before .no-operands .ensures) (c .before .before .before .before .before .before .before .before .wide8 .ensures .same) (c .before .before .before .before .before .before .before .wide82 .ensures .same)
 
 pub load-row-spec : {M : Type 1} → statement M
 load-row-spec =
     tie.close
     (tie.spec
+    wide8-requires
+    wide8-requires-2
     named-requires
     load-order-requires
     is-register-requires
     no-change-requires
     no-operands-requires
-    wide8-requires
-    wide8-requires-2
     only-if-requires
     returns)
