@@ -25,12 +25,12 @@ use Rattle.matches.specs.Offers.{Scan, slots, offered}
 use Rattle.event.specs.Moves.{matchedFor}
 use Rattle.change.specs.declared.Change.{Change}
 use Rattle.change.specs.Changes.{changeMeant}
-use Rattle.table.specs.Ops.{opOf, decodedOf, inRange, opWithin}
-use Rattle.table.specs.declared.Op.{Op}
-use Rattle.table.specs.declared.Op.the-variants as code
-use Rattle.table.specs.declared.Decoded.{Decoded}
-use Rattle.table.specs.declared.Decoded.the-variants.{Refused, Row as Says}
-use Rattle.table.proofs.Op.{the-type}
+use Rattle.decode.specs.Ops.{opOf, decodedOf, inRange, opWithin}
+use Rattle.decode.specs.declared.Op.{Op}
+use Rattle.decode.specs.declared.Op.the-variants as code
+use Rattle.decode.specs.declared.Decoded.{Decoded}
+use Rattle.decode.specs.declared.Decoded.the-variants.{Refused, Row as Says}
+use Rattle.decode.proofs.Op.{the-type}
 use Rattle.accesses.specs.Reads.{readDone, readingOf, readWithin, Means}
 use Rattle.accesses.specs.declared.Reading.{Reading}
 use Rattle.accesses.specs.declared.Reading.the-variants.{Nothing, Of}

@@ -13,7 +13,7 @@ ghost use Rattle.atomic.specs.Accesses.{accessOf};
 ghost use Rattle.change.specs.Changes.{changeMeant};
 ghost use Rattle.matches.specs.Offers.{scanned, offered};
 ghost use Rattle.event.specs.Moves.{moveOf, matchedFor};
-ghost use Rattle.table.specs.Ops.{opOf, decodedOf, inRange, opWithin};
+ghost use Rattle.decode.specs.Ops.{opOf, decodedOf, inRange, opWithin};
 ghost use Rattle.accesses.specs.Reads.{readingMeans, readDone};
 use atomic::Loaded;
 use atomic::Mutated;

@@ -9,7 +9,7 @@ ghost use Rattle.rules.specs.State as rules;
 ghost use Rattle.rules.specs.Table.{cellsOf, opcodeOf, opcodeIn};
 ghost use Rattle.layout.specs.Tables.{state};
 ghost use Rattle.event.specs.Moves.{moveOf, matchedFor};
-ghost use Rattle.table.specs.Ops.{opOf, decodedOf, inRange, opWithin};
+ghost use Rattle.decode.specs.Ops.{opOf, decodedOf, inRange, opWithin};
 ghost use Rattle.execution.specs.Answers.{Answers, choiceWithin};
 use event::Choice;
 use event::Event;
@@ -25,8 +25,8 @@ use layout::thread::REGISTER;
 use layout::wide16;
 use table::CELLS;
 use table::COUNTS;
-use table::Decoded;
-use table::Op;
+use decode::Decoded;
+use decode::Op;
 use table::Shape;
 
 // One tick of the active thread at its row: past its last row it ends; else it begins the row or, if that has begun, acts.

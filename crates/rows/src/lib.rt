@@ -9,7 +9,7 @@ ghost use Rattle.rules.specs.Table.{cellsOf, opcodeIn};
 ghost use Rattle.rules.specs.Vector.{oneMore};
 ghost use Rattle.layout.specs.Tables.{state};
 ghost use Rattle.event.specs.Moves.{moveOf};
-ghost use Rattle.table.specs.Ops.{opOf, decodedOf, inRange, opWithin};
+ghost use Rattle.decode.specs.Ops.{opOf, decodedOf, inRange, opWithin};
 ghost use Rattle.rows.specs.Pendings.{Pends};
 use event::Event;
 use event::Fault;
@@ -32,8 +32,8 @@ use layout::thread::REGISTER;
 use layout::thread::ROWS;
 use layout::thread::SCHEDULE;
 use synchronize::join_into;
-use table::Decoded;
-use table::Op;
+use decode::Decoded;
+use decode::Op;
 use track::access;
 
 // The pending operation that a row sets, with its cell; a row of opcodes 4 to 16 sets none.

@@ -4,7 +4,7 @@
 ghost use mathlib.Core.Path.{_≡_};
 ghost use Prim.Native.Nat.{ℕ, _<_, _≤_, _+_, _*_};
 ghost use lib.ListN.{length, getD};
-ghost use Rattle.table.specs.Ops.{opWithin};
+ghost use Rattle.decode.specs.Ops.{opWithin};
 ghost use Rattle.walk.specs.Walks.{hereWithin, Marks, Adds, Follows, Notes, Ticks};
 use event::Choice;
 use event::Event;
@@ -29,7 +29,7 @@ use path::Pushed;
 use path::Spurious;
 use record::Offered;
 use schedule::Place;
-use table::Decoded;
+use decode::Decoded;
 use table::Shape;
 use trace::Entry;
 
