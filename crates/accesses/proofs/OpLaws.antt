@@ -181,5 +181,5 @@ module _ (st : State) (t k slot mask : ℕ) where
           move ≡ reads x t k (opcodeIn (decodedOf row)) register slot mask → move ≡ readFrom st t k slot mask (decodedOf row)
       from-live f x g move p =
           let q : move ≡ reads x t k (opcodeOf (opOf op)) register slot mask =
-              subst (λ (d : Decoded). move ≡ reads x t k (opcodeIn (decodedOf d)) register slot mask) says p in
+          subst (λ (d : Decoded). move ≡ reads x t k (opcodeIn (decodedOf d)) register slot mask) says p in
           rw (by-found (Of cell register) e, ← live, f, ← g) q

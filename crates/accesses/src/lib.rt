@@ -18,6 +18,8 @@ ghost use Rattle.accesses.specs.Reads.{readingMeans, readDone};
 use atomic::Loaded;
 use atomic::Mutated;
 use change::Change;
+use decode::Decoded;
+use decode::Op;
 use event::Event;
 use event::Fault;
 use event::Site;
@@ -28,16 +30,14 @@ use layout::MAX_THREADS;
 use layout::Marks;
 use layout::Numbers;
 use layout::Values;
-use layout::cell::COUNT;
+use layout::of_cell::COUNT;
+use layout::of_store::VALUE;
+use layout::of_thread::REGISTER;
 use layout::register_at;
 use layout::slots;
-use layout::store::VALUE;
 use layout::store_at;
-use layout::thread::REGISTER;
 use layout::wide16;
 use matches::Matched;
-use decode::Decoded;
-use decode::Op;
 use track::Race;
 
 // What a row reads, if it is a load or a read-modify-write.
@@ -71,7 +71,15 @@ pub fn store_row(
         cell,
         order,
     };
-    atomic::store(clocks, marks, values, numbers, access, [0; MAX_THREADS], value);
+    atomic::store(
+        clocks,
+        marks,
+        values,
+        numbers,
+        access,
+        [0; MAX_THREADS],
+        value,
+    );
     thread::complete(numbers, thread, vv::one_more(site.row));
     Event::Done {
         slot: slot as u8,
@@ -146,7 +154,11 @@ pub fn offers(
     };
     match op {
         Op::Load { cell, order, .. } => {
-            let access = Access { thread, cell, order };
+            let access = Access {
+                thread,
+                cell,
+                order,
+            };
             matches::match_load_to_stores(clocks, marks[cell], numbers, access, dst)
         }
         Op::Rmw { cell, .. } => matches::match_rmw_to_stores(clocks, numbers, cell, dst),
@@ -208,12 +220,35 @@ fn read(
 {
     match op {
         Op::Load { cell, order, .. } => {
-            let access = Access { thread, cell, order };
+            let access = Access {
+                thread,
+                cell,
+                order,
+            };
             atomic::load(clocks, marks, values, numbers, access, slot)
         }
-        Op::Rmw { cell, order, failure, change, .. } => {
-            let access = Access { thread, cell, order };
-            atomic::rmw(clocks, marks, values, numbers, access, slot, change, failure)
+        Op::Rmw {
+            cell,
+            order,
+            failure,
+            change,
+            ..
+        } => {
+            let access = Access {
+                thread,
+                cell,
+                order,
+            };
+            atomic::rmw(
+                clocks,
+                marks,
+                values,
+                numbers,
+                access,
+                slot,
+                change,
+                failure,
+            )
         }
         _ => Loaded::Value(0),
     }

@@ -11,6 +11,8 @@ ghost use Rattle.layout.specs.Tables.{state};
 ghost use Rattle.event.specs.Moves.{moveOf, matchedFor};
 ghost use Rattle.decode.specs.Ops.{opOf, decodedOf, inRange, opWithin};
 ghost use Rattle.execution.specs.Answers.{Answers, choiceWithin};
+use decode::Decoded;
+use decode::Op;
 use event::Choice;
 use event::Event;
 use event::Fault;
@@ -20,13 +22,11 @@ use layout::Clocks;
 use layout::Marks;
 use layout::Numbers;
 use layout::Values;
+use layout::of_thread::REGISTER;
 use layout::register_at;
-use layout::thread::REGISTER;
 use layout::wide16;
 use table::CELLS;
 use table::COUNTS;
-use decode::Decoded;
-use decode::Op;
 use table::Shape;
 
 // One tick of the active thread at its row: past its last row it ends; else it begins the row or, if that has begun, acts.
@@ -176,8 +176,8 @@ pub fn answered(
     ensures { λ r. ⌜ ((m : Matched) → Answers choice (decodedOf row) (site .thread) (site .row) (state (now (clocks .entry)) (now (marks .entry)) (now (values .entry)) (now (numbers .entry))) (moveOf r (site .thread) (site .row) (opcodeIn (decodedOf row)) m (state (now (clocks .exit)) (now (marks .exit)) (now (values .exit)) (now (numbers .exit))))) ⌝ }
 {
     match choice {
-        Choice::Thread { chosen, branch } => schedule::switch(clocks, numbers, chosen, branch),
-        Choice::Nobody => schedule::nobody(numbers),
+        Choice::Thread { chosen, branch } => scheduling::switch(clocks, numbers, chosen, branch),
+        Choice::Nobody => scheduling::nobody(numbers),
         Choice::Slot { slot, mask } => {
             accesses::read_from(clocks, marks, values, numbers, site, slot, mask, row)
         }

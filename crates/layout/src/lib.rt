@@ -6,13 +6,13 @@ ghost use mathlib.Core.Path.{_≡_};
 ghost use Prim.Native.Nat.{_+_, _*_, _<_};
 ghost use Rattle.layout.specs.Wide.{Wide};
 
-pub mod cell;
+pub mod of_cell;
+pub mod of_run;
+pub mod of_store;
+pub mod of_thread;
 pub mod order;
-pub mod run;
 pub mod seed;
 pub mod slots;
-pub mod store;
-pub mod thread;
 
 pub const MAX_THREADS: usize = 5;
 

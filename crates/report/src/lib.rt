@@ -15,10 +15,10 @@ use event::Site;
 use layout::Clocks;
 use layout::MAX_THREADS;
 use layout::Numbers;
-use layout::run::ROWS_BEGUN;
-use layout::thread::ROWS;
-use layout::thread::STATE;
-use layout::thread::YIELDS;
+use layout::of_run::ROWS_BEGUN;
+use layout::of_thread::ROWS;
+use layout::of_thread::STATE;
+use layout::of_thread::YIELDS;
 use layout::wide16;
 
 // Document 01's table of answers: 0 and 1, the refusals 2 to 5, and the faults from 10 on, with where they were met.

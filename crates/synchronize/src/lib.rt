@@ -7,13 +7,13 @@ ghost use Rattle.rules.specs.Vector.{joined};
 ghost use Rattle.rules.specs.Cell.{loadSynced, storeSynced};
 use layout::Clocks;
 use layout::MAX_THREADS;
+use layout::of_store::SYNC;
+use layout::of_thread::CAUSALITY;
+use layout::of_thread::RELEASED;
 use layout::order::ACQ_REL;
 use layout::order::ACQUIRE;
 use layout::order::RELEASE;
 use layout::order::SEQ_CST;
-use layout::store::SYNC;
-use layout::thread::CAUSALITY;
-use layout::thread::RELEASED;
 use vv::VersionVec;
 
 pub mod first_seen;

@@ -12,11 +12,11 @@ use layout::Clocks;
 use layout::MAX_THREADS;
 use layout::NONE;
 use layout::Numbers;
-use layout::cell::ACCESS_BRANCH;
-use layout::cell::LAST_ACCESS;
-use layout::cell::LAST_NON_LOAD_ACCESS;
-use layout::cell::NON_LOAD_BRANCH;
-use layout::thread::SCHEDULE;
+use layout::of_cell::ACCESS_BRANCH;
+use layout::of_cell::LAST_ACCESS;
+use layout::of_cell::LAST_NON_LOAD_ACCESS;
+use layout::of_cell::NON_LOAD_BRANCH;
+use layout::of_thread::SCHEDULE;
 use vv::VersionVec;
 
 // The operation that a thread is about to take, as a number: none, load, store, read-modify-write.

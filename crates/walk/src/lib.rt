@@ -6,6 +6,7 @@ ghost use Prim.Native.Nat.{ℕ, _<_, _≤_, _+_, _*_};
 ghost use lib.ListN.{length, getD};
 ghost use Rattle.decode.specs.Ops.{opWithin};
 ghost use Rattle.walk.specs.Walks.{hereWithin, Marks, Adds, Follows, Notes, Ticks};
+use decode::Decoded;
 use event::Choice;
 use event::Event;
 use event::Fault;
@@ -18,9 +19,9 @@ use layout::MAX_THREADS;
 use layout::Marks;
 use layout::Numbers;
 use layout::Values;
-use layout::run::ACTIVE;
-use layout::run::EXPLORING;
-use layout::thread::NEXT_ROW;
+use layout::of_run::ACTIVE;
+use layout::of_run::EXPLORING;
+use layout::of_thread::NEXT_ROW;
 use layout::wide16;
 use matches::Matched;
 use path::Bound;
@@ -28,8 +29,7 @@ use path::Chosen;
 use path::Pushed;
 use path::Spurious;
 use record::Offered;
-use schedule::Place;
-use decode::Decoded;
+use scheduling::Place;
 use table::Shape;
 use trace::Entry;
 
@@ -204,7 +204,7 @@ fn add(
     let len = cursor.len;
     let exploring = numbers[EXPLORING] == 1;
     let pushed = match question {
-        Question::Thread => path::push_thread(path, len, exploring, schedule::seed(numbers)),
+        Question::Thread => path::push_thread(path, len, exploring, scheduling::seed(numbers)),
         Question::Slot => {
             let mut seed = [0u8; MAX_ATOMIC_HISTORY];
             let row = here.row;
@@ -282,7 +282,7 @@ fn mark_threads(clocks: &Clocks, numbers: &Numbers, path: &mut [u8], bound: Boun
     let mut opened = 0;
     let mut t = 0;
     while t < MAX_THREADS {
-        if let Place::Branch(point) = schedule::conflict(clocks, numbers, t) {
+        if let Place::Branch(point) = scheduling::conflict(clocks, numbers, t) {
             opened += path::backtrack(path, wide16(point), t, bound);
         }
         t += 1;

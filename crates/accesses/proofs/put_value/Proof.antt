@@ -34,8 +34,8 @@ returns-2 : tie.Need-returns-2
 returns-2 c =
     let args = c .before .before .before .before .before .before .before .args in
     λ clocks marks opcode m.
-        put-done _ _ _ _ _ _ _ _ (c .before .before .before .before .before .loaded2 .given .1) _ _ (args .values .now) (args .numbers .now) _ _ (c .before .before .before .register-at .ensures) (c .before .one-more .ensures) _
-        (c .complete .ensures _ _ _)
+    put-done _ _ _ _ _ _ _ _ (c .before .before .before .before .before .loaded2 .given .1) _ _ (args .values .now) (args .numbers .now) _ _ (c .before .before .before .register-at .ensures) (c .before .one-more .ensures) _
+    (c .complete .ensures _ _ _)
 
 pub put-value-spec : {M : Type 1} → statement M
 put-value-spec =

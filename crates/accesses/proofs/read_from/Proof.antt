@@ -31,7 +31,7 @@ is-live-requires c κs = of-within _ _ _ (c .before .before .cell .given .1) (c 
 returns-3 : tie.Need-returns-3
 returns-3 c =
     λ m.
-        from-dead _ _ _ _ _ _ _ (c .before .before .before .before .before .before .before .before .row .given .1) _ (c .before .before .before .before .before .before .to-read .ensures .is) _ _ (c .before .before .before .before .cell .given .1) _ (c .before .is-live .ensures) (not-true _ (c .if1 .taken))
+    from-dead _ _ _ _ _ _ _ (c .before .before .before .before .before .before .before .before .row .given .1) _ (c .before .before .before .before .before .before .to-read .ensures .is) _ _ (c .before .before .before .before .cell .given .1) _ (c .before .is-live .ensures) (not-true _ (c .if1 .taken))
 
 read-requires : tie.Need-read-requires
 read-requires c κs =
@@ -49,8 +49,8 @@ returns-4 c =
     let found = c .before .before .before .before .before .before .before .before .before .before .before .before in
     let live = c .before .before .before .before .before .before .before .before .before in
     λ m.
-        from-live _ _ _ _ _ _ _ (found .before .before .before .before .row .given .1) _ (found .before .before .to-read .ensures .is) _ _ (found .cell .given .1) _ (live .is-live .ensures) (not-false _ (c .before .before .before .before .before .before .before .before .if1 .left)) _
-        (c .before .before .before .read .ensures) _ (c .put-value .ensures _ _ _ m)
+    from-live _ _ _ _ _ _ _ (found .before .before .before .before .row .given .1) _ (found .before .before .to-read .ensures .is) _ _ (found .cell .given .1) _ (live .is-live .ensures) (not-false _ (c .before .before .before .before .before .before .before .before .if1 .left)) _
+    (c .before .before .before .read .ensures) _ (c .put-value .ensures _ _ _ m)
 
 pub read-from-spec : {M : Type 1} → statement M
 read-from-spec =

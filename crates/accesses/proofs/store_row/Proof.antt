@@ -18,8 +18,8 @@ returns c =
     let call = c .before .before .before in
     let start = call .before .before .before .before in
     λ opcode m.
-        store-raced _ _ opcode _ (start .args .order) (start .args .value) _ (start .args .marks .now) (start .args .values .now) (start .args .numbers .now) _
-        (call .track-store .ensures .left) _ (call .before .before .raise .ensures _ _ _) _ _ (answered _ _ _ (c .before .kind .given .1) (call .track-store .ensures .answer))
+    store-raced _ _ opcode _ (start .args .order) (start .args .value) _ (start .args .marks .now) (start .args .values .now) (start .args .numbers .now) _
+    (call .track-store .ensures .left) _ (call .before .before .raise .ensures _ _ _) _ _ (answered _ _ _ (c .before .kind .given .1) (call .track-store .ensures .answer))
 
 enum-told : tie.Need-enum-told
 enum-told c = search needs
@@ -54,10 +54,10 @@ returns-2 c =
     let call = index .before .before .before .before in
     let start = call .before .before .before .before in
     λ opcode m.
-        store-done _ _ opcode _ (start .args .order) _ _ (start .args .marks .now) (start .args .values .now) (start .args .numbers .now) _
-        (call .track-store .ensures .left) _ (call .before .before .raise .ensures _ _ _)
-        (answered _ _ _ (index .before .before .enum-told .given .1) (call .track-store .ensures .answer))
-        _ _ (index .index .ensures .is) (c .before .one-more .ensures) _ _ (c .before .before .before .store .ensures) (c .complete .ensures _ _ _)
+    store-done _ _ opcode _ (start .args .order) _ _ (start .args .marks .now) (start .args .values .now) (start .args .numbers .now) _
+    (call .track-store .ensures .left) _ (call .before .before .raise .ensures _ _ _)
+    (answered _ _ _ (index .before .before .enum-told .given .1) (call .track-store .ensures .answer))
+    _ _ (index .index .ensures .is) (c .before .one-more .ensures) _ _ (c .before .before .before .store .ensures) (c .complete .ensures _ _ _)
 
 pub store-row-spec : {M : Type 1} → statement M
 store-row-spec =

@@ -65,8 +65,8 @@ returns-2 c =
     let store = c .before .before .before .before .before in
     let call = store .before .before .before .before .before .before in
     λ marks opcode m.
-        mut-done _ _ opcode _ _ _ _ marks _ (call .before .before .before .before .args .numbers .now) _ (call .with-mut .ensures .access marks) _ _ (store .before .before .before .before .read .given .1) _ _ _ _
-        (store .before .newest .ensures .is) (store .store-at .ensures) (c .before .before .before .register-at .ensures) (c .before .one-more .ensures) _ (c .complete .ensures _ _ _)
+    mut-done _ _ opcode _ _ _ _ marks _ (call .before .before .before .before .args .numbers .now) _ (call .with-mut .ensures .access marks) _ _ (store .before .before .before .before .read .given .1) _ _ _ _
+    (store .before .newest .ensures .is) (store .store-at .ensures) (c .before .before .before .register-at .ensures) (c .before .one-more .ensures) _ (c .complete .ensures _ _ _)
 
 pub with-mut-row-spec : {M : Type 1} → statement M
 with-mut-row-spec =

@@ -1,8 +1,8 @@
 use mathlib.Core.Logic.{⊎-elim}
-use Rattle.schedule.proofs.ScheduleLaws.{initial-active, initial-not, initial-away}
+use Rattle.scheduling.proofs.ScheduleLaws.{initial-active, initial-not, initial-away}
 use borrow.Author.Needs.{needs}
-use Rattle.schedule.proofs.initial.Statement.{statement}
-use Rattle.schedule.proofs.initial.Tie as tie
+use Rattle.scheduling.proofs.initial.Statement.{statement}
+use Rattle.scheduling.proofs.initial.Tie as tie
 
 element-copy-out-wide16 : tie.Need-element-copy-out-wide16
 element-copy-out-wide16 c = search needs

@@ -3,10 +3,10 @@ use mathlib.Core.Path.{_≡_, refl, _∙_}
 use native.Mathlib.Omega.{arith}
 use lib.ListN.{length, take, length-set}
 use Rattle.thread.proofs.FillLaws.{fill-on, fill-all}
-use Rattle.schedule.proofs.SeedLaws.{seeded, seed-at, seed-length}
+use Rattle.scheduling.proofs.SeedLaws.{seeded, seed-at, seed-length}
 use borrow.Author.Needs.{needs}
-use Rattle.schedule.proofs.seed.Statement.{statement}
-use Rattle.schedule.proofs.seed.Tie as tie
+use Rattle.scheduling.proofs.seed.Statement.{statement}
+use Rattle.scheduling.proofs.seed.Tie as tie
 
 abbrev Inv-loop : tie.InvT-loop
 Inv-loop numbers first states₀ t₀ states t = (t ≤ 5) × (length states ≡ 5) × (take t states ≡ take t (seeded numbers))

@@ -1,9 +1,9 @@
 use mathlib.Core.List.{[]}
 use Rattle.layout.specs.Tables.{state}
-use Rattle.schedule.proofs.ScheduleLaws.{means-none, means-on, conflict-none, conflict-apart, conflict-there}
+use Rattle.scheduling.proofs.ScheduleLaws.{means-none, means-on, conflict-none, conflict-apart, conflict-there}
 use borrow.Author.Needs.{needs}
-use Rattle.schedule.proofs.conflict.Statement.{statement}
-use Rattle.schedule.proofs.conflict.Tie as tie
+use Rattle.scheduling.proofs.conflict.Statement.{statement}
+use Rattle.scheduling.proofs.conflict.Tie as tie
 
 pending-operation-requires : tie.Need-pending-operation-requires
 pending-operation-requires c κs = search needs

@@ -3,10 +3,10 @@ use mathlib.Core.Path.{_∙_}
 use mathlib.Core.Logic.{⊎-elim}
 use Rattle.rules.specs.State.{withNumber, activeThread}
 use Rattle.layout.specs.Tables.{state}
-use Rattle.schedule.proofs.ScheduleLaws.{means-none, means-on, access-none, access-on, left-as, switched-as}
+use Rattle.scheduling.proofs.ScheduleLaws.{means-none, means-on, access-none, access-on, left-as, switched-as}
 use borrow.Author.Needs.{needs}
-use Rattle.schedule.proofs.choose.Statement.{statement}
-use Rattle.schedule.proofs.choose.Tie as tie
+use Rattle.scheduling.proofs.choose.Statement.{statement}
+use Rattle.scheduling.proofs.choose.Tie as tie
 
 cast-numbers : tie.Need-cast-numbers
 cast-numbers c = search needs

@@ -1,14 +1,14 @@
-use Rattle.schedule.specs.Schedules.{orFive}
+use Rattle.scheduling.specs.Schedules.{orFive}
 use Prim.Native.Nat.{ℕ, _≤_, _-_}
 use mathlib.Core.Path.{_≡_, refl, ap, sym, _∙_}
 use mathlib.Core.Logic.{_≢_, ⊎-elim}
 use Rattle.rules.specs.Machine.{fewestFrom}
 use Rattle.rules.specs.State.{number, yields}
 use Rattle.rules.specs.Vector.{nobody}
-use Rattle.schedule.proofs.ScheduleLaws.{whomOf, fewest-not, fewest-first, fewest-fewer, fewest-as-many, fewest-end}
+use Rattle.scheduling.proofs.ScheduleLaws.{whomOf, fewest-not, fewest-first, fewest-fewer, fewest-as-many, fewest-end}
 use borrow.Author.Needs.{needs}
-use Rattle.schedule.proofs.fewest_yields.Statement.{statement}
-use Rattle.schedule.proofs.fewest_yields.Tie as tie
+use Rattle.scheduling.proofs.fewest_yields.Statement.{statement}
+use Rattle.scheduling.proofs.fewest_yields.Tie as tie
 
 abbrev Inv-loop : tie.InvT-loop
 Inv-loop numbers best₀ fewest₀ t₀ best fewest t = (t ≤ 5) × (fewestFrom numbers (whomOf best) (5 - t) t ≡ fewestFrom numbers nobody 5 0) × (best ≢ 5 → fewest ≡ number numbers (yields best))

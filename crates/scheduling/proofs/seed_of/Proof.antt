@@ -1,6 +1,6 @@
-use Rattle.schedule.proofs.SeedLaws.{seed-first, seed-yield, seed-skip, seed-disabled}
-use Rattle.schedule.proofs.seed_of.Statement.{statement}
-use Rattle.schedule.proofs.seed_of.Tie as tie
+use Rattle.scheduling.proofs.SeedLaws.{seed-first, seed-yield, seed-skip, seed-disabled}
+use Rattle.scheduling.proofs.seed_of.Statement.{statement}
+use Rattle.scheduling.proofs.seed_of.Tie as tie
 
 returns : tie.Need-returns
 returns c = λ numbers t is. seed-first (c .before .args .first) _ (c .if1 .taken)

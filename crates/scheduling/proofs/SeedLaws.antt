@@ -17,7 +17,7 @@ use Rattle.rules.specs.Path.{active, yield, skip, disabled, toActive}
 use Rattle.rules.specs.Vector.{Whom, nobody, thread}
 use Rattle.rules.specs.Explorer.{seedState, seedOf}
 use Rattle.rules.specs.Machine.{yielded, runnable, standing, everyThread, initial}
-use Rattle.schedule.specs.Schedules.{orFive}
+use Rattle.scheduling.specs.Schedules.{orFive}
 
 pub seed-first : (b : Bool) (x : ℕ) → b ≡ true → active ≡ cond b active x
 seed-first b x e = rw e

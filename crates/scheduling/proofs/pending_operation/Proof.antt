@@ -1,7 +1,7 @@
-use Rattle.schedule.proofs.ScheduleLaws.{operation-away, operation-none, operation-some}
+use Rattle.scheduling.proofs.ScheduleLaws.{operation-away, operation-none, operation-some}
 use borrow.Author.Needs.{needs}
-use Rattle.schedule.proofs.pending_operation.Statement.{statement}
-use Rattle.schedule.proofs.pending_operation.Tie as tie
+use Rattle.scheduling.proofs.pending_operation.Statement.{statement}
+use Rattle.scheduling.proofs.pending_operation.Tie as tie
 
 add-action : tie.Need-add-action
 add-action c = search needs

@@ -1,8 +1,8 @@
 use Rattle.layout.specs.Tables.{state}
-use Rattle.schedule.proofs.ScheduleLaws.{chosen-impossible, chosen-moves, runs-within}
+use Rattle.scheduling.proofs.ScheduleLaws.{chosen-impossible, chosen-moves, runs-within}
 use borrow.Author.Needs.{needs}
-use Rattle.schedule.proofs.switch.Statement.{statement}
-use Rattle.schedule.proofs.switch.Tie as tie
+use Rattle.scheduling.proofs.switch.Statement.{statement}
+use Rattle.scheduling.proofs.switch.Tie as tie
 
 can-run-requires : tie.Need-can-run-requires
 can-run-requires c κs = search needs

@@ -9,10 +9,10 @@ use Rattle.rules.specs.Event as rules
 use Rattle.rules.specs.State.{State}
 use Rattle.rules.specs.Vector.{Whom, nobody, thread}
 use Rattle.rules.specs.Machine.{operationOf, cellOf, noOperation}
-use Rattle.schedule.specs.declared.Place.{Place}
-use Rattle.schedule.specs.declared.Place.the-variants as place
-use Rattle.schedule.specs.declared.Operation.{Operation}
-use Rattle.schedule.specs.declared.Operation.the-variants as operation
+use Rattle.scheduling.specs.declared.Place.{Place}
+use Rattle.scheduling.specs.declared.Place.the-variants as place
+use Rattle.scheduling.specs.declared.Operation.{Operation}
+use Rattle.scheduling.specs.declared.Operation.the-variants as operation
 
 abbrev pub placeOf : Place → rules.Place
 placeOf place.Nowhere = rules.nowhere

@@ -26,9 +26,9 @@ use Rattle.rules.specs.Machine.{isIn, runnable, canRun, noOperation, operationO
 use Rattle.layout.specs.Tables.{state}
 use Rattle.track.specs.LastAccess.{grown, accessed}
 use Rattle.thread.proofs.ThreadLaws.{one-left, none-left}
-use Rattle.schedule.specs.Schedules.{On, operationMeans, orFive}
-use Rattle.schedule.specs.declared.Operation.{Operation}
-use Rattle.schedule.specs.declared.Operation.the-variants as answer
+use Rattle.scheduling.specs.Schedules.{On, operationMeans, orFive}
+use Rattle.scheduling.specs.declared.Operation.{Operation}
+use Rattle.scheduling.specs.declared.Operation.the-variants as answer
 
 -- A thread's pending operation
 

@@ -1,8 +1,8 @@
 use Rattle.layout.specs.Tables.{state}
-use Rattle.schedule.proofs.ScheduleLaws.{nobody-ends, nobody-impossible, nobody-deadlock}
+use Rattle.scheduling.proofs.ScheduleLaws.{nobody-ends, nobody-impossible, nobody-deadlock}
 use borrow.Author.Needs.{needs}
-use Rattle.schedule.proofs.nobody.Statement.{statement}
-use Rattle.schedule.proofs.nobody.Tie as tie
+use Rattle.scheduling.proofs.nobody.Statement.{statement}
+use Rattle.scheduling.proofs.nobody.Tie as tie
 
 all-ended-requires : tie.Need-all-ended-requires
 all-ended-requires c κs = search needs
