@@ -5,6 +5,7 @@ use explorer::MAX_EXECUTIONS;
 use explorer::MAX_OPERATIONS;
 use explorer::Settings;
 use libc::STDERR_FILENO;
+use path::Bound;
 
 // An option that takes a number, which is the next word.
 pub enum Awaited {
@@ -22,8 +23,7 @@ pub struct Options {
     pub branches: u64,
     pub operations: u64,
     pub executions: u64,
-    pub bounded: bool,
-    pub bound: u8,
+    pub bound: Bound,
     pub exploring: bool,
 }
 
@@ -42,20 +42,19 @@ impl Options {
             branches: MAX_BRANCHES,
             operations: MAX_OPERATIONS,
             executions: MAX_EXECUTIONS,
-            bounded: false,
-            bound: 0,
+            bound: Bound::Unbounded,
             exploring: true,
         }
     }
 
     // What a run is given.
     pub fn settings(self) -> Settings {
+        let bound = self.bound;
         Settings {
             branches: self.branches,
             operations: self.operations,
             executions: self.executions,
-            bounded: self.bounded,
-            bound: self.bound,
+            bound,
             exploring: self.exploring,
         }
     }
@@ -140,14 +139,19 @@ fn take_free(mut options: Options, place: usize, word: &[u8]) -> Asked {
 
 // The options as they are, with this number awaited next.
 fn awaiting(options: Options, awaited: Awaited) -> Options {
+    let bound = options.bound;
+    with_bound(options, bound, awaited)
+}
+
+// The same with another bound.
+fn with_bound(options: Options, bound: Bound, awaited: Awaited) -> Options {
     Options {
         table: options.table,
         awaited,
         branches: options.branches,
         operations: options.operations,
         executions: options.executions,
-        bounded: options.bounded,
-        bound: options.bound,
+        bound,
         exploring: options.exploring,
     }
 }
@@ -187,10 +191,8 @@ fn take_bound(options: Options, word: &[u8]) -> Asked {
     let Parsed::Number(n) = decimal::number_between(word, 0, 255) else {
         return no_number(Awaited::Bound);
     };
-    let mut next = awaiting(options, Awaited::Nothing);
-    next.bounded = true;
-    next.bound = (n % 256) as u8;
-    Asked::For(next)
+    let bound = Bound::AtMost((n % 256) as u8);
+    Asked::For(with_bound(options, bound, Awaited::Nothing))
 }
 
 // Whether a word begins with two dashes.

@@ -1,10 +1,10 @@
 // A run: the buffers, the exploration and what is printed of it.
 ghost use Prim.Native.Nat.{_≤_};
-use explorer::Answer;
 use explorer::MAX_EXECUTIONS;
-use explorer::Report;
 use explorer::Settings;
 use libc::STDERR_FILENO;
+use report::Answer;
+use report::Report;
 
 // Explores and prints, with as much of the largest buffers as the settings ask for.
 pub fn run(table: &[u8], settings: Settings) {
@@ -63,12 +63,12 @@ fn say_spent(budget: u64) {
 
 // The settings with another budget.
 fn with_budget(settings: Settings, executions: u64) -> Settings {
+    let bound = settings.bound;
     Settings {
         branches: settings.branches,
         operations: settings.operations,
         executions,
-        bounded: settings.bounded,
-        bound: settings.bound,
+        bound,
         exploring: settings.exploring,
     }
 }

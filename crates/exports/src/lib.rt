@@ -1,10 +1,10 @@
 // The entry for Rust and C: numbers and slices only, so that no struct's layout crosses.
 ghost use mathlib.Core.Path.{_≡_};
 ghost use lib.ListN.{length};
-use explorer::Report;
 use explorer::Settings;
-use explorer::ThreadRecord;
-use explorer::report as words;
+use path::Bound;
+use report::Report;
+use report::ThreadRecord;
 
 // How many numbers a report has: nine, and four for each of the five threads.
 pub const NUMBERS: usize = 29;
@@ -39,15 +39,22 @@ pub extern "C" fn chjirvollu_explore(
         branches,
         operations,
         executions,
-        bounded: bound < 256,
-        bound: (bound % 256) as u8,
+        bound: bound_of(bound),
         exploring: exploring == 1,
     };
     let done = explorer::explore(table, settings, path, trace);
     let answer = done.answer;
-    let number = words::number(answer);
+    let number = report::number(answer);
     write_numbers(report, numbers(done));
     number
+}
+
+// The bound that a number stands for: 256 is none.
+fn bound_of(number: u64) -> Bound {
+    if 255 < number {
+        return Bound::Unbounded;
+    }
+    Bound::AtMost((number % 256) as u8)
 }
 
 // The report as numbers: the answer, the counts, the place, the race, and each thread's summary.
@@ -55,15 +62,15 @@ fn numbers(done: Report) -> [u64; 29] {
     let answer = done.answer;
     let threads = done.threads;
     let head = [
-        words::number(answer),
+        report::number(answer),
         done.begun,
         done.opened,
         done.open,
         done.rows,
         done.thread,
         done.row,
-        words::race_kind(answer),
-        words::other_thread(answer),
+        report::race_kind(answer),
+        report::other_thread(answer),
     ];
     let mut out = [0u64; 29];
     let mut i = 0;

@@ -5,6 +5,7 @@ use crate::fields::NOT_GIVEN;
 use crate::fields::Starts;
 use decimal::Parsed;
 use explorer::Settings;
+use path::Bound;
 
 // The fields' places. From ANSWER on stand the report's 29 numbers.
 pub const BRANCHES: usize = 1;
@@ -104,15 +105,22 @@ fn most(k: usize) -> u64 {
 
 // The settings of a case.
 pub fn settings(numbers: &Numbers) -> Settings {
-    let bound = numbers[BOUND];
+    let bound = bound_of(numbers[BOUND]);
     Settings {
         branches: numbers[BRANCHES],
         operations: numbers[OPERATIONS],
         executions: numbers[EXECUTIONS],
-        bounded: bound < 256,
-        bound: (bound % 256) as u8,
+        bound,
         exploring: numbers[EXPLORING] == 1,
     }
+}
+
+// No bound is a number above every bound.
+fn bound_of(number: u64) -> Bound {
+    if 255 < number {
+        return Bound::Unbounded;
+    }
+    Bound::AtMost((number % 256) as u8)
 }
 
 // Whether a thread list of another length than five is passed. `explore` takes none: the entry that does refuses it.

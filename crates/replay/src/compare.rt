@@ -6,9 +6,7 @@ use crate::case::Numbers;
 use crate::fields;
 use crate::fields::FIELDS;
 use crate::fields::Starts;
-use explorer::Report;
-use explorer::ThreadRecord;
-use explorer::report;
+use report::Report;
 
 // The 29 numbers of a report.
 pub type Given = [u64; 29];

@@ -6,6 +6,7 @@ use explorer::MAX_OPERATIONS;
 use explorer::Settings;
 use libc::STDERR_FILENO;
 use libc::STDIN_FILENO;
+use path::Bound;
 
 // One byte more than the largest table has.
 const ROOM: usize = 3881;
@@ -38,8 +39,7 @@ fn settings() -> Settings {
         branches: MAX_BRANCHES,
         operations: MAX_OPERATIONS,
         executions: MAX_EXECUTIONS,
-        bounded: false,
-        bound: 0,
+        bound: Bound::Unbounded,
         exploring: true,
     }
 }

@@ -1,8 +1,8 @@
 // What happened, in one sentence for each answer.
 use crate::line;
 use crate::line::Line;
-use explorer::Report;
 use explorer::Settings;
+use report::Report;
 
 // Writes the sentence.
 pub fn print(number: u64, kind: u64, other: u64, report: Report, settings: Settings) {

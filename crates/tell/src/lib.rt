@@ -1,7 +1,6 @@
 // What a run answered, as text on standard output: what happened, the counts, the threads' summaries and the last execution.
-use explorer::Report;
 use explorer::Settings;
-use explorer::report;
+use report::Report;
 
 mod answer;
 mod line;

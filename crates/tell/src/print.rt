@@ -3,20 +3,14 @@ ghost use Prim.Native.Nat.{_<_};
 use crate::line;
 use crate::line::Line;
 use crate::words;
-use explorer::Report;
-use explorer::ThreadRecord;
-use table::Row;
-use table::limits;
+use layout::MAX_THREADS;
+use layout::short8;
+use layout::wide8;
+use report::Report;
+use report::ThreadRecord;
+use table::COUNTS;
+use decode::Decoded;
 use table::little;
-
-// Where a table's shape has its cells, its row counts and its first rows, and how many threads it has at most.
-const CELLS: usize = 1;
-
-const COUNTS: usize = 2;
-
-const FIRSTS: usize = 7;
-
-const MOST_THREADS: u8 = 5;
 
 // Where a trace entry has what, in its 16 bytes.
 const ENTRY: usize = 16;
@@ -145,7 +139,7 @@ fn widest(table: &[u8], trace: &[u8], n: usize) -> usize {
 fn operation_width(table: &[u8], trace: &[u8], i: usize) -> usize {
     let mut line = [0u8; 256];
     let row = row_of(table, byte(trace, i, THREAD), byte(trace, i, ROW));
-    words::put_operation(&mut line, 0, row)
+    words::put_row(&mut line, 0, row)
 }
 
 // The column where the operations begin.
@@ -182,7 +176,7 @@ fn entry(table: &[u8], trace: &[u8], i: usize, width: usize) {
     let to = line::put_right(&mut line, to, 12, thread as u64);
     let to = line::put_right(&mut line, to, 17, number as u64);
     let to = line::pad(&mut line, to, OPERATION);
-    let to = words::put_operation(&mut line, to, row);
+    let to = words::put_row(&mut line, to, row);
     let to = put_slot(&mut line, to, end, byte(trace, i, SLOT));
     let to = line::pad(&mut line, to, end + 8);
     let to = put_offers(&mut line, to, byte(trace, i, MASK));
@@ -236,15 +230,14 @@ fn put_value(line: &mut Line, at: usize, opcode: u8, value: u64) -> usize {
     }
 }
 
-// The row of a thread, by its number there; for a thread that no table has, a row of opcode 255.
-fn row_of(table: &[u8], thread: u8, number: u8) -> Row {
-    let shape = table::shape(table);
-    let cells = little::wide16(shape[CELLS]);
-    if MOST_THREADS <= thread {
-        return table::row_at(table, cells, limits::ALL_ROWS);
+// What the row of a thread does, by its number there; none for a thread that no table has.
+fn row_of(table: &[u8], thread: u8, number: u8) -> Decoded {
+    let t = wide8(thread);
+    if MAX_THREADS <= t {
+        return Decoded::Refused;
     }
-    let first = little::wide16(shape[FIRSTS + little::wide(thread)]);
-    table::row_at(table, cells, first + little::wide(number))
+    let shape = table::shape(table);
+    table::row_of(table, &shape, t, short8(number))
 }
 
 // A byte of entry `i`.
@@ -281,15 +274,16 @@ pub fn failed(table: &[u8], thread: u64, number: u64) {
         line::end(&mut line, to);
         return;
     }
-    let to = words::put_operation(&mut line, to, row_of(table, t, n));
+    let to = words::put_row(&mut line, to, row_of(table, t, n));
     line::end(&mut line, to);
 }
 
 // How many rows a thread has.
 fn row_count(table: &[u8], thread: u8) -> u8 {
-    let shape = table::shape(table);
-    if MOST_THREADS <= thread {
+    let t = wide8(thread);
+    if MAX_THREADS <= t {
         return 0;
     }
-    (shape[COUNTS + little::wide(thread)] % 256) as u8
+    let shape = table::shape(table);
+    (shape[COUNTS + t] % 256) as u8
 }
