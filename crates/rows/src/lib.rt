@@ -11,8 +11,6 @@ ghost use Rattle.layout.specs.Tables.{state};
 ghost use Rattle.event.specs.Moves.{moveOf};
 ghost use Rattle.decode.specs.Ops.{opOf, decodedOf, inRange, opWithin};
 ghost use Rattle.rows.specs.Pendings.{Pends};
-use decode::Decoded;
-use decode::Op;
 use event::Event;
 use event::Fault;
 use event::NO_SLOT;
@@ -22,6 +20,7 @@ use layout::Clocks;
 use layout::Marks;
 use layout::Numbers;
 use layout::Values;
+use layout::register_at;
 use layout::of_run::EXPLORING;
 use layout::of_run::ROWS_BEGUN;
 use layout::of_run::SKIPPING;
@@ -32,8 +31,9 @@ use layout::of_thread::PHASE;
 use layout::of_thread::REGISTER;
 use layout::of_thread::ROWS;
 use layout::of_thread::SCHEDULE;
-use layout::register_at;
 use synchronize::join_into;
+use decode::Decoded;
+use decode::Op;
 use track::access;
 
 // The pending operation that a row sets, with its cell; a row of opcodes 4 to 16 sets none.
@@ -44,7 +44,7 @@ pub enum Pending {
 
 // Begins a row, if fewer than the limit have begun. Opcodes 0 to 3 set their operation and call the scheduling first.
 pub fn begin(numbers: &mut Numbers, thread: usize, limit: u16, op: Op) -> Event
-    requires { ⌜ (thread < 5) × inRange op ⌝ }
+    requires { ⌜ (thread < 5) × inRange (opOf op) ⌝ }
     ensures { λ r. ⌜ ((p : machine.Program) (clocks : rules.Clocks) (marks : rules.Marks) (values : rules.Values) (k opcode : ℕ) (m : Matched) → p .operations ≡ limit → moveOf r thread k opcode m (state clocks marks values (now (numbers .exit))) ≡ machine.begins p (state clocks marks values (now (numbers .entry))) thread (opOf op)) ⌝ }
 {
     if limit <= numbers[ROWS_BEGUN] {
@@ -53,7 +53,7 @@ pub fn begin(numbers: &mut Numbers, thread: usize, limit: u16, op: Op) -> Event
     numbers[ROWS_BEGUN] = vv::one_more(numbers[ROWS_BEGUN]);
     numbers[ROWS + thread] = vv::one_more(numbers[ROWS + thread]);
     numbers[PHASE + thread] = thread::TO_ACT;
-    let Pending::On { action, cell } = pending(op) else {
+    let Pending::On { action, cell } = pending_of(op) else {
         return Event::Moves;
     };
     numbers[OPERATION + thread] = action;
@@ -64,8 +64,8 @@ pub fn begin(numbers: &mut Numbers, thread: usize, limit: u16, op: Op) -> Event
     }
 }
 
-fn pending(op: Op) -> Pending
-    requires { ⌜ inRange op ⌝ }
+fn pending_of(op: Op) -> Pending
+    requires { ⌜ inRange (opOf op) ⌝ }
     ensures { λ r. ⌜ Pends r (machine.pendingOf (opOf op)) ⌝ }
 {
     match op {

@@ -1,0 +1,219 @@
+-- The laws of rows: from what each call leaves to what the definition says of the row. Assumes nothing.
+--     pends-none, pends-as          the pending operation of a row
+--     begins-..                     a row that may not begin, one that sets no operation, one that does
+--     done-as                       a row without slot and value
+--     fences-as, yields-as          the fence, the yield
+--     joins-..                      a join that goes through, and one that blocks
+--     jumps-.., checks-..           by their test
+--     flag-of, explores-..          the flag that is meant, and what comes of it
+--     bit-..                        a row that is refused, one of another kind, and the bit
+use Prim.Native.Nat.{ℕ, _+_, _*_, _≤_, _<_}
+use mathlib.Core.List.{List, [], _∷_}
+use mathlib.Core.Bool.{Bool, true, false, cond, not}
+use mathlib.Core.Path.{_≡_, refl, ap, sym, _∙_}
+use mathlib.Core.Logic.{_≢_, _⊎_, inl, inr}
+use lib.ListN.{getD, set}
+use borrow.Author.Tests.{le-leb, lt-leb, eq-eqb, ne-eqb, not-true, not-false}
+use types.Run.{OneOf, miss}
+use denote.Enum.Declared.{tagOf}
+use Rattle.rules.specs.Event as Event
+use Rattle.rules.specs.Event.{Move, moves, stops}
+use Rattle.rules.specs.Cell.{fenced}
+use Rattle.rules.specs.State as State
+use Rattle.rules.specs.State.{State, Clocks, Marks, Values, Numbers, number, withNumber, withValue, causality, scheduleOf, ofRegister, begun, rowsOf, phase, operation, operatesOn, exploring, skipping}
+use Rattle.rules.specs.Machine as machine
+use Rattle.rules.specs.Machine.{Program, begins, rowBegun, withOperation, pendingOf, done, completed, entry, noSlot, versionRaised, fences, yieldDone, schedules, joins, joinedWith, blockedOn, jumps, checks, explores, bitTaken, isIn, ended, withNumbers}
+use Rattle.rules.specs.Table.{cellsOf, opcodeIn}
+use Rattle.rules.specs.Table as rules
+use Rattle.rules.specs.Vector.{oneMore, joined}
+use Rattle.layout.specs.Tables.{state}
+use Rattle.decode.proofs.Op as Op
+use Rattle.decode.specs.declared.Op.{Op}
+use Rattle.decode.specs.declared.Op.the-variants as code
+use Rattle.decode.specs.declared.Decoded.{Decoded}
+use Rattle.decode.specs.declared.Decoded.the-variants.{Refused, Row as Says}
+use Rattle.decode.specs.Ops.{opOf, decodedOf, inRange, opWithin}
+use Rattle.rows.specs.declared.Pending.{Pending}
+use Rattle.rows.specs.declared.Pending.the-variants as pending
+use Rattle.rows.specs.Pendings.{Pends}
+
+-- the rows that set no operation
+abbrev pub others : List ℕ
+others = 4 ∷ 5 ∷ 6 ∷ 7 ∷ 8 ∷ 9 ∷ 10 ∷ 11 ∷ 12 ∷ 13 ∷ 14 ∷ 15 ∷ 16 ∷ []
+
+pub pends-none : (op : Op) → OneOf others (tagOf Op.the-type op) → Pends pending.Nothing (pendingOf (opOf op))
+pends-none (code.Load cell order register) k = absurd (miss others 0 tt k)
+pends-none (code.Store cell order value) k = absurd (miss others 1 tt k)
+pends-none (code.StoreRegister cell order register) k = absurd (miss others 2 tt k)
+pends-none (code.Rmw cell order failure change register) k = absurd (miss others 3 tt k)
+pends-none (code.Fence order) k = record { is = refl; within = tt }
+pends-none (code.UnsyncLoad cell register) k = record { is = refl; within = tt }
+pends-none (code.WithMut cell change register) k = record { is = refl; within = tt }
+pends-none code.Yield k = record { is = refl; within = tt }
+pends-none (code.Join thread) k = record { is = refl; within = tt }
+pends-none (code.Jump target) k = record { is = refl; within = tt }
+pends-none (code.JumpIf register a target) k = record { is = refl; within = tt }
+pends-none (code.JumpUnless register a target) k = record { is = refl; within = tt }
+pends-none (code.Check register a) k = record { is = refl; within = tt }
+pends-none code.Critical k = record { is = refl; within = tt }
+pends-none code.ExploreState k = record { is = refl; within = tt }
+pends-none code.SkipBranch k = record { is = refl; within = tt }
+pends-none (code.Spurious register) k = record { is = refl; within = tt }
+
+pub pends-as : (op m : Op) (r s : Pending) → op ≡ m → r ≡ s → inRange (opOf op) → (inRange (opOf m) → Pends s (pendingOf (opOf m))) → Pends r (pendingOf (opOf op))
+pends-as op m r s e f within g = rw (e, f) (g (rw e at within))
+
+module _ (r : Pending) (op : rules.Op) (means : Pends r (pendingOf op)) where
+  pub sets-none : r ≡ pending.Nothing → pendingOf op ≡ machine.nothing
+  sets-none e = let m : Pends pending.Nothing (pendingOf op) = rw e at means in sym (m .is)
+
+  module _ (action cell : ℕ) (e : r ≡ pending.On action cell) where
+    pub sets-one : pendingOf op ≡ machine.pends action cell
+    sets-one = let m : Pends (pending.On action cell) (pendingOf op) = rw e at means in sym (m .is)
+
+    pub sets-within : cell < 4
+    sets-within = let m : Pends (pending.On action cell) (pendingOf op) = rw e at means in m .within
+
+-- A row begins
+
+pub begins-not : (p : Program) (st : State) (t limit : ℕ) (op : rules.Op) → p .operations ≡ limit → limit ≤ number (st .numbers) begun → stops st Event.rows ≡ begins p st t op
+unfolding begins
+begins-not p st t limit op e h = rw (e, le-leb limit (number (st .numbers) begun) h)
+
+module _ (clocks : Clocks) (marks : Marks) (values : Values) (numbers : Numbers) (t all own : ℕ)
+    (counted : all ≡ oneMore (number numbers begun)) (mine : own ≡ oneMore (number (withNumber numbers begun all) (rowsOf t))) where
+  begun-as : state clocks marks values (withNumber (withNumber (withNumber numbers begun all) (rowsOf t) own) (phase t) machine.toAct) ≡ rowBegun (state clocks marks values numbers) t
+  begun-as = rw (mine, counted)
+
+  module _ (p : Program) (limit : ℕ) (op : rules.Op) (e : p .operations ≡ limit) (fewer : number numbers begun < limit) where
+    pub begins-bare : pendingOf op ≡ machine.nothing →
+        moves (state clocks marks values (withNumber (withNumber (withNumber numbers begun all) (rowsOf t) own) (phase t) machine.toAct)) []
+        ≡ begins p (state clocks marks values numbers) t op
+    unfolding begins
+    begins-bare n = rw (e, lt-leb limit (number numbers begun) fewer, n) (ap (λ (st : State). moves st []) begun-as)
+
+    pub begins-asking : (action cell : ℕ) → pendingOf op ≡ machine.pends action cell →
+        schedules (state clocks marks values (withNumber (withNumber (withNumber (withNumber (withNumber numbers begun all) (rowsOf t) own) (phase t) machine.toAct) (operation t) action) (operatesOn t) cell)) []
+        ≡ begins p (state clocks marks values numbers) t op
+    unfolding begins
+    begins-asking action cell n = rw (e, lt-leb limit (number numbers begun) fewer, n) (ap (λ (st : State). schedules (withOperation st t action cell) []) begun-as)
+
+-- Rows that leave neither slot nor value
+
+module _ (st left : State) (t k opcode : ℕ) where
+  pub done-as : (next : ℕ) → next ≡ oneMore k → left ≡ completed st t next → moves left (entry t k opcode noSlot 0 0) ≡ done st t k opcode
+  done-as next n e = ap (λ (s : State). moves s (entry t k opcode noSlot 0 0)) (e ∙ ap (λ (x : ℕ). completed st t x) n)
+
+  pub yields-as : (to : State) (next : ℕ) → next ≡ oneMore k → left ≡ yieldDone st t → to ≡ completed left t next →
+      schedules to (entry t k opcode noSlot 0 0) ≡ schedules (completed (yieldDone st t) t (oneMore k)) (entry t k opcode noSlot 0 0)
+  yields-as to next n e f =
+      ap (λ (s : State). schedules s (entry t k opcode noSlot 0 0))
+      (f ∙ ap (λ (s : State). completed s t next) e ∙ ap (λ (x : ℕ). completed (yieldDone st t) t x) n)
+
+  pub jumps-far : (taken : Bool) (target : ℕ) → not taken ≡ false → left ≡ completed st t target → moves left (entry t k opcode noSlot 0 0) ≡ jumps st t k opcode taken target
+  jumps-far taken target n e = rw (not-false taken n) (ap (λ (s : State). moves s (entry t k opcode noSlot 0 0)) e)
+
+  pub joins-blocked : (target : ℕ) (b : Bool) → b ≡ isIn (st .numbers) ended target → b ≡ false → left ≡ blockedOn st t target → schedules left [] ≡ joins st t k opcode target
+  unfolding joins
+  joins-blocked target b a n e = let f : isIn (st .numbers) ended target ≡ false = sym a ∙ n in rw f (ap (λ (s : State). schedules s []) e)
+
+module _ (clocks up left : Clocks) (marks : Marks) (values : Values) (numbers : Numbers) (t k opcode : ℕ) (out : Move State)
+    (is-done : out ≡ done (state left marks values numbers) t k opcode)
+    (is-up : state up marks values numbers ≡ versionRaised (state clocks marks values numbers) t) where
+  is-raised : up ≡ (versionRaised (state clocks marks values numbers) t) .clocks
+  is-raised = ap (λ (s : State). s .clocks) is-up
+
+  pub fences-as : (p : Program) (cells o : ℕ) → cellsOf (p .table) ≡ cells → left ≡ fenced up marks numbers t cells o → out ≡ done (fences p (state clocks marks values numbers) t o) t k opcode
+  fences-as p cells o n e =
+      let f : state left marks values numbers ≡ fences p (state clocks marks values numbers) t o = rw (e, is-raised, ← n) in
+      is-done ∙ ap (λ (s : State). done s t k opcode) f
+
+  pub joins-through : (target : ℕ) (b : Bool) (first : Clocks) → b ≡ isIn numbers ended target → b ≡ true →
+      first ≡ set up (0 + t) (joined (getD up (0 + t) []) (getD up (0 + target) [])) →
+      left ≡ set first (10 + t) (joined (getD first (10 + t) []) (getD first (10 + target) [])) →
+      out ≡ joins (state clocks marks values numbers) t k opcode target
+  unfolding joins
+  joins-through target b first a y e f =
+      let g : isIn numbers ended target ≡ true = sym a ∙ y in
+      let h : state left marks values numbers ≡ joinedWith (state clocks marks values numbers) t target = rw (f, e, is-raised) in
+      rw g (is-done ∙ ap (λ (s : State). done s t k opcode) h)
+
+-- Rows that are decided by a test
+
+module _ (st : State) (t k opcode : ℕ) where
+  pub checks-not : (holds : Bool) → not holds ≡ true → stops st Event.check ≡ checks st t k opcode holds
+  checks-not holds n = rw (not-true holds n)
+
+  module _ (out : Move State) (is-done : out ≡ done st t k opcode) where
+    pub checks-on : (holds : Bool) → not holds ≡ false → out ≡ checks st t k opcode holds
+    checks-on holds n = rw (not-false holds n) is-done
+
+    pub jumps-on : (taken : Bool) (target : ℕ) → not taken ≡ true → out ≡ jumps st t k opcode taken target
+    jumps-on taken target n = rw (not-true taken n) is-done
+
+    pub explores-skipping : (on : Bool) → number (st .numbers) skipping ≡ 1 → out ≡ explores st t k opcode on
+    explores-skipping on s = rw s is-done
+
+  module _ (on : Bool) (flag : ℕ) (meant : flag ≡ cond on 1 0) (live : number (st .numbers) skipping ≢ 1) where
+    pub explores-not : number (st .numbers) exploring ≡ flag → stops st Event.flags ≡ explores st t k opcode on
+    explores-not e = rw (ne-eqb (number (st .numbers) skipping) 1 live, eq-eqb (number (st .numbers) exploring) (cond on 1 0) (e ∙ meant))
+
+    pub explores-other : number (st .numbers) exploring ≢ flag → (out : Move State) → out ≡ done (withNumbers st (withNumber (st .numbers) exploring flag)) t k opcode → out ≡ explores st t k opcode on
+    explores-other n out e =
+        rw (ne-eqb (number (st .numbers) skipping) 1 live, ne-eqb (number (st .numbers) exploring) (cond on 1 0) (λ h. n (h ∙ sym meant)), ← meant) e
+
+-- the number that a truth value is put as
+pub flag-true : (b : Bool) (n : ℕ) → b ≡ true → n ≡ 1 → n ≡ cond b 1 0
+flag-true b n e f = rw (e, f)
+
+pub flag-false : (b : Bool) (n : ℕ) → b ≡ false → n ≡ 0 → n ≡ cond b 1 0
+flag-false b n e f = rw (e, f)
+
+-- The bit
+
+-- the rows that are given none
+abbrev pub all-others : List ℕ
+all-others = 0 ∷ 1 ∷ 2 ∷ 3 ∷ 4 ∷ 5 ∷ 6 ∷ 7 ∷ 8 ∷ 9 ∷ 10 ∷ 11 ∷ 12 ∷ 13 ∷ 14 ∷ 15 ∷ []
+
+module _ (st : State) (t k v : ℕ) where
+  pub bit-refused : (row : Decoded) → row ≡ Refused → stops st Event.impossible ≡ bitTaken st t k v (decodedOf row)
+  unfolding bitTaken
+  bit-refused row e = rw e
+
+  bit-none : (op : Op) → OneOf all-others (tagOf Op.the-type op) → stops st Event.impossible ≡ bitTaken st t k v (rules.decoded (opOf op))
+  unfolding bitTaken
+  bit-none (code.Load cell order register) h = refl
+  bit-none (code.Store cell order value) h = refl
+  bit-none (code.StoreRegister cell order register) h = refl
+  bit-none (code.Rmw cell order failure change register) h = refl
+  bit-none (code.Fence order) h = refl
+  bit-none (code.UnsyncLoad cell register) h = refl
+  bit-none (code.WithMut cell change register) h = refl
+  bit-none code.Yield h = refl
+  bit-none (code.Join thread) h = refl
+  bit-none (code.Jump target) h = refl
+  bit-none (code.JumpIf register a target) h = refl
+  bit-none (code.JumpUnless register a target) h = refl
+  bit-none (code.Check register a) h = refl
+  bit-none code.Critical h = refl
+  bit-none code.ExploreState h = refl
+  bit-none code.SkipBranch h = refl
+  bit-none (code.Spurious register) h = absurd (miss all-others 16 tt h)
+
+  pub bit-other : (row : Decoded) (op : Op) → row ≡ Says op → OneOf all-others (tagOf Op.the-type op) → stops st Event.impossible ≡ bitTaken st t k v (decodedOf row)
+  bit-other row op e h = rw e (bit-none op h)
+
+-- the register of a row that takes a bit
+pub bit-within : (row : Decoded) (op : Op) (register : ℕ) → row ≡ Says op → op ≡ code.Spurious register → opWithin row → register < 4
+bit-within row op register e f w = rw (e ∙ ap Says f) at w
+
+pub bit-taken : (clocks : Clocks) (marks : Marks) (values : Values) (numbers left : Numbers) (t k : ℕ) (row : Decoded) (op : Op) (register at v n next : ℕ) →
+    row ≡ Says op → op ≡ code.Spurious register → at ≡ 4 * t + register → v ≡ n → next ≡ oneMore k →
+    state clocks marks (set values (28 + at) v) left ≡ completed (state clocks marks (set values (28 + at) v) numbers) t next →
+    moves (state clocks marks (set values (28 + at) v) left) (entry t k (opcodeIn (decodedOf row)) noSlot 0 v)
+    ≡ bitTaken (state clocks marks values numbers) t k n (decodedOf row)
+unfolding bitTaken
+bit-taken clocks marks values numbers left t k row op register at v n next e f a b c d =
+    let whole : row ≡ Says (code.Spurious register) = e ∙ ap Says f in
+    let done : left ≡ (completed (state clocks marks values numbers) t next) .numbers = ap (λ (s : State). s .numbers) d in
+    rw (whole, done, c, a, b)
