@@ -1,6 +1,6 @@
 -- What a row reads, if it is a load or an RMW. Assumes nothing.
 --     readDone          the access, with a slot; of another row none is made
---     readingMeans      the cell and the register
+--     Means             the cell and the register
 use Prim.Native.Nat.{ℕ, _<_}
 use mathlib.Core.Path.{_≡_}
 use Rattle.rules.specs.Cell.{Access, read, loadDone, rmwDone}
@@ -10,6 +10,7 @@ use Rattle.rules.specs.Table.{Op}
 use Rattle.accesses.specs.declared.Reading.{Reading}
 use Rattle.accesses.specs.declared.Reading.the-variants as code
 
+-- the load or the RMW of a thread, of a slot
 abbrev pub readDone : State → ℕ → ℕ → Op → Access
 readDone st t slot (Table.load c o r) = loadDone st t c slot o
 readDone st t slot (Table.rmw c o f change r) = rmwDone st t c slot change o f
@@ -49,13 +50,12 @@ readingOf Table.exploreState = code.Nothing
 readingOf Table.skipBranch = code.Nothing
 readingOf (Table.spurious r) = code.Nothing
 
+-- they are a cell and a register that there are
 abbrev pub readWithin : Reading → Type 0
 readWithin code.Nothing = Unit
 readWithin (code.Of cell register) = (cell < 4) × (register < 4)
 
+-- what is answered is what the row reads
 pub record Means (r : Reading) (op : Op) : Type 0 where
   pub is : r ≡ readingOf op
   pub within : readWithin r
-
-abbrev pub readingMeans : Reading → Op → Type 0
-readingMeans r op = Means r op

@@ -14,12 +14,10 @@ ghost use Rattle.change.specs.Changes.{changeMeant};
 ghost use Rattle.matches.specs.Offers.{scanned, offered};
 ghost use Rattle.event.specs.Moves.{moveOf, matchedFor};
 ghost use Rattle.decode.specs.Ops.{opOf, decodedOf, inRange, opWithin};
-ghost use Rattle.accesses.specs.Reads.{readingMeans, readDone};
+ghost use Rattle.accesses.specs.Reads.{Means, readDone};
 use atomic::Loaded;
 use atomic::Mutated;
 use change::Change;
-use decode::Decoded;
-use decode::Op;
 use event::Event;
 use event::Fault;
 use event::Site;
@@ -31,13 +29,15 @@ use layout::Marks;
 use layout::Numbers;
 use layout::Values;
 use layout::of_cell::COUNT;
-use layout::of_store::VALUE;
-use layout::of_thread::REGISTER;
 use layout::register_at;
 use layout::slots;
+use layout::of_store::VALUE;
 use layout::store_at;
+use layout::of_thread::REGISTER;
 use layout::wide16;
 use matches::Matched;
+use decode::Decoded;
+use decode::Op;
 use track::Race;
 
 // What a row reads, if it is a load or a read-modify-write.
@@ -66,20 +66,12 @@ pub fn store_row(
         return Event::Stops(Fault::Race { kind, other });
     }
     let slot = slots::index(numbers[COUNT + cell]);
-    let access = Access {
+    let act = Access {
         thread,
         cell,
         order,
     };
-    atomic::store(
-        clocks,
-        marks,
-        values,
-        numbers,
-        access,
-        [0; MAX_THREADS],
-        value,
-    );
+    atomic::store(clocks, marks, values, numbers, act, [0; MAX_THREADS], value);
     thread::complete(numbers, thread, vv::one_more(site.row));
     Event::Done {
         slot: slot as u8,
@@ -106,7 +98,7 @@ pub fn unsync_load_row(
     put_value(values, numbers, site, register, slot as u8, 0, loaded)
 }
 
-// An exclusive change. The register takes the value found, the trace the value left.
+// An exclusive change. The register takes the value found, the trace the value that the cell holds now.
 pub fn with_mut_row(
     clocks: &mut Clocks,
     values: &mut Values,
@@ -154,12 +146,12 @@ pub fn offers(
     };
     match op {
         Op::Load { cell, order, .. } => {
-            let access = Access {
+            let act = Access {
                 thread,
                 cell,
                 order,
             };
-            matches::match_load_to_stores(clocks, marks[cell], numbers, access, dst)
+            matches::match_load_to_stores(clocks, marks[cell], numbers, act, dst)
         }
         Op::Rmw { cell, .. } => matches::match_rmw_to_stores(clocks, numbers, cell, dst),
         _ => Matched::Offers(0),
@@ -196,7 +188,7 @@ pub fn read_from(
 // The cell that a load or a read-modify-write reads, and the register that takes the value.
 fn to_read(op: Op) -> Reading
     requires { ⌜ inRange (opOf op) ⌝ }
-    ensures { λ r. ⌜ readingMeans r (opOf op) ⌝ }
+    ensures { λ r. ⌜ Means r (opOf op) ⌝ }
 {
     match op {
         Op::Load { cell, register, .. } => Reading::Of { cell, register },
@@ -220,12 +212,12 @@ fn read(
 {
     match op {
         Op::Load { cell, order, .. } => {
-            let access = Access {
+            let act = Access {
                 thread,
                 cell,
                 order,
             };
-            atomic::load(clocks, marks, values, numbers, access, slot)
+            atomic::load(clocks, marks, values, numbers, act, slot)
         }
         Op::Rmw {
             cell,
@@ -234,21 +226,12 @@ fn read(
             change,
             ..
         } => {
-            let access = Access {
+            let act = Access {
                 thread,
                 cell,
                 order,
             };
-            atomic::rmw(
-                clocks,
-                marks,
-                values,
-                numbers,
-                access,
-                slot,
-                change,
-                failure,
-            )
+            atomic::rmw(clocks, marks, values, numbers, act, slot, change, failure)
         }
         _ => Loaded::Value(0),
     }
