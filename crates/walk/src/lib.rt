@@ -2,11 +2,9 @@
 // the path for all questions: past the known path the question adds a branch, and then, as everywhere else, the branch
 // there answers.
 ghost use mathlib.Core.Path.{_≡_};
-ghost use Prim.Native.Nat.{ℕ, _<_, _≤_, _+_, _*_};
+ghost use Prim.Native.Nat.{_<_, _≤_, _+_, _*_, _^_};
 ghost use lib.ListN.{length, getD};
-ghost use Rattle.decode.specs.Ops.{opWithin};
-ghost use Rattle.walk.specs.Walks.{hereWithin, Marks, Adds, Follows, Notes, Ticks};
-use decode::Decoded;
+ghost use Rattle.walk.specs.Walks.{Placed, HereWithin, Kept, Marked, Met, Gone, Same, Stopped, Passed, pushedFew, addedTo, replyWithin};
 use event::Choice;
 use event::Event;
 use event::Fault;
@@ -30,6 +28,7 @@ use path::Pushed;
 use path::Spurious;
 use record::Offered;
 use scheduling::Place;
+use decode::Decoded;
 use table::Shape;
 use trace::Entry;
 
@@ -55,14 +54,14 @@ pub struct Here {
 }
 
 // How a tick comes out: the execution goes on, has ended, or has met a fault.
-pub enum Tick {
+pub enum Outcome {
     Goes,
     Ends,
     Stops { fault: Fault, site: Site },
 }
 
 pub struct Ticked {
-    pub tick: Tick,
+    pub outcome: Outcome,
     pub cursor: Cursor,
 }
 
@@ -87,7 +86,10 @@ pub fn tick(
     shape: &Shape,
     limits: Limits,
     cursor: Cursor,
-) -> Ticked {
+) -> Ticked
+    requires { ⌜ (getD (now shape) 1 0 ≤ 4) × Placed cursor (now path) (now trace) × (cursor .opened + 60 < 2 ^ 64) ⌝ }
+    ensures { λ r. ⌜ Gone cursor (r .cursor) 60 (now (path .exit)) (now (trace .exit)) ⌝ }
+{
     let thread = wide16(numbers[ACTIVE]);
     if MAX_THREADS <= thread {
         return stops(Fault::Impossible, nowhere(), cursor);
@@ -136,16 +138,20 @@ fn take(
     here: Here,
     event: Event,
     cursor: Cursor,
-) -> Ticked {
+) -> Ticked
+    requires { ⌜ HereWithin here × Placed cursor (now path) (now trace) × (cursor .opened + 60 < 2 ^ 64) ⌝ }
+    ensures { λ r. ⌜ Gone cursor (r .cursor) 60 (now (path .exit)) (now (trace .exit)) ⌝ }
+{
     let Event::Asks { question, yielded } = event else {
         return conclude(trace, here, event, cursor);
     };
     let noted = note_if(trace, yielded, here, cursor);
-    let tick = noted.tick;
-    let Tick::Goes = tick else {
+    let outcome = noted.outcome;
+    let Outcome::Goes = outcome else {
         return noted;
     };
-    let cursor = mark(clocks, numbers, path, bound, question, noted.cursor);
+    let before = noted.cursor;
+    let cursor = mark(clocks, numbers, path, bound, question, before);
     meet(
         clocks,
         marks,
@@ -159,7 +165,7 @@ fn take(
     )
 }
 
-// A question meets the path: where the known path has been gone through it adds a branch; the branch there answers.
+// A question meets the path: the branch there answers.
 fn meet(
     clocks: &mut Clocks,
     marks: &mut Marks,
@@ -170,24 +176,42 @@ fn meet(
     here: Here,
     question: Question,
     cursor: Cursor,
-) -> Ticked {
-    let met = if cursor.pos == cursor.len {
-        add(clocks, marks, numbers, path, here, question, cursor)
-    } else {
-        goes(cursor)
-    };
-    let tick = met.tick;
-    let Tick::Goes = tick else {
+) -> Ticked
+    requires { ⌜ HereWithin here × Placed cursor (now path) (now trace) × (cursor .opened + 6 < 2 ^ 64) ⌝ }
+    ensures { λ r. ⌜ Gone cursor (r .cursor) 6 (now (path .exit)) (now (trace .exit)) ⌝ }
+{
+    let met = reach(clocks, marks, numbers, path, here, question, cursor);
+    let outcome = met.outcome;
+    let Outcome::Goes = outcome else {
         return met;
     };
     let cursor = met.cursor;
     let site = here.site;
     let row = here.row;
-    let Reply::Says(choice) = reply(path, cursor.pos, question) else {
+    let Reply::Says(choice) = answer(path, cursor.pos, question) else {
         return stops(Fault::Impossible, site, cursor);
     };
     let event = execution::answered(clocks, marks, values, numbers, site, row, choice);
     conclude(trace, here, event, passed(cursor))
+}
+
+// Where the known path has been gone through, a question adds a branch.
+fn reach(
+    clocks: &Clocks,
+    marks: &Marks,
+    numbers: &Numbers,
+    path: &mut [u8],
+    here: Here,
+    question: Question,
+    cursor: Cursor,
+) -> Ticked
+    requires { ⌜ HereWithin here × (cursor .pos ≤ cursor .len) × (16 * cursor .len ≤ length (now path)) × (cursor .opened + 6 < 2 ^ 64) ⌝ }
+    ensures { λ r. ⌜ Met cursor r (now (path .exit)) ⌝ }
+{
+    if cursor.pos == cursor.len {
+        return add(clocks, marks, numbers, path, here, question, cursor);
+    }
+    goes(cursor)
 }
 
 // Adds the branch that a question asks for, with what it opens.
@@ -199,34 +223,55 @@ fn add(
     here: Here,
     question: Question,
     cursor: Cursor,
-) -> Ticked {
+) -> Ticked
+    requires { ⌜ HereWithin here × (cursor .pos ≤ cursor .len) × (16 * cursor .len ≤ length (now path)) × (cursor .opened + 6 < 2 ^ 64) ⌝ }
+    ensures { λ r. ⌜ Met cursor r (now (path .exit)) ⌝ }
+{
     let site = here.site;
-    let len = cursor.len;
     let exploring = numbers[EXPLORING] == 1;
-    let pushed = match question {
-        Question::Thread => path::push_thread(path, len, exploring, scheduling::seed(numbers)),
-        Question::Slot => {
-            let mut seed = [0u8; MAX_ATOMIC_HISTORY];
-            let row = here.row;
-            let Matched::Offers(n) = accesses::offers(
-                clocks,
-                marks,
-                numbers,
-                site.thread,
-                row,
-                &mut seed,
-            ) else {
-                return stops(Fault::Equal, site, cursor);
-            };
-            path::push_load(path, len, exploring, seed, n)
+    match question {
+        Question::Thread => {
+            let seed = scheduling::seed(numbers);
+            let pushed = path::push_thread(path, cursor.len, exploring, seed);
+            added(pushed, site, cursor)
         }
-        Question::Bit => path::push_spurious(path, len, exploring),
+        Question::Slot => add_load(clocks, marks, numbers, path, here, exploring, cursor),
+        Question::Bit => {
+            let pushed = path::push_spurious(path, cursor.len, exploring);
+            added(pushed, site, cursor)
+        }
+    }
+}
+
+// The branch of a load or an RMW, with the stores that it is offered. Where two of them are of equal order it is a fault.
+fn add_load(
+    clocks: &Clocks,
+    marks: &Marks,
+    numbers: &Numbers,
+    path: &mut [u8],
+    here: Here,
+    exploring: bool,
+    cursor: Cursor,
+) -> Ticked
+    requires { ⌜ HereWithin here × (cursor .pos ≤ cursor .len) × (16 * cursor .len ≤ length (now path)) × (cursor .opened + 6 < 2 ^ 64) ⌝ }
+    ensures { λ r. ⌜ Met cursor r (now (path .exit)) ⌝ }
+{
+    let site = here.site;
+    let row = here.row;
+    let mut seed = [0u8; MAX_ATOMIC_HISTORY];
+    let Matched::Offers(n) = accesses::offers(clocks, marks, numbers, site.thread, row, &mut seed)
+    else {
+        return stops(Fault::Equal, site, cursor);
     };
+    let pushed = path::push_load(path, cursor.len, exploring, seed, n);
     added(pushed, site, cursor)
 }
 
 // A branch that was added is counted, with what it opened; one that was not is a fault.
-fn added(pushed: Pushed, site: Site, mut cursor: Cursor) -> Ticked {
+fn added(pushed: Pushed, site: Site, mut cursor: Cursor) -> Ticked
+    requires { ⌜ pushedFew pushed × (cursor .len + 1 < 2 ^ 64) × (cursor .opened + 6 < 2 ^ 64) ⌝ }
+    ensures { λ r. ⌜ addedTo pushed cursor r ⌝ }
+{
     match pushed {
         Pushed::Added(opened) => {
             cursor.len = cursor.len + 1;
@@ -239,7 +284,9 @@ fn added(pushed: Pushed, site: Site, mut cursor: Cursor) -> Ticked {
 }
 
 // What the branch at a position chooses, where it is one of the question's kind.
-fn reply(path: &[u8], pos: usize, question: Question) -> Reply {
+fn answer(path: &[u8], pos: usize, question: Question) -> Reply
+    ensures { λ r. ⌜ replyWithin r ⌝ }
+{
     match question {
         Question::Thread => match path::branch_thread(path, pos) {
             Chosen::Thread(chosen) => Reply::Says(Choice::Thread {
@@ -269,36 +316,60 @@ fn mark(
     bound: Bound,
     question: Question,
     mut cursor: Cursor,
-) -> Cursor {
-    if let Question::Thread = question {
-        let opened = mark_threads(clocks, numbers, path, bound);
-        cursor.opened = cursor.opened + opened;
-    }
+) -> Cursor
+    requires { ⌜ cursor .opened + 50 < 2 ^ 64 ⌝ }
+    ensures { λ r. ⌜ Marked cursor r ⌝ }
+{
+    let Question::Thread = question else {
+        return cursor;
+    };
+    let opened = mark_threads(clocks, numbers, path, bound);
+    cursor.opened = cursor.opened + opened;
     cursor
 }
 
 // The choices that rule (a) opens.
-fn mark_threads(clocks: &Clocks, numbers: &Numbers, path: &mut [u8], bound: Bound) -> u64 {
+fn mark_threads(clocks: &Clocks, numbers: &Numbers, path: &mut [u8], bound: Bound) -> u64
+    ensures { λ r. ⌜ r ≤ 50 ⌝ }
+{
     let mut opened = 0;
     let mut t = 0;
     while t < MAX_THREADS {
-        if let Place::Branch(point) = scheduling::conflict(clocks, numbers, t) {
-            opened += path::backtrack(path, wide16(point), t, bound);
-        }
+        opened += mark_thread(clocks, numbers, path, bound, t);
         t += 1;
     }
     opened
 }
 
+// Those of one thread: its branch is backtracked from, if its pending operation is in conflict with one.
+fn mark_thread(
+    clocks: &Clocks,
+    numbers: &Numbers,
+    path: &mut [u8],
+    bound: Bound,
+    thread: usize,
+) -> u64
+    requires { ⌜ thread < 5 ⌝ }
+    ensures { λ r. ⌜ r ≤ 10 ⌝ }
+{
+    let Place::Branch(point) = scheduling::conflict(clocks, numbers, thread) else {
+        return 0;
+    };
+    path::backtrack(path, wide16(point), thread, bound)
+}
+
 // What a tick comes to that asks nothing more.
-fn conclude(trace: &mut [u8], here: Here, event: Event, cursor: Cursor) -> Ticked {
+fn conclude(trace: &mut [u8], here: Here, event: Event, cursor: Cursor) -> Ticked
+    requires { ⌜ 16 * cursor .entries ≤ length (now trace) ⌝ }
+    ensures { λ r. ⌜ Kept cursor (r .cursor) (now (trace .exit)) ⌝ }
+{
     let site = here.site;
     match event {
         Event::Moves => goes(cursor),
         Event::Done { slot, mask, value } => note(trace, here, slot, mask, value, cursor),
         Event::Asks { .. } => stops(Fault::Impossible, site, cursor),
         Event::Ends => Ticked {
-            tick: Tick::Ends,
+            outcome: Outcome::Ends,
             cursor,
         },
         Event::Stops(fault) => stops(fault, site, cursor),
@@ -306,7 +377,10 @@ fn conclude(trace: &mut [u8], here: Here, event: Event, cursor: Cursor) -> Ticke
 }
 
 // The entry of a yield, before its scheduling.
-fn note_if(trace: &mut [u8], yielded: bool, here: Here, cursor: Cursor) -> Ticked {
+fn note_if(trace: &mut [u8], yielded: bool, here: Here, cursor: Cursor) -> Ticked
+    requires { ⌜ 16 * cursor .entries ≤ length (now trace) ⌝ }
+    ensures { λ r. ⌜ Kept cursor (r .cursor) (now (trace .exit)) ⌝ }
+{
     if yielded {
         return note(trace, here, NO_SLOT, 0, 0, cursor);
     }
@@ -314,14 +388,10 @@ fn note_if(trace: &mut [u8], yielded: bool, here: Here, cursor: Cursor) -> Ticke
 }
 
 // Adds the trace entry of a row that is complete. The trace of a run has room for it.
-fn note(
-    trace: &mut [u8],
-    here: Here,
-    slot: u8,
-    mask: u8,
-    value: u64,
-    mut cursor: Cursor,
-) -> Ticked {
+fn note(trace: &mut [u8], here: Here, slot: u8, mask: u8, value: u64, mut cursor: Cursor) -> Ticked
+    requires { ⌜ 16 * cursor .entries ≤ length (now trace) ⌝ }
+    ensures { λ r. ⌜ Kept cursor (r .cursor) (now (trace .exit)) ⌝ }
+{
     let site = here.site;
     let row = here.row;
     let entry = Entry {
@@ -348,21 +418,28 @@ fn opcode_in(row: Decoded) -> u8 {
 }
 
 // One record more is passed.
-fn passed(mut cursor: Cursor) -> Cursor {
+fn passed(mut cursor: Cursor) -> Cursor
+    requires { ⌜ cursor .pos + 1 < 2 ^ 64 ⌝ }
+    ensures { λ r. ⌜ Passed cursor r ⌝ }
+{
     cursor.pos = cursor.pos + 1;
     cursor
 }
 
-fn goes(cursor: Cursor) -> Ticked {
+fn goes(cursor: Cursor) -> Ticked
+    ensures { λ r. ⌜ (r .outcome ≡ Outcome.Goes) × Same cursor (r .cursor) ⌝ }
+{
     Ticked {
-        tick: Tick::Goes,
+        outcome: Outcome::Goes,
         cursor,
     }
 }
 
-pub fn stops(fault: Fault, site: Site, cursor: Cursor) -> Ticked {
+pub fn stops(fault: Fault, site: Site, cursor: Cursor) -> Ticked
+    ensures { λ r. ⌜ Stopped cursor r ⌝ }
+{
     Ticked {
-        tick: Tick::Stops { fault, site },
+        outcome: Outcome::Stops { fault, site },
         cursor,
     }
 }

@@ -1,0 +1,95 @@
+use Rattle.walk.proofs.WalkLaws.{reads-within}
+use borrow.Author.Needs.{needs}
+use Rattle.walk.proofs.answer.Statement.{statement}
+use Rattle.walk.proofs.answer.Tie as tie
+
+enum-told : tie.Need-enum-told
+enum-told c = search needs
+
+branch-thread-requires : tie.Need-branch-thread-requires
+branch-thread-requires c κs = search needs
+
+enum-known-chosen : tie.Need-enum-known-chosen
+enum-known-chosen c = search needs
+
+cast-t12 : tie.Need-cast-t12
+cast-t12 c = search needs
+
+enum-told-2 : tie.Need-enum-told-2
+enum-told-2 c = search needs
+
+enum-told-3 : tie.Need-enum-told-3
+enum-told-3 c = search needs
+
+enum-told-4 : tie.Need-enum-told-4
+enum-told-4 c = search needs
+
+branch-load-requires : tie.Need-branch-load-requires
+branch-load-requires c κs = search needs
+
+enum-known-slot : tie.Need-enum-known-slot
+enum-known-slot c = search needs
+
+enum-told-5 : tie.Need-enum-told-5
+enum-told-5 c = search needs
+
+enum-told-6 : tie.Need-enum-told-6
+enum-told-6 c = search needs
+
+branch-spurious-requires : tie.Need-branch-spurious-requires
+branch-spurious-requires c κs = search needs
+
+enum-known-bit : tie.Need-enum-known-bit
+enum-known-bit c = search needs
+
+enum-told-7 : tie.Need-enum-told-7
+enum-told-7 c = search needs
+
+returns : tie.Need-returns
+returns c = search needs
+
+returns-2 : tie.Need-returns-2
+returns-2 c = search needs
+
+returns-3 : tie.Need-returns-3
+returns-3 c = search needs
+
+returns-4 : tie.Need-returns-4
+returns-4 c =
+    let slot = c .before in
+    reads-within (slot .before .before .branch-load .ensures) (slot .slot .given .1)
+
+returns-5 : tie.Need-returns-5
+returns-5 c = search needs
+
+returns-6 : tie.Need-returns-6
+returns-6 c = search needs
+
+returns-7 : tie.Need-returns-7
+returns-7 c = search needs
+
+pub answer-spec : {M : Type 1} → statement M
+answer-spec =
+    tie.close
+    (tie.spec
+    enum-told
+    branch-thread-requires
+    enum-known-chosen
+    cast-t12
+    enum-told-2
+    enum-told-3
+    enum-told-4
+    branch-load-requires
+    enum-known-slot
+    enum-told-5
+    enum-told-6
+    branch-spurious-requires
+    enum-known-bit
+    enum-told-7
+    returns
+    returns-2
+    returns-3
+    returns-4
+    returns-5
+    returns-6
+    returns-7)

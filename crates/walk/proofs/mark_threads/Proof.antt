@@ -1,0 +1,51 @@
+use Prim.Native.Nat.{_≤_, _*_, _-_}
+use mathlib.Core.Path.{_≡_}
+use lib.ListN.{length}
+use borrow.Author.Needs.{needs}
+use Rattle.walk.proofs.mark_threads.Statement.{statement}
+use Rattle.walk.proofs.mark_threads.Tie as tie
+
+abbrev Inv-loop : tie.InvT-loop
+Inv-loop clocks numbers path₀ bound opened₀ t₀ path opened t = (t ≤ 5) × (opened ≤ 10 * t) × (length path ≡ length path₀)
+
+abbrev μ-loop : tie.MeasureT-loop
+μ-loop clocks numbers path₀ bound opened₀ t₀ path opened t = 5 - t
+
+loop-holds : tie.Need-loop-holds Inv-loop μ-loop
+loop-holds c = search needs
+
+mark-thread-requires : tie.Need-mark-thread-requires Inv-loop μ-loop
+mark-thread-requires c κs = search needs
+
+add-opened : tie.Need-add-opened Inv-loop μ-loop
+add-opened c = search needs
+
+add-t : tie.Need-add-t Inv-loop μ-loop
+add-t c = search needs
+
+loop-less : tie.Need-loop-less Inv-loop μ-loop
+loop-less c = search needs
+
+loop-again : tie.Need-loop-again Inv-loop μ-loop
+loop-again c = search needs
+
+same-length : tie.Need-same-length Inv-loop μ-loop
+same-length c = search needs
+
+returns : tie.Need-returns Inv-loop μ-loop
+returns c = search needs
+
+pub mark-threads-spec : {M : Type 1} → statement M
+mark-threads-spec =
+    tie.close
+    (tie.spec
+    Inv-loop
+    μ-loop
+    loop-holds
+    mark-thread-requires
+    add-opened
+    add-t
+    loop-less
+    loop-again
+    same-length
+    returns)

@@ -1,0 +1,24 @@
+use Rattle.walk.proofs.WalkLaws.{goes-met}
+use borrow.Author.Needs.{needs}
+use Rattle.walk.proofs.reach.Statement.{statement}
+use Rattle.walk.proofs.reach.Tie as tie
+
+add-requires : tie.Need-add-requires
+add-requires c κs = search needs
+
+same-length : tie.Need-same-length
+same-length c = search needs
+
+returns : tie.Need-returns
+returns c = search needs
+
+goes-requires : tie.Need-goes-requires
+goes-requires c κs = search needs
+
+returns-2 : tie.Need-returns-2
+returns-2 c =
+    let start = c .before .before .before .before in
+    goes-met (start .args .cursor) (c .goes .result) (start .pre .1) (c .before .if1 .left) (start .pre .2) (c .goes .ensures .1)
+
+pub reach-spec : {M : Type 1} → statement M
+reach-spec = tie.close (tie.spec add-requires same-length returns goes-requires returns-2)

@@ -1,0 +1,75 @@
+use native.Mathlib.Omega.{arith}
+use Rattle.walk.proofs.WalkLaws.{take-on}
+use borrow.Author.Needs.{needs}
+use Rattle.walk.proofs.take.Statement.{statement}
+use Rattle.walk.proofs.take.Tie as tie
+
+enum-known-event : tie.Need-enum-known-event
+enum-known-event c = search needs
+
+conclude-requires : tie.Need-conclude-requires
+conclude-requires c κs = search needs
+
+same-length : tie.Need-same-length
+same-length c = search needs
+
+returns : tie.Need-returns
+returns c = search needs
+
+note-if-requires : tie.Need-note-if-requires
+note-if-requires c κs = search needs
+
+enum-told : tie.Need-enum-told
+enum-told c = search needs
+
+same-length-2 : tie.Need-same-length-2
+same-length-2 c = search needs
+
+returns-2 : tie.Need-returns-2
+returns-2 c = search needs
+
+mark-requires : tie.Need-mark-requires
+mark-requires c κs = search needs
+
+meet-requires : tie.Need-meet-requires
+meet-requires c κs =
+    let mark = c .before .before .before .before .before .before .before .before in
+    let note = mark .before .before .before .before .before .before .before .before .before in
+    let start = note .before .before .before .before .before .before .before in (
+      start .pre .0,
+      record {
+        passed = omega (arith, start .pre .1 .passed, note .note-if .ensures .same-pos, note .note-if .ensures .same-len, mark .mark .ensures .same-pos, mark .mark .ensures .same-len);
+        within = omega (arith, start .pre .1 .within, note .note-if .ensures .same-len, mark .mark .ensures .same-len, mark .mark .kept);
+        noted = omega (arith, note .note-if .ensures .noted, mark .mark .ensures .same-entries);
+      },
+      omega (arith, start .pre .2, note .note-if .ensures .same-opened, mark .mark .ensures .few),
+    )
+
+same-length-3 : tie.Need-same-length-3
+same-length-3 c = search needs
+
+same-length-4 : tie.Need-same-length-4
+same-length-4 c = search needs
+
+returns-3 : tie.Need-returns-3
+returns-3 c =
+    let mark = c .before .before .before .before .before .before .before .before .before .before .before .before .before in
+    take-on (mark .before .before .before .before .before .before .before .before .before .note-if .ensures) (mark .mark .ensures) (c .before .before .before .before .meet .ensures)
+
+pub take-spec : {M : Type 1} → statement M
+take-spec =
+    tie.close
+    (tie.spec
+    enum-known-event
+    conclude-requires
+    same-length
+    returns
+    note-if-requires
+    enum-told
+    same-length-2
+    returns-2
+    mark-requires
+    meet-requires
+    same-length-3
+    same-length-4
+    returns-3)
