@@ -10,9 +10,8 @@ ghost use Rattle.rules.specs.Table.{cellsOf, opcodeOf, opcodeIn};
 ghost use Rattle.layout.specs.Tables.{state};
 ghost use Rattle.event.specs.Moves.{moveOf, matchedFor};
 ghost use Rattle.decode.specs.Ops.{opOf, decodedOf, inRange, opWithin};
+ghost use Rattle.execution.specs.Alone.{Alone};
 ghost use Rattle.execution.specs.Answers.{Answers, choiceWithin};
-use decode::Decoded;
-use decode::Op;
 use event::Choice;
 use event::Event;
 use event::Fault;
@@ -22,11 +21,13 @@ use layout::Clocks;
 use layout::Marks;
 use layout::Numbers;
 use layout::Values;
-use layout::of_thread::REGISTER;
 use layout::register_at;
+use layout::of_thread::REGISTER;
 use layout::wide16;
 use table::CELLS;
 use table::COUNTS;
+use decode::Decoded;
+use decode::Op;
 use table::Shape;
 
 // One tick of the active thread at its row: past its last row it ends; else it begins the row or, if that has begun, acts.
@@ -60,15 +61,8 @@ pub fn tick(
     if to_begin {
         return rows::begin(numbers, thread, limit, op);
     }
-    act(
-        clocks,
-        marks,
-        values,
-        numbers,
-        site,
-        wide16(shape[CELLS]),
-        op,
-    )
+    let cells = wide16(shape[CELLS]);
+    act(clocks, marks, values, numbers, site, cells, op)
 }
 
 // What a row does once it has begun, and its thread was chosen if it called the scheduling.
@@ -81,12 +75,11 @@ pub fn act(
     cells: usize,
     op: Op,
 ) -> Event
-    requires { ⌜ (site .thread < 5) × (cells ≤ 4) × inRange op ⌝ }
+    requires { ⌜ (site .thread < 5) × (cells ≤ 4) × inRange (opOf op) ⌝ }
     ensures { λ r. ⌜ ((p : machine.Program) → cellsOf (p .table) ≡ cells → moveOf r (site .thread) (site .row) (opcodeOf (opOf op)) (matchedFor (state (now (clocks .exit)) (now (marks .exit)) (now (values .exit)) (now (numbers .exit))) (site .thread) (decodedOf (Decoded.Row op))) (state (now (clocks .exit)) (now (marks .exit)) (now (values .exit)) (now (numbers .exit))) ≡ machine.acts p (state (now (clocks .entry)) (now (marks .entry)) (now (values .entry)) (now (numbers .entry))) (site .thread) (site .row) (opOf op)) ⌝ }
 {
-    let thread = site.thread;
     match op {
-        Op::Load { .. } => ask_slot(clocks, thread),
+        Op::Load { .. } => ask_slot(clocks, site.thread),
         Op::Store { cell, order, value } => {
             accesses::store_row(clocks, marks, values, numbers, site, cell, order, value)
         }
@@ -95,10 +88,10 @@ pub fn act(
             order,
             register,
         } => {
-            let value = values[REGISTER + register_at(thread, register)];
+            let value = register_of(values, site.thread, register);
             accesses::store_row(clocks, marks, values, numbers, site, cell, order, value)
         }
-        Op::Rmw { .. } => ask_slot(clocks, thread),
+        Op::Rmw { .. } => ask_slot(clocks, site.thread),
         Op::Fence { order } => rows::fence_row(clocks, marks, numbers, site, cells, order),
         Op::UnsyncLoad { cell, register } => {
             accesses::unsync_load_row(clocks, values, numbers, site, cell, register)
@@ -107,7 +100,7 @@ pub fn act(
             cell,
             change,
             register,
-        } => { accesses::with_mut_row(clocks, values, numbers, site, cell, change, register) }
+        } => accesses::with_mut_row(clocks, values, numbers, site, cell, change, register),
         Op::Yield => rows::yield_row(clocks, numbers, site),
         Op::Join { thread: target } => rows::join_row(clocks, numbers, site, target),
         _ => act_alone(values, numbers, site, op),
@@ -116,7 +109,8 @@ pub fn act(
 
 // The rows that concern their own thread alone.
 fn act_alone(values: &Values, numbers: &mut Numbers, site: Site, op: Op) -> Event
-    requires { ⌜ (site .thread < 5) × inRange op ⌝ }
+    requires { ⌜ (site .thread < 5) × inRange (opOf op) × Alone (opOf op) ⌝ }
+    ensures { λ r. ⌜ ((p : machine.Program) (clocks : rules.Clocks) (marks : rules.Marks) (m : Matched) → moveOf r (site .thread) (site .row) (opcodeOf (opOf op)) m (state clocks marks (now (values .entry)) (now (numbers .exit))) ≡ machine.acts p (state clocks marks (now (values .entry)) (now (numbers .entry))) (site .thread) (site .row) (opOf op)) ⌝ }
 {
     let thread = site.thread;
     match op {
@@ -126,7 +120,7 @@ fn act_alone(values: &Values, numbers: &mut Numbers, site: Site, op: Op) -> Even
             a,
             target,
         } => {
-            let equal = values[REGISTER + register_at(thread, register)] == a;
+            let equal = register_of(values, thread, register) == a;
             rows::jump_row(numbers, site, equal, target)
         }
         Op::JumpUnless {
@@ -134,11 +128,11 @@ fn act_alone(values: &Values, numbers: &mut Numbers, site: Site, op: Op) -> Even
             a,
             target,
         } => {
-            let equal = values[REGISTER + register_at(thread, register)] == a;
+            let equal = register_of(values, thread, register) == a;
             rows::jump_row(numbers, site, !equal, target)
         }
         Op::Check { register, a } => {
-            let equal = values[REGISTER + register_at(thread, register)] == a;
+            let equal = register_of(values, thread, register) == a;
             rows::check_row(numbers, site, equal)
         }
         Op::Critical => rows::explore_row(numbers, site, false),
@@ -151,9 +145,19 @@ fn act_alone(values: &Values, numbers: &mut Numbers, site: Site, op: Op) -> Even
     }
 }
 
-// A load or a read-modify-write raises its version, and asks for its store.
+// What a thread's register holds.
+fn register_of(values: &Values, thread: usize, register: usize) -> u64
+    requires { ⌜ (thread < 5) × (register < 4) ⌝ }
+    ensures { λ r. ⌜ r ≡ rules.value (now (values .entry)) (rules.ofRegister (rules.registerAt thread register)) ⌝ }
+{
+    values[REGISTER + register_at(thread, register)]
+}
+
+// A load or a read-modify-write raises its version, and asks for its store: it is offered what the state with the version
+// raised offers.
 fn ask_slot(clocks: &mut Clocks, thread: usize) -> Event
     requires { ⌜ thread < 5 ⌝ }
+    ensures { λ r. ⌜ ((marks : rules.Marks) (values : rules.Values) (numbers : rules.Numbers) (t k opcode : ℕ) (offered : rules.State → Matched) → moveOf r t k opcode (offered (state (now (clocks .exit)) marks values numbers)) (state (now (clocks .exit)) marks values numbers) ≡ machine.asksSlot (machine.versionRaised (state (now (clocks .entry)) marks values numbers) thread) (offered (machine.versionRaised (state (now (clocks .entry)) marks values numbers) thread))) ⌝ }
 {
     thread::raise(clocks, thread);
     Event::Asks {

@@ -1,0 +1,113 @@
+-- The laws of what a row does, and of how it goes on with an answer: from what the call of its arm leaves to what the definition
+-- says of it. Assumes nothing.
+--     op-within, slot-within         what an operation and an answer name
+--     alone-of, asks-bit             the rows that an arm for all others takes together
+--     act-as, asks-as, alone-as      a row that was taken apart
+--     stores-from, jumps-from, unless-from, checks-from     with the register that was read
+--     answers-as                     an answer that was taken apart
+use Prim.Native.Nat.{ℕ, _<_}
+use mathlib.Core.List.{List, [], _∷_}
+use mathlib.Core.Bool.{Bool, not}
+use mathlib.Core.Path.{_≡_, refl, ap, _∙_}
+use lib.Dec.{eqb}
+use types.Run.{OneOf, miss}
+use denote.Enum.Declared.{tagOf}
+use Rattle.rules.specs.Event.{Matched, Move, asks, whichBit}
+use Rattle.rules.specs.State.{State}
+use Rattle.rules.specs.Machine.{Program, acts, actsAs, asksSlot, versionRaised, isExploring, stores, jumps, checks}
+use Rattle.rules.specs.Table.{opcodeOf, decoded}
+use Rattle.rules.specs.Table as rules
+use Rattle.event.specs.declared.Event.{Event}
+use Rattle.event.specs.declared.Choice.{Choice}
+use Rattle.event.specs.declared.Choice.the-variants as choice
+use Rattle.event.specs.Moves.{moveOf, matchedFor}
+use Rattle.decode.proofs.Op as Op
+use Rattle.decode.specs.declared.Op.{Op}
+use Rattle.decode.specs.declared.Op.the-variants as code
+use Rattle.decode.specs.Ops.{opOf, inRange}
+use Rattle.execution.specs.Alone.{Alone}
+use Rattle.execution.specs.Answers.{Answers, choiceWithin}
+
+pub op-within : (op m : Op) → op ≡ m → inRange (opOf op) → inRange (opOf m)
+op-within op m e h = rw e at h
+
+pub slot-within : (c : Choice) (slot mask : ℕ) → c ≡ choice.Slot slot mask → choiceWithin c → slot < 7
+slot-within c slot mask e h = rw e at h
+
+-- the places of the rows that concern their own thread alone, among the variants
+abbrev alone : List ℕ
+alone = 9 ∷ 10 ∷ 11 ∷ 12 ∷ 13 ∷ 14 ∷ 15 ∷ 16 ∷ []
+
+pub alone-of : (op : Op) → OneOf alone (tagOf Op.the-type op) → Alone (opOf op)
+alone-of (code.Load cell order register) k = absurd (miss alone 0 tt k)
+alone-of (code.Store cell order value) k = absurd (miss alone 1 tt k)
+alone-of (code.StoreRegister cell order register) k = absurd (miss alone 2 tt k)
+alone-of (code.Rmw cell order failure change register) k = absurd (miss alone 3 tt k)
+alone-of (code.Fence order) k = absurd (miss alone 4 tt k)
+alone-of (code.UnsyncLoad cell register) k = absurd (miss alone 5 tt k)
+alone-of (code.WithMut cell change register) k = absurd (miss alone 6 tt k)
+alone-of code.Yield k = absurd (miss alone 7 tt k)
+alone-of (code.Join thread) k = absurd (miss alone 8 tt k)
+alone-of (code.Jump target) k = tt
+alone-of (code.JumpIf register a target) k = tt
+alone-of (code.JumpUnless register a target) k = tt
+alone-of (code.Check register a) k = tt
+alone-of code.Critical k = tt
+alone-of code.ExploreState k = tt
+alone-of code.SkipBranch k = tt
+alone-of (code.Spurious register) k = tt
+
+-- and of those that have no arm of their own there
+abbrev rest : List ℕ
+rest = 0 ∷ 1 ∷ 2 ∷ 3 ∷ 4 ∷ 5 ∷ 6 ∷ 7 ∷ 8 ∷ 16 ∷ []
+
+module _ (p : Program) (st : State) (t k : ℕ) where
+  pub asks-bit : (op : Op) → OneOf rest (tagOf Op.the-type op) → Alone (opOf op) → asks st [] (isExploring (st .numbers)) whichBit ≡ acts p st t k (opOf op)
+  unfolding actsAs
+  asks-bit (code.Load cell order register) k own = absurd own
+  asks-bit (code.Store cell order value) k own = absurd own
+  asks-bit (code.StoreRegister cell order register) k own = absurd own
+  asks-bit (code.Rmw cell order failure change register) k own = absurd own
+  asks-bit (code.Fence order) k own = absurd own
+  asks-bit (code.UnsyncLoad cell register) k own = absurd own
+  asks-bit (code.WithMut cell change register) k own = absurd own
+  asks-bit code.Yield k own = absurd own
+  asks-bit (code.Join thread) k own = absurd own
+  asks-bit (code.Jump target) k own = absurd (miss rest 9 tt k)
+  asks-bit (code.JumpIf register a target) k own = absurd (miss rest 10 tt k)
+  asks-bit (code.JumpUnless register a target) k own = absurd (miss rest 11 tt k)
+  asks-bit (code.Check register a) k own = absurd (miss rest 12 tt k)
+  asks-bit code.Critical k own = absurd (miss rest 13 tt k)
+  asks-bit code.ExploreState k own = absurd (miss rest 14 tt k)
+  asks-bit code.SkipBranch k own = absurd (miss rest 15 tt k)
+  asks-bit (code.Spurious register) k own = refl
+
+module _ (p : Program) (r : Event) (st left : State) (t k : ℕ) (op m : Op) (e : op ≡ m) where
+  pub act-as : moveOf r t k (opcodeOf (opOf m)) (matchedFor left t (decoded (opOf m))) left ≡ acts p st t k (opOf m) →
+      moveOf r t k (opcodeOf (opOf op)) (matchedFor left t (decoded (opOf op))) left ≡ acts p st t k (opOf op)
+  act-as h = rw e h
+
+  -- a row that asks for a slot is offered what the state that it leaves offers
+  pub asks-as : ((offered : State → Matched) → moveOf r t k (opcodeOf (opOf m)) (offered left) left ≡ asksSlot (versionRaised st t) (offered (versionRaised st t))) →
+      asksSlot (versionRaised st t) (matchedFor (versionRaised st t) t (decoded (opOf m))) ≡ acts p st t k (opOf m) →
+      moveOf r t k (opcodeOf (opOf op)) (matchedFor left t (decoded (opOf op))) left ≡ acts p st t k (opOf op)
+  asks-as f g = act-as (f (λ s. matchedFor s t (decoded (opOf m))) ∙ g)
+
+  pub alone-as : (offered : Matched) → moveOf r t k (opcodeOf (opOf m)) offered left ≡ acts p st t k (opOf m) → moveOf r t k (opcodeOf (opOf op)) offered left ≡ acts p st t k (opOf op)
+  alone-as offered h = rw e h
+
+module _ (out : Move State) (st : State) (t k n v w : ℕ) (is : v ≡ w) where
+  pub stores-from : (c o : ℕ) → out ≡ stores st t k n c o v → out ≡ stores st t k n c o w
+  stores-from c o h = h ∙ ap (λ (x : ℕ). stores st t k n c o x) is
+
+  pub jumps-from : (a target : ℕ) → out ≡ jumps st t k n (eqb v a) target → out ≡ jumps st t k n (eqb w a) target
+  jumps-from a target h = h ∙ ap (λ (x : ℕ). jumps st t k n (eqb x a) target) is
+
+  pub unless-from : (a target : ℕ) → out ≡ jumps st t k n (not (eqb v a)) target → out ≡ jumps st t k n (not (eqb w a)) target
+  unless-from a target h = h ∙ ap (λ (x : ℕ). jumps st t k n (not (eqb x a)) target) is
+
+  pub checks-from : (a : ℕ) → out ≡ checks st t k n (eqb v a) → out ≡ checks st t k n (eqb w a)
+  checks-from a h = h ∙ ap (λ (x : ℕ). checks st t k n (eqb x a)) is
+
+pub answers-as : (c m : Choice) (row : rules.Decoded rules.Op) (t k : ℕ) (st : State) (out : Move State) → c ≡ m → Answers m row t k st out → Answers c row t k st out
+answers-as c m row t k st out e h = rw e h

@@ -1,0 +1,113 @@
+use native.Mathlib.Omega.{arith}
+use mathlib.Core.Path.{sym, _∙_}
+use mathlib.Core.Logic.{⊎-elim, inl, inr}
+use Rattle.layout.specs.Tables.{state}
+use Rattle.execution.proofs.TickLaws.{row-within, next-ended, next-refused, next-begins, next-acts}
+use borrow.Author.Needs.{needs}
+use Rattle.execution.proofs.tick.Statement.{statement}
+use Rattle.execution.proofs.tick.Tie as tie
+
+is-to-begin-requires : tie.Need-is-to-begin-requires
+is-to-begin-requires c κs = search needs
+
+add-if2 : tie.Need-add-if2
+add-if2 c = search needs
+
+mul-if2 : tie.Need-mul-if2
+mul-if2 c = search needs
+
+element-copy-out-if2 : tie.Need-element-copy-out-if2
+element-copy-out-if2 c = search needs
+
+end-requires : tie.Need-end-requires
+end-requires c κs = search needs
+
+returns : tie.Need-returns
+returns c =
+    let past = c .before .before in
+    let first = past .before .before .before in
+    let call = first .before in
+    let args = call .before .before .args in
+    λ p limited celled counted says.
+    next-ended p (state (args .clocks .now) (args .marks .now) (args .values .now) (args .numbers .now)) (args .site .thread) (args .site .row) _ _ (call .is-to-begin .ensures (args .clocks .now) (args .marks .now) (args .values .now)) counted (first .if1 .taken) (past .if2 .taken) _ (c .end .ensures (args .clocks .now) (args .marks .now) (args .values .now))
+
+enum-known-row : tie.Need-enum-known-row
+enum-known-row c = search needs
+
+enum-told : tie.Need-enum-told
+enum-told c = search needs
+
+returns-2 : tie.Need-returns-2
+returns-2 c =
+    let joined = c .before .before in
+    let call = joined .before in
+    let start = call .before .before in
+    let args = start .args in
+    λ p limited celled counted says.
+    next-refused p (state (args .clocks .now) (args .marks .now) (args .values .now) (args .numbers .now)) (args .site .thread) (args .site .row) _ _ (call .is-to-begin .ensures (args .clocks .now) (args .marks .now) (args .values .now)) counted (⊎-elim (λ w. inl (w .3 .left)) (λ w. inr (w .left)) (joined .if1 .came)) (args .row) says (c .enum-told .given .1)
+
+begin-requires : tie.Need-begin-requires
+begin-requires c κs =
+    let row = c .before .before .before in
+    let joined = row .before .before in
+    let start = joined .before .before .before in
+    (start .pre .0, row-within _ _ (row .row .given .1) (start .pre .2))
+
+returns-3 : tie.Need-returns-3
+returns-3 c =
+    let test = c .before .before in
+    let row = test .before .before in
+    let joined = row .before .before in
+    let call = joined .before in
+    let start = call .before .before in
+    let args = start .args in
+    λ p limited celled counted says.
+    next-begins p (state (args .clocks .now) (args .marks .now) (args .values .now) (args .numbers .now)) (args .site .thread) (args .site .row) _ _ (call .is-to-begin .ensures (args .clocks .now) (args .marks .now) (args .values .now)) counted (⊎-elim (λ w. inl (w .3 .left)) (λ w. inr (w .left)) (joined .if1 .came)) (args .row) says _ (row .row .given .1) (test .if3 .taken) _
+    (c .begin .ensures p (args .clocks .now) (args .marks .now) (args .values .now) (args .site .row) _ _ limited)
+
+element-copy-out-wide16 : tie.Need-element-copy-out-wide16
+element-copy-out-wide16 c = search needs
+
+wide16-requires : tie.Need-wide16-requires
+wide16-requires c κs = search needs
+
+act-requires : tie.Need-act-requires
+act-requires c κs =
+    let wide = c .before .before .before .before in
+    let row = wide .before .before .before .before in
+    let joined = row .before .before in
+    let start = joined .before .before .before in
+    (start .pre .0, omega (arith, wide .wide16 .ensures .same, start .pre .1), row-within _ _ (row .row .given .1) (start .pre .2))
+
+returns-4 : tie.Need-returns-4
+returns-4 c =
+    let wide = c .before .before .before .before .before in
+    let test = wide .before .before in
+    let row = test .before .before in
+    let joined = row .before .before in
+    let call = joined .before in
+    let start = call .before .before in
+    let args = start .args in
+    λ p limited celled counted says.
+    next-acts p (state (args .clocks .now) (args .marks .now) (args .values .now) (args .numbers .now)) (args .site .thread) (args .site .row) _ _ (call .is-to-begin .ensures (args .clocks .now) (args .marks .now) (args .values .now)) counted (⊎-elim (λ w. inl (w .3 .left)) (λ w. inr (w .left)) (joined .if1 .came)) (args .row) says _ (row .row .given .1) (test .if3 .left) (c .act .result) _
+    (c .act .ensures p (celled ∙ sym (wide .wide16 .ensures .same)))
+
+pub tick-spec : {M : Type 1} → statement M
+tick-spec =
+    tie.close
+    (tie.spec
+    is-to-begin-requires
+    add-if2
+    mul-if2
+    element-copy-out-if2
+    end-requires
+    returns
+    enum-known-row
+    enum-told
+    returns-2
+    begin-requires
+    returns-3
+    element-copy-out-wide16
+    wide16-requires
+    act-requires
+    returns-4)
