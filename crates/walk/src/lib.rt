@@ -100,18 +100,42 @@ pub fn tick(
         thread,
         row: number,
     };
-    let event = execution::tick(
+    let here = Here { site, row };
+    tick_at(
         clocks,
         marks,
         values,
         numbers,
+        path,
+        trace,
         shape,
-        limits.operations,
-        site,
-        row,
-    );
-    let here = Here { site, row };
+        limits,
+        here,
+        cursor,
+    )
+}
+
+// One tick of a thread at its row.
+fn tick_at(
+    clocks: &mut Clocks,
+    marks: &mut Marks,
+    values: &mut Values,
+    numbers: &mut Numbers,
+    path: &mut [u8],
+    trace: &mut [u8],
+    shape: &Shape,
+    limits: Limits,
+    here: Here,
+    cursor: Cursor,
+) -> Ticked
+    requires { ⌜ (getD (now shape) 1 0 ≤ 4) × HereWithin here × Placed cursor (now path) (now trace) × (cursor .opened + 60 < 2 ^ 64) ⌝ }
+    ensures { λ r. ⌜ Gone cursor (r .cursor) 60 (now (path .exit)) (now (trace .exit)) ⌝ }
+{
+    let site = here.site;
+    let row = here.row;
+    let operations = limits.operations;
     let bound = limits.bound;
+    let event = execution::tick(clocks, marks, values, numbers, shape, operations, site, row);
     take(
         clocks,
         marks,
