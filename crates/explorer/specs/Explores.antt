@@ -29,10 +29,10 @@ exploredOf r path trace = record { report = reportOf r; path = path; trace = tra
 
 -- "Checks run 2, 3, 4, 5"
 pub record Ready (table : List ℕ) (s : Settings) (path trace : List ℕ) : Type 0 where
-  pub settings : rules.settingsFine (settingsOf s) ≡ true
-  pub path : length path ≡ 16 * s .branches
-  pub trace : length trace ≡ 16 * s .operations
-  pub table : judged table ≡ good
+  pub in-range : rules.settingsFine (settingsOf s) ≡ true
+  pub path-long : length path ≡ 16 * s .branches
+  pub trace-long : length trace ≡ 16 * s .operations
+  pub accepted : judged table ≡ good
 
 -- where the table, the settings or a buffer is refused, the report and both buffers are the definition's
 pub record Refuses (r : Report) (table : List ℕ) (s : Settings) (path exitPath trace exitTrace : List ℕ) : Type 0 where

@@ -1,1 +1,2 @@
 pub mod Explores
+pub mod Runs

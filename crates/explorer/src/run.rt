@@ -1,11 +1,10 @@
 // A run: one execution after another, until nothing is open, the budget is spent or a fault stops it.
-ghost use mathlib.Core.Bool.{true};
 ghost use mathlib.Core.Path.{_≡_};
-ghost use Prim.Native.Nat.{_*_};
-ghost use lib.ListN.{length};
-ghost use Rattle.rules.specs.Explored as rules;
-ghost use Rattle.rules.specs.Table.{judged, good};
+ghost use Prim.Native.Nat.{_+_, _*_, _^_, _<_, _≤_};
+ghost use lib.ListN.{length, getD};
+ghost use Rattle.walk.specs.Walks.{Placed, Gone};
 ghost use Rattle.explorer.specs.Explores.{Ready};
+ghost use Rattle.explorer.specs.Runs.{mostOpened, Fuel, Afresh, Greater, Continues};
 use crate::Settings;
 use event::Fault;
 use layout::CLOCKS;
@@ -27,7 +26,7 @@ use table::THREADS;
 use trace::ENTRY;
 use walk::Cursor;
 use walk::Limits;
-use walk::Tick;
+use walk::Outcome;
 use walk::Ticked;
 
 // What an execution that is over says of the run.
@@ -36,23 +35,20 @@ pub enum Verdict {
     Answers(Answer),
 }
 
-// More ticks than an execution of so many rows can take: one more than the definition's measure of its start.
-fn ticks(operations: u16) -> u64 {
-    3 * (operations as u64) + 26
-}
-
 // Runs an accepted table with settings in range and buffers of the right lengths.
 pub fn run(path: &mut [u8], trace: &mut [u8], table: &[u8], settings: Settings) -> Report
     requires { ⌜ Ready (now table) settings (now path) (now trace) ⌝ }
 {
     clear_all(path);
     clear_all(trace);
+    executions(path, trace, table, settings)
+}
+
+// One execution after another, over buffers that hold nothing.
+fn executions(path: &mut [u8], trace: &mut [u8], table: &[u8], settings: Settings) -> Report
+    requires { ⌜ Ready (now table) settings (now path) (now trace) ⌝ }
+{
     let shape = table::shape(table);
-    let bound = settings.bound;
-    let limits = Limits {
-        operations: (settings.operations % 65536) as u16,
-        bound,
-    };
     let mut clocks = [[0u16; MAX_THREADS]; CLOCKS];
     let mut marks = [[[NONE; 5]; 7]; 4];
     let mut values = [0u64; VALUES];
@@ -71,20 +67,15 @@ pub fn run(path: &mut [u8], trace: &mut [u8], table: &[u8], settings: Settings) 
             trace,
             table,
             &shape,
-            limits,
-            settings.exploring,
-            again(cursor),
+            settings,
+            cursor,
         );
-        let tick = over.tick;
+        let outcome = over.outcome;
         let next = over.cursor;
         cursor = next;
         longest = greater(longest, cursor.entries);
-        if let Verdict::Answers(answer) = judge_end(
-            path,
-            tick,
-            cursor.len,
-            begun == settings.executions,
-        ) {
+        let last = begun == settings.executions;
+        if let Verdict::Answers(answer) = judge_end(path, outcome, cursor.len, last) {
             trace::clear(trace, ENTRY * cursor.entries, ENTRY * longest);
             return finish(&clocks, &numbers, path, answer, begun, cursor);
         }
@@ -102,10 +93,49 @@ fn execute(
     trace: &mut [u8],
     table: &[u8],
     shape: &Shape,
-    limits: Limits,
-    exploring: bool,
+    settings: Settings,
     cursor: Cursor,
-) -> Ticked {
+) -> Ticked
+    requires { ⌜ (getD (now shape) 0 0 ≤ 5) × (getD (now shape) 1 0 ≤ 4) × (16 * cursor .len ≤ length (now path)) × (cursor .opened + mostOpened < 2 ^ 64) ⌝ }
+    ensures { λ r. ⌜ Gone cursor (r .cursor) mostOpened (now (path .exit)) (now (trace .exit)) ⌝ }
+{
+    start_anew(
+        clocks,
+        marks,
+        values,
+        numbers,
+        table,
+        shape,
+        settings.exploring,
+    );
+    let limits = limits_of(settings);
+    let begins = again(cursor);
+    walked(
+        clocks,
+        marks,
+        values,
+        numbers,
+        path,
+        trace,
+        table,
+        shape,
+        limits,
+        begins,
+    )
+}
+
+// Lays the tables anew, as a table of this shape has them at the start.
+fn start_anew(
+    clocks: &mut Clocks,
+    marks: &mut Marks,
+    values: &mut Values,
+    numbers: &mut Numbers,
+    table: &[u8],
+    shape: &Shape,
+    exploring: bool,
+)
+    requires { ⌜ (getD (now shape) 0 0 ≤ 5) × (getD (now shape) 1 0 ≤ 4) ⌝ }
+{
     let threads = wide16(shape[THREADS]);
     let cells = wide16(shape[CELLS]);
     start::start(
@@ -118,10 +148,27 @@ fn execute(
         cells,
         exploring,
     );
+}
+
+// Tick after tick, until the execution ends or stops.
+fn walked(
+    clocks: &mut Clocks,
+    marks: &mut Marks,
+    values: &mut Values,
+    numbers: &mut Numbers,
+    path: &mut [u8],
+    trace: &mut [u8],
+    table: &[u8],
+    shape: &Shape,
+    limits: Limits,
+    cursor: Cursor,
+) -> Ticked
+    requires { ⌜ (getD (now shape) 1 0 ≤ 4) × Placed cursor (now path) (now trace) × (cursor .opened + mostOpened < 2 ^ 64) ⌝ }
+    ensures { λ r. ⌜ Gone cursor (r .cursor) mostOpened (now (path .exit)) (now (trace .exit)) ⌝ }
+{
     let fuel = ticks(limits.operations);
     let mut now = cursor;
-    let mut tick = 0;
-    while tick < fuel {
+    for _ in 0..fuel {
         let ticked = walk::tick(
             clocks,
             marks,
@@ -134,20 +181,37 @@ fn execute(
             limits,
             now,
         );
-        let how = ticked.tick;
-        let Tick::Goes = how else {
+        let outcome = ticked.outcome;
+        let Outcome::Goes = outcome else {
             return ticked;
         };
         let next = ticked.cursor;
         now = next;
-        tick += 1;
     }
     walk::stops(Fault::Impossible, walk::nowhere(), now)
 }
 
+// More ticks than an execution of so many rows can take: one more than the definition's measure of its start.
+fn ticks(operations: u16) -> u64
+    ensures { λ r. ⌜ Fuel operations r ⌝ }
+{
+    3 * (operations as u64) + 26
+}
+
+// The limits that the settings give.
+fn limits_of(settings: Settings) -> Limits {
+    let bound = settings.bound;
+    Limits {
+        operations: (settings.operations % 65536) as u16,
+        bound,
+    }
+}
+
 // A fault is the answer. An execution that ended answers 0 if nothing is open, and 1 if it was the last allowed.
-fn judge_end(path: &[u8], tick: Tick, len: usize, last: bool) -> Verdict {
-    if let Tick::Stops { fault, site } = tick {
+fn judge_end(path: &[u8], outcome: Outcome, len: usize, last: bool) -> Verdict
+    ensures { λ r. ⌜ Continues r last ⌝ }
+{
+    if let Outcome::Stops { fault, site } = outcome {
         return Verdict::Answers(Answer::Stopped { fault, site });
     }
     if !path::any_open(path, len) {
@@ -177,7 +241,9 @@ fn finish(
 }
 
 // Nothing known, nothing opened.
-fn nothing() -> Cursor {
+fn nothing() -> Cursor
+    ensures { λ r. ⌜ (r .len ≡ 0) × (r .opened ≡ 0) ⌝ }
+{
     Cursor {
         len: 0,
         pos: 0,
@@ -187,14 +253,21 @@ fn nothing() -> Cursor {
 }
 
 // The next execution starts at the path's first branch, with an empty trace.
-fn again(mut cursor: Cursor) -> Cursor {
+fn again(mut cursor: Cursor) -> Cursor
+    ensures { λ r. ⌜ Afresh cursor r ⌝ }
+{
     cursor.pos = 0;
     cursor.entries = 0;
     cursor
 }
 
-fn greater(x: usize, y: usize) -> usize {
-    if x < y { y } else { x }
+fn greater(x: usize, y: usize) -> usize
+    ensures { λ r. ⌜ Greater x y r ⌝ }
+{
+    if x < y {
+        return y;
+    }
+    x
 }
 
 // Sets all bytes to zero.

@@ -35,11 +35,12 @@ pub extern "C" fn chjirvollu_explore(
     if report.len() != NUMBERS {
         return NO_RUN;
     }
+    let bound = bound_of(bound);
     let settings = Settings {
         branches,
         operations,
         executions,
-        bound: bound_of(bound),
+        bound,
         exploring: exploring == 1,
     };
     let done = explorer::explore(table, settings, path, trace);

@@ -1,0 +1,3 @@
+pub mod ReadyLaws
+pub mod RefuseLaws
+pub mod RunLaws

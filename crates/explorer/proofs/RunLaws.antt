@@ -1,0 +1,38 @@
+-- How far the executions of a run take the cursor. Assumes nothing.
+--     gone-more, stopped-gone      a tick more, and a fault
+--     goes-on                      a run that goes on is not at its last execution
+--     greater-within               the greater of two counts is within the trace
+use Prim.Native.Nat.{ℕ, _+_, _*_, _/_, _≤_}
+use mathlib.Core.List.{List}
+use mathlib.Core.Path.{_≡_, subst}
+use native.Mathlib.Omega.{arith}
+use lib.Dec.{eqb}
+use lib.ListN.{length}
+use borrow.Author.Tests.{eqb-false}
+use Rattle.walk.specs.Walks.{Gone, Stopped}
+use Rattle.walk.specs.declared.Cursor.{Cursor}
+use Rattle.walk.specs.declared.Ticked.{Ticked}
+use Rattle.explorer.specs.Runs.{Greater, Continues}
+use Rattle.explorer.specs.declared.run.Verdict.{Verdict}
+use Rattle.explorer.specs.declared.run.Verdict.the-variants as verdict
+
+pub gone-more : {c d e : Cursor} {n m most : ℕ} {path trace path' trace' : List ℕ} → Gone c d n path trace → Gone d e m path' trace' → n + m ≤ most → Gone c e most path' trace'
+gone-more g h l = record { placed = h .placed; few = omega (arith, g .few, h .few) }
+
+pub stopped-gone : {c d : Cursor} {r : Ticked} {n most : ℕ} {path trace : List ℕ} → Gone c d n path trace → Stopped d r → n ≤ most → Gone c (r .cursor) most path trace
+stopped-gone g s l =
+    record {
+      placed = record {
+        passed = omega (arith, g .placed .passed, s .stays .same-pos, s .stays .same-len);
+        within = omega (arith, g .placed .within, s .stays .same-len);
+        noted = omega (arith, g .placed .noted, s .stays .same-entries);
+      };
+      few = omega (arith, g .few, s .stays .same-opened);
+    }
+
+pub goes-on : (v : Verdict) (begun executions : ℕ) → v ≡ verdict.GoesOn → Continues v (eqb begun executions) → begun ≡ executions → ⊥
+goes-on v begun executions e h =
+    eqb-false begun executions (subst (λ (x : Verdict). Continues x (eqb begun executions)) e h)
+
+pub greater-within : {x y r m n : ℕ} → Greater x y r → 16 * x ≤ m → 16 * y ≤ n → m ≡ n → 16 * r ≤ n
+greater-within {x} {y} {r} {m} {n} g h k e = omega (arith, g .least (n / 16) (omega arith) (omega arith))

@@ -1,0 +1,15 @@
+use Rattle.explorer.proofs.ReadyLaws.{holds-both, holds-not}
+use borrow.Author.Needs.{needs}
+use Rattle.explorer.proofs.holds.Statement.{statement}
+use Rattle.explorer.proofs.holds.Tie as tie
+
+returns : tie.Need-returns
+returns c =
+    holds-both (c .before .args .bytes) (c .before .args .records) (c .if1 .taken)
+
+returns-2 : tie.Need-returns-2
+returns-2 c =
+    holds-not (c .before .args .bytes) (c .before .args .records) (c .if1 .left)
+
+pub holds-spec : {M : Type 1} → statement M
+holds-spec = tie.close (tie.spec returns returns-2)

@@ -1,0 +1,107 @@
+use Prim.Native.Nat.{_≤_, _*_, _-_}
+use mathlib.Core.Path.{_≡_, refl}
+use lib.ListN.{length}
+use native.Mathlib.Omega.{arith}
+use Rattle.walk.specs.Walks.{Gone}
+use Rattle.explorer.proofs.RunLaws.{gone-more, stopped-gone}
+use borrow.Author.Needs.{needs}
+use Rattle.explorer.proofs.run.walked.Statement.{statement}
+use Rattle.explorer.proofs.run.walked.Tie as tie
+
+abbrev Inv-loop : tie.InvT-loop
+Inv-loop clocks₀ marks₀ values₀ numbers₀ path₀ trace₀ table shape limits fuel now₀ counter₀ clocks marks values numbers path trace now counter =
+    (counter ≤ fuel) × Gone now₀ now (60 * counter) path trace × (length path ≡ length path₀) × (length trace ≡ length trace₀)
+
+abbrev μ-loop : tie.MeasureT-loop
+μ-loop clocks₀ marks₀ values₀ numbers₀ path₀ trace₀ table shape limits fuel now₀ counter₀ clocks marks values numbers path trace now counter = fuel - counter
+
+ticks-requires : tie.Need-ticks-requires Inv-loop μ-loop
+ticks-requires c κs = search needs
+
+loop-holds : tie.Need-loop-holds Inv-loop μ-loop
+loop-holds c =
+    let start = c .before .before .before .before in
+    (omega arith, record { placed = start .pre .1; few = omega arith }, refl, refl)
+
+tick-requires : tie.Need-tick-requires Inv-loop μ-loop
+tick-requires c κs =
+    let turn = c .before .before .before .before .before .before in
+    let loop = turn .before in
+    let start = loop .before .before .before .before .before in
+    (start .pre .0, loop .loop .inv .1 .placed, omega (arith, loop .loop .inv .1 .few, loop .before .ticks .ensures .few, start .pre .2, turn .loop-test .taken))
+
+enum-told : tie.Need-enum-told Inv-loop μ-loop
+enum-told c = search needs
+
+same-length : tie.Need-same-length Inv-loop μ-loop
+same-length c =
+    let tick = c .before .before .before .before .before in
+    omega (arith, tick .tick .kept, tick .before .before .before .before .before .before .before .before .loop .inv)
+
+same-length-2 : tie.Need-same-length-2 Inv-loop μ-loop
+same-length-2 c =
+    let tick = c .before .before .before .before .before in
+    omega (arith, tick .tick .kept, tick .before .before .before .before .before .before .before .before .loop .inv)
+
+returns : tie.Need-returns Inv-loop μ-loop
+returns c =
+    let tick = c .before .before .before .before .before in
+    let turn = tick .before .before .before .before .before .before .before in
+    let loop = turn .before in
+    gone-more (loop .loop .inv .1) (tick .tick .ensures) (omega (arith, turn .loop-test .taken, loop .before .ticks .ensures .few))
+
+add-counter : tie.Need-add-counter Inv-loop μ-loop
+add-counter c = search needs
+
+loop-less : tie.Need-loop-less Inv-loop μ-loop
+loop-less c = search needs
+
+loop-again : tie.Need-loop-again Inv-loop μ-loop
+loop-again c =
+    let tick = c .before .before .before .before .before .before .before in
+    let turn = tick .before .before .before .before .before .before .before in
+    let loop = turn .before in (
+      omega (arith, turn .loop-test .taken),
+      gone-more (loop .loop .inv .1) (tick .tick .ensures) (omega arith),
+      omega (arith, tick .tick .kept, loop .loop .inv),
+      omega (arith, tick .tick .kept, loop .loop .inv),
+    )
+
+nowhere-requires : tie.Need-nowhere-requires Inv-loop μ-loop
+nowhere-requires c κs = search needs
+
+stops-requires : tie.Need-stops-requires Inv-loop μ-loop
+stops-requires c κs = search needs
+
+same-length-3 : tie.Need-same-length-3 Inv-loop μ-loop
+same-length-3 c = search needs
+
+same-length-4 : tie.Need-same-length-4 Inv-loop μ-loop
+same-length-4 c = search needs
+
+returns-2 : tie.Need-returns-2 Inv-loop μ-loop
+returns-2 c =
+    let loop = c .before .before .before in
+    stopped-gone (loop .loop .inv .1) (c .stops .ensures) (omega (arith, loop .loop .inv .0, loop .before .ticks .ensures .few))
+
+pub walked-spec : {M : Type 1} → statement M
+walked-spec =
+    tie.close
+    (tie.spec
+    Inv-loop
+    μ-loop
+    ticks-requires
+    loop-holds
+    tick-requires
+    enum-told
+    same-length
+    same-length-2
+    returns
+    add-counter
+    loop-less
+    loop-again
+    nowhere-requires
+    stops-requires
+    same-length-3
+    same-length-4
+    returns-2)
