@@ -12,7 +12,7 @@ use Rattle.rules.specs.Table.{judged, good, badHeader, badRow}
 use Rattle.rules.specs.Explored as rules
 use Rattle.rules.specs.Explored.{refused, settingsFine}
 use Rattle.rules.proofs.ExploredLaws.{explored-2, explored-3, explored-4, explored-5-header, explored-5-row}
-use Rattle.table.specs.Judged.{judgedOf}
+use Rattle.table.specs.Answers.{judgedOf}
 use Rattle.table.specs.declared.Judged.{Judged}
 use Rattle.table.specs.declared.Judged.the-variants as code
 use Rattle.report.specs.Answers.{reportOf, refusal}
