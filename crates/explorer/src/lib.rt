@@ -1,6 +1,5 @@
 // The explorer: any bytes as a table, any settings and any buffers get an answer. After loom's model::Builder::check.
 ghost use mathlib.Core.Path.{_≡_};
-ghost use mathlib.Core.Bool.{_&&_};
 ghost use Prim.Native.Nat.{_*_};
 ghost use lib.Dec.{eqb};
 ghost use Rattle.rules.specs.Explored as rules;
@@ -8,7 +7,6 @@ ghost use Rattle.explorer.specs.Explores.{settingsOf, Refuses};
 use path::Bound;
 use report::Answer;
 use report::Report;
-use report::ThreadRecord;
 use table::Judged;
 
 pub mod run;

@@ -71,9 +71,6 @@ pub enum Reply {
     Unexpected,
 }
 
-// The thread and the row of a fault that no machine meets.
-pub const NOBODY: usize = 255;
-
 // One tick of the active thread, and the answer to what it asks.
 pub fn tick(
     clocks: &mut Clocks,
@@ -468,6 +465,7 @@ pub fn stops(fault: Fault, site: Site, cursor: Cursor) -> Ticked
     }
 }
 
+// The thread and the row of a fault that no machine meets.
 pub fn nowhere() -> Site {
     Site {
         thread: 255,
