@@ -71,6 +71,24 @@ impl FirstSeen {
     }
 }
 
+// Changes the mark of first sight in place, where the thread has none: over the function that hands the marks back.
+pub fn touch(seen: &mut FirstSeen, thread: usize, version: u16)
+    ensures { λ _. ⌜ now (seen .exit) .versions ≡ touched (now (seen .entry) .versions) thread version ⌝ }
+{
+    let own = *seen;
+    let own = own.touch(thread, version);
+    *seen = own;
+}
+
+// The marks of one store, changed in place.
+fn touched_row(row: [u16; MAX_THREADS], thread: usize, version: u16) -> [u16; MAX_THREADS]
+    ensures { λ r. ⌜ r ≡ touched row thread version ⌝ }
+{
+    let mut seen = FirstSeen { versions: row };
+    touch(&mut seen, thread, version);
+    seen.versions
+}
+
 // The marks of a cell with none on one store, as a new one that is yet seen by no thread has them.
 pub fn cleared(
     mut marks: [[u16; MAX_THREADS]; MAX_ATOMIC_HISTORY],
@@ -96,9 +114,7 @@ pub fn touched(
     ensures { λ r. ⌜ r ≡ touchedAt marks slot thread version ⌝ }
 {
     let row = marks[slot];
-    let seen = FirstSeen { versions: row };
-    let seen = seen.touch(thread, version);
-    let row = seen.versions;
+    let row = touched_row(row, thread, version);
     marks[slot] = row;
     marks
 }

@@ -9,8 +9,8 @@ mul-row c = search needs
 array-copy-out-row : tie.Need-array-copy-out-row
 array-copy-out-row c = search needs
 
-touch-requires : tie.Need-touch-requires
-touch-requires c κs = search needs
+touched-row-requires : tie.Need-touched-row-requires
+touched-row-requires c κs = search needs
 
 mul-marks : tie.Need-mul-marks
 mul-marks c = search needs
@@ -19,9 +19,9 @@ array-set-from-marks : tie.Need-array-set-from-marks
 array-set-from-marks c = search needs
 
 returns : tie.Need-returns
-returns c = touch-at _ _ _ _ _ (c .before .touch .ensures)
+returns c = touch-at _ _ _ _ _ (c .touched-row .ensures)
 
 pub touched-spec : {M : Type 1} → statement M
 touched-spec =
     tie.close
-    (tie.spec mul-row array-copy-out-row touch-requires mul-marks array-set-from-marks returns)
+    (tie.spec mul-row array-copy-out-row touched-row-requires mul-marks array-set-from-marks returns)
