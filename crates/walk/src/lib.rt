@@ -5,6 +5,7 @@ ghost use mathlib.Core.Path.{_≡_};
 ghost use Prim.Native.Nat.{_<_, _≤_, _+_, _*_, _^_};
 ghost use lib.ListN.{length, getD};
 ghost use Rattle.walk.specs.Walks.{Placed, HereWithin, Kept, Marked, Met, Gone, Same, Stopped, Passed, pushedFew, addedTo, replyWithin};
+use decode::Decoded;
 use event::Choice;
 use event::Event;
 use event::Fault;
@@ -28,7 +29,6 @@ use path::Pushed;
 use path::Spurious;
 use record::Offered;
 use scheduling::Place;
-use decode::Decoded;
 use table::Shape;
 use trace::Entry;
 
