@@ -466,7 +466,9 @@ pub fn stops(fault: Fault, site: Site, cursor: Cursor) -> Ticked
 }
 
 // The thread and the row of a fault that no machine meets.
-pub fn nowhere() -> Site {
+pub fn nowhere() -> Site
+    ensures { λ r. ⌜ (r .thread ≡ 255) × (r .row ≡ 255) ⌝ }
+{
     Site {
         thread: 255,
         row: 255,
