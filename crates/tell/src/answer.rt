@@ -1,7 +1,6 @@
 // What happened, in one sentence for each answer.
-use crate::line;
-use crate::line::Line;
 use explorer::Settings;
+use line::Line;
 use report::Report;
 
 // Writes the sentence.

@@ -3,9 +3,7 @@ use explorer::Settings;
 use report::Report;
 
 mod answer;
-mod line;
 mod print;
-mod words;
 
 // Prints all of a report; where nothing began, only what is wrong.
 pub fn print_report(table: &[u8], settings: Settings, report: Report, trace: &[u8]) {

@@ -1,12 +1,10 @@
 // The report and the last execution as text.
 ghost use Prim.Native.Nat.{_<_};
-use crate::line;
-use crate::line::Line;
-use crate::words;
 use decode::Decoded;
 use layout::MAX_THREADS;
 use layout::short8;
 use layout::wide8;
+use line::Line;
 use report::Report;
 use report::ThreadRecord;
 use table::COUNTS;

@@ -1,8 +1,8 @@
 use Prim.Native.Nat.{_≤_, _-_}
 use lib.ListN.{length}
 use borrow.Author.Needs.{needs}
-use Rattle.tell.proofs.line.put.Statement.{statement}
-use Rattle.tell.proofs.line.put.Tie as tie
+use Rattle.line.proofs.put.Statement.{statement}
+use Rattle.line.proofs.put.Tie as tie
 
 abbrev Inv-loop : tie.InvT-loop
 Inv-loop line₀ at text to₀ i₀ line to i = i ≤ length text

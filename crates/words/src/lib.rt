@@ -1,10 +1,9 @@
 // A table's rows in words.
-use crate::line;
-use crate::line::Line;
 use change::Change;
 use decode::Decoded;
 use decode::Op;
 use layout::order;
+use line::Line;
 
 // Puts what a row does, as `load cell 1, Acquire, into r0`.
 pub fn put_row(line: &mut Line, at: usize, row: Decoded) -> usize {

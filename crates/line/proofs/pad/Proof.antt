@@ -1,7 +1,7 @@
 use Prim.Native.Nat.{_-_}
 use borrow.Author.Needs.{needs}
-use Rattle.tell.proofs.line.pad.Statement.{statement}
-use Rattle.tell.proofs.line.pad.Tie as tie
+use Rattle.line.proofs.pad.Statement.{statement}
+use Rattle.line.proofs.pad.Tie as tie
 
 abbrev Inv-loop : tie.InvT-loop
 Inv-loop line₀ at column to₀ line to = Unit {0}
