@@ -18,6 +18,8 @@ ghost use Rattle.accesses.specs.Reads.{Means, readDone};
 use atomic::Loaded;
 use atomic::Mutated;
 use change::Change;
+use decode::Decoded;
+use decode::Op;
 use event::Event;
 use event::Fault;
 use event::Site;
@@ -29,15 +31,13 @@ use layout::Marks;
 use layout::Numbers;
 use layout::Values;
 use layout::of_cell::COUNT;
+use layout::of_store::VALUE;
+use layout::of_thread::REGISTER;
 use layout::register_at;
 use layout::slots;
-use layout::of_store::VALUE;
 use layout::store_at;
-use layout::of_thread::REGISTER;
 use layout::wide16;
 use matches::Matched;
-use decode::Decoded;
-use decode::Op;
 use track::Race;
 
 // What a row reads, if it is a load or a read-modify-write.

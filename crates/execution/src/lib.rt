@@ -12,6 +12,8 @@ ghost use Rattle.event.specs.Moves.{moveOf, matchedFor};
 ghost use Rattle.decode.specs.Ops.{opOf, decodedOf, inRange, opWithin};
 ghost use Rattle.execution.specs.Alone.{Alone};
 ghost use Rattle.execution.specs.Answers.{Answers, choiceWithin};
+use decode::Decoded;
+use decode::Op;
 use event::Choice;
 use event::Event;
 use event::Fault;
@@ -21,13 +23,11 @@ use layout::Clocks;
 use layout::Marks;
 use layout::Numbers;
 use layout::Values;
-use layout::register_at;
 use layout::of_thread::REGISTER;
+use layout::register_at;
 use layout::wide16;
 use table::CELLS;
 use table::COUNTS;
-use decode::Decoded;
-use decode::Op;
 use table::Shape;
 
 // One tick of the active thread at its row: past its last row it ends; else it begins the row or, if that has begun, acts.

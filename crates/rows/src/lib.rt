@@ -11,6 +11,8 @@ ghost use Rattle.layout.specs.Tables.{state};
 ghost use Rattle.event.specs.Moves.{moveOf};
 ghost use Rattle.decode.specs.Ops.{opOf, decodedOf, inRange, opWithin};
 ghost use Rattle.rows.specs.Pendings.{Pends};
+use decode::Decoded;
+use decode::Op;
 use event::Event;
 use event::Fault;
 use event::NO_SLOT;
@@ -20,7 +22,6 @@ use layout::Clocks;
 use layout::Marks;
 use layout::Numbers;
 use layout::Values;
-use layout::register_at;
 use layout::of_run::EXPLORING;
 use layout::of_run::ROWS_BEGUN;
 use layout::of_run::SKIPPING;
@@ -31,9 +32,8 @@ use layout::of_thread::PHASE;
 use layout::of_thread::REGISTER;
 use layout::of_thread::ROWS;
 use layout::of_thread::SCHEDULE;
+use layout::register_at;
 use synchronize::join_into;
-use decode::Decoded;
-use decode::Op;
 use track::access;
 
 // The pending operation that a row sets, with its cell; a row of opcodes 4 to 16 sets none.

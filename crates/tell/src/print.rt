@@ -3,13 +3,13 @@ ghost use Prim.Native.Nat.{_<_};
 use crate::line;
 use crate::line::Line;
 use crate::words;
+use decode::Decoded;
 use layout::MAX_THREADS;
 use layout::short8;
 use layout::wide8;
 use report::Report;
 use report::ThreadRecord;
 use table::COUNTS;
-use decode::Decoded;
 use table::little;
 
 // Where a trace entry has what, in its 16 bytes.

@@ -2,9 +2,9 @@
 use crate::line;
 use crate::line::Line;
 use change::Change;
-use layout::order;
 use decode::Decoded;
 use decode::Op;
+use layout::order;
 
 // Puts what a row does, as `load cell 1, Acquire, into r0`.
 pub fn put_row(line: &mut Line, at: usize, row: Decoded) -> usize {

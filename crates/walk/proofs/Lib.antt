@@ -1,1 +1,4 @@
+pub mod BranchLaws
+pub mod ComesLaws
+pub mod MarkedLaws
 pub mod WalkLaws

@@ -4,7 +4,12 @@
 ghost use mathlib.Core.Path.{_≡_};
 ghost use Prim.Native.Nat.{_<_, _≤_, _+_, _*_, _^_};
 ghost use lib.ListN.{length, getD};
-ghost use Rattle.walk.specs.Walks.{Placed, HereWithin, Kept, Marked, Met, Gone, Same, Stopped, Passed, pushedFew, addedTo, replyWithin};
+ghost use Rattle.rules.specs.Event.{noSite};
+ghost use Rattle.rules.specs.Table.{opcodeIn};
+ghost use Rattle.decode.specs.Ops.{decodedOf};
+ghost use Rattle.walk.specs.Parts.{Marks, MarksThread, MarksThreads, Lands, notedAt, completedAt, concludedAt};
+ghost use Rattle.walk.specs.Walks.{Placed, HereWithin, Met, Gone, GoesOn, Stopped, Passed, pushedFew, addedTo, replyWithin, siteOf};
+use decode::Decoded;
 use event::Choice;
 use event::Event;
 use event::Fault;
@@ -28,7 +33,6 @@ use path::Pushed;
 use path::Spurious;
 use record::Offered;
 use scheduling::Place;
-use decode::Decoded;
 use table::Shape;
 use trace::Entry;
 
@@ -169,7 +173,7 @@ fn take(
     let Event::Asks { question, yielded } = event else {
         return conclude(trace, here, event, cursor);
     };
-    let noted = note_if(trace, yielded, here, cursor);
+    let noted = note_if(trace, question, yielded, here, cursor);
     let outcome = noted.outcome;
     let Outcome::Goes = outcome else {
         return noted;
@@ -294,7 +298,7 @@ fn add_load(
 // A branch that was added is counted, with what it opened; one that was not is a fault.
 fn added(pushed: Pushed, site: Site, mut cursor: Cursor) -> Ticked
     requires { ⌜ pushedFew pushed × (cursor .len + 1 < 2 ^ 64) × (cursor .opened + 6 < 2 ^ 64) ⌝ }
-    ensures { λ r. ⌜ addedTo pushed cursor r ⌝ }
+    ensures { λ r. ⌜ addedTo pushed site cursor r ⌝ }
 {
     match pushed {
         Pushed::Added(opened) => {
@@ -342,7 +346,7 @@ fn mark(
     mut cursor: Cursor,
 ) -> Cursor
     requires { ⌜ cursor .opened + 50 < 2 ^ 64 ⌝ }
-    ensures { λ r. ⌜ Marked cursor r ⌝ }
+    ensures { λ r. ⌜ Marks cursor r (now (clocks .entry)) (now (numbers .entry)) (now (path .entry)) (now (path .exit)) bound question ⌝ }
 {
     let Question::Thread = question else {
         return cursor;
@@ -354,7 +358,7 @@ fn mark(
 
 // The choices that rule (a) opens.
 fn mark_threads(clocks: &Clocks, numbers: &Numbers, path: &mut [u8], bound: Bound) -> u64
-    ensures { λ r. ⌜ r ≤ 50 ⌝ }
+    ensures { λ r. ⌜ MarksThreads (now (clocks .entry)) (now (numbers .entry)) (now (path .entry)) (now (path .exit)) bound r ⌝ }
 {
     let mut opened = 0;
     let mut t = 0;
@@ -374,7 +378,7 @@ fn mark_thread(
     thread: usize,
 ) -> u64
     requires { ⌜ thread < 5 ⌝ }
-    ensures { λ r. ⌜ r ≤ 10 ⌝ }
+    ensures { λ r. ⌜ MarksThread (now (clocks .entry)) (now (numbers .entry)) (now (path .entry)) (now (path .exit)) bound thread r ⌝ }
 {
     let Place::Branch(point) = scheduling::conflict(clocks, numbers, thread) else {
         return 0;
@@ -385,7 +389,7 @@ fn mark_thread(
 // What a tick comes to that asks nothing more.
 fn conclude(trace: &mut [u8], here: Here, event: Event, cursor: Cursor) -> Ticked
     requires { ⌜ 16 * cursor .entries ≤ length (now trace) ⌝ }
-    ensures { λ r. ⌜ Kept cursor (r .cursor) (now (trace .exit)) ⌝ }
+    ensures { λ r. ⌜ Lands cursor r (now (trace .entry)) (now (trace .exit)) (concludedAt event here) ⌝ }
 {
     let site = here.site;
     match event {
@@ -400,11 +404,20 @@ fn conclude(trace: &mut [u8], here: Here, event: Event, cursor: Cursor) -> Ticke
     }
 }
 
-// The entry of a yield, before its scheduling.
-fn note_if(trace: &mut [u8], yielded: bool, here: Here, cursor: Cursor) -> Ticked
+// The entry of a yield, before its scheduling. No other row that asks is complete.
+fn note_if(
+    trace: &mut [u8],
+    question: Question,
+    yielded: bool,
+    here: Here,
+    cursor: Cursor,
+) -> Ticked
     requires { ⌜ 16 * cursor .entries ≤ length (now trace) ⌝ }
-    ensures { λ r. ⌜ Kept cursor (r .cursor) (now (trace .exit)) ⌝ }
+    ensures { λ r. ⌜ Lands cursor r (now (trace .entry)) (now (trace .exit)) (completedAt question yielded here) ⌝ }
 {
+    let Question::Thread = question else {
+        return goes(cursor);
+    };
     if yielded {
         return note(trace, here, NO_SLOT, 0, 0, cursor);
     }
@@ -414,7 +427,7 @@ fn note_if(trace: &mut [u8], yielded: bool, here: Here, cursor: Cursor) -> Ticke
 // Adds the trace entry of a row that is complete. The trace of a run has room for it.
 fn note(trace: &mut [u8], here: Here, slot: u8, mask: u8, value: u64, mut cursor: Cursor) -> Ticked
     requires { ⌜ 16 * cursor .entries ≤ length (now trace) ⌝ }
-    ensures { λ r. ⌜ Kept cursor (r .cursor) (now (trace .exit)) ⌝ }
+    ensures { λ r. ⌜ Lands cursor r (now (trace .entry)) (now (trace .exit)) (notedAt here slot mask value) ⌝ }
 {
     let site = here.site;
     let row = here.row;
@@ -434,7 +447,9 @@ fn note(trace: &mut [u8], here: Here, slot: u8, mask: u8, value: u64, mut cursor
 }
 
 // The opcode of a row; 255 of one that is none.
-fn opcode_in(row: Decoded) -> u8 {
+fn opcode_in(row: Decoded) -> u8
+    ensures { λ r. ⌜ r ≡ opcodeIn (decodedOf row) ⌝ }
+{
     match row {
         Decoded::Row(op) => table::opcode(op),
         Decoded::Refused => 255,
@@ -451,7 +466,7 @@ fn passed(mut cursor: Cursor) -> Cursor
 }
 
 fn goes(cursor: Cursor) -> Ticked
-    ensures { λ r. ⌜ (r .outcome ≡ Outcome.Goes) × Same cursor (r .cursor) ⌝ }
+    ensures { λ r. ⌜ GoesOn cursor r ⌝ }
 {
     Ticked {
         outcome: Outcome::Goes,
@@ -460,7 +475,7 @@ fn goes(cursor: Cursor) -> Ticked
 }
 
 pub fn stops(fault: Fault, site: Site, cursor: Cursor) -> Ticked
-    ensures { λ r. ⌜ Stopped cursor r ⌝ }
+    ensures { λ r. ⌜ Stopped fault site cursor r ⌝ }
 {
     Ticked {
         outcome: Outcome::Stops { fault, site },
@@ -468,7 +483,9 @@ pub fn stops(fault: Fault, site: Site, cursor: Cursor) -> Ticked
     }
 }
 
-pub fn nowhere() -> Site {
+pub fn nowhere() -> Site
+    ensures { λ r. ⌜ siteOf r ≡ noSite ⌝ }
+{
     Site {
         thread: 255,
         row: 255,

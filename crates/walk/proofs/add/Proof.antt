@@ -47,7 +47,7 @@ returns : tie.Need-returns
 returns c =
     let push = c .before .before .before in
     let start = push .before .before .before .before .before .before .before .before in
-    pushes-thread-met (start .args .cursor) (c .added .result) (start .pre .1) (start .pre .2) (push .push-thread .ensures) (c .added .ensures)
+    pushes-thread-met (start .args .cursor) (c .added .result) (start .pre .1) (start .pre .2) (start .args .here .site) (push .push-thread .ensures) (c .added .ensures)
 
 same-length-2 : tie.Need-same-length-2
 same-length-2 c = search needs
@@ -62,7 +62,7 @@ returns-3 : tie.Need-returns-3
 returns-3 c =
     let push = c .before .before .before in
     let start = push .before .before .before .before .before .before .before in
-    pushes-met (start .args .cursor) (c .added2 .result) (start .pre .1) (start .pre .2) (omega arith) (push .push-spurious .ensures) (c .added2 .ensures)
+    pushes-met (start .args .cursor) (c .added2 .result) (start .pre .1) (start .pre .2) (start .args .here .site) (omega arith) (push .push-spurious .ensures) (c .added2 .ensures)
 
 pub add-spec : {M : Type 1} → statement M
 add-spec =

@@ -35,7 +35,7 @@ returns-2 : tie.Need-returns-2
 returns-2 c =
     let push = c .before .before .before in
     let start = push .before .before .before .before .before .before .before .before .before in
-    pushes-met (start .args .cursor) (c .added .result) (start .pre .1) (start .pre .2) (omega arith) (push .push-load .ensures) (c .added .ensures)
+    pushes-met (start .args .cursor) (c .added .result) (start .pre .1) (start .pre .2) (start .args .here .site) (omega arith) (push .push-load .ensures) (c .added .ensures)
 
 pub add-load-spec : {M : Type 1} → statement M
 add-load-spec =

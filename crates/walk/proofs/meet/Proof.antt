@@ -61,7 +61,7 @@ returns-3 : tie.Need-returns-3
 returns-3 c =
     let told = c .before .before .before .before .before .before .before .before .before .before .before .before .before .before .before .before .before in
     let reach = told .before .before .before .before in
-    meet-on (reach .before .before .before .before .before .before .before .pre .1) (reach .reach .ensures) (told .enum-told .given .1) (c .before .before .before .passed .ensures) (c .before .before .conclude .ensures)
+    meet-on (reach .before .before .before .before .before .before .before .pre .1) (reach .reach .ensures) (told .enum-told .given .1) (c .before .before .before .passed .ensures) (c .before .before .conclude .ensures .kept)
 
 pub meet-spec : {M : Type 1} → statement M
 meet-spec =

@@ -18,7 +18,7 @@ goes-requires c κs = search needs
 returns-2 : tie.Need-returns-2
 returns-2 c =
     let start = c .before .before .before .before in
-    goes-met (start .args .cursor) (c .goes .result) (start .pre .1) (c .before .if1 .left) (start .pre .2) (c .goes .ensures .1)
+    goes-met (start .args .cursor) (c .goes .result) (start .pre .1) (c .before .if1 .left) (start .pre .2) (c .goes .ensures .stays)
 
 pub reach-spec : {M : Type 1} → statement M
 reach-spec = tie.close (tie.spec add-requires same-length returns goes-requires returns-2)

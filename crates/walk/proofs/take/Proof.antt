@@ -38,11 +38,11 @@ meet-requires c κs =
     let start = note .before .before .before .before .before .before .before in (
       start .pre .0,
       record {
-        passed = omega (arith, start .pre .1 .passed, note .note-if .ensures .same-pos, note .note-if .ensures .same-len, mark .mark .ensures .same-pos, mark .mark .ensures .same-len);
-        within = omega (arith, start .pre .1 .within, note .note-if .ensures .same-len, mark .mark .ensures .same-len, mark .mark .kept);
-        noted = omega (arith, note .note-if .ensures .noted, mark .mark .ensures .same-entries);
+        passed = omega (arith, start .pre .1 .passed, note .note-if .ensures .kept .same-pos, note .note-if .ensures .kept .same-len, mark .mark .ensures .marked .same-pos, mark .mark .ensures .marked .same-len);
+        within = omega (arith, start .pre .1 .within, note .note-if .ensures .kept .same-len, mark .mark .ensures .marked .same-len, mark .mark .kept);
+        noted = omega (arith, note .note-if .ensures .kept .noted, mark .mark .ensures .marked .same-entries);
       },
-      omega (arith, start .pre .2, note .note-if .ensures .same-opened, mark .mark .ensures .few),
+      omega (arith, start .pre .2, note .note-if .ensures .kept .same-opened, mark .mark .ensures .marked .few),
     )
 
 same-length-3 : tie.Need-same-length-3
@@ -54,7 +54,7 @@ same-length-4 c = search needs
 returns-3 : tie.Need-returns-3
 returns-3 c =
     let mark = c .before .before .before .before .before .before .before .before .before .before .before .before .before in
-    take-on (mark .before .before .before .before .before .before .before .before .before .note-if .ensures) (mark .mark .ensures) (c .before .before .before .before .meet .ensures)
+    take-on (mark .before .before .before .before .before .before .before .before .before .note-if .ensures .kept) (mark .mark .ensures .marked) (c .before .before .before .before .meet .ensures)
 
 pub take-spec : {M : Type 1} → statement M
 take-spec =
