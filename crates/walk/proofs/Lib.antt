@@ -1,4 +1,5 @@
 pub mod BranchLaws
 pub mod ComesLaws
 pub mod MarkedLaws
+pub mod ReplyLaws
 pub mod WalkLaws

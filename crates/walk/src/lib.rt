@@ -6,9 +6,10 @@ ghost use Prim.Native.Nat.{_<_, _≤_, _+_, _*_, _^_};
 ghost use lib.ListN.{length, getD};
 ghost use Rattle.rules.specs.Event.{noSite};
 ghost use Rattle.rules.specs.Table.{opcodeIn};
+ghost use Rattle.rules.specs.Machine.{isExploring};
 ghost use Rattle.decode.specs.Ops.{decodedOf};
-ghost use Rattle.walk.specs.Parts.{Marks, MarksThread, MarksThreads, Lands, notedAt, completedAt, concludedAt};
-ghost use Rattle.walk.specs.Walks.{Placed, HereWithin, Met, Gone, GoesOn, Stopped, Passed, pushedFew, addedTo, replyWithin, siteOf};
+ghost use Rattle.walk.specs.Parts.{Reaches, RepliesBy, reachedAt, addedAt, Marks, MarksThread, MarksThreads, Lands, notedAt, completedAt, concludedAt};
+ghost use Rattle.walk.specs.Walks.{Placed, HereWithin, Gone, GoesOn, Stopped, Passed, pushedFew, addedTo, siteOf};
 use decode::Decoded;
 use event::Choice;
 use event::Event;
@@ -234,7 +235,7 @@ fn reach(
     cursor: Cursor,
 ) -> Ticked
     requires { ⌜ HereWithin here × (cursor .pos ≤ cursor .len) × (16 * cursor .len ≤ length (now path)) × (cursor .opened + 6 < 2 ^ 64) ⌝ }
-    ensures { λ r. ⌜ Met cursor r (now (path .exit)) ⌝ }
+    ensures { λ r. ⌜ Reaches cursor r (now (clocks .entry)) (now (marks .entry)) (now (numbers .entry)) (now (path .entry)) (now (path .exit)) (reachedAt question here) ⌝ }
 {
     if cursor.pos == cursor.len {
         return add(clocks, marks, numbers, path, here, question, cursor);
@@ -253,7 +254,7 @@ fn add(
     cursor: Cursor,
 ) -> Ticked
     requires { ⌜ HereWithin here × (cursor .pos ≤ cursor .len) × (16 * cursor .len ≤ length (now path)) × (cursor .opened + 6 < 2 ^ 64) ⌝ }
-    ensures { λ r. ⌜ Met cursor r (now (path .exit)) ⌝ }
+    ensures { λ r. ⌜ Reaches cursor r (now (clocks .entry)) (now (marks .entry)) (now (numbers .entry)) (now (path .entry)) (now (path .exit)) (addedAt question here) ⌝ }
 {
     let site = here.site;
     let exploring = numbers[EXPLORING] == 1;
@@ -281,8 +282,8 @@ fn add_load(
     exploring: bool,
     cursor: Cursor,
 ) -> Ticked
-    requires { ⌜ HereWithin here × (cursor .pos ≤ cursor .len) × (16 * cursor .len ≤ length (now path)) × (cursor .opened + 6 < 2 ^ 64) ⌝ }
-    ensures { λ r. ⌜ Met cursor r (now (path .exit)) ⌝ }
+    requires { ⌜ HereWithin here × (cursor .pos ≤ cursor .len) × (16 * cursor .len ≤ length (now path)) × (cursor .opened + 6 < 2 ^ 64) × (exploring ≡ isExploring (now numbers)) ⌝ }
+    ensures { λ r. ⌜ Reaches cursor r (now (clocks .entry)) (now (marks .entry)) (now (numbers .entry)) (now (path .entry)) (now (path .exit)) (addedAt Question.Slot here) ⌝ }
 {
     let site = here.site;
     let row = here.row;
@@ -313,7 +314,7 @@ fn added(pushed: Pushed, site: Site, mut cursor: Cursor) -> Ticked
 
 // What the branch at a position chooses, where it is one of the question's kind.
 fn answer(path: &[u8], pos: usize, question: Question) -> Reply
-    ensures { λ r. ⌜ replyWithin r ⌝ }
+    ensures { λ r. ⌜ RepliesBy (now (path .entry)) pos question r ⌝ }
 {
     match question {
         Question::Thread => match path::branch_thread(path, pos) {

@@ -34,22 +34,22 @@ same-length-2 c = search needs
 returns-2 : tie.Need-returns-2
 returns-2 c =
     let reach = c .before .before .before .before .before .before .before .before .before .before .before in
-    meet-stops (reach .before .before .before .before .before .before .before .pre .1) (reach .reach .ensures) (c .stops .ensures)
+    meet-stops (reach .before .before .before .before .before .before .before .pre .1) (reach .reach .ensures .met) (c .stops .ensures)
 
 answered-requires : tie.Need-answered-requires
 answered-requires c κs =
     let told = c .before .before .before .before .before in
-    (told .before .before .before .before .before .before .before .before .before .before .before .before .before .before .before .before .before .pre .0 .who, told .before .before .before .before .before .before .before .before .before .before .before .before .before .before .before .before .before .pre .0 .names, says-within (told .before .before .answer .result) (told .choice .given .1) (told .before .before .answer .ensures))
+    (told .before .before .before .before .before .before .before .before .before .before .before .before .before .before .before .before .before .pre .0 .who, told .before .before .before .before .before .before .before .before .before .before .before .before .before .before .before .before .before .pre .0 .names, says-within (told .before .before .answer .result) (told .choice .given .1) (told .before .before .answer .ensures .within))
 
 passed-requires : tie.Need-passed-requires
 passed-requires c κs =
     let reach = c .before .before .before .before .before .before .before .before .before .before .before .before .before .before .before .before .before in
-    omega (arith, reach .reach .ensures .passed, reach .reach .ensures .within, reach .reach .kept, reach .before .before .before .before .before .before .before .good)
+    omega (arith, reach .reach .ensures .met .passed, reach .reach .ensures .met .within, reach .reach .kept, reach .before .before .before .before .before .before .before .good)
 
 conclude-requires : tie.Need-conclude-requires
 conclude-requires c κs =
     let reach = c .before .before .before .before .before .before .before .before .before .before .before .before .before .before .before .before .before .before in
-    omega (arith, c .passed .ensures .same-entries, reach .reach .ensures .same-entries, reach .before .before .before .before .before .before .before .pre .1 .noted)
+    omega (arith, c .passed .ensures .same-entries, reach .reach .ensures .met .same-entries, reach .before .before .before .before .before .before .before .pre .1 .noted)
 
 same-length-3 : tie.Need-same-length-3
 same-length-3 c = omega (arith, c .before .before .before .before .before .before .before .before .before .before .before .before .before .before .before .before .before .before .before .before .before .reach .kept)
@@ -61,7 +61,7 @@ returns-3 : tie.Need-returns-3
 returns-3 c =
     let told = c .before .before .before .before .before .before .before .before .before .before .before .before .before .before .before .before .before in
     let reach = told .before .before .before .before in
-    meet-on (reach .before .before .before .before .before .before .before .pre .1) (reach .reach .ensures) (told .enum-told .given .1) (c .before .before .before .passed .ensures) (c .before .before .conclude .ensures .kept)
+    meet-on (reach .before .before .before .before .before .before .before .pre .1) (reach .reach .ensures .met) (told .enum-told .given .1) (c .before .before .before .passed .ensures) (c .before .before .conclude .ensures .kept)
 
 pub meet-spec : {M : Type 1} → statement M
 meet-spec =
