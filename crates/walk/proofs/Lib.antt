@@ -1,5 +1,6 @@
 pub mod BranchLaws
 pub mod ComesLaws
 pub mod MarkedLaws
+pub mod MeetLaws
 pub mod ReplyLaws
 pub mod WalkLaws

@@ -94,12 +94,16 @@ reached L site w exploring q =
     (branched site w (explorer.pushed (L .branches) (w .ledger .path) exploring q))
     (goes w)
 
+-- where a tick goes on, what comes next
+abbrev pub thenOn : (Walk State → Tick State) → Tick State → Tick State
+thenOn f (goes w) = f w
+thenOn f (over w) = over w
+thenOn f (faulted g s w) = faulted g s w
+
 -- and then the branch answers
 abbrev pub thenReplied : Program → explorer.Limits → rules.Site → rules.Question → Tick State → Tick State
-thenReplied p L site q (goes w) =
-    explorer.replied (machine p) L site w (explorer.reply (w .pos) (getD (w .ledger .path) (w .pos) noBranch) q)
-thenReplied p L site q (over w) = over w
-thenReplied p L site q (faulted f s w) = faulted f s w
+thenReplied p L site q =
+    thenOn (λ w. explorer.replied (machine p) L site w (explorer.reply (w .pos) (getD (w .ledger .path) (w .pos) noBranch) q))
 
 -- the slot, and the mask of all that were offered
 pub record FitsSlot (slot mask : ℕ) (a : rules.Answer) : Type 0 where
@@ -233,14 +237,27 @@ pub record Rooms (p : Program) (L : explorer.Limits) (h : Here) (path trace : Li
   pub room : 16 * L .operations ≡ length trace
   pub is-row : rowOf p (h .site .thread) (h .site .row) ≡ decodedOf (h .row)
 
--- what a function promises that has all of them, with how far it goes
-pub record Goes (entry exit : Lent) (c : Cursor) (r : Ticked) (most : ℕ) (h : Here) (needs : State → Type 0) (out : Program → explorer.Limits → Walk State → Tick State) : Type 0 where
+-- what a function promises that has all of them, with how far it goes and what it needs to know
+pub record Goes (entry exit : Lent) (c : Cursor) (r : Ticked) (most : ℕ) (h : Here) (needs : Program → explorer.Limits → State → Type 0) (out : Program → explorer.Limits → Walk State → Tick State) : Type 0 where
   pub gone : Gone c (r .cursor) most (exit .path) (exit .trace)
   pub wrote : Wrote c (r .cursor) (entry .trace) (exit .trace)
   pub comes :
-      (p : Program) (L : explorer.Limits) (w : Walk State) → Rooms p L h (entry .path) (entry .trace) → needs (w .state)
+      (p : Program) (L : explorer.Limits) (w : Walk State) → Rooms p L h (entry .path) (entry .trace) → needs p L (w .state)
       → Stands entry c w
       → Comes (r .outcome) (r .cursor) exit (out p L w)
 
 abbrev pub metAt : Question → Here → Program → explorer.Limits → Walk State → Tick State
 metAt q h p L w = explorer.met (machine p) L (siteOf (h .site)) w (isExploring (w .state .numbers)) (askedAt q h (w .state))
+
+abbrev pub meetsAt : Question → Here → Program → explorer.Limits → State → Type 0
+meetsAt q h p L st = AsksAt q st h
+
+abbrev pub takenAt : Event → Here → Program → explorer.Limits → Walk State → Tick State
+takenAt e h p L w = explorer.taken (machine p) L (siteOf (h .site)) w (moveAt e h (w .state))
+
+pub record TakesAt (e : Event) (h : Here) (bound : Bound) (L : explorer.Limits) (st : State) : Type 0 where
+  pub moves : MovesAt e st h
+  pub is-bound : L .bound ≡ boundOf bound
+
+abbrev pub takesAt : Event → Here → Bound → Program → explorer.Limits → State → Type 0
+takesAt e h bound p L st = TakesAt e h bound L st

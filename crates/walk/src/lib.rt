@@ -8,8 +8,8 @@ ghost use Rattle.rules.specs.Event.{noSite};
 ghost use Rattle.rules.specs.Table.{opcodeIn};
 ghost use Rattle.rules.specs.Machine.{isExploring};
 ghost use Rattle.decode.specs.Ops.{decodedOf};
-ghost use Rattle.walk.specs.Parts.{Reaches, RepliesBy, reachedAt, addedAt, Marks, MarksThread, MarksThreads, Lands, notedAt, completedAt, concludedAt};
-ghost use Rattle.walk.specs.Walks.{Placed, HereWithin, Gone, GoesOn, Stopped, Passed, pushedFew, addedTo, siteOf};
+ghost use Rattle.walk.specs.Parts.{Goes, meetsAt, metAt, Reaches, RepliesBy, reachedAt, addedAt, Marks, MarksThread, MarksThreads, Lands, notedAt, completedAt, concludedAt};
+ghost use Rattle.walk.specs.Walks.{Placed, HereWithin, Gone, GoesOn, Stopped, Passed, pushedFew, addedTo, siteOf, lent};
 use decode::Decoded;
 use event::Choice;
 use event::Event;
@@ -207,7 +207,7 @@ fn meet(
     cursor: Cursor,
 ) -> Ticked
     requires { ⌜ HereWithin here × Placed cursor (now path) (now trace) × (cursor .opened + 6 < 2 ^ 64) ⌝ }
-    ensures { λ r. ⌜ Gone cursor (r .cursor) 6 (now (path .exit)) (now (trace .exit)) ⌝ }
+    ensures { λ r. ⌜ Goes (lent (now (clocks .entry)) (now (marks .entry)) (now (values .entry)) (now (numbers .entry)) (now (path .entry)) (now (trace .entry))) (lent (now (clocks .exit)) (now (marks .exit)) (now (values .exit)) (now (numbers .exit)) (now (path .exit)) (now (trace .exit))) cursor r 6 here (meetsAt question here) (metAt question here) ⌝ }
 {
     let met = reach(clocks, marks, numbers, path, here, question, cursor);
     let outcome = met.outcome;

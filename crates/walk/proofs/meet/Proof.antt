@@ -1,3 +1,4 @@
+use Rattle.walk.proofs.MeetLaws.{meet-stays, meet-unexpected, meet-answered}
 use native.Mathlib.Omega.{arith}
 use Rattle.walk.proofs.WalkLaws.{meet-stops, meet-on, says-within}
 use borrow.Author.Needs.{needs}
@@ -14,7 +15,10 @@ same-length : tie.Need-same-length
 same-length c = search needs
 
 returns : tie.Need-returns
-returns c = search needs
+returns c =
+    let start = c .before .before .before .before .before .before .before .before .before .before in
+    let args = start .args in
+    meet-stays (args .cursor) (c .before .before .before .reach .result) (args .here) (args .question) (args .clocks .now) (args .marks .now) (args .values .now) (args .numbers .now) (args .path .now) _ (args .trace .now) (start .pre .1) (c .before .before .before .reach .ensures) (c .match .keys2)
 
 answer-requires : tie.Need-answer-requires
 answer-requires c κs = search needs
@@ -33,8 +37,10 @@ same-length-2 c = search needs
 
 returns-2 : tie.Need-returns-2
 returns-2 c =
+    let start = c .before .before .before .before .before .before .before .before .before .before .before .before .before .before .before .before .before .before in
+    let args = start .args in
     let reach = c .before .before .before .before .before .before .before .before .before .before .before in
-    meet-stops (reach .before .before .before .before .before .before .before .pre .1) (reach .reach .ensures .met) (c .stops .ensures)
+    meet-unexpected (args .cursor) (reach .reach .result) (args .here) (args .question) (args .clocks .now) (args .marks .now) (args .values .now) (args .numbers .now) (args .path .now) _ (args .trace .now) (start .pre .1) (reach .reach .ensures) (c .before .before .before .before .before .before .before .enum-told .given .1) (reach .reach .kept .1 .1 .1 .0) (c .before .before .before .answer .result) (c .before .before .before .answer .ensures) (c .before .enum-told2 .given .1) (c .stops .result) (c .stops .ensures)
 
 answered-requires : tie.Need-answered-requires
 answered-requires c κs =
@@ -59,9 +65,10 @@ same-length-4 c = search needs
 
 returns-3 : tie.Need-returns-3
 returns-3 c =
-    let told = c .before .before .before .before .before .before .before .before .before .before .before .before .before .before .before .before .before in
-    let reach = told .before .before .before .before in
-    meet-on (reach .before .before .before .before .before .before .before .pre .1) (reach .reach .ensures .met) (told .enum-told .given .1) (c .before .before .before .passed .ensures) (c .before .before .conclude .ensures .kept)
+    let start = c .before .before .before .before .before .before .before .before .before .before .before .before .before .before .before .before .before .before .before .before .before .before .before .before .before .before .before .before in
+    let args = start .args in
+    let reach = c .before .before .before .before .before .before .before .before .before .before .before .before .before .before .before .before .before .before .before .before .before in
+    meet-answered (args .cursor) (reach .reach .result) (args .here) (args .question) (args .clocks .now) (args .marks .now) (args .values .now) (args .numbers .now) (args .path .now) _ (args .trace .now) (start .pre .1) (reach .reach .ensures) _ (c .before .before .before .before .before .answered .result) _ _ _ _ _ (c .before .before .before .passed .ensures) (c .before .before .before .before .before .answered .ensures _) (c .before .before .conclude .result) _ (c .before .before .conclude .ensures) (c .before .before .before .before .before .before .before .before .before .before .before .before .before .before .before .before .before .enum-told .given .1) (reach .reach .kept .1 .1 .1 .0) (c .before .before .before .before .before .before .before .before .before .before .before .before .before .answer .result) (c .before .before .before .before .before .before .before .before .before .before .before .before .before .answer .ensures) (c .before .before .before .before .before .before .before .before .before .before .before .choice .given .1)
 
 pub meet-spec : {M : Type 1} → statement M
 meet-spec =

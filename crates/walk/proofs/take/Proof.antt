@@ -49,12 +49,13 @@ same-length-3 : tie.Need-same-length-3
 same-length-3 c = search needs
 
 same-length-4 : tie.Need-same-length-4
-same-length-4 c = search needs
+same-length-4 c =
+    omega (arith, c .before .before .before .before .meet .kept, c .before .before .before .before .before .before .before .before .before .before .before .before .before .before .before .before .before .before .before .before .before .before .note-if .kept)
 
 returns-3 : tie.Need-returns-3
 returns-3 c =
     let mark = c .before .before .before .before .before .before .before .before .before .before .before .before .before in
-    take-on (mark .before .before .before .before .before .before .before .before .before .note-if .ensures .kept) (mark .mark .ensures .marked) (c .before .before .before .before .meet .ensures)
+    take-on (mark .before .before .before .before .before .before .before .before .before .note-if .ensures .kept) (mark .mark .ensures .marked) (c .before .before .before .before .meet .ensures .gone)
 
 pub take-spec : {M : Type 1} → statement M
 take-spec =
