@@ -3,4 +3,5 @@ pub mod ComesLaws
 pub mod MarkedLaws
 pub mod MeetLaws
 pub mod ReplyLaws
+pub mod TakeLaws
 pub mod WalkLaws

@@ -8,7 +8,7 @@ ghost use Rattle.rules.specs.Event.{noSite};
 ghost use Rattle.rules.specs.Table.{opcodeIn};
 ghost use Rattle.rules.specs.Machine.{isExploring};
 ghost use Rattle.decode.specs.Ops.{decodedOf};
-ghost use Rattle.walk.specs.Parts.{Goes, meetsAt, metAt, Reaches, RepliesBy, reachedAt, addedAt, Marks, MarksThread, MarksThreads, Lands, notedAt, completedAt, concludedAt};
+ghost use Rattle.walk.specs.Parts.{Goes, takesAt, takenAt, meetsAt, metAt, Reaches, RepliesBy, reachedAt, addedAt, Marks, MarksThread, MarksThreads, Lands, notedAt, completedAt, concludedAt};
 ghost use Rattle.walk.specs.Walks.{Placed, HereWithin, Gone, GoesOn, Stopped, Passed, pushedFew, addedTo, siteOf, lent};
 use decode::Decoded;
 use event::Choice;
@@ -169,7 +169,7 @@ fn take(
     cursor: Cursor,
 ) -> Ticked
     requires { ⌜ HereWithin here × Placed cursor (now path) (now trace) × (cursor .opened + 60 < 2 ^ 64) ⌝ }
-    ensures { λ r. ⌜ Gone cursor (r .cursor) 60 (now (path .exit)) (now (trace .exit)) ⌝ }
+    ensures { λ r. ⌜ Goes (lent (now (clocks .entry)) (now (marks .entry)) (now (values .entry)) (now (numbers .entry)) (now (path .entry)) (now (trace .entry))) (lent (now (clocks .exit)) (now (marks .exit)) (now (values .exit)) (now (numbers .exit)) (now (path .exit)) (now (trace .exit))) cursor r 60 here (takesAt event here bound) (takenAt event here) ⌝ }
 {
     let Event::Asks { question, yielded } = event else {
         return conclude(trace, here, event, cursor);

@@ -1,3 +1,4 @@
+use Rattle.walk.proofs.TakeLaws.{take-concludes, take-stays, take-meets}
 use native.Mathlib.Omega.{arith}
 use Rattle.walk.proofs.WalkLaws.{take-on}
 use borrow.Author.Needs.{needs}
@@ -14,7 +15,10 @@ same-length : tie.Need-same-length
 same-length c = search needs
 
 returns : tie.Need-returns
-returns c = search needs
+returns c =
+    let start = c .before .before .before .before .before .before .before in
+    let args = start .args in
+    take-concludes (args .cursor) (args .here) (args .event) (args .bound) (args .clocks .now) (args .marks .now) (args .values .now) (args .numbers .now) (args .path .now) (args .trace .now) (start .pre .1) (c .before .before .conclude .result) _ (c .before .before .before .before .match .keys2) (c .before .before .conclude .ensures)
 
 note-if-requires : tie.Need-note-if-requires
 note-if-requires c κs = search needs
@@ -26,7 +30,10 @@ same-length-2 : tie.Need-same-length-2
 same-length-2 c = search needs
 
 returns-2 : tie.Need-returns-2
-returns-2 c = search needs
+returns-2 c =
+    let start = c .before .before .before .before .before .before .before .before .before .before in
+    let args = start .args in
+    take-stays (args .cursor) (args .here) (args .event) (args .bound) (args .clocks .now) (args .marks .now) (args .values .now) (args .numbers .now) (args .path .now) (args .trace .now) (start .pre .1) _ _ (c .before .before .before .before .before .before .event .given .1) (c .before .before .before .note-if .result) _ (c .before .before .before .note-if .ensures) (c .match2 .keys2)
 
 mark-requires : tie.Need-mark-requires
 mark-requires c κs = search needs
@@ -54,8 +61,9 @@ same-length-4 c =
 
 returns-3 : tie.Need-returns-3
 returns-3 c =
-    let mark = c .before .before .before .before .before .before .before .before .before .before .before .before .before in
-    take-on (mark .before .before .before .before .before .before .before .before .before .note-if .ensures .kept) (mark .mark .ensures .marked) (c .before .before .before .before .meet .ensures .gone)
+    let start = c .before .before .before .before .before .before .before .before .before .before .before .before .before .before .before .before .before .before .before .before .before .before .before .before .before .before .before .before .before in
+    let args = start .args in
+    take-meets (args .cursor) (args .here) (args .event) (args .bound) (args .clocks .now) (args .marks .now) (args .values .now) (args .numbers .now) (args .path .now) (args .trace .now) (start .pre .1) _ _ (c .before .before .before .before .before .before .before .before .before .before .before .before .before .before .before .before .before .before .before .before .before .before .before .before .before .event .given .1) (c .before .before .before .before .before .before .before .before .before .before .before .before .before .before .before .before .before .before .before .before .before .before .note-if .result) _ (c .before .before .before .before .before .before .before .before .before .before .before .before .before .before .before .before .before .before .before .before .before .before .note-if .ensures) (c .before .before .before .before .before .before .before .before .before .before .before .before .before .mark .result) _ (c .before .before .before .before .before .before .before .before .before .before .before .before .before .mark .ensures) (c .before .before .before .before .before .before .before .before .before .before .before .before .before .mark .kept .1 .1 .0) (c .before .before .before .before .before .before .before .before .before .before .before .before .before .before .before .before .before .before .enum-told .given .1) (c .before .before .before .before .meet .result) _ (c .before .before .before .before .meet .ensures)
 
 pub take-spec : {M : Type 1} → statement M
 take-spec =
