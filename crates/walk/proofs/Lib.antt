@@ -4,4 +4,5 @@ pub mod MarkedLaws
 pub mod MeetLaws
 pub mod ReplyLaws
 pub mod TakeLaws
+pub mod TickLaws
 pub mod WalkLaws

@@ -261,3 +261,18 @@ pub record TakesAt (e : Event) (h : Here) (bound : Bound) (L : explorer.Limits) 
 
 abbrev pub takesAt : Event → Here → Bound → Program → explorer.Limits → State → Type 0
 takesAt e h bound p L st = TakesAt e h bound L st
+
+-- the program's facts that a tick of a thread at its row looks at
+pub record TicksAt (shape : List ℕ) (limits : Limits) (h : Here) (p : Program) (L : explorer.Limits) (st : State) : Type 0 where
+  pub operations : p .operations ≡ limits .operations
+  pub cells : cellsOf (p .table) ≡ getD shape 1 0
+  pub rows : rowCount p (h .site .thread) ≡ getD shape (2 + h .site .thread) 0
+  pub is-bound : L .bound ≡ boundOf (limits .bound)
+  pub there : AtRow st h
+
+abbrev pub ticksAt : List ℕ → Limits → Here → Program → explorer.Limits → State → Type 0
+ticksAt shape limits h p L st = TicksAt shape limits h p L st
+
+-- what the thread does next, taken
+abbrev pub tickedAt : Here → Program → explorer.Limits → Walk State → Tick State
+tickedAt h p L w = explorer.taken (machine p) L (siteOf (h .site)) w (nextAt p (w .state) (h .site .thread) (h .site .row))

@@ -8,7 +8,7 @@ ghost use Rattle.rules.specs.Event.{noSite};
 ghost use Rattle.rules.specs.Table.{opcodeIn};
 ghost use Rattle.rules.specs.Machine.{isExploring};
 ghost use Rattle.decode.specs.Ops.{decodedOf};
-ghost use Rattle.walk.specs.Parts.{Goes, takesAt, takenAt, meetsAt, metAt, Reaches, RepliesBy, reachedAt, addedAt, Marks, MarksThread, MarksThreads, Lands, notedAt, completedAt, concludedAt};
+ghost use Rattle.walk.specs.Parts.{Goes, ticksAt, tickedAt, takesAt, takenAt, meetsAt, metAt, Reaches, RepliesBy, reachedAt, addedAt, Marks, MarksThread, MarksThreads, Lands, notedAt, completedAt, concludedAt};
 ghost use Rattle.walk.specs.Walks.{Placed, HereWithin, Gone, GoesOn, Stopped, Passed, pushedFew, addedTo, siteOf, lent};
 use decode::Decoded;
 use event::Choice;
@@ -134,7 +134,7 @@ fn tick_at(
     cursor: Cursor,
 ) -> Ticked
     requires { ⌜ (getD (now shape) 1 0 ≤ 4) × HereWithin here × Placed cursor (now path) (now trace) × (cursor .opened + 60 < 2 ^ 64) ⌝ }
-    ensures { λ r. ⌜ Gone cursor (r .cursor) 60 (now (path .exit)) (now (trace .exit)) ⌝ }
+    ensures { λ r. ⌜ Goes (lent (now (clocks .entry)) (now (marks .entry)) (now (values .entry)) (now (numbers .entry)) (now (path .entry)) (now (trace .entry))) (lent (now (clocks .exit)) (now (marks .exit)) (now (values .exit)) (now (numbers .exit)) (now (path .exit)) (now (trace .exit))) cursor r 60 here (ticksAt (now (shape .entry)) limits here) (tickedAt here) ⌝ }
 {
     let site = here.site;
     let row = here.row;
