@@ -1,1 +1,9 @@
+pub mod BranchLaws
+pub mod ComesLaws
+pub mod MarkedLaws
+pub mod MeetLaws
+pub mod ReplyLaws
+pub mod ShapeLaws
+pub mod TakeLaws
+pub mod TickLaws
 pub mod WalkLaws

@@ -25,6 +25,9 @@ use Rattle.path.specs.declared.Pushed.{Pushed}
 use Rattle.path.specs.declared.Pushed.the-variants as pushed
 use Rattle.trace.specs.Entries.{Notes}
 use Rattle.event.specs.declared.Choice.{Choice}
+use Rattle.event.specs.declared.Fault.{Fault}
+use Rattle.event.specs.declared.Fault.the-variants as fault
+use Rattle.event.specs.declared.Site.{Site}
 use Rattle.execution.specs.Answers.{choiceWithin}
 use Rattle.walk.specs.declared.Cursor.{Cursor}
 use Rattle.walk.specs.declared.Reply.{Reply}
@@ -43,15 +46,15 @@ says-within r e h = subst (λ (x : Reply). replyWithin x) e h
 pub added-few : (p : Pushed) {n : ℕ} → p ≡ pushed.Added n → pushedFew p → n ≤ 6
 added-few p e h = subst (λ (x : Pushed). pushedFew x) e h
 
-module _ (p : Pushed) (c : Cursor) (r : Ticked) where
-  pub added-one : {n : ℕ} → p ≡ pushed.Added n → OneMore c n (r .cursor) → addedTo p c r
-  added-one e h = subst (λ (x : Pushed). addedTo x c r) (sym e) h
+module _ (p : Pushed) (s : Site) (c : Cursor) (r : Ticked) where
+  pub added-one : {n : ℕ} → p ≡ pushed.Added n → r .outcome ≡ code.Goes → OneMore c n (r .cursor) → addedTo p s c r
+  added-one e g h = subst (λ (x : Pushed). addedTo x s c r) (sym e) (g, h)
 
-  pub added-full : p ≡ pushed.Full → Stopped c r → addedTo p c r
-  added-full e h = subst (λ (x : Pushed). addedTo x c r) (sym e) h
+  pub added-full : p ≡ pushed.Full → Stopped fault.Full s c r → addedTo p s c r
+  added-full e h = subst (λ (x : Pushed). addedTo x s c r) (sym e) h
 
-  pub added-preempted : p ≡ pushed.Preempted → Stopped c r → addedTo p c r
-  added-preempted e h = subst (λ (x : Pushed). addedTo x c r) (sym e) h
+  pub added-preempted : p ≡ pushed.Preempted → Stopped fault.Preempted s c r → addedTo p s c r
+  added-preempted e h = subst (λ (x : Pushed). addedTo x s c r) (sym e) h
 
 ahead-any : (o : Outcome) (c : Cursor) → c .pos < c .len → Ahead o c
 ahead-any code.Goes c h = h
@@ -65,7 +68,7 @@ within-few entry exit len most h pushed.Preempted w = tt
 
 module _ (c : Cursor) (r : Ticked) {path : List ℕ} (passed : c .pos ≤ c .len) (within : 16 * c .len ≤ length path) where
   -- a fault
-  pub stops-met : Stopped c r → Met c r path
+  pub stops-met : {f : Fault} {at : Site} → Stopped f at c r → Met c r path
   stops-met s =
       record {
         ahead = s .idle;
@@ -86,10 +89,10 @@ module _ (c : Cursor) (r : Ticked) (entry exit : List ℕ) (passed : c .pos ≤ 
         few = omega (arith, h .more-opened);
       }
 
-  within-met : (most : ℕ) → most ≤ 6 → (p : Pushed) → pushedWithin entry exit (c .len) most p → addedTo p c r → Met c r exit
-  within-met most h (pushed.Added n) w a = one-more-met n (omega (arith, w .few)) (w .room) a
-  within-met most h pushed.Full w a = stops-met c r passed (omega arith) a
-  within-met most h pushed.Preempted w a = stops-met c r passed (omega arith) a
+  within-met : (most : ℕ) → most ≤ 6 → (p : Pushed) → pushedWithin entry exit (c .len) most p → (s : Site) → addedTo p s c r → Met c r exit
+  within-met most h (pushed.Added n) w s a = one-more-met n (omega (arith, w .few)) (w .room) (a .1)
+  within-met most h pushed.Full w s a = stops-met c r passed (omega arith) a
+  within-met most h pushed.Preempted w s a = stops-met c r passed (omega arith) a
 
 pub pushes-few : {entry exit : List ℕ} {len most : ℕ} {answer : ℕ → List Branch → Added} {p : Pushed} → Pushes entry exit len most answer p → most ≤ 6 → pushedFew p
 pushes-few {entry} {exit} {len} {most} {answer} {p} h few = within-few entry exit len most few p (h .within)
@@ -98,11 +101,11 @@ pub pushes-thread-few : {entry exit : List ℕ} {len : ℕ} {exploring : Bool} {
 pushes-thread-few {entry} {exit} {len} {exploring} {seed} {p} h = within-few entry exit len 5 (omega arith) p (h .within)
 
 module _ (c : Cursor) (r : Ticked) {entry exit : List ℕ} (passed : c .pos ≤ c .len) (within : 16 * c .len ≤ length entry) where
-  pub pushes-met : {most : ℕ} {answer : ℕ → List Branch → Added} {p : Pushed} → most ≤ 6 → Pushes entry exit (c .len) most answer p → addedTo p c r → Met c r exit
-  pushes-met {most} {answer} {p} few h a = within-met c r entry exit passed within (h .keeps) most few p (h .within) a
+  pub pushes-met : {most : ℕ} {answer : ℕ → List Branch → Added} {p : Pushed} (s : Site) → most ≤ 6 → Pushes entry exit (c .len) most answer p → addedTo p s c r → Met c r exit
+  pushes-met {most} {answer} {p} s few h a = within-met c r entry exit passed within (h .keeps) most few p (h .within) s a
 
-  pub pushes-thread-met : {exploring : Bool} {seed : List ℕ} {p : Pushed} → PushesThread entry exit (c .len) exploring seed p → addedTo p c r → Met c r exit
-  pushes-thread-met {exploring} {seed} {p} h a = within-met c r entry exit passed within (h .keeps) 5 (omega arith) p (h .within) a
+  pub pushes-thread-met : {exploring : Bool} {seed : List ℕ} {p : Pushed} (s : Site) → PushesThread entry exit (c .len) exploring seed p → addedTo p s c r → Met c r exit
+  pushes-thread-met {exploring} {seed} {p} s h a = within-met c r entry exit passed within (h .keeps) 5 (omega arith) p (h .within) s a
 
 -- a branch that was there
 pub goes-met : (c : Cursor) (r : Ticked) {path : List ℕ} → c .pos ≤ c .len → (c .pos ≡ c .len → ⊥) → 16 * c .len ≤ length path → Same c (r .cursor) → Met c r path
@@ -125,7 +128,7 @@ pub met-ahead : {c : Cursor} {m : Ticked} {path : List ℕ} → Met c m path →
 met-ahead {c} {m} h e = ahead-goes (m .outcome) (m .cursor) e (h .ahead)
 
 module _ {c : Cursor} {m : Ticked} {entry path trace : List ℕ} (placed : Placed c entry trace) (met : Met c m path) where
-  pub meet-stops : {r : Ticked} → Stopped (m .cursor) r → Gone c (r .cursor) 6 path trace
+  pub meet-stops : {r : Ticked} {f : Fault} {at : Site} → Stopped f at (m .cursor) r → Gone c (r .cursor) 6 path trace
   meet-stops s =
       record {
         placed = record {

@@ -27,6 +27,8 @@ use Rattle.path.specs.Bounds.{boundOf}
 use Rattle.path.specs.declared.Pushed.{Pushed}
 use Rattle.path.specs.declared.Pushed.the-variants as pushed
 use Rattle.event.specs.Moves.{faultOf}
+use Rattle.event.specs.declared.Fault.{Fault}
+use Rattle.event.specs.declared.Fault.the-variants as fault
 use Rattle.event.specs.declared.Site.{Site}
 use Rattle.execution.specs.Answers.{choiceWithin}
 use Rattle.walk.specs.declared.Cursor.{Cursor}
@@ -93,6 +95,11 @@ pub record Same (c d : Cursor) : Type 0 where
   pub same-opened : d .opened ≡ c .opened
   pub same-entries : d .entries ≡ c .entries
 
+-- it goes on
+pub record GoesOn (c : Cursor) (r : Ticked) : Type 0 where
+  pub is : r .outcome ≡ code.Goes
+  pub stays : Same c (r .cursor)
+
 -- a branch more, with so many choices
 pub record OneMore (c : Cursor) (n : ℕ) (d : Cursor) : Type 0 where
   pub more-len : d .len ≡ c .len + 1
@@ -101,14 +108,15 @@ pub record OneMore (c : Cursor) (n : ℕ) (d : Cursor) : Type 0 where
   pub same-entries : d .entries ≡ c .entries
 
 -- a fault, which leaves the cursor
-pub record Stopped (c : Cursor) (r : Ticked) : Type 0 where
+pub record Stopped (f : Fault) (s : Site) (c : Cursor) (r : Ticked) : Type 0 where
+  pub is : r .outcome ≡ code.Stops f s
   pub stays : Same c (r .cursor)
   pub idle : Ahead (r .outcome) (r .cursor)
 
-abbrev pub addedTo : Pushed → Cursor → Ticked → Type 0
-addedTo (pushed.Added n) c r = OneMore c n (r .cursor)
-addedTo pushed.Full c r = Stopped c r
-addedTo pushed.Preempted c r = Stopped c r
+abbrev pub addedTo : Pushed → Site → Cursor → Ticked → Type 0
+addedTo (pushed.Added n) s c r = (r .outcome ≡ code.Goes) × OneMore c n (r .cursor)
+addedTo pushed.Full s c r = Stopped fault.Full s c r
+addedTo pushed.Preempted s c r = Stopped fault.Preempted s c r
 
 -- one record more is passed
 pub record Passed (c d : Cursor) : Type 0 where
@@ -170,6 +178,7 @@ pub record Runs (p : Program) (L : explorer.Limits) (table shape : List ℕ) (li
   pub operations : p .operations ≡ limits .operations
   pub rows : L .operations ≡ limits .operations
   pub branches : 16 * L .branches ≡ length path
+  pub few : L .branches ≤ 1024
   pub room : 16 * L .operations ≡ length trace
   pub is-bound : L .bound ≡ boundOf (limits .bound)
 

@@ -4,7 +4,12 @@
 ghost use mathlib.Core.Path.{_≡_};
 ghost use Prim.Native.Nat.{_<_, _≤_, _+_, _*_, _^_};
 ghost use lib.ListN.{length, getD};
-ghost use Rattle.walk.specs.Walks.{Placed, HereWithin, Kept, Marked, Met, Gone, Same, Stopped, Passed, pushedFew, addedTo, replyWithin};
+ghost use Rattle.rules.specs.Event.{noSite};
+ghost use Rattle.rules.specs.Table.{opcodeIn};
+ghost use Rattle.rules.specs.Machine.{isExploring};
+ghost use Rattle.decode.specs.Ops.{decodedOf};
+ghost use Rattle.walk.specs.Parts.{Goes, ticksAt, tickedAt, takesAt, takenAt, meetsAt, metAt, Reaches, RepliesBy, reachedAt, addedAt, Marks, MarksThread, MarksThreads, Lands, notedAt, completedAt, concludedAt};
+ghost use Rattle.walk.specs.Walks.{Placed, HereWithin, Gone, GoesOn, Stopped, Passed, pushedFew, addedTo, siteOf, lent};
 use decode::Decoded;
 use event::Choice;
 use event::Event;
@@ -126,7 +131,7 @@ fn tick_at(
     cursor: Cursor,
 ) -> Ticked
     requires { ⌜ (getD (now shape) 1 0 ≤ 4) × HereWithin here × Placed cursor (now path) (now trace) × (cursor .opened + 60 < 2 ^ 64) ⌝ }
-    ensures { λ r. ⌜ Gone cursor (r .cursor) 60 (now (path .exit)) (now (trace .exit)) ⌝ }
+    ensures { λ r. ⌜ Goes (lent (now (clocks .entry)) (now (marks .entry)) (now (values .entry)) (now (numbers .entry)) (now (path .entry)) (now (trace .entry))) (lent (now (clocks .exit)) (now (marks .exit)) (now (values .exit)) (now (numbers .exit)) (now (path .exit)) (now (trace .exit))) cursor r 60 here (ticksAt (now (shape .entry)) limits here) (tickedAt here) ⌝ }
 {
     let site = here.site;
     let row = here.row;
@@ -161,12 +166,12 @@ fn take(
     cursor: Cursor,
 ) -> Ticked
     requires { ⌜ HereWithin here × Placed cursor (now path) (now trace) × (cursor .opened + 60 < 2 ^ 64) ⌝ }
-    ensures { λ r. ⌜ Gone cursor (r .cursor) 60 (now (path .exit)) (now (trace .exit)) ⌝ }
+    ensures { λ r. ⌜ Goes (lent (now (clocks .entry)) (now (marks .entry)) (now (values .entry)) (now (numbers .entry)) (now (path .entry)) (now (trace .entry))) (lent (now (clocks .exit)) (now (marks .exit)) (now (values .exit)) (now (numbers .exit)) (now (path .exit)) (now (trace .exit))) cursor r 60 here (takesAt event here bound) (takenAt event here) ⌝ }
 {
     let Event::Asks { question, yielded } = event else {
         return conclude(trace, here, event, cursor);
     };
-    let noted = note_if(trace, yielded, here, cursor);
+    let noted = note_if(trace, question, yielded, here, cursor);
     let outcome = noted.outcome;
     let Outcome::Goes = outcome else {
         return noted;
@@ -199,7 +204,7 @@ fn meet(
     cursor: Cursor,
 ) -> Ticked
     requires { ⌜ HereWithin here × Placed cursor (now path) (now trace) × (cursor .opened + 6 < 2 ^ 64) ⌝ }
-    ensures { λ r. ⌜ Gone cursor (r .cursor) 6 (now (path .exit)) (now (trace .exit)) ⌝ }
+    ensures { λ r. ⌜ Goes (lent (now (clocks .entry)) (now (marks .entry)) (now (values .entry)) (now (numbers .entry)) (now (path .entry)) (now (trace .entry))) (lent (now (clocks .exit)) (now (marks .exit)) (now (values .exit)) (now (numbers .exit)) (now (path .exit)) (now (trace .exit))) cursor r 6 here (meetsAt question here) (metAt question here) ⌝ }
 {
     let met = reach(clocks, marks, numbers, path, here, question, cursor);
     let outcome = met.outcome;
@@ -227,7 +232,7 @@ fn reach(
     cursor: Cursor,
 ) -> Ticked
     requires { ⌜ HereWithin here × (cursor .pos ≤ cursor .len) × (16 * cursor .len ≤ length (now path)) × (cursor .opened + 6 < 2 ^ 64) ⌝ }
-    ensures { λ r. ⌜ Met cursor r (now (path .exit)) ⌝ }
+    ensures { λ r. ⌜ Reaches cursor r (now (clocks .entry)) (now (marks .entry)) (now (numbers .entry)) (now (path .entry)) (now (path .exit)) (reachedAt question here) ⌝ }
 {
     if cursor.pos == cursor.len {
         return add(clocks, marks, numbers, path, here, question, cursor);
@@ -246,7 +251,7 @@ fn add(
     cursor: Cursor,
 ) -> Ticked
     requires { ⌜ HereWithin here × (cursor .pos ≤ cursor .len) × (16 * cursor .len ≤ length (now path)) × (cursor .opened + 6 < 2 ^ 64) ⌝ }
-    ensures { λ r. ⌜ Met cursor r (now (path .exit)) ⌝ }
+    ensures { λ r. ⌜ Reaches cursor r (now (clocks .entry)) (now (marks .entry)) (now (numbers .entry)) (now (path .entry)) (now (path .exit)) (addedAt question here) ⌝ }
 {
     let site = here.site;
     let exploring = numbers[EXPLORING] == 1;
@@ -274,8 +279,8 @@ fn add_load(
     exploring: bool,
     cursor: Cursor,
 ) -> Ticked
-    requires { ⌜ HereWithin here × (cursor .pos ≤ cursor .len) × (16 * cursor .len ≤ length (now path)) × (cursor .opened + 6 < 2 ^ 64) ⌝ }
-    ensures { λ r. ⌜ Met cursor r (now (path .exit)) ⌝ }
+    requires { ⌜ HereWithin here × (cursor .pos ≤ cursor .len) × (16 * cursor .len ≤ length (now path)) × (cursor .opened + 6 < 2 ^ 64) × (exploring ≡ isExploring (now numbers)) ⌝ }
+    ensures { λ r. ⌜ Reaches cursor r (now (clocks .entry)) (now (marks .entry)) (now (numbers .entry)) (now (path .entry)) (now (path .exit)) (addedAt Question.Slot here) ⌝ }
 {
     let site = here.site;
     let row = here.row;
@@ -291,7 +296,7 @@ fn add_load(
 // A branch that was added is counted, with what it opened; one that was not is a fault.
 fn added(pushed: Pushed, site: Site, mut cursor: Cursor) -> Ticked
     requires { ⌜ pushedFew pushed × (cursor .len + 1 < 2 ^ 64) × (cursor .opened + 6 < 2 ^ 64) ⌝ }
-    ensures { λ r. ⌜ addedTo pushed cursor r ⌝ }
+    ensures { λ r. ⌜ addedTo pushed site cursor r ⌝ }
 {
     match pushed {
         Pushed::Added(opened) => {
@@ -306,7 +311,7 @@ fn added(pushed: Pushed, site: Site, mut cursor: Cursor) -> Ticked
 
 // What the branch at a position chooses, where it is one of the question's kind.
 fn answer(path: &[u8], pos: usize, question: Question) -> Reply
-    ensures { λ r. ⌜ replyWithin r ⌝ }
+    ensures { λ r. ⌜ RepliesBy (now (path .entry)) pos question r ⌝ }
 {
     match question {
         Question::Thread => match path::branch_thread(path, pos) {
@@ -339,7 +344,7 @@ fn mark(
     mut cursor: Cursor,
 ) -> Cursor
     requires { ⌜ cursor .opened + 50 < 2 ^ 64 ⌝ }
-    ensures { λ r. ⌜ Marked cursor r ⌝ }
+    ensures { λ r. ⌜ Marks cursor r (now (clocks .entry)) (now (numbers .entry)) (now (path .entry)) (now (path .exit)) bound question ⌝ }
 {
     let Question::Thread = question else {
         return cursor;
@@ -351,7 +356,7 @@ fn mark(
 
 // The choices that rule (a) opens.
 fn mark_threads(clocks: &Clocks, numbers: &Numbers, path: &mut [u8], bound: Bound) -> u64
-    ensures { λ r. ⌜ r ≤ 50 ⌝ }
+    ensures { λ r. ⌜ MarksThreads (now (clocks .entry)) (now (numbers .entry)) (now (path .entry)) (now (path .exit)) bound r ⌝ }
 {
     let mut opened = 0;
     let mut t = 0;
@@ -371,7 +376,7 @@ fn mark_thread(
     thread: usize,
 ) -> u64
     requires { ⌜ thread < 5 ⌝ }
-    ensures { λ r. ⌜ r ≤ 10 ⌝ }
+    ensures { λ r. ⌜ MarksThread (now (clocks .entry)) (now (numbers .entry)) (now (path .entry)) (now (path .exit)) bound thread r ⌝ }
 {
     let Place::Branch(point) = scheduling::conflict(clocks, numbers, thread) else {
         return 0;
@@ -382,7 +387,7 @@ fn mark_thread(
 // What a tick comes to that asks nothing more.
 fn conclude(trace: &mut [u8], here: Here, event: Event, cursor: Cursor) -> Ticked
     requires { ⌜ 16 * cursor .entries ≤ length (now trace) ⌝ }
-    ensures { λ r. ⌜ Kept cursor (r .cursor) (now (trace .exit)) ⌝ }
+    ensures { λ r. ⌜ Lands cursor r (now (trace .entry)) (now (trace .exit)) (concludedAt event here) ⌝ }
 {
     let site = here.site;
     match event {
@@ -397,11 +402,20 @@ fn conclude(trace: &mut [u8], here: Here, event: Event, cursor: Cursor) -> Ticke
     }
 }
 
-// The entry of a yield, before its scheduling.
-fn note_if(trace: &mut [u8], yielded: bool, here: Here, cursor: Cursor) -> Ticked
+// The entry of a yield, before its scheduling. No other row that asks is complete.
+fn note_if(
+    trace: &mut [u8],
+    question: Question,
+    yielded: bool,
+    here: Here,
+    cursor: Cursor,
+) -> Ticked
     requires { ⌜ 16 * cursor .entries ≤ length (now trace) ⌝ }
-    ensures { λ r. ⌜ Kept cursor (r .cursor) (now (trace .exit)) ⌝ }
+    ensures { λ r. ⌜ Lands cursor r (now (trace .entry)) (now (trace .exit)) (completedAt question yielded here) ⌝ }
 {
+    let Question::Thread = question else {
+        return goes(cursor);
+    };
     if yielded {
         return note(trace, here, NO_SLOT, 0, 0, cursor);
     }
@@ -411,7 +425,7 @@ fn note_if(trace: &mut [u8], yielded: bool, here: Here, cursor: Cursor) -> Ticke
 // Adds the trace entry of a row that is complete. The trace of a run has room for it.
 fn note(trace: &mut [u8], here: Here, slot: u8, mask: u8, value: u64, mut cursor: Cursor) -> Ticked
     requires { ⌜ 16 * cursor .entries ≤ length (now trace) ⌝ }
-    ensures { λ r. ⌜ Kept cursor (r .cursor) (now (trace .exit)) ⌝ }
+    ensures { λ r. ⌜ Lands cursor r (now (trace .entry)) (now (trace .exit)) (notedAt here slot mask value) ⌝ }
 {
     let site = here.site;
     let row = here.row;
@@ -431,7 +445,9 @@ fn note(trace: &mut [u8], here: Here, slot: u8, mask: u8, value: u64, mut cursor
 }
 
 // The opcode of a row; 255 of one that is none.
-fn opcode_in(row: Decoded) -> u8 {
+fn opcode_in(row: Decoded) -> u8
+    ensures { λ r. ⌜ r ≡ opcodeIn (decodedOf row) ⌝ }
+{
     match row {
         Decoded::Row(op) => table::opcode(op),
         Decoded::Refused => 255,
@@ -448,7 +464,7 @@ fn passed(mut cursor: Cursor) -> Cursor
 }
 
 fn goes(cursor: Cursor) -> Ticked
-    ensures { λ r. ⌜ (r .outcome ≡ Outcome.Goes) × Same cursor (r .cursor) ⌝ }
+    ensures { λ r. ⌜ GoesOn cursor r ⌝ }
 {
     Ticked {
         outcome: Outcome::Goes,
@@ -457,7 +473,7 @@ fn goes(cursor: Cursor) -> Ticked
 }
 
 pub fn stops(fault: Fault, site: Site, cursor: Cursor) -> Ticked
-    ensures { λ r. ⌜ Stopped cursor r ⌝ }
+    ensures { λ r. ⌜ Stopped fault site cursor r ⌝ }
 {
     Ticked {
         outcome: Outcome::Stops { fault, site },
@@ -467,7 +483,7 @@ pub fn stops(fault: Fault, site: Site, cursor: Cursor) -> Ticked
 
 // The thread and the row of a fault that no machine meets.
 pub fn nowhere() -> Site
-    ensures { λ r. ⌜ (r .thread ≡ 255) × (r .row ≡ 255) ⌝ }
+    ensures { λ r. ⌜ siteOf r ≡ noSite ⌝ }
 {
     Site {
         thread: 255,

@@ -1,3 +1,5 @@
+use mathlib.Core.Path.{refl}
+use Rattle.walk.proofs.BranchLaws.{thread-reaches, bit-reaches, slot-reaches}
 use native.Mathlib.Omega.{arith}
 use Rattle.walk.proofs.WalkLaws.{pushes-few, pushes-met, pushes-thread-few, pushes-thread-met}
 use borrow.Author.Needs.{needs}
@@ -46,14 +48,17 @@ same-length c = search needs
 returns : tie.Need-returns
 returns c =
     let push = c .before .before .before in
-    let start = push .before .before .before .before .before .before .before .before in
-    pushes-thread-met (start .args .cursor) (c .added .result) (start .pre .1) (start .pre .2) (push .push-thread .ensures) (c .added .ensures)
+    let start = c .before .before .before .before .before .before .before .before .before .before .before in
+    let args = start .args in
+    thread-reaches (args .cursor) (c .added .result) (args .here) (args .question) (args .clocks .now) (args .marks .now) (args .numbers .now) (args .path .now) _ (pushes-thread-met (args .cursor) (c .added .result) (start .pre .1) (start .pre .2) (args .here .site) (push .push-thread .ensures) (c .added .ensures)) (c .before .before .before .before .before .before .enum-told .given .1) refl (c .before .before .before .before .before .seed .ensures) (start .pre .2) (push .push-thread .ensures) (c .added .ensures)
 
 same-length-2 : tie.Need-same-length-2
 same-length-2 c = search needs
 
 returns-2 : tie.Need-returns-2
-returns-2 c = search needs
+returns-2 c =
+    let args = c .before .before .before .before .before .before .before .before .before .args in
+    slot-reaches (args .cursor) (c .before .before .add-load .result) (args .here) (args .question) (args .clocks .now) (args .marks .now) (args .numbers .now) (args .path .now) _ (c .before .before .add-load .ensures .met) (c .before .before .before .before .enum-told2 .given .1) (c .before .before .add-load .ensures)
 
 same-length-3 : tie.Need-same-length-3
 same-length-3 c = search needs
@@ -61,8 +66,9 @@ same-length-3 c = search needs
 returns-3 : tie.Need-returns-3
 returns-3 c =
     let push = c .before .before .before in
-    let start = push .before .before .before .before .before .before .before in
-    pushes-met (start .args .cursor) (c .added2 .result) (start .pre .1) (start .pre .2) (omega arith) (push .push-spurious .ensures) (c .added2 .ensures)
+    let start = c .before .before .before .before .before .before .before .before .before .before in
+    let args = start .args in
+    bit-reaches (args .cursor) (c .added2 .result) (args .here) (args .question) (args .clocks .now) (args .marks .now) (args .numbers .now) (args .path .now) _ (pushes-met (args .cursor) (c .added2 .result) (start .pre .1) (start .pre .2) (args .here .site) (omega arith) (push .push-spurious .ensures) (c .added2 .ensures)) (c .before .before .before .before .before .enum-told3 .given .1) refl (push .push-spurious .ensures) (c .added2 .ensures)
 
 pub add-spec : {M : Type 1} → statement M
 add-spec =

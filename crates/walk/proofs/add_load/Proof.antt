@@ -1,3 +1,6 @@
+use mathlib.Core.Path.{refl}
+use Rattle.walk.proofs.WalkLaws.{stops-met}
+use Rattle.walk.proofs.BranchLaws.{offers-reaches, equal-reaches}
 use native.Mathlib.Omega.{arith}
 use Rattle.walk.proofs.WalkLaws.{pushes-few, pushes-met}
 use borrow.Author.Needs.{needs}
@@ -17,7 +20,10 @@ stops-requires : tie.Need-stops-requires
 stops-requires c κs = search needs
 
 returns : tie.Need-returns
-returns c = search needs
+returns c =
+    let start = c .before .before .before .before .before .before .before in
+    let args = start .args in
+    equal-reaches (args .cursor) (c .stops .result) (args .here) (args .clocks .now) (args .marks .now) (args .numbers .now) (args .path .now) _ _ (c .before .before .before .offers .result) (c .before .before .before .offers .ensures) (stops-met (args .cursor) (c .stops .result) (start .pre .1) (start .pre .2) (c .stops .ensures)) (c .before .enum-told .given .1) (c .stops .ensures)
 
 push-load-requires : tie.Need-push-load-requires
 push-load-requires c κs = search needs
@@ -34,8 +40,9 @@ same-length c = search needs
 returns-2 : tie.Need-returns-2
 returns-2 c =
     let push = c .before .before .before in
-    let start = push .before .before .before .before .before .before .before .before .before in
-    pushes-met (start .args .cursor) (c .added .result) (start .pre .1) (start .pre .2) (omega arith) (push .push-load .ensures) (c .added .ensures)
+    let start = c .before .before .before .before .before .before .before .before .before .before .before .before in
+    let args = start .args in
+    offers-reaches (args .cursor) (c .added .result) (args .here) (args .clocks .now) (args .marks .now) (args .numbers .now) (args .path .now) _ _ _ (c .before .before .before .before .before .before .before .before .offers .result) (c .before .before .before .before .before .before .before .before .offers .ensures) (pushes-met (args .cursor) (c .added .result) (start .pre .1) (start .pre .2) (args .here .site) (omega arith) (push .push-load .ensures) (c .added .ensures)) (args .exploring) (c .before .before .before .before .before .before .n .given .1) (start .pre .4) refl (push .push-load .ensures) (c .added .ensures)
 
 pub add-load-spec : {M : Type 1} → statement M
 add-load-spec =

@@ -34,17 +34,17 @@ returns : tie.Need-returns
 returns c =
     let told = c .before .before .before .before in
     let start = told .before .before in
-    added-one (start .args .pushed) (start .args .cursor) (c .goes .result) (told .pushed .given .1) (search needs)
+    added-one (start .args .pushed) (start .args .site) (start .args .cursor) (c .goes .result) (told .pushed .given .1) (c .goes .ensures .is) (search needs)
 
 returns-2 : tie.Need-returns-2
 returns-2 c =
     let start = c .before .before .before in
-    added-full (start .args .pushed) (start .args .cursor) (c .stops .result) (c .before .enum-told .given .1) (c .stops .ensures)
+    added-full (start .args .pushed) (start .args .site) (start .args .cursor) (c .stops .result) (c .before .enum-told .given .1) (c .stops .ensures)
 
 returns-3 : tie.Need-returns-3
 returns-3 c =
     let start = c .before .before .before in
-    added-preempted (start .args .pushed) (start .args .cursor) (c .stops2 .result) (c .before .enum-told2 .given .1) (c .stops2 .ensures)
+    added-preempted (start .args .pushed) (start .args .site) (start .args .cursor) (c .stops2 .result) (c .before .enum-told2 .given .1) (c .stops2 .ensures)
 
 pub added-spec : {M : Type 1} → statement M
 added-spec =

@@ -1,3 +1,5 @@
+use mathlib.Core.Path.{refl}
+use Rattle.walk.proofs.ReplyLaws.{thread-chosen, thread-nobody, thread-unexpected, slot-read, slot-unexpected, bit-said, bit-unexpected}
 use Rattle.walk.proofs.WalkLaws.{reads-within}
 use borrow.Author.Needs.{needs}
 use Rattle.walk.proofs.answer.Statement.{statement}
@@ -46,27 +48,39 @@ enum-told-7 : tie.Need-enum-told-7
 enum-told-7 c = search needs
 
 returns : tie.Need-returns
-returns c = search needs
+returns c =
+    let args = c .before .before .before .before .before .before .before .args in
+    thread-chosen (args .path .now) (args .pos) (args .question) (c .before .before .before .before .enum-told .given .1) _ (c .before .before .before .branch-thread .ensures) (c .before .chosen .given .1) refl
 
 returns-2 : tie.Need-returns-2
-returns-2 c = search needs
+returns-2 c =
+    let args = c .before .before .before .before .before .before .args in
+    thread-nobody (args .path .now) (args .pos) (args .question) (c .before .before .before .enum-told .given .1) _ (c .before .before .branch-thread .ensures) (c .enum-told2 .given .1)
 
 returns-3 : tie.Need-returns-3
-returns-3 c = search needs
+returns-3 c =
+    let args = c .before .before .before .before .before .before .args in
+    thread-unexpected (args .path .now) (args .pos) (args .question) (c .before .before .before .enum-told .given .1) _ (c .before .before .branch-thread .ensures) (c .enum-told3 .given .1)
 
 returns-4 : tie.Need-returns-4
 returns-4 c =
-    let slot = c .before in
-    reads-within (slot .before .before .branch-load .ensures) (slot .slot .given .1)
+    let args = c .before .before .before .before .before .before .before .args in
+    slot-read (args .path .now) (args .pos) (args .question) (c .before .before .before .before .enum-told4 .given .1) _ (c .before .before .before .branch-load .ensures) (c .before .slot .given .1) (reads-within (c .before .before .before .branch-load .ensures) (c .before .slot .given .1))
 
 returns-5 : tie.Need-returns-5
-returns-5 c = search needs
+returns-5 c =
+    let args = c .before .before .before .before .before .before .args in
+    slot-unexpected (args .path .now) (args .pos) (args .question) (c .before .before .before .enum-told4 .given .1) _ (c .before .before .branch-load .ensures) (c .enum-told5 .given .1)
 
 returns-6 : tie.Need-returns-6
-returns-6 c = search needs
+returns-6 c =
+    let args = c .before .before .before .before .before .before .before .args in
+    bit-said (args .path .now) (args .pos) (args .question) (c .before .before .before .before .enum-told6 .given .1) _ (c .before .before .before .branch-spurious .ensures) (c .before .bit .given .1)
 
 returns-7 : tie.Need-returns-7
-returns-7 c = search needs
+returns-7 c =
+    let args = c .before .before .before .before .before .before .args in
+    bit-unexpected (args .path .now) (args .pos) (args .question) (c .before .before .before .enum-told6 .given .1) _ (c .before .before .branch-spurious .ensures) (c .enum-told7 .given .1)
 
 pub answer-spec : {M : Type 1} → statement M
 answer-spec =

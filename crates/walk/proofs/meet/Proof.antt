@@ -1,3 +1,4 @@
+use Rattle.walk.proofs.MeetLaws.{meet-stays, meet-unexpected, meet-answered}
 use native.Mathlib.Omega.{arith}
 use Rattle.walk.proofs.WalkLaws.{meet-stops, meet-on, says-within}
 use borrow.Author.Needs.{needs}
@@ -14,7 +15,10 @@ same-length : tie.Need-same-length
 same-length c = search needs
 
 returns : tie.Need-returns
-returns c = search needs
+returns c =
+    let start = c .before .before .before .before .before .before .before .before .before .before in
+    let args = start .args in
+    meet-stays (args .cursor) (c .before .before .before .reach .result) (args .here) (args .question) (args .clocks .now) (args .marks .now) (args .values .now) (args .numbers .now) (args .path .now) _ (args .trace .now) (start .pre .1) (c .before .before .before .reach .ensures) (c .match .keys2)
 
 answer-requires : tie.Need-answer-requires
 answer-requires c κs = search needs
@@ -33,23 +37,25 @@ same-length-2 c = search needs
 
 returns-2 : tie.Need-returns-2
 returns-2 c =
+    let start = c .before .before .before .before .before .before .before .before .before .before .before .before .before .before .before .before .before .before in
+    let args = start .args in
     let reach = c .before .before .before .before .before .before .before .before .before .before .before in
-    meet-stops (reach .before .before .before .before .before .before .before .pre .1) (reach .reach .ensures) (c .stops .ensures)
+    meet-unexpected (args .cursor) (reach .reach .result) (args .here) (args .question) (args .clocks .now) (args .marks .now) (args .values .now) (args .numbers .now) (args .path .now) _ (args .trace .now) (start .pre .1) (reach .reach .ensures) (c .before .before .before .before .before .before .before .enum-told .given .1) (reach .reach .kept .1 .1 .1 .0) (c .before .before .before .answer .result) (c .before .before .before .answer .ensures) (c .before .enum-told2 .given .1) (c .stops .result) (c .stops .ensures)
 
 answered-requires : tie.Need-answered-requires
 answered-requires c κs =
     let told = c .before .before .before .before .before in
-    (told .before .before .before .before .before .before .before .before .before .before .before .before .before .before .before .before .before .pre .0 .who, told .before .before .before .before .before .before .before .before .before .before .before .before .before .before .before .before .before .pre .0 .names, says-within (told .before .before .answer .result) (told .choice .given .1) (told .before .before .answer .ensures))
+    (told .before .before .before .before .before .before .before .before .before .before .before .before .before .before .before .before .before .pre .0 .who, told .before .before .before .before .before .before .before .before .before .before .before .before .before .before .before .before .before .pre .0 .names, says-within (told .before .before .answer .result) (told .choice .given .1) (told .before .before .answer .ensures .within))
 
 passed-requires : tie.Need-passed-requires
 passed-requires c κs =
     let reach = c .before .before .before .before .before .before .before .before .before .before .before .before .before .before .before .before .before in
-    omega (arith, reach .reach .ensures .passed, reach .reach .ensures .within, reach .reach .kept, reach .before .before .before .before .before .before .before .good)
+    omega (arith, reach .reach .ensures .met .passed, reach .reach .ensures .met .within, reach .reach .kept, reach .before .before .before .before .before .before .before .good)
 
 conclude-requires : tie.Need-conclude-requires
 conclude-requires c κs =
     let reach = c .before .before .before .before .before .before .before .before .before .before .before .before .before .before .before .before .before .before in
-    omega (arith, c .passed .ensures .same-entries, reach .reach .ensures .same-entries, reach .before .before .before .before .before .before .before .pre .1 .noted)
+    omega (arith, c .passed .ensures .same-entries, reach .reach .ensures .met .same-entries, reach .before .before .before .before .before .before .before .pre .1 .noted)
 
 same-length-3 : tie.Need-same-length-3
 same-length-3 c = omega (arith, c .before .before .before .before .before .before .before .before .before .before .before .before .before .before .before .before .before .before .before .before .before .reach .kept)
@@ -59,9 +65,10 @@ same-length-4 c = search needs
 
 returns-3 : tie.Need-returns-3
 returns-3 c =
-    let told = c .before .before .before .before .before .before .before .before .before .before .before .before .before .before .before .before .before in
-    let reach = told .before .before .before .before in
-    meet-on (reach .before .before .before .before .before .before .before .pre .1) (reach .reach .ensures) (told .enum-told .given .1) (c .before .before .before .passed .ensures) (c .before .before .conclude .ensures)
+    let start = c .before .before .before .before .before .before .before .before .before .before .before .before .before .before .before .before .before .before .before .before .before .before .before .before .before .before .before .before in
+    let args = start .args in
+    let reach = c .before .before .before .before .before .before .before .before .before .before .before .before .before .before .before .before .before .before .before .before .before in
+    meet-answered (args .cursor) (reach .reach .result) (args .here) (args .question) (args .clocks .now) (args .marks .now) (args .values .now) (args .numbers .now) (args .path .now) _ (args .trace .now) (start .pre .1) (reach .reach .ensures) _ (c .before .before .before .before .before .answered .result) _ _ _ _ _ (c .before .before .before .passed .ensures) (c .before .before .before .before .before .answered .ensures _) (c .before .before .conclude .result) _ (c .before .before .conclude .ensures) (c .before .before .before .before .before .before .before .before .before .before .before .before .before .before .before .before .before .enum-told .given .1) (reach .reach .kept .1 .1 .1 .0) (c .before .before .before .before .before .before .before .before .before .before .before .before .before .answer .result) (c .before .before .before .before .before .before .before .before .before .before .before .before .before .answer .ensures) (c .before .before .before .before .before .before .before .before .before .before .before .choice .given .1)
 
 pub meet-spec : {M : Type 1} → statement M
 meet-spec =

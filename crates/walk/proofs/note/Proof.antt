@@ -1,5 +1,5 @@
-use borrow.Author.Tests.{not-false}
-use Rattle.walk.proofs.WalkLaws.{notes-room}
+use borrow.Author.Tests.{not-false, not-true}
+use Rattle.walk.proofs.ComesLaws.{note-full, note-written}
 use borrow.Author.Needs.{needs}
 use Rattle.walk.proofs.note.Statement.{statement}
 use Rattle.walk.proofs.note.Tie as tie
@@ -17,7 +17,10 @@ same-length : tie.Need-same-length
 same-length c = search needs
 
 returns : tie.Need-returns
-returns c = search needs
+returns c =
+    let start = c .before .before .before .before .before .before .before .before .before in
+    let args = start .args in
+    note-full (args .cursor) (c .stops .result) (args .here) _ (args .slot) (args .mask) (args .value) (c .before .before .before .before .before .before .opcode-in .ensures) _ (c .before .before .before .before .note .ensures) (start .pre) (not-true _ (c .before .if1 .taken)) (c .stops .ensures)
 
 add-cursor : tie.Need-add-cursor
 add-cursor c = search needs
@@ -30,9 +33,9 @@ same-length-2 c = search needs
 
 returns-2 : tie.Need-returns-2
 returns-2 c =
-    let left = c .before .before in
-    let room = notes-room (left .before .before .before .note .ensures) (not-false _ (left .if1 .left)) in
-    search needs
+    let start = c .before .before .before .before .before .before .before .before .before .before in
+    let args = start .args in
+    note-written (args .cursor) (c .goes .result) (args .here) _ (args .slot) (args .mask) (args .value) (c .before .before .before .before .before .before .before .opcode-in .ensures) _ (c .before .before .before .before .before .note .ensures) (start .pre) (not-false _ (c .before .before .if1 .left)) (c .goes .ensures .is) (search needs)
 
 pub note-spec : {M : Type 1} → statement M
 note-spec =

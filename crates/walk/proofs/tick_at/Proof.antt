@@ -1,0 +1,24 @@
+use Rattle.walk.proofs.TickLaws.{tick-takes}
+use borrow.Author.Needs.{needs}
+use Rattle.walk.proofs.tick_at.Statement.{statement}
+use Rattle.walk.proofs.tick_at.Tie as tie
+
+tick-requires : tie.Need-tick-requires
+tick-requires c κs = search needs
+
+take-requires : tie.Need-take-requires
+take-requires c κs = search needs
+
+same-length : tie.Need-same-length
+same-length c = search needs
+
+same-length-2 : tie.Need-same-length-2
+same-length-2 c = search needs
+
+returns : tie.Need-returns
+returns c =
+    let args = c .before .before .before .before .before .before .before .before .before .before .before .before .before .before .before .before .before .before .before .args in
+    tick-takes (args .cursor) (args .here) (c .before .before .before .before .before .before .before .before .before .before .before .tick .result) (args .shape .now) (args .limits) (args .clocks .now) (args .marks .now) (args .values .now) (args .numbers .now) _ _ _ _ (args .path .now) (args .trace .now) (c .before .before .before .before .before .before .before .before .before .before .before .tick .ensures) (c .before .before .before .before .take .result) _ (c .before .before .before .before .take .ensures)
+
+pub tick-at-spec : {M : Type 1} → statement M
+tick-at-spec = tie.close (tie.spec tick-requires take-requires same-length same-length-2 returns)
