@@ -212,7 +212,7 @@ pub record Marks (c d : Cursor) (clocks : Clocks) (numbers : Numbers) (entry exi
 -- the limit of branches is that of the path's bytes
 pub record Holding (L : explorer.Limits) (path : List ℕ) : Type 0 where
   pub branches : 16 * L .branches ≡ length path
-  pub few : L .branches ≤ 1024
+  pub few : L .branches ≤ 65536
 
 -- what a function promises that adds a branch where there is none
 pub record Reaches (c : Cursor) (r : Ticked) (clocks : Clocks) (marks : MarkTable) (numbers : Numbers) (entry exit : List ℕ) (out : explorer.Limits → Walk State → Tick State) : Type 0 where

@@ -178,7 +178,7 @@ pub record Runs (p : Program) (L : explorer.Limits) (table shape : List ℕ) (li
   pub operations : p .operations ≡ limits .operations
   pub rows : L .operations ≡ limits .operations
   pub branches : 16 * L .branches ≡ length path
-  pub few : L .branches ≤ 1024
+  pub few : L .branches ≤ 65536
   pub room : 16 * L .operations ≡ length trace
   pub is-bound : L .bound ≡ boundOf (limits .bound)
 
