@@ -9,6 +9,8 @@ use native.Mathlib.Omega.{arith}
 use lib.Dec.{eqb}
 use lib.ListN.{length}
 use borrow.Author.Tests.{eqb-false}
+use Rattle.event.specs.declared.Fault.{Fault}
+use Rattle.event.specs.declared.Site.{Site}
 use Rattle.walk.specs.Walks.{Gone, Stopped}
 use Rattle.walk.specs.declared.Cursor.{Cursor}
 use Rattle.walk.specs.declared.Ticked.{Ticked}
@@ -19,7 +21,7 @@ use Rattle.explorer.specs.declared.run.Verdict.the-variants as verdict
 pub gone-more : {c d e : Cursor} {n m most : ℕ} {path trace path' trace' : List ℕ} → Gone c d n path trace → Gone d e m path' trace' → n + m ≤ most → Gone c e most path' trace'
 gone-more g h l = record { placed = h .placed; few = omega (arith, g .few, h .few) }
 
-pub stopped-gone : {c d : Cursor} {r : Ticked} {n most : ℕ} {path trace : List ℕ} → Gone c d n path trace → Stopped d r → n ≤ most → Gone c (r .cursor) most path trace
+pub stopped-gone : {f : Fault} {at : Site} {c d : Cursor} {r : Ticked} {n most : ℕ} {path trace : List ℕ} → Gone c d n path trace → Stopped f at d r → n ≤ most → Gone c (r .cursor) most path trace
 stopped-gone g s l =
     record {
       placed = record {
