@@ -7,3 +7,4 @@ pub mod ShapeLaws
 pub mod TakeLaws
 pub mod TickLaws
 pub mod WalkLaws
+pub mod WholeLaws

@@ -9,7 +9,7 @@ ghost use Rattle.rules.specs.Table.{opcodeIn};
 ghost use Rattle.rules.specs.Machine.{isExploring};
 ghost use Rattle.decode.specs.Ops.{decodedOf};
 ghost use Rattle.walk.specs.Parts.{Goes, ticksAt, tickedAt, takesAt, takenAt, meetsAt, metAt, Reaches, RepliesBy, reachedAt, addedAt, Marks, MarksThread, MarksThreads, Lands, notedAt, completedAt, concludedAt};
-ghost use Rattle.walk.specs.Walks.{Placed, HereWithin, Gone, GoesOn, Stopped, Passed, pushedFew, addedTo, siteOf, lent};
+ghost use Rattle.walk.specs.Walks.{Placed, HereWithin, Gone, GoesOn, Ticks, Stopped, Passed, pushedFew, addedTo, siteOf, lent};
 use decode::Decoded;
 use event::Choice;
 use event::Event;
@@ -90,7 +90,7 @@ pub fn tick(
     cursor: Cursor,
 ) -> Ticked
     requires { ⌜ (getD (now shape) 1 0 ≤ 4) × Placed cursor (now path) (now trace) × (cursor .opened + 60 < 2 ^ 64) ⌝ }
-    ensures { λ r. ⌜ Gone cursor (r .cursor) 60 (now (path .exit)) (now (trace .exit)) ⌝ }
+    ensures { λ r. ⌜ Ticks (lent (now (clocks .entry)) (now (marks .entry)) (now (values .entry)) (now (numbers .entry)) (now (path .entry)) (now (trace .entry))) (lent (now (clocks .exit)) (now (marks .exit)) (now (values .exit)) (now (numbers .exit)) (now (path .exit)) (now (trace .exit))) (now (table .entry)) (now (shape .entry)) limits cursor r ⌝ }
 {
     let thread = wide16(numbers[ACTIVE]);
     if MAX_THREADS <= thread {
