@@ -48,7 +48,7 @@ returns c =
     let tick = c .before .before .before .before .before in
     let turn = tick .before .before .before .before .before .before .before in
     let loop = turn .before in
-    gone-more (loop .loop .inv .1) (tick .tick .ensures) (omega (arith, turn .loop-test .taken, loop .before .ticks .ensures .few))
+    gone-more (loop .loop .inv .1) (tick .tick .ensures .gone) (omega (arith, turn .loop-test .taken, loop .before .ticks .ensures .few))
 
 add-counter : tie.Need-add-counter Inv-loop μ-loop
 add-counter c = search needs
@@ -62,7 +62,7 @@ loop-again c =
     let turn = tick .before .before .before .before .before .before .before in
     let loop = turn .before in (
       omega (arith, turn .loop-test .taken),
-      gone-more (loop .loop .inv .1) (tick .tick .ensures) (omega arith),
+      gone-more (loop .loop .inv .1) (tick .tick .ensures .gone) (omega arith),
       omega (arith, tick .tick .kept, loop .loop .inv),
       omega (arith, tick .tick .kept, loop .loop .inv),
     )
