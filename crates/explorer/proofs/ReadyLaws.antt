@@ -1,7 +1,7 @@
 -- What a run may take for granted: the settings are in range, and so is the shape of an accepted table. Assumes nothing.
 --     settings-made, within-both, within-not      the tests of the settings
 --     holds-both, holds-not                       the tests of a buffer's length
---     ready-shape, ready-executions               what follows for a run
+--     ready-shape, ready-header, ready-threads, ready-cells, ready-executions      what follows for a run
 use Prim.Native.Nat.{ℕ, _*_, _/_, _%_, _≤_, _<_}
 use mathlib.Core.List.{List}
 use mathlib.Core.Bool.{Bool, true, false, _&&_, and-eq-true-iff}
@@ -62,6 +62,15 @@ module _ {table : List ℕ} {s : Settings} {path trace : List ℕ} (ready : Read
   ready-shape e =
       let h = header-within table (good-header table (ready .accepted)) in
       rw e (omega (arith, shape-threads table (h .0), shape-cells table (h .0)))
+
+  pub ready-header : headerBytes ≤ length table
+  ready-header = header-within table (good-header table (ready .accepted)) .0
+
+  pub ready-threads : {shape : List ℕ} → shape ≡ shapeOf table → getD shape 0 0 ≡ threadsOf table
+  ready-threads e = rw e (shape-threads table ready-header)
+
+  pub ready-cells : {shape : List ℕ} → shape ≡ shapeOf table → getD shape 1 0 ≡ cellsOf table
+  ready-cells e = rw e (shape-cells table ready-header)
 
   -- "execution budget N 1..65,535"
   pub ready-executions : (1 ≤ s .executions) × (s .executions ≤ 65535)

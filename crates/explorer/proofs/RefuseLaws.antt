@@ -1,6 +1,6 @@
 -- The answer for each refusal, and for a run that is ready. Assumes nothing.
 --     refuse-settings, refuse-path, refuse-trace, refuse-header, refuse-row      a check has failed
---     ready-made, refuse-none                                                    none has
+--     ready-made, ran-ready                                                      none has
 use Prim.Native.Nat.{ℕ, _*_}
 use mathlib.Core.List.{List}
 use mathlib.Core.Bool.{true, false}
@@ -11,7 +11,7 @@ use borrow.Author.Tests.{eqb-true, eqb-false}
 use Rattle.rules.specs.Table.{judged, good, badHeader, badRow}
 use Rattle.rules.specs.Explored as rules
 use Rattle.rules.specs.Explored.{refused, settingsFine}
-use Rattle.rules.proofs.ExploredLaws.{explored-2, explored-3, explored-4, explored-5-header, explored-5-row}
+use Rattle.rules.proofs.ExploredLaws.{explored-2, explored-3, explored-4, explored-5-header, explored-5-row, explored-ran}
 use Rattle.table.specs.Answers.{judgedOf}
 use Rattle.table.specs.declared.Judged.{Judged}
 use Rattle.table.specs.declared.Judged.the-variants as code
@@ -20,7 +20,8 @@ use Rattle.report.specs.declared.Report.{Report}
 use Rattle.report.specs.declared.Answer.the-variants as answer
 use Rattle.report.proofs.AnswerLaws.{bad-settings, bad-path, bad-trace, bad-table}
 use Rattle.explorer.specs.declared.Settings.{Settings}
-use Rattle.explorer.specs.Explores.{Ready, Refuses, settingsOf, exploredOf}
+use Rattle.explorer.specs.Explores.{Ready, settingsOf, exploredOf}
+use Rattle.explorer.specs.Runs.{Ran}
 
 module _ (r : Report) (table : List ℕ) (s : Settings) (path trace : List ℕ) where
   abbrev left : rules.Report → rules.Explored
@@ -30,28 +31,28 @@ module _ (r : Report) (table : List ℕ) (s : Settings) (path trace : List ℕ) 
   unfolding refused
   refused-is a t k e = ap (λ (x : rules.Report). left x) e
 
-  pub refuse-settings : settingsFine (settingsOf s) ≡ false → reportOf r ≡ refusal answer.BadSettings → Refuses r table s path path trace trace
+  pub refuse-settings : settingsFine (settingsOf s) ≡ false → reportOf r ≡ refusal answer.BadSettings → exploredOf r path trace ≡ rules.explored table (settingsOf s) path trace
   refuse-settings a e =
-      record { refuses = λ no. refused-is 2 255 255 (e ∙ bad-settings path trace) ∙ sym (explored-2 table (settingsOf s) path trace a) }
+      refused-is 2 255 255 (e ∙ bad-settings path trace) ∙ sym (explored-2 table (settingsOf s) path trace a)
 
   module _ (a : settingsFine (settingsOf s) ≡ true) where
-    pub refuse-path : eqb (length path) (16 * s .branches) ≡ false → reportOf r ≡ refusal answer.BadPath → Refuses r table s path path trace trace
+    pub refuse-path : eqb (length path) (16 * s .branches) ≡ false → reportOf r ≡ refusal answer.BadPath → exploredOf r path trace ≡ rules.explored table (settingsOf s) path trace
     refuse-path b e =
-        record { refuses = λ no. refused-is 3 255 255 (e ∙ bad-path path trace) ∙ sym (explored-3 table (settingsOf s) path trace a (eqb-false (length path) (16 * s .branches) b)) }
+        refused-is 3 255 255 (e ∙ bad-path path trace) ∙ sym (explored-3 table (settingsOf s) path trace a (eqb-false (length path) (16 * s .branches) b))
 
     module _ (b : eqb (length path) (16 * s .branches) ≡ true) where
-      pub refuse-trace : eqb (length trace) (16 * s .operations) ≡ false → reportOf r ≡ refusal answer.BadTrace → Refuses r table s path path trace trace
+      pub refuse-trace : eqb (length trace) (16 * s .operations) ≡ false → reportOf r ≡ refusal answer.BadTrace → exploredOf r path trace ≡ rules.explored table (settingsOf s) path trace
       refuse-trace c e =
-          record { refuses = λ no. refused-is 4 255 255 (e ∙ bad-trace path trace) ∙ sym (explored-4 table (settingsOf s) path trace a (eqb-true (length path) (16 * s .branches) b) (eqb-false (length trace) (16 * s .operations) c)) }
+          refused-is 4 255 255 (e ∙ bad-trace path trace) ∙ sym (explored-4 table (settingsOf s) path trace a (eqb-true (length path) (16 * s .branches) b) (eqb-false (length trace) (16 * s .operations) c))
 
       module _ (c : eqb (length trace) (16 * s .operations) ≡ true) (j : Judged) (judges : judgedOf j ≡ judged table) where
-        pub refuse-header : j ≡ code.Header → reportOf r ≡ refusal (answer.BadTable 255 255) → Refuses r table s path path trace trace
+        pub refuse-header : j ≡ code.Header → reportOf r ≡ refusal (answer.BadTable 255 255) → exploredOf r path trace ≡ rules.explored table (settingsOf s) path trace
         refuse-header i e =
-            record { refuses = λ no. refused-is 5 255 255 (e ∙ bad-table path trace 255 255) ∙ sym (explored-5-header table (settingsOf s) path trace a (eqb-true (length path) (16 * s .branches) b) (eqb-true (length trace) (16 * s .operations) c) (sym judges ∙ ap judgedOf i)) }
+            refused-is 5 255 255 (e ∙ bad-table path trace 255 255) ∙ sym (explored-5-header table (settingsOf s) path trace a (eqb-true (length path) (16 * s .branches) b) (eqb-true (length trace) (16 * s .operations) c) (sym judges ∙ ap judgedOf i))
 
-        pub refuse-row : (t k : ℕ) → j ≡ code.Row t k → reportOf r ≡ refusal (answer.BadTable t k) → Refuses r table s path path trace trace
+        pub refuse-row : (t k : ℕ) → j ≡ code.Row t k → reportOf r ≡ refusal (answer.BadTable t k) → exploredOf r path trace ≡ rules.explored table (settingsOf s) path trace
         refuse-row t k i e =
-            record { refuses = λ no. refused-is 5 t k (e ∙ bad-table path trace t k) ∙ sym (explored-5-row table (settingsOf s) path trace a (eqb-true (length path) (16 * s .branches) b) (eqb-true (length trace) (16 * s .operations) c) t k (sym judges ∙ ap judgedOf i)) }
+            refused-is 5 t k (e ∙ bad-table path trace t k) ∙ sym (explored-5-row table (settingsOf s) path trace a (eqb-true (length path) (16 * s .branches) b) (eqb-true (length trace) (16 * s .operations) c) t k (sym judges ∙ ap judgedOf i))
 
 module _ (table : List ℕ) (s : Settings) (path trace : List ℕ) where
   pub ready-made : settingsFine (settingsOf s) ≡ true → eqb (length path) (16 * s .branches) ≡ true → eqb (length trace) (16 * s .operations) ≡ true → (j : Judged) → judgedOf j ≡ judged table → j ≡ code.Accepted → Ready table s path trace
@@ -63,5 +64,7 @@ module _ (table : List ℕ) (s : Settings) (path trace : List ℕ) where
         accepted = sym judges ∙ ap judgedOf i;
       }
 
-  pub refuse-none : Ready table s path trace → {r : Report} {exitPath exitTrace : List ℕ} → Refuses r table s path exitPath trace exitTrace
-  refuse-none ready = record { refuses = λ no. absurd (no ready) }
+  pub ran-ready : Ready table s path trace → (r : Report) {exitPath exitTrace : List ℕ} → Ran table s path trace r exitPath exitTrace
+      → exploredOf r exitPath exitTrace ≡ rules.explored table (settingsOf s) path trace
+  ran-ready ready r h =
+      h ∙ sym (explored-ran table (settingsOf s) path trace (ready .in-range) (ready .path-long) (ready .trace-long) (ready .accepted))

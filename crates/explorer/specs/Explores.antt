@@ -2,7 +2,6 @@
 --     settingsOf      the settings
 --     exploredOf      a report with both buffers
 --     Ready           what is asked of a run: checks 2 to 5 have passed
---     Refuses         what is left where one of them has not
 use Prim.Native.Nat.{ℕ, _*_}
 use mathlib.Core.List.{List}
 use mathlib.Core.Bool.{true}
@@ -33,7 +32,3 @@ pub record Ready (table : List ℕ) (s : Settings) (path trace : List ℕ) : Typ
   pub path-long : length path ≡ 16 * s .branches
   pub trace-long : length trace ≡ 16 * s .operations
   pub accepted : judged table ≡ good
-
--- where the table, the settings or a buffer is refused, the report and both buffers are the definition's
-pub record Refuses (r : Report) (table : List ℕ) (s : Settings) (path exitPath trace exitTrace : List ℕ) : Type 0 where
-  pub refuses : (Ready table s path trace → ⊥) → exploredOf r exitPath exitTrace ≡ rules.explored table (settingsOf s) path trace

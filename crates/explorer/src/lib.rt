@@ -3,7 +3,7 @@ ghost use mathlib.Core.Path.{_≡_};
 ghost use Prim.Native.Nat.{_*_};
 ghost use lib.Dec.{eqb};
 ghost use Rattle.rules.specs.Explored as rules;
-ghost use Rattle.explorer.specs.Explores.{settingsOf, Refuses};
+ghost use Rattle.explorer.specs.Explores.{settingsOf, exploredOf};
 use path::Bound;
 use report::Answer;
 use report::Report;
@@ -29,7 +29,7 @@ pub const MAX_EXECUTIONS: u64 = 65535;
 
 // Explores the program. A refusal leaves both buffers as they are; a run leaves the path and the last execution's trace.
 pub fn explore(table: &[u8], settings: Settings, path: &mut [u8], trace: &mut [u8]) -> Report
-    ensures { λ r. ⌜ Refuses r (now (table .entry)) settings (now (path .entry)) (now (path .exit)) (now (trace .entry)) (now (trace .exit)) ⌝ }
+    ensures { λ r. ⌜ exploredOf r (now (path .exit)) (now (trace .exit)) ≡ rules.explored (now (table .entry)) (settingsOf settings) (now (path .entry)) (now (trace .entry)) ⌝ }
 {
     if !settings_fine(settings) {
         return report::refused(Answer::BadSettings);

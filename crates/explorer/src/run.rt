@@ -2,9 +2,9 @@
 ghost use mathlib.Core.Path.{_≡_};
 ghost use Prim.Native.Nat.{_+_, _*_, _^_, _<_, _≤_};
 ghost use lib.ListN.{length, getD};
-ghost use Rattle.walk.specs.Walks.{Placed, Gone};
+ghost use Rattle.walk.specs.Walks.{Placed, lent};
 ghost use Rattle.explorer.specs.Explores.{Ready};
-ghost use Rattle.explorer.specs.Runs.{mostOpened, Fuel, Afresh, Greater, Continues};
+ghost use Rattle.explorer.specs.Runs.{mostOpened, Fuel, Afresh, Greater, Limited, Walks, Started, Executes, Judges, Finished, Empty, Ran};
 use crate::Settings;
 use event::Fault;
 use layout::CLOCKS;
@@ -38,6 +38,7 @@ pub enum Verdict {
 // Runs an accepted table with settings in range and buffers of the right lengths.
 pub fn run(path: &mut [u8], trace: &mut [u8], table: &[u8], settings: Settings) -> Report
     requires { ⌜ Ready (now table) settings (now path) (now trace) ⌝ }
+    ensures { λ r. ⌜ Ran (now (table .entry)) settings (now (path .entry)) (now (trace .entry)) r (now (path .exit)) (now (trace .exit)) ⌝ }
 {
     clear_all(path);
     clear_all(trace);
@@ -46,7 +47,8 @@ pub fn run(path: &mut [u8], trace: &mut [u8], table: &[u8], settings: Settings) 
 
 // One execution after another, over buffers that hold nothing.
 fn executions(path: &mut [u8], trace: &mut [u8], table: &[u8], settings: Settings) -> Report
-    requires { ⌜ Ready (now table) settings (now path) (now trace) ⌝ }
+    requires { ⌜ Ready (now table) settings (now path) (now trace) × Empty (now path) × Empty (now trace) ⌝ }
+    ensures { λ r. ⌜ Ran (now (table .entry)) settings (now (path .entry)) (now (trace .entry)) r (now (path .exit)) (now (trace .exit)) ⌝ }
 {
     let shape = table::shape(table);
     let mut clocks = [[0u16; MAX_THREADS]; CLOCKS];
@@ -97,7 +99,7 @@ fn execute(
     cursor: Cursor,
 ) -> Ticked
     requires { ⌜ (getD (now shape) 0 0 ≤ 5) × (getD (now shape) 1 0 ≤ 4) × (16 * cursor .len ≤ length (now path)) × (cursor .opened + mostOpened < 2 ^ 64) ⌝ }
-    ensures { λ r. ⌜ Gone cursor (r .cursor) mostOpened (now (path .exit)) (now (trace .exit)) ⌝ }
+    ensures { λ r. ⌜ Executes (lent (now (clocks .entry)) (now (marks .entry)) (now (values .entry)) (now (numbers .entry)) (now (path .entry)) (now (trace .entry))) (lent (now (clocks .exit)) (now (marks .exit)) (now (values .exit)) (now (numbers .exit)) (now (path .exit)) (now (trace .exit))) (now (table .entry)) (now (shape .entry)) settings cursor r ⌝ }
 {
     start_anew(
         clocks,
@@ -135,6 +137,7 @@ fn start_anew(
     exploring: bool,
 )
     requires { ⌜ (getD (now shape) 0 0 ≤ 5) × (getD (now shape) 1 0 ≤ 4) ⌝ }
+    ensures { λ _. ⌜ Started (now (clocks .exit)) (now (marks .exit)) (now (values .exit)) (now (numbers .exit)) (now (table .entry)) (now (shape .entry)) exploring ⌝ }
 {
     let threads = wide16(shape[THREADS]);
     let cells = wide16(shape[CELLS]);
@@ -164,7 +167,7 @@ fn walked(
     cursor: Cursor,
 ) -> Ticked
     requires { ⌜ (getD (now shape) 1 0 ≤ 4) × Placed cursor (now path) (now trace) × (cursor .opened + mostOpened < 2 ^ 64) ⌝ }
-    ensures { λ r. ⌜ Gone cursor (r .cursor) mostOpened (now (path .exit)) (now (trace .exit)) ⌝ }
+    ensures { λ r. ⌜ Walks (lent (now (clocks .entry)) (now (marks .entry)) (now (values .entry)) (now (numbers .entry)) (now (path .entry)) (now (trace .entry))) (lent (now (clocks .exit)) (now (marks .exit)) (now (values .exit)) (now (numbers .exit)) (now (path .exit)) (now (trace .exit))) (now (table .entry)) (now (shape .entry)) limits cursor r ⌝ }
 {
     let fuel = ticks(limits.operations);
     let mut now = cursor;
@@ -199,7 +202,9 @@ fn ticks(operations: u16) -> u64
 }
 
 // The limits that the settings give.
-fn limits_of(settings: Settings) -> Limits {
+fn limits_of(settings: Settings) -> Limits
+    ensures { λ r. ⌜ Limited settings r ⌝ }
+{
     let bound = settings.bound;
     Limits {
         operations: (settings.operations % 65536) as u16,
@@ -209,7 +214,7 @@ fn limits_of(settings: Settings) -> Limits {
 
 // A fault is the answer. An execution that ended answers 0 if nothing is open, and 1 if it was the last allowed.
 fn judge_end(path: &[u8], outcome: Outcome, len: usize, last: bool) -> Verdict
-    ensures { λ r. ⌜ Continues r last ⌝ }
+    ensures { λ r. ⌜ Judges (now (path .entry)) outcome len last r ⌝ }
 {
     if let Outcome::Stops { fault, site } = outcome {
         return Verdict::Answers(Answer::Stopped { fault, site });
@@ -231,7 +236,9 @@ fn finish(
     answer: Answer,
     begun: u64,
     cursor: Cursor,
-) -> Report {
+) -> Report
+    ensures { λ r. ⌜ Finished (now (clocks .entry)) (now (numbers .entry)) (now (path .entry)) answer begun cursor r ⌝ }
+{
     let counts = Counts {
         begun,
         opened: cursor.opened,
@@ -271,7 +278,9 @@ fn greater(x: usize, y: usize) -> usize
 }
 
 // Sets all bytes to zero.
-fn clear_all(bytes: &mut [u8]) {
+fn clear_all(bytes: &mut [u8])
+    ensures { λ _. ⌜ Empty (now (bytes .exit)) ⌝ }
+{
     let to = bytes.len();
     trace::clear(bytes, 0, to);
 }

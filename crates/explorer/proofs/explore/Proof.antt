@@ -6,7 +6,7 @@ use lib.ListN.{length}
 use borrow.Author.Tests.{not-true, not-false}
 use Rattle.rules.specs.Explored.{settingsFine}
 use Rattle.explorer.specs.Explores.{Ready, settingsOf}
-use Rattle.explorer.proofs.RefuseLaws.{refuse-settings, refuse-path, refuse-trace, refuse-header, refuse-row, ready-made, refuse-none}
+use Rattle.explorer.proofs.RefuseLaws.{refuse-settings, refuse-path, refuse-trace, refuse-header, refuse-row, ready-made, ran-ready}
 use borrow.Author.Needs.{needs}
 use Rattle.explorer.proofs.explore.Statement.{statement}
 use Rattle.explorer.proofs.explore.Tie as tie
@@ -36,7 +36,7 @@ refused-requires c κs = search needs
 
 returns : tie.Need-returns
 returns c =
-    refuse-settings _ _ _ _ _ (sym (c .before .before .settings-fine .ensures) ∙ not-true _ (c .before .if1 .taken)) (c .refused .ensures)
+    refuse-settings (c .refused .result) _ (c .before .before .before .before .before .before .args .settings) _ _ (sym (c .before .before .settings-fine .ensures) ∙ not-true _ (c .before .if1 .taken)) (c .refused .ensures)
 
 holds-requires : tie.Need-holds-requires
 holds-requires c κs = search needs
@@ -46,7 +46,7 @@ refused-requires-2 c κs = search needs
 
 returns-2 : tie.Need-returns-2
 returns-2 c =
-    refuse-path _ _ _ _ _ (fine (c .before .before .before)) (sym (c .before .before .holds .ensures) ∙ not-true _ (c .before .if2 .taken)) (c .refused2 .ensures)
+    refuse-path (c .refused2 .result) _ (c .before .before .before .before .before .before .before .before .args .settings) _ _ (fine (c .before .before .before)) (sym (c .before .before .holds .ensures) ∙ not-true _ (c .before .if2 .taken)) (c .refused2 .ensures)
 
 holds-requires-2 : tie.Need-holds-requires-2
 holds-requires-2 c κs = search needs
@@ -57,7 +57,7 @@ refused-requires-3 c κs = search needs
 returns-3 : tie.Need-returns-3
 returns-3 c =
     let held = c .before .before .before in
-    refuse-trace _ _ _ _ _ (fine (held .before .before)) (path-held held) (sym (c .before .before .holds2 .ensures) ∙ not-true _ (c .before .if3 .taken)) (c .refused3 .ensures)
+    refuse-trace (c .refused3 .result) _ (c .before .before .before .before .before .before .before .before .before .before .args .settings) _ _ (fine (held .before .before)) (path-held held) (sym (c .before .before .holds2 .ensures) ∙ not-true _ (c .before .if3 .taken)) (c .refused3 .ensures)
 
 judge-requires : tie.Need-judge-requires
 judge-requires c κs = search needs
@@ -89,19 +89,19 @@ same-length-2 c = search needs
 
 returns-4 : tie.Need-returns-4
 returns-4 c =
-    refuse-none _ _ _ _ (ready (c .before .before .before .before .before .before .before))
+    ran-ready _ (c .before .before .before .before .before .before .before .before .before .before .before .before .before .before .before .before .before .before .before .args .settings) _ _ (ready (c .before .before .before .before .before .before .before)) (c .before .before .before .before .run .result) (c .before .before .before .before .run .ensures)
 
 returns-5 : tie.Need-returns-5
 returns-5 c =
     let judge = c .before .before .before in
     let held = judge .before in
-    refuse-header _ _ _ _ _ (fine (held .before .before .before .before)) (path-held (held .before .before)) (trace-held held) _ (judge .judge .ensures) (c .before .enum-told2 .given .1) (c .refused4 .ensures)
+    refuse-header (c .refused4 .result) _ (c .before .before .before .before .before .before .before .before .before .before .before .before .before .args .settings) _ _ (fine (held .before .before .before .before)) (path-held (held .before .before)) (trace-held held) _ (judge .judge .ensures) (c .before .enum-told2 .given .1) (c .refused4 .ensures)
 
 returns-6 : tie.Need-returns-6
 returns-6 c =
     let judge = c .before .before .before .before in
     let held = judge .before in
-    refuse-row _ _ _ _ _ (fine (held .before .before .before .before)) (path-held (held .before .before)) (trace-held held) _ (judge .judge .ensures) _ _ (c .before .before .thread .given .1) (c .refused5 .ensures)
+    refuse-row (c .refused5 .result) _ (c .before .before .before .before .before .before .before .before .before .before .before .before .before .before .args .settings) _ _ (fine (held .before .before .before .before)) (path-held (held .before .before)) (trace-held held) _ (judge .judge .ensures) _ _ (c .before .before .thread .given .1) (c .refused5 .ensures)
 
 pub explore-spec : {M : Type 1} → statement M
 explore-spec =

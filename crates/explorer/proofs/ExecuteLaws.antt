@@ -1,0 +1,95 @@
+-- An execution, from the ledger that it starts with. Assumes nothing.
+--     started       the tables are those of the start
+--     executed      the ticks from there are the definition's execution
+use Prim.Native.Nat.{ℕ, _+_, _*_, _≤_, _<_}
+use mathlib.Core.List.{List, []}
+use mathlib.Core.Bool.{Bool, true, and-eq-true-iff}
+use mathlib.Core.Path.{_≡_, refl, sym, ap, subst, _∙_}
+use native.Mathlib.Omega.{arith}
+use lib.ListN.{length, getD}
+use borrow.Author.Tests.{leb-true}
+use Rattle.rules.specs.State.{State, Clocks, Marks, Values, Numbers}
+use Rattle.rules.specs.Table.{threadsOf, cellsOf}
+use Rattle.rules.specs.Machine as machine
+use Rattle.rules.specs.Explorer as explorer
+use Rattle.rules.specs.Explorer.{Walk, Ledger, Tick}
+use Rattle.rules.specs.Explored.{ticksOf, settingsFine}
+use Rattle.layout.specs.Tables.{state}
+use Rattle.path.specs.Bounds.{boundOf}
+use Rattle.path.specs.declared.Bound.{Bound}
+use Rattle.trace.proofs.FrontLaws.{front-none}
+use Rattle.walk.specs.Walks.{Lent, lent, Stands, Comes, Runs, Gone}
+use Rattle.walk.specs.declared.Cursor.{Cursor}
+use Rattle.walk.specs.declared.Limits.{Limits}
+use Rattle.walk.specs.declared.Ticked.{Ticked}
+use Rattle.explorer.specs.Explores.{Ready, settingsOf}
+use Rattle.explorer.specs.Runs.{mostOpened, Afresh, Limited, Shaped, Started, Knows, Walks, Executes, programOf, limitsOf, machineOf}
+use Rattle.explorer.specs.declared.Settings.{Settings}
+use Rattle.explorer.proofs.ReadyLaws.{ready-header, ready-threads, ready-cells}
+
+pub started : (clocks : Clocks) (marks : Marks) (values : Values) (numbers : Numbers) (table shape : List ℕ) (exploring : Bool) (threads cells : ℕ)
+    → threads ≡ getD shape 0 0 → cells ≡ getD shape 1 0
+    → ((p : machine.Program) → p .table ≡ table → p .exploring ≡ exploring → threadsOf (p .table) ≡ threads → cellsOf (p .table) ≡ cells → state clocks marks values numbers ≡ machine.start p)
+    → Started clocks marks values numbers table shape exploring
+started clocks marks values numbers table shape exploring threads cells e f h s path trace shaped explores =
+    h (programOf table s) refl explores
+    (sym (e ∙ ready-threads (shaped .ready) (shaped .is-shape)))
+    (sym (f ∙ ready-cells (shaped .ready) (shaped .is-shape)))
+
+module _ (table shape : List ℕ) (s : Settings) (path trace : List ℕ) (shaped : Shaped table shape s path trace) where
+  in-range : (s .branches ≤ 1024) × (s .operations ≤ 4096)
+  unfolding settingsFine
+  in-range = let f = simp and-eq-true-iff at (shaped .ready .in-range) in omega (arith, leb-true)
+
+  same-operations : {limits : Limits} → Limited s limits → limits .operations ≡ s .operations
+  same-operations l = l .operations (omega (arith, in-range))
+
+  runs-so : {limits : Limits} → Limited s limits → Runs (programOf table s) (limitsOf s) table shape limits path trace
+  runs-so l =
+      record {
+        is-table = refl;
+        header = ready-header (shaped .ready);
+        is-shape = shaped .is-shape;
+        operations = sym (same-operations l);
+        rows = sym (same-operations l);
+        branches = sym (shaped .ready .path-long);
+        few = omega (arith, in-range);
+        room = sym (shaped .ready .trace-long);
+        is-bound = ap boundOf (sym (l .bound));
+      }
+
+  fresh-stands : {clocks : Clocks} {marks : Marks} {values : Values} {numbers : Numbers} {c d : Cursor} (l : Ledger)
+      → state clocks marks values numbers ≡ machine.start (programOf table s) → Afresh c d → Knows path c l
+      → Stands (lent clocks marks values numbers path trace) d (explorer.fresh (machineOf table s) (limitsOf s) (explorer.oneBegun (machineOf table s) (limitsOf s) l))
+  fresh-stands l e a k =
+      record {
+        is-state = sym e;
+        holds = k .holds;
+        is-len = k .is-len ∙ sym (a .same-len);
+        is-opened = k .is-opened ∙ sym (a .same-opened);
+        is-pos = sym (a .first);
+        front = front-none trace;
+        is-entries = sym (a .empty);
+      }
+
+  execution-is : (l : Ledger) {n : ℕ} → n ≡ s .operations
+      → explorer.walked (machineOf table s) (limitsOf s) (ticksOf n) (explorer.fresh (machineOf table s) (limitsOf s) (explorer.oneBegun (machineOf table s) (limitsOf s) l)) ≡ explorer.execution (machineOf table s) (limitsOf s) l
+  unfolding explorer.execution
+  execution-is l e = rw e refl
+
+module _ (table shape : List ℕ) (s : Settings) (c d : Cursor) (path trace : List ℕ) (entry exit : Lent) (limits : Limits) (r : Ticked)
+    (same-path : entry .path ≡ path) (same-trace : entry .trace ≡ trace) where
+  pub executed : {clocks : Clocks} {marks : Marks} {values : Values} {numbers : Numbers}
+      → Started clocks marks values numbers table shape (s .exploring) → Limited s limits → Afresh c d
+      → Walks (lent clocks marks values numbers path trace) exit table shape limits d r → Executes entry exit table shape s c r
+  executed starts l a w =
+      record {
+        comes = λ m shaped' knows.
+            let shaped : Shaped table shape s path trace = rw (same-path, same-trace) at shaped' in
+            subst (λ (y : Tick State). Comes (r .outcome) (r .cursor) exit y)
+            (execution-is table shape s path trace shaped m (same-operations table shape s path trace shaped l))
+            (w .comes (programOf table s) (limitsOf s) _ (runs-so table shape s path trace shaped l)
+            (fresh-stands table shape s path trace shaped m (starts s path trace shaped refl) a (rw same-path at knows)));
+        gone = record { placed = w .gone .placed; few = omega (arith, w .gone .few, a .same-opened) };
+        beyond = λ i h. w .beyond i h ∙ ap (λ (b : List ℕ). getD b i 0) (sym same-trace);
+      }

@@ -1,0 +1,44 @@
+use Rattle.explorer.proofs.ExecuteLaws.{started}
+use borrow.Author.Needs.{needs}
+use Rattle.explorer.proofs.run.start_anew.Statement.{statement}
+use Rattle.explorer.proofs.run.start_anew.Tie as tie
+use Rattle.explorer.proofs.run.start_anew.Reads as reads
+use Rattle.explorer.proofs.run.start_anew.Lts as lts
+use Rattle.layout.proofs.wide16.Reads as wide16-reads
+use Rattle.start.proofs.start.Reads as start-reads
+
+-- src/run.rt:142:26
+element-copy-out-wide16 : tie.Need-element-copy-out-wide16
+element-copy-out-wide16 c = search needs
+
+-- src/run.rt:142:9
+wide16-requires : tie.Need-wide16-requires
+wide16-requires c κs = search needs
+
+-- src/run.rt:143:24
+element-copy-out-wide16-2 : tie.Need-element-copy-out-wide16-2
+element-copy-out-wide16-2 c = search needs
+
+-- src/run.rt:143:9
+wide16-requires-2 : tie.Need-wide16-requires-2
+wide16-requires-2 c κs = search needs
+
+-- src/run.rt:144:5
+start-requires : tie.Need-start-requires
+start-requires c κs = search needs
+
+-- src/run.rt:130:1
+returns : tie.Need-returns
+returns c =
+    started _ _ _ _ _ _ _ _ _ (c .before .before .before .before .before .before .before .wide16 .ensures .same) (c .before .before .before .before .before .wide162 .ensures .same) (c .start .ensures)
+
+pub start-anew-spec : {M : Type 1} → statement M
+start-anew-spec =
+    tie.close
+    (tie.spec
+    element-copy-out-wide16
+    wide16-requires
+    element-copy-out-wide16-2
+    wide16-requires-2
+    start-requires
+    returns)
