@@ -62,8 +62,8 @@ take-same n xs ys e h =
     ext-getD 0 (take n xs) (take n ys)
     (length-take n xs ∙ ap (min n) e ∙ sym (length-take n ys))
     (λ i l.
-        let below : i < n = omega (arith, length-take n xs) in
-        getD-take n xs i 0 below ∙ h i below ∙ sym (getD-take n ys i 0 below))
+    let below : i < n = omega (arith, length-take n xs) in
+    getD-take n xs i 0 below ∙ h i below ∙ sym (getD-take n ys i 0 below))
 
 -- what is cleared past the entries leaves them as they are
 front-left : {entry exit : List ℕ} {from to : ℕ} (es : List Entry) → Cleared entry exit from to → 16 * length es ≡ from → Front entry es → Front exit es
@@ -228,12 +228,12 @@ module _ (table : List ℕ) (s : Settings) where
         let is : whole ≡ stopped = rest-is ∙ from-stops after-it ledger past stopped (rw (sym last-is) (g .is)) in
         let its-begun : w .ledger .begun ≡ begun + 1 = ap (λ (u : Walk State). u .ledger .begun) (sym (g .left)) ∙ begun-is in
         let reports : reportOf report ≡ reported stopped =
-            finished (w .ledger .path) (exit .marks) (exit .values) (g .stands .holds) (g .stands .is-len)
-            ∙ (cc (g .stands .is-opened, g .stands .is-state, its-begun, ran-reported a stopped (g .fits))) in
+        finished (w .ledger .path) (exit .marks) (exit .values) (g .stands .holds) (g .stands .is-len)
+        ∙ (cc (g .stands .is-opened, g .stands .is-state, its-begun, ran-reported a stopped (g .fits))) in
         let from : 16 * length (w .trace) ≡ 16 * r .cursor .entries = omega (arith, g .stands .is-entries) in
         let traces : trace' ≡ noted (length trace') (w .trace) =
-            front-noted trace' (w .trace) (front-left (w .trace) cleared from (g .stands .front))
-            (λ i h. zero-past i (omega (arith, from)) greater cleared) in
+        front-noted trace' (w .trace) (front-left (w .trace) cleared from (g .stands .front))
+        (λ i h. zero-past i (omega (arith, from)) greater cleared) in
         ran-made path trace stopped is report reports
         (g .stands .holds .same ∙ ap (λ (n : ℕ). written n (w .ledger .path)) long)
         (traces ∙ ap (λ (n : ℕ). noted n (w .trace)) (cleared .long ∙ traced))

@@ -179,4 +179,3 @@ left-stands x c code.Ends (faulted g s w) h = absurd h
 left-stands x c (code.Stops f s) (goes w) h = absurd h
 left-stands x c (code.Stops f s) (over w) h = absurd h
 left-stands x c (code.Stops f s) (faulted g there w) h = h .stands
-

@@ -5,3 +5,4 @@ pub mod WalkedLaws
 pub mod ExecuteLaws
 pub mod JudgeLaws
 pub mod EndLaws
+pub mod Same

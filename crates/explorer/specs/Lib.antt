@@ -1,2 +1,3 @@
 pub mod Explores
 pub mod Runs
+pub mod Same

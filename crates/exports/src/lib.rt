@@ -1,6 +1,10 @@
 // The entry for Rust and C: numbers and slices only, so that no struct's layout crosses.
 ghost use mathlib.Core.Path.{_≡_};
+ghost use Prim.Native.Nat.{_≤_};
 ghost use lib.ListN.{length};
+ghost use Rattle.path.specs.Bounds.{boundOf};
+ghost use Rattle.report.specs.Answers.{reportOf, summaryOf, summariesOf};
+ghost use Rattle.exports.specs.Entry.{numbersOf, fourOf, summaryNumbers, boundFor, entered, left};
 use explorer::Settings;
 use path::Bound;
 use report::Report;
@@ -25,7 +29,9 @@ pub extern "C" fn chjirvollu_explore(
     path: &mut [u8],
     trace: &mut [u8],
     report: &mut [u64],
-) -> u64 {
+) -> u64
+    ensures { λ r. ⌜ left r (now (path .exit)) (now (trace .exit)) (now (report .exit)) ≡ entered (now (table .entry)) branches operations executions bound exploring (now (path .entry)) (now (trace .entry)) (now (report .entry)) ⌝ }
+{
     if 256 < bound {
         return NO_RUN;
     }
@@ -51,7 +57,10 @@ pub extern "C" fn chjirvollu_explore(
 }
 
 // The bound that a number stands for: 256 is none.
-fn bound_of(number: u64) -> Bound {
+fn bound_of(number: u64) -> Bound
+    requires { ⌜ number ≤ 256 ⌝ }
+    ensures { λ r. ⌜ boundOf r ≡ boundFor number ⌝ }
+{
     if 255 < number {
         return Bound::Unbounded;
     }
@@ -59,10 +68,13 @@ fn bound_of(number: u64) -> Bound {
 }
 
 // The report as numbers: the answer, the counts, the place, the race, and each thread's summary.
-fn numbers(done: Report) -> [u64; 29] {
+fn numbers(done: Report) -> [u64; NUMBERS]
+    ensures { λ r. ⌜ r ≡ numbersOf (reportOf done) ⌝ }
+{
     let answer = done.answer;
     let threads = done.threads;
-    let head = [
+    let t = summaries(threads);
+    [
         report::number(answer),
         done.begun,
         done.opened,
@@ -72,34 +84,80 @@ fn numbers(done: Report) -> [u64; 29] {
         done.row,
         report::race_kind(answer),
         report::other_thread(answer),
-    ];
-    let mut out = [0u64; 29];
-    let mut i = 0;
-    while i < 9 {
-        out[i] = head[i];
-        i += 1;
-    }
-    with_threads(out, threads)
+        t[0],
+        t[1],
+        t[2],
+        t[3],
+        t[4],
+        t[5],
+        t[6],
+        t[7],
+        t[8],
+        t[9],
+        t[10],
+        t[11],
+        t[12],
+        t[13],
+        t[14],
+        t[15],
+        t[16],
+        t[17],
+        t[18],
+        t[19],
+    ]
 }
 
-fn with_threads(mut out: [u64; 29], threads: [ThreadRecord; 5]) -> [u64; 29] {
-    let mut t = 0;
-    while t < 5 {
-        let thread = threads[t];
-        out[9 + 4 * t] = thread.state as u64;
-        out[10 + 4 * t] = thread.rows as u64;
-        out[11 + 4 * t] = thread.yields as u64;
-        out[12 + 4 * t] = thread.version as u64;
-        t += 1;
-    }
-    out
+// Those of the five threads.
+fn summaries(threads: [ThreadRecord; 5]) -> [u64; 20]
+    ensures { λ r. ⌜ (r ≡ summaryNumbers (summariesOf threads)) × (length r ≡ 20) ⌝ }
+{
+    let a = summary(threads[0]);
+    let b = summary(threads[1]);
+    let c = summary(threads[2]);
+    let d = summary(threads[3]);
+    let e = summary(threads[4]);
+    [
+        a[0],
+        a[1],
+        a[2],
+        a[3],
+        b[0],
+        b[1],
+        b[2],
+        b[3],
+        c[0],
+        c[1],
+        c[2],
+        c[3],
+        d[0],
+        d[1],
+        d[2],
+        d[3],
+        e[0],
+        e[1],
+        e[2],
+        e[3],
+    ]
 }
 
-fn write_numbers(report: &mut [u64], numbers: [u64; 29])
+// One thread's: its state, rows begun, yields and version.
+fn summary(thread: ThreadRecord) -> [u64; 4]
+    ensures { λ r. ⌜ r ≡ fourOf (summaryOf thread) ⌝ }
+{
+    [
+        thread.state as u64,
+        thread.rows as u64,
+        thread.yields as u64,
+        thread.version as u64,
+    ]
+}
+
+fn write_numbers(report: &mut [u64], numbers: [u64; NUMBERS])
     requires { ⌜ length (now report) ≡ 29 ⌝ }
+    ensures { λ _. ⌜ now (report .exit) ≡ numbers ⌝ }
 {
     let mut i = 0;
-    while i < 29 {
+    while i < NUMBERS {
         report[i] = numbers[i];
         i += 1;
     }

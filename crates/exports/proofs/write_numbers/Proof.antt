@@ -1,18 +1,20 @@
 use borrow.Author.Needs.{needs}
-use Prim.Native.Nat.{_≤_, _-_}
-use mathlib.Core.Path.{_≡_}
-use lib.ListN.{length}
+use Prim.Native.Nat.{ℕ, _≤_, _-_}
+use mathlib.Core.Path.{_≡_, refl, subst}
+use native.Mathlib.Omega.{arith}
+use lib.ListN.{length, length-set}
+use Rattle.exports.proofs.EntryLaws.{Begins, copied-more, copied-all}
 use Rattle.exports.proofs.write_numbers.Statement.{statement}
 use Rattle.exports.proofs.write_numbers.Tie as tie
 
 abbrev Inv-loop : tie.InvT-loop
-Inv-loop report₀ numbers i₀ report i = (i ≤ 29) × (length report ≡ length report₀)
+Inv-loop report₀ numbers i₀ report i = (i ≤ 29) × (length report ≡ length report₀) × Begins report numbers i
 
 abbrev μ-loop : tie.MeasureT-loop
 μ-loop report₀ numbers i₀ report i = 29 - i
 
 loop-holds : tie.Need-loop-holds Inv-loop μ-loop
-loop-holds c = search needs
+loop-holds c = (omega arith, refl, λ j h. absurd (omega (arith, h)))
 
 mul-report : tie.Need-mul-report Inv-loop μ-loop
 mul-report c = search needs
@@ -33,13 +35,19 @@ loop-less : tie.Need-loop-less Inv-loop μ-loop
 loop-less c = search needs
 
 loop-again : tie.Need-loop-again Inv-loop μ-loop
-loop-again c = search needs
+loop-again c =
+    let inv = c .before .loop .inv in
+    (omega (arith, c .loop-test .taken), simp length-set (inv .1), copied-more (c .before .loop .report) (c .before .before .args .t2) (c .before .loop .i) (omega (arith, c .loop-test .taken, inv .1, c .before .before .pre)) (inv .2))
 
 same-length : tie.Need-same-length Inv-loop μ-loop
 same-length c = search needs
 
 returns : tie.Need-returns Inv-loop μ-loop
-returns c = search needs
+returns c =
+    let inv = c .before .loop .inv in
+    let n : c .before .loop .i ≡ 29 = omega (arith, inv .0, c .loop-test .left) in
+    let long : length (c .before .before .args .t2) ≡ 29 = search needs in
+    copied-all _ _ 29 (omega (arith, inv .1, c .before .before .pre)) long (subst (λ (k : ℕ). Begins (c .before .loop .report) (c .before .before .args .t2) k) n (inv .2))
 
 pub write-numbers-spec : {M : Type 1} → statement M
 write-numbers-spec =

@@ -28,7 +28,7 @@ loop-holds c =
     let start = c .before .before .before .before .before in
     let args = start .args in (
       running-none (args .table .now) (args .settings) (args .path .now) (args .trace .now) (c .nothing .result) (start .pre .0) (start .pre .1) (start .pre .2)
-      (c .nothing .ensures .0) (c .nothing .ensures .1) (omega (arith, ready-executions (start .pre .0))),
+          (c .nothing .ensures .0) (c .nothing .ensures .1) (omega (arith, ready-executions (start .pre .0))),
       refl,
       refl,
     )
@@ -113,8 +113,8 @@ loop-again c =
     let loop = c .before .before .before .before .before .before .before .before .before .before .before .before .before .before .before .before .before .before .before .before .before .before .before in
     let step = c .before .before in (
       running-more _ _ (loop .loop .inv .0) (loop .before .before .shape .ensures) _ _ refl refl (over .execute .result) (over .execute .ensures)
-      (judge .judge-end .result) (judge .judge-end .ensures) (c .before .before .before .before .enum-told .given .1) (step .step .ensures) _ refl refl (c .before .before .before .before .before .before .before .before .before .greater .ensures)
-      (omega (arith, over .execute .kept)) (omega (arith, over .execute .kept)),
+          (judge .judge-end .result) (judge .judge-end .ensures) (c .before .before .before .before .enum-told .given .1) (step .step .ensures) _ refl refl (c .before .before .before .before .before .before .before .before .before .greater .ensures)
+          (omega (arith, over .execute .kept)) (omega (arith, over .execute .kept)),
       omega (arith, step .step .kept, over .execute .kept, loop .loop .inv .1),
       omega (arith, over .execute .kept, loop .loop .inv .2),
     )

@@ -69,7 +69,7 @@ loop-again c =
     let loop = turn .before in (
       omega (arith, turn .loop-test .taken),
       ticking-more _ _ _ _ _ (loop .loop .inv .1) (tick .tick .result) (tick .tick .ensures) (c .before .enum-told .given .1)
-      (omega (arith, tick .tick .kept)) (omega (arith, tick .tick .kept)),
+          (omega (arith, tick .tick .kept)) (omega (arith, tick .tick .kept)),
     )
 
 nowhere-requires : tie.Need-nowhere-requires Inv-loop μ-loop

@@ -1,0 +1,72 @@
+-- What the entry for Rust and C is given and leaves: numbers and bytes alone. Assumes nothing.
+--     numbersOf      a report as 29 numbers
+--     settingsFor    the settings that five numbers stand for
+--     Entered        what is answered, and what the three buffers are left as
+--     entered        for any input
+use Prim.Native.Nat.{ℕ, _+_}
+use mathlib.Core.List.{List, [], _∷_, _++_}
+use mathlib.Core.Bool.{Bool, true, false, cond, not, _||_}
+use lib.Dec.{ltb, eqb}
+use lib.ListN.{length}
+use Rattle.rules.specs.Path.{Bound, unbounded, atMost}
+use Rattle.rules.specs.Explored.{Settings, Summary, Report, Explored, explored}
+use Rattle.path.specs.Bounds.{boundOf}
+use Rattle.report.specs.Answers.{reportOf}
+
+-- a thread's: state, rows begun, yields, own version
+abbrev pub fourOf : Summary → List ℕ
+fourOf s = s .state ∷ s .rows ∷ s .yields ∷ s .version ∷ []
+
+unfoldable pub summaryNumbers : List Summary → List ℕ
+summaryNumbers [] = []
+summaryNumbers (s ∷ more) = fourOf s ++ summaryNumbers more
+
+-- nine, and the threads': the answer, the counts, thread and row at fault, race kind, other thread
+abbrev pub numbersOf : Report → List ℕ
+numbersOf r =
+    r .answer
+    ∷ r .begun
+    ∷ r .opened
+    ∷ r .stillOpen
+    ∷ r .rows
+    ∷ r .thread
+    ∷ r .row
+    ∷ r .kind
+    ∷ r .other
+    ∷ summaryNumbers (r .threads)
+
+-- 0 to 255, or 256 for none
+abbrev pub boundFor : ℕ → Bound
+boundFor n = cond (ltb 255 n) unbounded (atMost n)
+
+abbrev pub settingsFor : ℕ → ℕ → ℕ → ℕ → ℕ → Settings
+settingsFor branches operations executions bound exploring = record {
+  branches = branches;
+  operations = operations;
+  executions = executions;
+  bound = boundFor bound;
+  exploring = eqb exploring 1;
+}
+
+pub record Entered : Type 0 where
+  pub answer : ℕ
+  pub path : List ℕ
+  pub trace : List ℕ
+  pub report : List ℕ
+
+-- a bound or an exploring that stands for nothing, or a report of another length than 29
+abbrev pub outOfRange : ℕ → ℕ → List ℕ → Bool
+outOfRange bound exploring report = ltb 256 bound || ltb 1 exploring || not (eqb (length report) 29)
+
+abbrev pub enteredBy : Explored → Entered
+enteredBy e = record { answer = e .report .answer; path = e .path; trace = e .trace; report = numbersOf (e .report) }
+
+-- 255, which is no answer of document 01, and nothing written; else what the definition's `explored` is, in numbers
+unfoldable pub entered : List ℕ → ℕ → ℕ → ℕ → ℕ → ℕ → List ℕ → List ℕ → List ℕ → Entered
+entered table branches operations executions bound exploring path trace report =
+    cond (outOfRange bound exploring report)
+    (record { answer = 255; path = path; trace = trace; report = report })
+    (enteredBy (explored table (settingsFor branches operations executions bound exploring) path trace))
+
+abbrev pub left : ℕ → List ℕ → List ℕ → List ℕ → Entered
+left answer path trace report = record { answer = answer; path = path; trace = trace; report = report }
