@@ -1,0 +1,1 @@
+// What a machine keeps has no code: the statements stand in specs/, their proofs in proofs/.
