@@ -9,7 +9,7 @@ use report::Answer;
 use report::Report;
 use table::Judged;
 
-pub mod run;
+mod run;
 
 // What a run is given beside its table and buffers.
 pub struct Settings {
