@@ -1,0 +1,86 @@
+-- Vectors and counts stay in range: the whole. Assumes nothing.
+--     keeps                the machine of every program that fits keeps its bounds
+--     accepted-fits        the program of an accepted table fits, with settings that are fine
+--     raised-by-one        a raise is never held back
+--     in-range             so every part of every vector, every count and every mark is in range, at every tick and at the end
+use Prim.Native.Nat.{ℕ, _+_, _≤_, _<_}
+use mathlib.Core.List.{List}
+use mathlib.Core.Bool.{true, and-eq-true-iff}
+use mathlib.Core.Path.{_≡_}
+use native.Mathlib.Omega.{arith}
+use lib.ListN.{getD, set}
+use borrow.Author.Tests.{leb-true, lt-ltb}
+use Rattle.rules.specs.Vector.{largest, raised}
+use Rattle.rules.specs.Table.{headerFine}
+use Rattle.rules.specs.Explored.{Settings, settingsFine, programOf}
+use Rattle.rules.specs.Event.{Question, whichThread, whichSlot, whichBit, Answer, runThread, readSlot, takeBit}
+use Rattle.rules.specs.State.{State, Vector, vector, number, threads, count}
+use Rattle.rules.proofs.StateLaws.{inVectors}
+use Rattle.rules.specs.Machine.{Program, machine, answered}
+use Rattle.kept.specs.Kept.{Fitting}
+use Rattle.bounds.specs.KeepsOver.{KeepsOver}
+use Rattle.bounds.specs.Bounds.{Fits, Kind, ofVersions, ofChoices, kindOf, nothing, rowsIn, Part, Holds, Asked, Over, InRange}
+use Rattle.bounds.proofs.Accesses.{few-live}
+use Rattle.bounds.proofs.Numbers.{ofAll-has}
+use Rattle.bounds.proofs.Stands.{over, opened, Ending}
+use Rattle.bounds.proofs.Moves.{next-going, thread-ending, slot-ending, spurious-ending, slot-below}
+use Rattle.bounds.proofs.Start.{start-holds}
+
+module _ (p : Program) (fits : Fits p) where
+  asked-over : (st : State) (n : ℕ) (q : Question) → Asked p st n q → Over p st n
+  asked-over st n (whichThread points initial standings) s = over st (opened st s)
+  asked-over st n (whichSlot m) s = over st (opened st (s .0 .0))
+  asked-over st n whichBit s = over st (opened st (s .0))
+
+  goes-on : (st : State) (n : ℕ) (q : Question) (a : Answer) → Asked p st n q → Fitting q a → Ending p n (answered p st a)
+  goes-on st n (whichThread points initial standings) (runThread whom at) s f = thread-ending p fits n st whom at s
+  goes-on st n (whichThread points initial standings) (readSlot slot values) s f = absurd f
+  goes-on st n (whichThread points initial standings) (takeBit bit) s f = absurd f
+  goes-on st n (whichSlot m) (runThread whom at) s f = absurd f
+  goes-on st n (whichSlot m) (readSlot slot values) s f =
+      slot-ending p fits n st slot values (slot-below m slot values (s .1) f) (s .0)
+  goes-on st n (whichSlot m) (takeBit bit) s f = absurd f
+  goes-on st n whichBit (runThread whom at) s f = absurd f
+  goes-on st n whichBit (readSlot slot values) s f = absurd f
+  goes-on st n whichBit (takeBit bit) s f = spurious-ending p fits n st bit s
+
+  -- at every tick of every execution
+  pub keeps : KeepsOver (machine p) (Holds p) (Over p) (Asked p)
+  keeps = record {
+    at-start = start-holds p fits;
+    at-next = λ st n s. next-going p fits st n s;
+    at-answer = goes-on;
+    at-question = asked-over;
+    at-tick = λ st n s. over st (opened st s);
+  }
+
+  part-below : (rows : ℕ → ℕ) (k : Kind) (u x : ℕ) → rows u ≤ p .operations → Part rows nothing nothing k u x → x < largest
+  part-below rows ofVersions u x h q = omega (arith, fits .limited)
+  part-below rows ofChoices u x h q = omega (arith, fits .limited)
+
+  pub in-range : (st : State) (n : ℕ) → Over p st n → InRange st
+  in-range st n s =
+      let rows : (u : ℕ) → u < threads → rowsIn (st .numbers) u ≤ p .operations =
+      λ u b. omega (arith, ofAll-has (rowsIn (st .numbers)) u b, s .tally .rows, s .tally .limit) in
+      record {
+        parts = λ v h u b. part-below (rowsIn (st .numbers)) (kindOf v) u _ (rows u b) (s .vectors .parts v h u b);
+        counts = λ c h. omega (arith, s .tally .counts c h, s .tally .limit, fits .limited);
+        live = λ c h. few-live (number (st .numbers) (count c));
+        marks = s .sights .marked;
+        yielded = λ u b. omega (arith, s .tally .yielded u b, rows u b, fits .limited);
+        rows = λ u b. omega (arith, rows u b, fits .limited);
+      }
+
+-- where its part is below the largest number, a thread's part of a vector is one more
+pub raised-by-one : (st : State) → InRange st → (v : Vector) → inVectors v → (t : ℕ) → t < threads →
+    raised (vector (st .clocks) v) t ≡ set (vector (st .clocks) v) t (getD (vector (st .clocks) v) t 0 + 1)
+unfolding raised
+raised-by-one st r v h t b = rw (lt-ltb (getD (vector (st .clocks) v) t 0) largest (r .parts v h t b))
+
+-- "threads 1..5, cells 1..4", "operation limit L 1..4,096"
+pub accepted-fits : (table : List ℕ) (s : Settings) → headerFine table ≡ true → settingsFine s ≡ true → Fits (programOf table s)
+unfolding headerFine settingsFine
+accepted-fits table s h f =
+    let header = simp and-eq-true-iff at h in
+    let settings = simp and-eq-true-iff at f in
+    record { few = omega (arith, leb-true); held = omega (arith, leb-true); limited = omega (arith, leb-true) }
