@@ -1,0 +1,257 @@
+-- Demand 1: which of document 01's answers is given, and what is left. Assumes nothing.
+--     Case, whichCase     the checks of `explored`, one after another, and what it then is
+--     not-refusal         a verdict is no refusal
+--     answered            demand 1
+use Prim.Native.Nat.{ℕ, _+_, _*_, _≤_, _<_}
+use mathlib.Core.List.{List, []}
+use mathlib.Core.Bool.{Bool, true, false, cond}
+use mathlib.Core.Path.{_≡_, refl, sym, ap, _∙_}
+use mathlib.Core.Logic.{_≢_}
+use native.Mathlib.Omega.{arith}
+use lib.Dec.{leb, eqb}
+use lib.ListN.{length, getD}
+use borrow.Author.Tests.{eqb-true, eqb-false, le-leb, lt-leb, leb-true}
+use Rattle.rules.specs.Path.{written, recordBytes}
+use Rattle.rules.specs.Table as Table
+use Rattle.rules.specs.Table.{judged, good, badHeader, badRow}
+use Rattle.rules.specs.Event as Event
+use Rattle.rules.specs.Event.{Fault, Site}
+use Rattle.rules.specs.Explorer.{Verdict, exhausted, spent, stopped}
+use Rattle.rules.specs.Explored.{Settings, Explored, explored, refused, ran, reported, isRefusal, settingsFine, stopOf, noted, verdictNumber}
+use Rattle.rules.proofs.ExploredLaws.{explored-2, explored-3, explored-4, explored-5-header, explored-5-row, explored-ran}
+use Rattle.offers.specs.Offered.{Among}
+use Rattle.demands.specs.Demands.{Answered, Exactly, inRange, pathFits, traceFits, it, report, run, theAnswers}
+
+-- A verdict's number
+
+pub data Numbered (n : ℕ) : Type 0 where
+  ended : n ≤ 1 → Numbered n
+  faulty : 10 ≤ n → Numbered n
+
+pub numbered : (v : Verdict) → Numbered (verdictNumber v)
+numbered exhausted = ended (omega arith)
+numbered spent = ended (omega arith)
+numbered (stopped Event.deadlock site) = faulty (omega arith)
+numbered (stopped Event.full site) = faulty (omega arith)
+numbered (stopped Event.rows site) = faulty (omega arith)
+numbered (stopped Event.equalOrders site) = faulty (omega arith)
+numbered (stopped (Event.race k t) site) = faulty (omega arith)
+numbered (stopped Event.check site) = faulty (omega arith)
+numbered (stopped Event.flags site) = faulty (omega arith)
+numbered (stopped Event.preemptions site) = faulty (omega arith)
+numbered (stopped Event.impossible site) = faulty (omega arith)
+
+no-refusal : (n : ℕ) → Numbered n → isRefusal n ≡ false
+no-refusal n (ended h) = rw (lt-leb 2 n (omega arith)) refl
+no-refusal n (faulty h) = rw (le-leb 2 n (omega arith), lt-leb n 5 (omega arith)) refl
+
+pub not-refusal : (v : Verdict) → isRefusal (verdictNumber v) ≡ false
+not-refusal v = no-refusal (verdictNumber v) (numbered v)
+
+among-answers : (v : Verdict) → ((site : Site) → v ≡ stopped Event.impossible site → ⊥) → Among (verdictNumber v) theAnswers
+among-answers exhausted h = (0, omega arith, refl)
+among-answers spent h = (1, omega arith, refl)
+among-answers (stopped Event.deadlock site) h = (6, omega arith, refl)
+among-answers (stopped Event.full site) h = (7, omega arith, refl)
+among-answers (stopped Event.rows site) h = (8, omega arith, refl)
+among-answers (stopped Event.equalOrders site) h = (9, omega arith, refl)
+among-answers (stopped (Event.race k t) site) h = (10, omega arith, refl)
+among-answers (stopped Event.check site) h = (11, omega arith, refl)
+among-answers (stopped Event.flags site) h = (12, omega arith, refl)
+among-answers (stopped Event.preemptions site) h = (13, omega arith, refl)
+among-answers (stopped Event.impossible site) h = absurd (h site refl)
+
+-- How a table is judged
+
+abbrev sort : Table.Verdict → ℕ
+sort good = 0
+sort badHeader = 1
+sort (badRow t k) = 2
+
+abbrev place : Table.Verdict → ℕ × ℕ
+place good = (0, 0)
+place badHeader = (0, 0)
+place (badRow t k) = (t, k)
+
+true-false : {b : Bool} → b ≡ true → b ≡ false → ⊥
+true-false {b} e f = let z : _≡_ {A = ℕ} 1 0 = ap (λ (x : Bool). cond x 1 0) (sym e ∙ f) in omega arith
+
+another : {j k l : Table.Verdict} → j ≡ k → j ≡ l → (sort k ≡ sort l → ⊥) → ⊥
+another e f h = h (ap sort (sym e ∙ f))
+
+same-row : {t k u l : ℕ} → badRow t k ≡ badRow u l → (t ≡ u) × (k ≡ l)
+same-row e = (ap (λ (j : Table.Verdict). place j .0) e, ap (λ (j : Table.Verdict). place j .1) e)
+
+module _ (table : List ℕ) (s : Settings) (path trace : List ℕ) where
+  abbrev whole : Explored
+  whole = it table s path trace
+
+  abbrev fine : Type 0
+  fine = inRange table s path trace
+
+  abbrev pathy : Type 0
+  pathy = pathFits table s path trace
+
+  abbrev tracy : Type 0
+  tracy = traceFits table s path trace
+
+  pub data Case : Type 0 where
+    badSettings : settingsFine s ≡ false → whole ≡ refused 2 255 255 path trace → Case
+    badPath : fine → (pathy → ⊥) → whole ≡ refused 3 255 255 path trace → Case
+    badTrace : fine → pathy → (tracy → ⊥) → whole ≡ refused 4 255 255 path trace → Case
+    badTable : fine → pathy → tracy → (t k : ℕ) → judged table ≢ good → (judged table ≡ badHeader → (t ≡ 255) × (k ≡ 255))
+        → ((u l : ℕ) → judged table ≡ badRow u l → (t ≡ u) × (k ≡ l)) → whole ≡ refused 5 t k path trace → Case
+    runs : fine → pathy → tracy → judged table ≡ good → whole ≡ ran (length path) (length trace) (stopOf table s) → Case
+
+  pub whichCase : Case
+  whichCase = bySettings (settingsFine s) refl
+    where
+      byTable : fine → pathy → tracy → (j : Table.Verdict) → judged table ≡ j → Case
+      byTable a b c badHeader e =
+          badTable a b c 255 255 (λ f. another e f (λ (z : _≡_ {A = ℕ} 1 0). omega arith)) (λ f. (refl, refl)) (λ u l f. absurd (another e f (λ (z : _≡_ {A = ℕ} 1 2). omega arith))) (explored-5-header table s path trace a b c e)
+      byTable a b c (badRow t k) e =
+          badTable a b c t k (λ f. another e f (λ (z : _≡_ {A = ℕ} 2 0). omega arith)) (λ f. absurd (another e f (λ (z : _≡_ {A = ℕ} 2 1). omega arith))) (λ u l f. same-row (sym e ∙ f)) (explored-5-row table s path trace a b c t k e)
+      byTable a b c good e = runs a b c e (explored-ran table s path trace a b c e)
+
+      byTrace : fine → pathy → (x : Bool) → eqb (length trace) (recordBytes * s .operations) ≡ x → Case
+      byTrace a b true e = byTable a b (eqb-true (length trace) (recordBytes * s .operations) e) (judged table) refl
+      byTrace a b false e =
+          let n = eqb-false (length trace) (recordBytes * s .operations) e in badTrace a b n (explored-4 table s path trace a b n)
+
+      byPath : fine → (x : Bool) → eqb (length path) (recordBytes * s .branches) ≡ x → Case
+      byPath a true e =
+          byTrace a (eqb-true (length path) (recordBytes * s .branches) e) (eqb (length trace) (recordBytes * s .operations)) refl
+      byPath a false e = let n = eqb-false (length path) (recordBytes * s .branches) e in badPath a n (explored-3 table s path trace a n)
+
+      bySettings : (x : Bool) → settingsFine s ≡ x → Case
+      bySettings true e = byPath e (eqb (length path) (recordBytes * s .branches)) refl
+      bySettings false e = badSettings e (explored-2 table s path trace e)
+
+  -- the answer of each
+  refused-number : (n t k : ℕ) → whole ≡ refused n t k path trace → (report table s path trace .answer ≡ n) × (report table s path trace .thread ≡ t) × (report table s path trace .row ≡ k)
+  unfolding refused
+  refused-number n t k e =
+      (ap (λ (x : Explored). x .report .answer) e, ap (λ (x : Explored). x .report .thread) e, ap (λ (x : Explored). x .report .row) e)
+
+  pub ran-number : whole ≡ ran (length path) (length trace) (stopOf table s) → report table s path trace .answer ≡ verdictNumber (run table s path trace .verdict)
+  unfolding ran reported
+  ran-number e = ap (λ (x : Explored). x .report .answer) e
+
+  -- a run's number is none of the refusals'
+  ran-not : (n : ℕ) → 2 ≤ n → n ≤ 5 → whole ≡ ran (length path) (length trace) (stopOf table s) → report table s path trace .answer ≢ n
+  ran-not n h k e f = go (numbered (run table s path trace .verdict))
+    where
+      go : Numbered (verdictNumber (run table s path trace .verdict)) → ⊥
+      go (ended l) = omega (arith, ran-number e)
+      go (faulty l) = omega (arith, ran-number e)
+
+  refused-as : (n t k : ℕ) → whole ≡ refused n t k path trace → whole ≡ refused (report table s path trace .answer) (report table s path trace .thread) (report table s path trace .row) path trace
+  refused-as n t k e = let z = refused-number n t k e in e ∙ (cc (z .0, z .1, z .2))
+
+  -- Which reason an answer has
+
+  abbrev answer : ℕ
+  answer = report table s path trace .answer
+
+  differs : (n m t k : ℕ) → whole ≡ refused m t k path trace → (n ≡ m → ⊥) → answer ≡ n → ⊥
+  differs n m t k e h f = h (sym f ∙ refused-number m t k e .0)
+
+  two-only : Case → answer ≡ 2 → settingsFine s ≡ false
+  two-only (badSettings f e) h = f
+  two-only (badPath a b e) h = absurd (differs 2 3 255 255 e (λ z. omega (arith, z)) h)
+  two-only (badTrace a b c e) h = absurd (differs 2 4 255 255 e (λ z. omega (arith, z)) h)
+  two-only (badTable a b c t k d u v e) h = absurd (differs 2 5 t k e (λ z. omega (arith, z)) h)
+  two-only (runs a b c d e) h = absurd (ran-not 2 (omega arith) (omega arith) e h)
+
+  three-only : Case → answer ≡ 3 → fine × (pathy → ⊥)
+  three-only (badSettings f e) h = absurd (differs 3 2 255 255 e (λ z. omega (arith, z)) h)
+  three-only (badPath a b e) h = (a, b)
+  three-only (badTrace a b c e) h = absurd (differs 3 4 255 255 e (λ z. omega (arith, z)) h)
+  three-only (badTable a b c t k d u v e) h = absurd (differs 3 5 t k e (λ z. omega (arith, z)) h)
+  three-only (runs a b c d e) h = absurd (ran-not 3 (omega arith) (omega arith) e h)
+
+  four-only : Case → answer ≡ 4 → fine × pathy × (tracy → ⊥)
+  four-only (badSettings f e) h = absurd (differs 4 2 255 255 e (λ z. omega (arith, z)) h)
+  four-only (badPath a b e) h = absurd (differs 4 3 255 255 e (λ z. omega (arith, z)) h)
+  four-only (badTrace a b c e) h = (a, b, c)
+  four-only (badTable a b c t k d u v e) h = absurd (differs 4 5 t k e (λ z. omega (arith, z)) h)
+  four-only (runs a b c d e) h = absurd (ran-not 4 (omega arith) (omega arith) e h)
+
+  pub record Bad : Type 0 where
+    pub first : fine × pathy × tracy × (judged table ≢ good)
+    pub header : judged table ≡ badHeader → (report table s path trace .thread ≡ 255) × (report table s path trace .row ≡ 255)
+    pub row : (t k : ℕ) → judged table ≡ badRow t k → (report table s path trace .thread ≡ t) × (report table s path trace .row ≡ k)
+
+  five-only : Case → answer ≡ 5 → Bad
+  five-only (badSettings f e) h = absurd (differs 5 2 255 255 e (λ z. omega (arith, z)) h)
+  five-only (badPath a b e) h = absurd (differs 5 3 255 255 e (λ z. omega (arith, z)) h)
+  five-only (badTrace a b c e) h = absurd (differs 5 4 255 255 e (λ z. omega (arith, z)) h)
+  five-only (badTable a b c t k d u v e) h =
+      let n = refused-number 5 t k e in
+      record { first = (a, b, c, d); header = λ f. (n .1 ∙ u f .0, n .2 ∙ u f .1); row = λ x y f. (n .1 ∙ v x y f .0, n .2 ∙ v x y f .1) }
+  five-only (runs a b c d e) h = absurd (ran-not 5 (omega arith) (omega arith) e h)
+
+  five-whenever : Case → fine × pathy × tracy × (judged table ≢ good) → answer ≡ 5
+  five-whenever (badSettings f e) h = absurd (true-false (h .0) f)
+  five-whenever (badPath a b e) h = absurd (b (h .1))
+  five-whenever (badTrace a b c e) h = absurd (c (h .2))
+  five-whenever (badTable a b c t k d u v e) h = refused-number 5 t k e .0
+  five-whenever (runs a b c d e) h = absurd (h .3 d)
+
+  refuses : Case → isRefusal answer ≡ true → whole ≡ refused answer (report table s path trace .thread) (report table s path trace .row) path trace
+  refuses (badSettings f e) h = refused-as 2 255 255 e
+  refuses (badPath a b e) h = refused-as 3 255 255 e
+  refuses (badTrace a b c e) h = refused-as 4 255 255 e
+  refuses (badTable a b c t k d u v e) h = refused-as 5 t k e
+  refuses (runs a b c d e) h = absurd (true-false h (ap isRefusal (ran-number e) ∙ not-refusal (run table s path trace .verdict)))
+
+  -- what a run has passed, and what it then is
+  pub record Ran : Type 0 where
+    pub range : fine
+    pub path-long : pathy
+    pub trace-long : tracy
+    pub accepted : judged table ≡ good
+    pub is : whole ≡ ran (length path) (length trace) (stopOf table s)
+
+  is-no-refusal : (n t k : ℕ) → 2 ≤ n → n ≤ 5 → whole ≡ refused n t k path trace → isRefusal answer ≡ false → ⊥
+  is-no-refusal n t k h l e f =
+      true-false (ap isRefusal (refused-number n t k e .0) ∙ rw (le-leb 2 n h, le-leb n 5 l) refl) f
+
+  ran-by : Case → isRefusal answer ≡ false → Ran
+  ran-by (badSettings f e) h = absurd (is-no-refusal 2 255 255 (omega arith) (omega arith) e h)
+  ran-by (badPath a b e) h = absurd (is-no-refusal 3 255 255 (omega arith) (omega arith) e h)
+  ran-by (badTrace a b c e) h = absurd (is-no-refusal 4 255 255 (omega arith) (omega arith) e h)
+  ran-by (badTable a b c t k d u v e) h = absurd (is-no-refusal 5 t k (omega arith) (omega arith) e h)
+  ran-by (runs a b c d e) h = record { range = a; path-long = b; trace-long = c; accepted = d; is = e }
+
+  pub has-run : isRefusal answer ≡ false → Ran
+  has-run = ran-by whichCase
+
+  among-by : Case → ((r : Ran) (site : Site) → run table s path trace .verdict ≡ stopped Event.impossible site → ⊥) → Among answer theAnswers
+  among-by (badSettings f e) h = (2, omega arith, sym (refused-number 2 255 255 e .0))
+  among-by (badPath a b e) h = (3, omega arith, sym (refused-number 3 255 255 e .0))
+  among-by (badTrace a b c e) h = (4, omega arith, sym (refused-number 4 255 255 e .0))
+  among-by (badTable a b c t k d u v e) h = (5, omega arith, sym (refused-number 5 t k e .0))
+  among-by (runs a b c d e) h =
+      let r : Ran = record { range = a; path-long = b; trace-long = c; accepted = d; is = e } in
+      rw (ran-number e) (among-answers (run table s path trace .verdict) (h r))
+
+  left-by : whole ≡ ran (length path) (length trace) (stopOf table s)
+      → (whole .path ≡ written (length path) (run table s path trace .walk .ledger .path)) × (whole .trace ≡ noted (length trace) (run table s path trace .walk .trace))
+  unfolding ran
+  left-by e = (ap (λ (x : Explored). x .path) e, ap (λ (x : Explored). x .trace) e)
+
+  -- where a run that has passed the checks is never impossible
+  pub answered : ((r : Ran) (site : Site) → run table s path trace .verdict ≡ stopped Event.impossible site → ⊥) → Answered table s path trace
+  answered never =
+      record {
+        one = among-by whichCase never;
+        two = record { only = two-only whichCase; whenever = λ f. refused-number 2 255 255 (explored-2 table s path trace f) .0 };
+        three = record { only = three-only whichCase; whenever = λ f. refused-number 3 255 255 (explored-3 table s path trace (f .0) (f .1)) .0 };
+        four = record { only = four-only whichCase; whenever = λ f. refused-number 4 255 255 (explored-4 table s path trace (f .0) (f .1) (f .2)) .0 };
+        five = record { only = λ h. five-only whichCase h .first; whenever = five-whenever whichCase };
+        header = λ h. five-only whichCase h .header;
+        row = λ h. five-only whichCase h .row;
+        leaves = refuses whichCase;
+        ran = λ h. left-by (has-run h .is);
+      }

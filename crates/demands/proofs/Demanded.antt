@@ -1,0 +1,259 @@
+-- Demand 3, and all of it, by citing. Assumes nothing.
+--     demanded      the page
+use Prim.Native.Nat.{ℕ, _+_, _-_, _*_, _≤_, _<_}
+use mathlib.Core.List.{List, [], _∷_, map, Perm}
+use mathlib.Core.Bool.{Bool, true, false, and-eq-true-iff}
+use mathlib.Core.Path.{_≡_, refl, sym, ap, subst, _∙_}
+use native.Mathlib.Omega.{arith}
+use lib.ListN.{length, getD, length-map}
+use borrow.Author.Tests.{leb-true}
+use Rattle.rules.specs.Path.{openIn}
+use Rattle.rules.specs.Table.{judged, good}
+use Rattle.rules.specs.Event as Event
+use Rattle.rules.specs.Event.{Machine, Fault, Site, impossible}
+use Rattle.rules.specs.State.{State}
+use Rattle.rules.specs.Machine.{Program, machine}
+use Rattle.rules.specs.Explorer as explorer
+use Rattle.rules.specs.Explorer.{Limits, Ledger, Walk, Tick, over, faulted, Stop, Verdict, exhausted, spent, stopped, execution, empty}
+use Rattle.rules.specs.Explored.{Settings, Explored, ran, reported, settingsFine, stopOf, programOf, limitsOf, verdictNumber}
+use Rattle.ledger.specs.History as history
+use Rattle.rules.proofs.MeasureAccepted.{good-header}
+use Rattle.ledger.specs.History.{end, Every, Course, courses, courseOf, Made, Told, Real, executed}
+use Rattle.ledger.specs.Balance.{Balance, Balanced, Begun}
+use Rattle.ledger.specs.Tree.{Tree}
+use Rattle.ledger.specs.Turning as turning
+use Rattle.ledger.proofs.Balance.{balanced, begun-told}
+use Rattle.ledger.proofs.History.{real}
+use Rattle.ledger.specs.Replay.{Follows, Replay}
+use Rattle.ledger.proofs.Lists.{every-map}
+use Rattle.ledger.proofs.Replay.{replay}
+use Rattle.ledger.proofs.Tree.{tree}
+use Rattle.ledger.proofs.Turning as turned
+use Rattle.kept.specs.Kept.{Never}
+use Rattle.kept.specs.Held.{HoldsAt}
+use Rattle.kept.specs.Possible.{PossibleIn, PossibleRun, NeverImpossible}
+use Rattle.kept.specs.Rules.{RuledRun, Ruled}
+use Rattle.kept.proofs.Possible.{never-impossible}
+use Rattle.kept.proofs.Rules.{ruled}
+use Rattle.standing.specs.Standing as standing
+use Rattle.standing.proofs.Standing.{standing-never}
+use Rattle.bounds.specs.HeldOver.{RangeIn, RangeHeld}
+use Rattle.bounds.proofs.Whole.{accepted-fits}
+use Rattle.bounds.proofs.HeldOver.{range-held}
+use Rattle.offers.specs.Offered.{SomeOffered, SomeOfferedRmw}
+use Rattle.offers.specs.Chosen.{Offers}
+use Rattle.offers.specs.Seen.{Seen}
+use Rattle.offers.proofs.Chosen.{all-offers}
+use Rattle.offers.proofs.Seen.{all-seen}
+use Rattle.offers.proofs.Offered.{some-offered, some-offered-rmw}
+use Rattle.demands.specs.Demands as Demands
+use Rattle.demands.specs.Demands.{it, report, run, theMachine, executions, Balances, Apart, Turns, LastIs}
+use Rattle.demands.proofs.Answered.{Ran, has-run, ran-number, answered}
+
+only-exhausted : (v : Verdict) → verdictNumber v ≡ 0 → v ≡ exhausted
+only-exhausted exhausted e = refl
+only-exhausted spent e = absurd (omega (arith, e))
+only-exhausted (stopped Event.deadlock site) e = absurd (omega (arith, e))
+only-exhausted (stopped Event.full site) e = absurd (omega (arith, e))
+only-exhausted (stopped Event.rows site) e = absurd (omega (arith, e))
+only-exhausted (stopped Event.equalOrders site) e = absurd (omega (arith, e))
+only-exhausted (stopped (Event.race k t) site) e = absurd (omega (arith, e))
+only-exhausted (stopped Event.check site) e = absurd (omega (arith, e))
+only-exhausted (stopped Event.flags site) e = absurd (omega (arith, e))
+only-exhausted (stopped Event.preemptions site) e = absurd (omega (arith, e))
+only-exhausted (stopped Event.impossible site) e = absurd (omega (arith, e))
+
+-- Why a run stopped
+
+module _ (p : Program) (limits : Limits) (n : ℕ) (w : Walk State) (v : Verdict) where
+  came-out : (l : Ledger) (c : Course State) (cs : List (Course State)) → Made (machine p) limits n w v l (c ∷ cs)
+      → (t : Tick State) × LastIs (c ∷ cs) t × history.Stops (machine p) limits n w v t
+  unfolding courseOf
+  came-out l c [] m = (execution (machine p) limits l, ap (λ (x : Course State). x .outcome) (m .0), m .1)
+  came-out l c (d ∷ cs) m = came-out (explorer.nextLedger (m .1 .ledger)) d cs (m .5)
+
+  last-came : (cs : List (Course State)) → 1 ≤ n → Made (machine p) limits n w v empty cs → (t : Tick State) × LastIs cs t × history.Stops (machine p) limits n w v t
+  last-came [] h m = absurd (omega (arith, m .0))
+  last-came (c ∷ cs) h m = came-out empty c cs m
+
+  stops-exhausted : (t : Tick State) → v ≡ exhausted → history.Stops (machine p) limits n w v t → t ≡ over w
+  stops-exhausted t e h = subst (λ (x : Verdict). history.Stops (machine p) limits n w x t) e h .0
+
+  stops-spent : (t : Tick State) → v ≡ spent → history.Stops (machine p) limits n w v t → t ≡ over w
+  stops-spent t e h = subst (λ (x : Verdict). history.Stops (machine p) limits n w x t) e h .0
+
+  stops-fault : (t : Tick State) (f : Fault) (site : Site) → v ≡ stopped f site → history.Stops (machine p) limits n w v t → t ≡ faulted f site w
+  stops-fault t f site e h = subst (λ (x : Verdict). history.Stops (machine p) limits n w x t) e h
+
+module _ (table : List ℕ) (s : Settings) (path trace : List ℕ) (r : Ran table s path trace) where
+  abbrev whole : Stop State
+  whole = run table s path trace
+
+  abbrev itself : Machine
+  itself = theMachine table s path trace
+
+  allowed : 1 ≤ s .executions
+  unfolding settingsFine
+  allowed = let f = simp and-eq-true-iff at (r .range) in omega (arith, leb-true)
+
+  -- the report is that of the run's stop
+  begun-is : report table s path trace .begun ≡ whole .walk .ledger .begun
+  unfolding ran reported
+  begun-is = ap (λ (x : Explored). x .report .begun) (r .is)
+
+  opened-is : report table s path trace .opened ≡ whole .walk .ledger .opened
+  unfolding ran reported
+  opened-is = ap (λ (x : Explored). x .report .opened) (r .is)
+
+  open-is : report table s path trace .stillOpen ≡ openIn (whole .walk .ledger .path)
+  unfolding ran reported
+  open-is = ap (λ (x : Explored). x .report .stillOpen) (r .is)
+
+  balance : Balance (s .executions) whole
+  unfolding stopOf Balanced
+  balance = balanced itself (limitsOf s) (s .executions) allowed
+
+  told : Told itself (limitsOf s) (s .executions) (executions table s path trace) whole
+  unfolding stopOf Real
+  told = real itself (limitsOf s) (s .executions)
+
+  as-many : whole .walk .ledger .begun ≡ length (whole .history)
+  unfolding stopOf Begun
+  as-many = begun-told itself (limitsOf s) (s .executions)
+
+  turns-so : turning.Turned itself (limitsOf s) (s .executions)
+  unfolding turning.Turning
+  turns-so = turned.turning itself (limitsOf s) (s .executions)
+
+  counted-so : length (turning.openedOf itself (limitsOf s) (s .executions)) ≡ whole .walk .ledger .opened
+  unfolding stopOf
+  counted-so = turns-so .counted
+
+  left-so : length (turning.openOf itself (limitsOf s) (s .executions)) ≡ openIn (whole .walk .ledger .path)
+  unfolding stopOf
+  left-so = turns-so .as-many
+
+  all-turned : whole .verdict ≡ exhausted → Perm (turning.openedOf itself (limitsOf s) (s .executions)) (turning.turnedOf itself (limitsOf s) (s .executions))
+  unfolding stopOf
+  all-turned e = turns-so .in-the-end e .1
+
+  pub balances : Balances table s path trace
+  balances =
+      record {
+        equation = omega (arith, balance .equation, begun-is, opened-is, open-is);
+        within = omega (arith, balance .within, opened-is, open-is);
+        begun = begun-is ∙ as-many ∙ ap length (told .history) ∙ length-map (executions table s path trace) executed;
+        opened = opened-is ∙ sym counted-so;
+        left = open-is ∙ sym left-so;
+      }
+
+  pub apart : Apart table s path trace
+  unfolding stopOf Tree
+  apart i j h k = tree itself (limitsOf s) (s .executions) i j h k
+
+  exhausted-is : report table s path trace .answer ≡ 0 → whole .verdict ≡ exhausted
+  exhausted-is e = only-exhausted (whole .verdict) (sym (ran-number table s path trace (r .is)) ∙ e)
+
+  pub turns : Turns table s path trace
+  turns =
+      record {
+        turns = turns-so .turns;
+        different = turns-so .different;
+        together = turns-so .together;
+        once = turns-so .once;
+        exhausted = λ e. (open-is ∙ balance .none-left (exhausted-is e) .0, all-turned (exhausted-is e));
+      }
+
+  last-so : (t : Tick State) × LastIs (executions table s path trace) t × history.Stops itself (limitsOf s) (s .executions) (whole .walk) (whole .verdict) t
+  last-so = last-came (programOf table s) (limitsOf s) (s .executions) (whole .walk) (whole .verdict) (executions table s path trace) allowed (told .made)
+
+  last-as : (t : Tick State) → last-so .0 ≡ t → LastIs (executions table s path trace) t
+  last-as t e = subst (LastIs (executions table s path trace)) e (last-so .1)
+
+  pub stops : Demands.Stops table s path trace
+  stops =
+      record {
+        says = ran-number table s path trace (r .is);
+        exhausted = λ e.
+            (last-as (over (whole .walk)) (stops-exhausted (programOf table s) (limitsOf s) (s .executions) (whole .walk) (whole .verdict) (last-so .0) e (last-so .2)),
+            open-is ∙ balance .none-left e .0);
+        spent = λ e.
+            (last-as (over (whole .walk)) (stops-spent (programOf table s) (limitsOf s) (s .executions) (whole .walk) (whole .verdict) (last-so .0) e (last-so .2)),
+            omega (arith, open-is, balance .some-left e .0), begun-is ∙ balance .some-left e .1);
+        fault = λ f site e.
+            last-as (faulted f site (whole .walk))
+            (stops-fault (programOf table s) (limitsOf s) (s .executions) (whole .walk) (whole .verdict) (last-so .0) f site e (last-so .2));
+      }
+
+  -- What holds at every tick
+
+  some : standing.SomeOffered
+  unfolding SomeOffered SomeOfferedRmw
+  some = record { toLoad = some-offered; toRmw = some-offered-rmw }
+
+  never : Never itself (limitsOf s) (standing.Holds (programOf table s)) (standing.Asked (programOf table s))
+  never = standing-never table s (r .accepted) (r .range) some
+
+  possible-so : PossibleRun itself (limitsOf s) (standing.Holds (programOf table s)) (standing.Asked (programOf table s)) (s .executions)
+  unfolding NeverImpossible
+  possible-so = never-impossible itself (limitsOf s) (standing.Holds (programOf table s)) (standing.Asked (programOf table s)) never (s .executions)
+
+  ruled-so : RuledRun itself (limitsOf s) (s .executions)
+  unfolding Ruled
+  ruled-so = ruled itself (limitsOf s) (standing.Holds (programOf table s)) (standing.Asked (programOf table s)) (never .keeps) (never .question) (s .executions)
+
+  pub never-so : (site : Site) → whole .verdict ≡ stopped impossible site → ⊥
+  unfolding stopOf
+  never-so = possible-so .verdict allowed
+
+  ranges-so : Every (RangeIn (programOf table s)) (executions table s path trace)
+  unfolding RangeHeld
+  ranges-so =
+      range-held (programOf table s) (accepted-fits table s (good-header table (r .accepted)) (r .range)) (standing.Holds (programOf table s))
+      (standing.Asked (programOf table s)) (never .keeps) (never .question) (limitsOf s) (s .executions)
+
+  follows-so : Every (Follows itself (limitsOf s)) (executions table s path trace)
+  unfolding Replay
+  follows-so = replay itself (limitsOf s) (s .executions)
+
+  abbrev Facts : Walk State → Type 0
+  Facts = HoldsAt itself (standing.Holds (programOf table s))
+
+  pub sound : Demands.Sound table s path trace
+  sound =
+      let P = PossibleIn itself (standing.Holds (programOf table s)) (standing.Asked (programOf table s)) in
+      let cs = executions table s path trace in
+      record {
+        possible = every-map P (λ c. (site : Site) (w : Walk State) → c .outcome ≡ faulted impossible site w → ⊥) cs (λ c h. h .never) (possible-so .executions);
+        stands = every-map P (λ c. Every Facts (c .ticks)) cs (λ c h. h .held .at-ticks) (possible-so .executions);
+        stood = every-map P (λ c. Facts (end c)) cs (λ c h. h .at-end) (possible-so .executions);
+        ranges = ranges-so;
+        records = ruled-so .executions;
+        follows = follows-so;
+      }
+
+  -- What is offered
+
+  few-rows : s .operations ≤ 4096
+  unfolding settingsFine
+  few-rows = let f = simp and-eq-true-iff at (r .range) in omega (arith, leb-true)
+
+  pub offered : Demands.Offered table s path trace
+  unfolding Offers Seen
+  offered =
+      record {
+        offers = all-offers (programOf table s) (limitsOf s) (s .executions);
+        seen = all-seen (programOf table s) (limitsOf s) (s .executions) (good-header table (r .accepted)) (omega (arith, few-rows)) (omega (arith, few-rows));
+      }
+
+  pub run-demanded : Demands.Run table s path trace
+  run-demanded =
+      record { balances = balances; apart = apart; turns = turns; offered = offered; stops = stops; sound = sound }
+
+pub demanded : Demands.Demands
+unfolding Demands.Demands
+demanded table s path trace =
+    record {
+      answered = answered table s path trace (λ r. never-so table s path trace r);
+      run = λ h. run-demanded table s path trace (has-run table s path trace h);
+    }

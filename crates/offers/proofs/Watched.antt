@@ -1,0 +1,294 @@
+-- A tick that goes on: what the threads see after it. Assumes nothing.
+--     Holds            what holds of a walk between ticks
+--     Went, went       how a tick goes on from it
+--     watching         so what is read or written is seen, what was seen stays so, and nothing below it is offered
+use Prim.Native.Nat.{ℕ, _+_, _≤_, _<_}
+use mathlib.Core.List.{List}
+use mathlib.Core.Bool.{Bool}
+use mathlib.Core.Path.{_≡_, refl, ap, sym, _∙_}
+use mathlib.Core.Logic.{_⊎_, inl, inr}
+use native.Mathlib.Omega.{arith}
+use native.Mathlib.Decide.{ℕ-discrete}
+use lib.ListN.{length, getD, length-append}
+use borrow.Author.Tests.{lt-ltb}
+use Rattle.rules.specs.Vector.{Whom, largest, oneMore}
+use Rattle.rules.specs.Seen.{unseen}
+use Rattle.rules.specs.Event as Event
+use Rattle.rules.specs.Event.{Entry, Matched, slotsOf, Site, Question, whichThread, whichSlot, whichBit, readSlot, Move, moves, asks, stops, ends}
+use Rattle.rules.specs.State.{State, number, vector, threads, count, causality}
+use Rattle.rules.specs.Cell.{slotOf, liveIn}
+use Rattle.rules.specs.Machine as Machine
+use Rattle.rules.specs.Machine.{Program, machine, active}
+use Rattle.rules.specs.Explorer.{Limits, Walk, goes, noted, tick}
+use Rattle.rules.specs.Measure.{measure, Ready}
+use Rattle.rules.proofs.MeasureSteps.{Asked, Lower, asking}
+use Rattle.rules.proofs.MeasureTicks.{next-lower}
+use Rattle.rules.proofs.MeasureWalk.{tick-lowers}
+use Rattle.ledger.specs.Replay.{Answered}
+use Rattle.offers.specs.Chosen.{Reading, aLoad, anRmw, Chosen}
+use Rattle.offers.specs.Offered.{Below, Among}
+use Rattle.offers.specs.Seen.{Sees, Taken, Watched, Watching}
+use Rattle.offers.proofs.Sight.{Stays, rowIn, seen-stays}
+use Rattle.offers.proofs.Steps.{SoundState, Quiet, Stores, Calm, Steps, calm-before, sees-calm}
+use Rattle.offers.proofs.Moves.{NextOf, AnswerOf, next-steps}
+use Rattle.offers.proofs.Answers.{thread-steps, slot-steps, bit-steps, AfterOf, load-read, rmw-read}
+use Rattle.offers.proofs.Passing.{Passing, tick-passes}
+use Rattle.offers.proofs.Chosen.{slot-said, offering}
+use Rattle.offers.proofs.Following.{Replied, replied, Follow, follow, tick-moves, tick-stops}
+
+module _ (p : Program) (limits : Limits) where
+  -- Between ticks
+
+  pub record Holds (w : Walk State) : Type 0 where
+    pub sound : SoundState (length (w .trace) + 2) (w .state)
+    pub ready : Ready (w .state)
+    pub fit : length (w .trace) ≤ limits .operations
+
+  pub record Went (w v : Walk State) : Type 0 where
+    pub steps : Steps (active (w .state)) (length (w .trace) + 2) (length (v .trace) + 2) (w .state) (v .state)
+    pub fit : length (v .trace) ≤ limits .operations
+
+  asked-of : {n : ℕ} {s : State} {es : List Entry} {x : Bool} {q : Question} → Lower p n (asks s es x q) → Asked p n s q
+  asked-of (asking h) = h
+
+  module _ (limited : p .operations ≤ largest) (w v : Walk State) (h : Holds w) (g : tick (machine p) limits w ≡ goes v) where
+    abbrev t : ℕ
+    t = active (w .state)
+
+    abbrev n : ℕ
+    n = length (w .trace) + 2
+
+    abbrev m : ℕ
+    m = length (v .trace) + 2
+
+    abbrev site : Site
+    site = Machine.next p (w .state) .site
+
+    nexts : NextOf t n (w .state) (Machine.next p (w .state) .move)
+    nexts = next-steps p n (w .state) (h .sound) (omega (arith, h .ready .whole .long))
+
+    lowers : Lower p (measure p (w .state)) (Machine.next p (w .state) .move)
+    lowers = next-lower p limited (w .state) (h .ready)
+
+    moves-went : (s : State) (es : List Entry) → Machine.next p (w .state) .move ≡ moves s es → Went w v
+    moves-went s es e =
+        let f = follow p limits site w v (moves s es) (sym (tick-moves p limits w s es e) ∙ g) in
+        let same : s ≡ f .state = cc (f .is) in
+        let here : v .state ≡ s = f .state-is ∙ sym same in
+        let length-is : length es ≡ length (f .entries) = ap length (entries-of (f .is)) in
+        let long = ap length (f .trace-is) ∙ length-append (w .trace) (f .entries) in
+        let k : NextOf t n (w .state) (moves s es) = rw e at nexts in
+        record { steps = rw here (k m (omega arith)); fit = f .fit }
+      where
+        entries-of : {a b : State} {x y : List Entry} → moves a x ≡ moves b y → x ≡ y
+        entries-of z = cc
+
+    -- the record that has answered
+    module _ (s : State) (es : List Entry) (x : Bool) (q : Question) (e : Machine.next p (w .state) .move ≡ asks s es x q) where
+      passing : Passing (machine p) limits site (noted w s es) q (tick (machine p) limits w)
+      passing =
+          let k = tick-passes (machine p) limits w s es x q e in
+          k .passing (let l = k .goes-past v g in rw g l)
+
+      after : Follow p limits (passing .on) v (Machine.answered p s (passing .answer))
+      after = follow p limits site (passing .on) v (Machine.answered p s (passing .answer)) (sym (passing .tick-is) ∙ g)
+
+      trace-long : length (v .trace) ≡ length (w .trace) + length es + length (after .entries)
+      trace-long =
+          ap length (after .trace-is) ∙ (length-append (passing .on .trace) (after .entries)
+          ∙ (ap (λ (k : ℕ). k + length (after .entries)) (ap length (passing .trace-is) ∙ length-append (w .trace) es)))
+
+      answer-is : Replied q (passing .answer)
+      answer-is = replied (w .pos) _ q (passing .answer) (passing .replies)
+
+      asked : Asked p (measure p (w .state)) s q
+      asked = asked-of (rw e at lowers)
+
+      -- a quiet step to the question, and one with the answer
+      both-went : Calm n m (w .state) s → AnswerOf t m s (Machine.answered p s (passing .answer)) → Went w v
+      both-went calm k =
+          let a : AnswerOf t m s (moves (after .state) (after .entries)) = rw (after .is) at k in
+          record {
+            steps = rw (after .state-is) (calm-before t n m m (h .ready .below) calm a);
+            fit = after .fit;
+          }
+
+    -- "(d) the branch chooses."
+    thread-went : (s : State) (es : List Entry) (x : Bool) (points : List Event.Place) (initial : Whom) (standings : List Event.Standing) →
+        Machine.next p (w .state) .move ≡ asks s es x (whichThread points initial standings) → Went w v
+    thread-went s es x points initial standings e =
+        let q = whichThread points initial standings in
+        let k : NextOf t n (w .state) (asks s es x q) = rw e at nexts in
+        let calm = k m (omega (arith, trace-long s es x q e)) in
+        let a = answer-is s es x q e in
+        both-went s es x q e calm (rw (a .2) (thread-steps p t m s (calm .sound (h .sound)) (a .0) (a .1)))
+
+    bit-went : (s : State) (es : List Entry) (x : Bool) → Machine.next p (w .state) .move ≡ asks s es x whichBit → Went w v
+    bit-went s es x e =
+        let k : NextOf t n (w .state) (asks s es x whichBit) = rw e at nexts in
+        let calm = k m (omega (arith, trace-long s es x whichBit e)) in
+        let a = answer-is s es x whichBit e in
+        let r = asked s es x whichBit e .ready in
+        both-went s es x whichBit e calm
+        (rw (a .1) (bit-steps p m s (calm .sound (h .sound)) (omega (arith, r .whole .long)) (r .below) t (a .0)))
+
+    module _ (answered : Answered (machine p) limits w) where
+      -- a load or an RMW reads its slot
+      module _ (s : State) (es : List Entry) (x : Bool) (q : Matched)
+          (e : Machine.next p (w .state) .move ≡ asks s es x (whichSlot q)) where
+        chosen : Chosen p limits w s es q
+        chosen =
+            let k = offering p limits w answered s es x q e in
+            k .chosen (let l = k .passes v g in rw g l)
+
+        one-entry : m ≡ n + 1
+        one-entry =
+            let c = chosen in
+            let trace = rw g at (c .noted) in
+            omega (arith, simp length-append at (ap length trace))
+
+        calm-slot : Calm n m (w .state) s
+        calm-slot = let k : NextOf t n (w .state) (asks s es x (whichSlot q)) = rw e at nexts in k m (omega (arith, one-entry))
+
+        slot-went : Went w v
+        slot-went =
+            let a = answer-is s es x (whichSlot q) e in
+            let r = asked s es x (whichSlot q) e .ready in
+            let same : active s ≡ t = ap active (chosen .raised) in
+            both-went s es x (whichSlot q) e calm-slot
+            (rw (a .3, ← same)
+            (slot-steps p m s (calm-slot .sound (h .sound)) (omega (arith, r .whole .long)) (r .below) (a .0) (a .1) (a .2)))
+
+      by-move : (mv : Move State) → Machine.next p (w .state) .move ≡ mv → Went w v
+      by-move (moves s es) e = moves-went s es e
+      by-move (asks s es x (whichThread points initial standings)) e = thread-went s es x points initial standings e
+      by-move (asks s es x (whichSlot q)) e = slot-went s es x q e
+      by-move (asks s es x whichBit) e = bit-went s es x e
+      by-move (stops s f) e = absurd (tick-stops p limits w v s f e g)
+      by-move (ends s) e = absurd (rw e at nexts)
+
+      pub went : Went w v
+      went = by-move (Machine.next p (w .state) .move) refl
+
+      pub holds-on : Holds v
+      holds-on = record { sound = went .steps .sound; ready = tick-lowers p limits limited w v (h .ready) g .0; fit = went .fit }
+
+-- What the threads see after a step
+module _ (t n m : ℕ) {a b : State} (q : Steps t n m a b) where
+  seen-kept : (u c i : ℕ) → u < threads → c < 4 → Sees a u c i → Sees b u c i ⊎ Taken c i a b
+  seen-kept u c i h l e = go (q .does)
+    where
+      again : Stays (rowIn (a .marks) c i) (rowIn (b .marks) c i) → Sees b u c i
+      again s =
+          seen-stays (rowIn (a .marks) c i) (rowIn (b .marks) c i) (vector (a .clocks) (causality u))
+          (vector (b .clocks) (causality u)) s
+          (q .grows .grown u h) e
+
+      stored : Stores t m a b → Sees b u c i ⊎ Taken c i a b
+      stored s =
+          elim (ℕ-discrete c (s .cell)) [
+            | no d ↦ inl (again (s .stays c i (λ f g. d f)))
+            | yes f ↦ elim (ℕ-discrete i (slotOf (number (a .numbers) (count (s .cell))))) [
+              | no d ↦ inl (again (s .stays c i (λ f g. d g)))
+              | yes g ↦ inr (rw f (sym g), rw f (s .one-more))
+            ]
+          ]
+
+      go : Quiet a b ⊎ Stores t m a b → Sees b u c i ⊎ Taken c i a b
+      go (inl s) = inl (again (s .stays c i))
+      go (inr s) = stored s
+
+  -- a count that rises is that of the cell where a store is made
+  more-than : (x y : ℕ) → x < largest → y ≡ oneMore x → y ≡ x → ⊥
+  more-than x y h e f = let k : oneMore x ≡ x + 1 = rw (lt-ltb x largest h) in omega arith
+
+  seen-written : (c i : ℕ) → c < 4 → m < unseen → number (a .numbers) (count c) < largest → Taken c i a b → Sees b t c i
+  seen-written c i l few small (e, f) = go (q .does)
+    where
+      stored : Stores t m a b → Sees b t c i
+      stored s =
+          elim (ℕ-discrete c (s .cell)) [
+            | no d ↦ absurd (more-than (number (a .numbers) (count c)) (number (b .numbers) (count c)) small f (s .counts c l d))
+            | yes x ↦ rw (← e, x) (s .sees few)
+          ]
+
+      go : Quiet a b ⊎ Stores t m a b → Sees b t c i
+      go (inl s) = absurd (more-than (number (a .numbers) (count c)) (number (b .numbers) (count c)) small f (s .counts c l))
+      go (inr s) = stored s
+
+module _ (p : Program) (limits : Limits) (limited : p .operations ≤ largest) (room : limits .operations ≤ 65531)
+    (w v : Walk State)
+    (h : Holds p limits w) (g : tick (machine p) limits w ≡ goes v) (answered : Answered (machine p) limits w) where
+  went-on : Went p limits w v
+  went-on = went p limits limited w v h g answered
+
+  module _ (s : State) (es : List Entry) (x : Bool) (q : Matched)
+      (e : Machine.next p (w .state) .move ≡ asks s es x (whichSlot q))
+      (c : Chosen p limits w s es q) where
+    abbrev slot : ℕ
+    slot = getD (c .by .values) (c .by .pos) 0
+
+    -- the slot that the record names is the one that is read
+    read-slot : passing p limits limited w v h g s es x (whichSlot q) e .answer ≡ readSlot slot (c .by .values)
+    read-slot =
+        let k = passing p limits limited w v h g s es x (whichSlot q) e in
+        slot-said (w .pos) (c .by) q (k .answer) (rw (c .at-branch) at (k .replies))
+
+    slot-small : slot < 7
+    slot-small =
+        let a = answer-is p limits limited w v h g s es x (whichSlot q) e in
+        let same : a .0 ≡ slot = cc (a .3, read-slot) in
+        omega (arith, same, a .2)
+
+    after-reading : AfterOf (active s) (c .cell) slot (Machine.answered p s (readSlot slot (c .by .values)))
+    after-reading =
+        let calm = calm-slot p limits limited w v h g answered s es x q e in
+        let r = asked p limits limited w v h g s es x (whichSlot q) e .ready in
+        by-reading (calm .sound (h .sound)) (omega (arith, r .whole .long)) (r .below) (omega (arith, went-on .fit)) (c .cell)
+        (c .opcode) (c .reading)
+      where
+        by-reading : SoundState (length (v .trace) + 2) s → 44 ≤ length (s .numbers) → active s < threads →
+            length (v .trace) + 2 < unseen →
+            (d o : ℕ) → Reading p s q (c .offered) d o →
+            AfterOf (active s) d slot (Machine.answered p s (readSlot slot (c .by .values)))
+        by-reading sound long below few d o (aLoad row m r) =
+            load-read p (length (v .trace) + 2) s sound long below slot (c .by .values) slot-small few d _ _ row
+        by-reading sound long below few d o (anRmw row m r) =
+            rmw-read p (length (v .trace) + 2) s sound long below slot (c .by .values) slot-small few d _ _ _ _ row
+
+    read-seen : Sees (v .state) (active s) (c .cell) slot
+    read-seen =
+        let f = after p limits limited w v h g s es x (whichSlot q) e in
+        let is : Machine.answered p s (readSlot slot (c .by .values)) ≡ moves (f .state) (f .entries) =
+        ap (Machine.answered p s) (sym read-slot) ∙ f .is in
+        rw (f .state-is) (rw is at after-reading)
+
+  watched : Watched p limits w v
+  watched = record {
+    read = read-seen;
+    wrote = λ c i l small k. seen-written _ _ _ (went-on .steps) c i l (omega (arith, went-on .fit)) small k;
+    kept = λ t c i b l k. seen-kept _ _ _ (went-on .steps) t c i b l k;
+  }
+
+-- What a load or an RMW is never offered
+module _ (p : Program) (limits : Limits) (limited : p .operations ≤ largest) (room : limits .operations ≤ 65531) (w : Walk State)
+    (h : Holds p limits w) where
+  never-offered : (s : State) (es : List Entry) (x : Bool) (m : Matched) →
+      Machine.next p (w .state) .move ≡ asks s es x (whichSlot m) →
+      (c : Chosen p limits w s es m) (i j : ℕ) → Among i (c .by .values) → j < liveIn (s .numbers) (c .cell) →
+      Sees (w .state) (active s) (c .cell) j → Below (s .clocks) (c .cell) i j → ⊥
+  never-offered s es x m e c i j a l k b =
+      let same : active s ≡ active (w .state) = ap active (c .raised) in
+      let next = next-steps p (length (w .trace) + 2) (w .state) (h .sound) (omega (arith, h .ready .whole .long)) in
+      let asks-it : NextOf (active (w .state)) (length (w .trace) + 2) (w .state) (asks s es x (whichSlot m)) = rw e at next in
+      let calm = asks-it (length (w .trace) + 3) (omega arith) in
+      by-reading (c .cell) (c .opcode) (c .reading) (rw (c .all) at a) l
+      (sees-calm calm (active s) (c .cell) j (omega (arith, same, h .ready .below)) k) b
+    where
+      by-reading : (d o : ℕ) → Reading p s m (c .offered) d o → Among i (slotsOf (c .offered)) → j < liveIn (s .numbers) d →
+          Sees s (active s) d j → Below (s .clocks) d i j → ⊥
+      by-reading d o (aLoad row f r) a l k b = r .never i j a l k b
+      by-reading d o (anRmw row f r) a l k b = r .never i j a l tt b
+
+  pub watching : Answered (machine p) limits w → Watching p limits w
+  watching answered = record { never = never-offered; goes-on = λ v g. watched p limits limited room w v h g answered }

@@ -1,0 +1,3 @@
+pub mod Chosen
+pub mod Offered
+pub mod Seen
