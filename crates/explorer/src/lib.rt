@@ -51,7 +51,7 @@ pub fn explore(table: &[u8], settings: Settings, path: &mut [u8], trace: &mut [u
 }
 
 // Whether B, L and N are in range.
-fn settings_fine(settings: Settings) -> bool
+pub fn settings_fine(settings: Settings) -> bool
     ensures { λ r. ⌜ r ≡ rules.settingsFine (settingsOf settings) ⌝ }
 {
     within(settings.branches, MAX_BRANCHES)
@@ -66,7 +66,7 @@ fn within(n: u64, most: u64) -> bool
 }
 
 // Whether a buffer of so many bytes holds exactly so many records of 16 bytes.
-fn holds(bytes: usize, records: u64) -> bool
+pub fn holds(bytes: usize, records: u64) -> bool
     ensures { λ r. ⌜ r ≡ eqb bytes (16 * records) ⌝ }
 {
     bytes % 16 == 0 && (bytes / 16) as u64 == records

@@ -1,18 +1,20 @@
 // The caller's list of thread records.
-ghost use Rattle.list.specs.Copied.{Copied};
+ghost use mathlib.Core.Path.{_≡_};
+ghost use mathlib.Core.Bool.{cond, _&&_};
+ghost use lib.Dec.{eqb};
+ghost use lib.ListN.{length};
 use report::ThreadRecord;
 
-// Copies the five summaries into the caller's list, if it holds exactly five; answers whether it does.
-pub fn copy_into(list: &mut [ThreadRecord], threads: [ThreadRecord; 5]) -> bool
-    ensures { λ r. ⌜ Copied (now (list .entry)) (now (list .exit)) threads r ⌝ }
+// Copies the five summaries of a run into the caller's list, if it holds exactly five.
+pub fn copy_into(list: &mut [ThreadRecord], ran: bool, threads: [ThreadRecord; 5])
+    ensures { λ _. ⌜ now (list .exit) ≡ cond (ran && eqb (length (now (list .entry))) 5) threads (now (list .entry)) ⌝ }
 {
-    if list.len() != 5 {
-        return false;
+    if !(ran & (list.len() == 5)) {
+        return;
     }
     list[0] = threads[0];
     list[1] = threads[1];
     list[2] = threads[2];
     list[3] = threads[3];
     list[4] = threads[4];
-    true
 }

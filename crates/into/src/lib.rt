@@ -1,0 +1,71 @@
+// The second entry: the five summaries go into the caller's list of thread records too.
+ghost use mathlib.Core.Path.{_≡_};
+ghost use mathlib.Core.Bool.{not};
+ghost use mathlib.Core.List.{List};
+ghost use lib.ListN.{length};
+ghost use Rattle.rules.specs.Explored as rules;
+ghost use Rattle.report.specs.Answers.{numberOf, summariesOf};
+ghost use Rattle.explorer.specs.Explores.{settingsOf, exploredOf};
+ghost use Rattle.into.specs.Listed.{exploredIntoOf, miscounts};
+use explorer::Settings;
+use report::Answer;
+use report::Report;
+use report::ThreadRecord;
+
+// Explores the program, and copies the five summaries into the caller's list, which must hold exactly five. A refusal leaves
+// both buffers and the list as they are.
+pub fn explore_into(
+    table: &[u8],
+    settings: Settings,
+    path: &mut [u8],
+    trace: &mut [u8],
+    list: &mut [ThreadRecord],
+) -> Report
+    ensures { λ r. ⌜ exploredIntoOf r (now (path .exit)) (now (trace .exit)) (now (list .exit)) ≡ rules.exploredInto (now (table .entry)) (settingsOf settings) (now (path .entry)) (now (trace .entry)) (summariesOf (now (list .entry))) ⌝ }
+{
+    let report = explore_counted(table, settings, path, trace, list.len());
+    list::copy_into(list, ran(report), threads_of(report));
+    report
+}
+
+// Explores the program for a list of so many records; only five will do. The length is judged with the trace buffer's, so after
+// the settings and the path buffer.
+fn explore_counted(
+    table: &[u8],
+    settings: Settings,
+    path: &mut [u8],
+    trace: &mut [u8],
+    listed: usize,
+) -> Report
+    ensures { λ r. ⌜ ((list : List rules.Summary) → length list ≡ listed → exploredOf r (now (path .exit)) (now (trace .exit)) ≡ rules.exploredInto (now (table .entry)) (settingsOf settings) (now (path .entry)) (now (trace .entry)) list .explored) ⌝ }
+{
+    if miscounted(settings, path.len(), listed) {
+        return report::refused(Answer::BadTrace);
+    }
+    explorer::explore(table, settings, path, trace)
+}
+
+// Whether the list's length is wrong, and neither the settings nor the path buffer is.
+fn miscounted(settings: Settings, bytes: usize, listed: usize) -> bool
+    ensures { λ r. ⌜ r ≡ miscounts (settingsOf settings) bytes listed ⌝ }
+{
+    let counted = listed == 5;
+    let fine = explorer::settings_fine(settings);
+    let held = explorer::holds(bytes, settings.branches);
+    !(counted | !fine | !held)
+}
+
+// Whether there was a run: the answer is none from 2 to 5.
+fn ran(report: Report) -> bool
+    ensures { λ r. ⌜ r ≡ not (rules.isRefusal (numberOf (report .answer))) ⌝ }
+{
+    let answer = report.answer;
+    let number = report::number(answer);
+    !((2 <= number) & (number <= 5))
+}
+
+fn threads_of(report: Report) -> [ThreadRecord; 5]
+    ensures { λ r. ⌜ r ≡ report .threads ⌝ }
+{
+    report.threads
+}
