@@ -6,6 +6,7 @@ use Prim.Native.Nat.{ℕ, _≤_, _<_}
 use mathlib.Core.List.{List}
 use mathlib.Core.Bool.{Bool, true, false, cond, true≢false}
 use mathlib.Core.Path.{_≡_, refl}
+use mathlib.Core.Logic.{inl, inr}
 use native.Mathlib.Omega.{arith}
 use lib.Dec.{eqb, ltb}
 use lib.ListN.{length}
@@ -103,7 +104,8 @@ thread-steps p t n st sound nobody at =
     (λ e. pick (AnswerOf t n st) (Machine.someCanRun (st .numbers) threads 0) (λ f. same n st) (λ f. same n st))
 thread-steps p t n st sound (thread u) at =
     pick (AnswerOf t n st) (Machine.canRun (st .numbers) u)
-    (λ e. calm-step (switched-calm n st u at (ltb-true u threads (both-left _ _ e))) sound) (λ e. same n st)
+    (λ e. let q = switched-calm n st u at (ltb-true u threads (both-left _ _ e)) in (inr (q .quiet), calm-step q sound))
+    (λ e. same n st)
 
 -- the state where it goes on
 abbrev pub AfterOf : ℕ → ℕ → ℕ → Move State → Type 0
@@ -116,7 +118,8 @@ module _ (t n : ℕ) (below : t < threads) (st : State) (sound : SoundState n st
   reads-answer : (x : Access) (k opcode r slot mask : ℕ) → Accessed t n below st x →
       AnswerOf t n st (Machine.reads x t k opcode r slot mask)
   reads-answer (raced kind other s) k opcode r slot mask h = h
-  reads-answer (read v s) k opcode r slot mask h = calm-after t n n below (kept-calm n s t r v (oneMore k) below) h
+  reads-answer (read v s) k opcode r slot mask h =
+      (inl (omega arith), calm-after t n n below (kept-calm n s t r v (oneMore k) below) h)
 
   reads-after : (x : Access) (c i k opcode r slot mask : ℕ) → SeesRead t n below st c i x →
       AfterOf t c i (Machine.reads x t k opcode r slot mask)
@@ -155,7 +158,7 @@ module _ (t n : ℕ) (below : t < threads) (st : State) (sound : SoundState n st
   bit-answer : (u k v : ℕ) (row : Decoded Op) → AnswerOf u n st (Machine.bitTaken st t k v row)
   unfolding Machine.bitTaken
   bit-answer u k v refused = same n st
-  bit-answer u k v (decoded (Table.spurious r)) = calm-step (kept-calm n st t r v (oneMore k) below) sound
+  bit-answer u k v (decoded (Table.spurious r)) = (inl (omega arith), calm-step (kept-calm n st t r v (oneMore k) below) sound)
   bit-answer u k v (decoded (Table.load c o r)) = same n st
   bit-answer u k v (decoded (Table.store c o a)) = same n st
   bit-answer u k v (decoded (Table.storeRegister c o r)) = same n st

@@ -26,6 +26,7 @@ use Rattle.offers.specs.Offered.{LoadOffered, RmwOffered}
 use Rattle.offers.specs.Chosen.{Reading, aLoad, anRmw, Noted, left, Chosen, Offering, OfferingCourse, Offers}
 use Rattle.offers.proofs.Offered.{load-offered, rmw-offered}
 use Rattle.offers.proofs.Passing.{tick-passes}
+use Rattle.offers.proofs.Noting.{no-other}
 use Rattle.offers.proofs.Asking.{AsksFor, ofLoad, ofRmw, next-asks, EntryOf, load-noted, rmw-noted}
 
 -- a record that agrees with a question for a slot
@@ -141,9 +142,12 @@ module _ (p : Program) (limits : Limits) where
       }
 
   pub offering : (w : Walk State) → Answered (machine p) limits w → Offering p limits w
-  offering w answered s es x m e = record {
-    passes = tick-passes (machine p) limits w s es x (whichSlot m) e .goes-past;
-    chosen = chosen w s es x m e answered;
+  offering w answered = record {
+    at-slot = λ s es x m e. record {
+      passes = tick-passes (machine p) limits w s es x (whichSlot m) e .goes-past;
+      chosen = chosen w s es x m e answered;
+    };
+    no-other = no-other p limits w;
   }
 
   course-offers : (c : Course State) → Follows (machine p) limits c → OfferingCourse p limits c

@@ -17,7 +17,8 @@ clocks : Clocks
 clocks =
     withVector
     (withVector
-    (withVector (withVector (replicate 124 (zeros 5)) (causality 0) (2 ∷ 0 ∷ 0 ∷ 0 ∷ 0 ∷ [])) (causality 1) (1 ∷ 1 ∷ 0 ∷ 0 ∷ 0 ∷ []))
+    (withVector (withVector (replicate 124 (zeros 5)) (causality 0) (2 ∷ 0 ∷ 0 ∷ 0 ∷ 0 ∷ [])) (causality 1)
+    (1 ∷ 1 ∷ 0 ∷ 0 ∷ 0 ∷ []))
     (order (storeAt 0 0)) (1 ∷ 0 ∷ 0 ∷ 0 ∷ 0 ∷ []))
     (order (storeAt 0 1)) (2 ∷ 0 ∷ 0 ∷ 0 ∷ 0 ∷ [])
 

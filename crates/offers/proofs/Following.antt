@@ -1,7 +1,7 @@
 -- What follows a move or an answer, where the tick goes on. Assumes nothing.
 --     Replied, replied           what a branch can answer, by the question
 --     Follow, follow             the state and the entries with which it goes on
---     tick-moves, tick-stops     a tick that asks nothing
+--     tick-moves .. tick-ends    a tick that asks nothing
 use Prim.Native.Nat.{ℕ, zero, suc, _+_, _≤_, _<_}
 use mathlib.Core.List.{List, [], _∷_, _++_}
 use mathlib.Core.Bool.{Bool, true, false, cond, _&&_, true≢false}
@@ -73,7 +73,8 @@ module _ (p : Program) (limits : Limits) where
     pub trace-is : v .trace ≡ on .trace ++ entries
     pub fit : length (v .trace) ≤ limits .operations
 
-  pub follow : (site : Site) (on v : Walk State) (mv : Move State) → followed (machine p) limits site on mv ≡ goes v → Follow on v mv
+  pub follow : (site : Site) (on v : Walk State) (mv : Move State) → followed (machine p) limits site on mv ≡ goes v →
+      Follow on v mv
   follow site on v (moves s es) e = go (fits (machine p) limits on es) refl e
     where
       go : (b : Bool) → fits (machine p) limits on es ≡ b →
@@ -106,3 +107,8 @@ module _ (p : Program) (limits : Limits) where
       tick (machine p) limits w ≡ goes v → ⊥
   unfolding tick
   tick-stops w v s f e g = true≢false (sym (ap isGoing (rw e at g)))
+
+  pub tick-ends : (w v : Walk State) (s : State) → Machine.next p (w .state) .move ≡ ends s → tick (machine p) limits w ≡ goes v →
+      ⊥
+  unfolding tick
+  tick-ends w v s e g = true≢false (sym (ap isGoing (rw e at g)))

@@ -2,11 +2,13 @@ pub mod Accessing
 pub mod Answers
 pub mod Asking
 pub mod Chosen
+pub mod Counted
 pub mod Examples
 pub mod Following
 pub mod Growing
 pub mod Joined
 pub mod Moves
+pub mod Noting
 pub mod Offered
 pub mod Passing
 pub mod Scans

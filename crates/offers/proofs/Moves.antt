@@ -5,7 +5,7 @@ use Prim.Native.Nat.{ℕ, zero, suc, _+_, _≤_, _<_}
 use mathlib.Core.List.{List, []}
 use mathlib.Core.Bool.{Bool, true, false, cond, not, _&&_}
 use mathlib.Core.Path.{refl, _∙_}
-use mathlib.Core.Logic.{_≢_}
+use mathlib.Core.Logic.{_≢_, _⊎_, inl, inr}
 use native.Mathlib.Omega.{arith}
 use lib.Dec.{eqb, ltb, leb}
 use lib.ListN.{length}
@@ -25,7 +25,7 @@ use Rattle.rules.proofs.StateLaws.{number-other, number-kept}
 use Rattle.rules.proofs.MeasureRows.{pick, OnCell, RowOnCell, row-on-cell}
 use Rattle.offers.proofs.Joined.{targetOf, RowJoins, row-joins}
 use Rattle.offers.proofs.Growing.{low, Grows, grows-trans, join-grows, raise-grows, schedule-flows, fenced-grows, recorded-grows, Small}
-use Rattle.offers.proofs.Steps.{SameCounts, SoundState, Calm, Steps, calm-trans, calm-more, calm-clocks, calm-rest, calm-step, calm-before, calm-after, store-steps}
+use Rattle.offers.proofs.Steps.{SameCounts, SoundState, Quiet, quiet-refl, quiet-trans, Calm, Steps, calm-trans, calm-more, calm-clocks, calm-rest, calm-step, calm-before, calm-after, store-steps}
 use Rattle.offers.proofs.Accessing.{Accessed, unsync-accessed, mut-accessed}
 
 -- Counts
@@ -47,10 +47,14 @@ counts-threads f each (suc n) t a h c l =
 
 -- What the machine does next
 
+-- something is noted, or no store is made
+abbrev pub Notes : State → State → List Entry → Type 0
+Notes a s es = (1 ≤ length es) ⊎ Quiet a s
+
 -- by thread t from a state whose vectors are bounded by n: by as many more after it as it has entries; a version is raised where it
 -- asks for a slot
 abbrev pub NextOf : ℕ → ℕ → State → Move State → Type 0
-NextOf t n a (moves s es) = (m : ℕ) → n + length es ≤ m → Steps t n m a s
+NextOf t n a (moves s es) = Notes a s es × ((m : ℕ) → n + length es ≤ m → Steps t n m a s)
 NextOf t n a (asks s es x (whichThread points initial standings)) = (m : ℕ) → n + length es ≤ m → Calm n m a s
 NextOf t n a (asks s es x (whichSlot q)) = (m : ℕ) → n + 1 ≤ m → Calm n m a s
 NextOf t n a (asks s es x whichBit) = (m : ℕ) → n + length es ≤ m → Calm n m a s
@@ -59,7 +63,7 @@ NextOf t n a (ends s) = ⊥
 
 -- and how it goes on with an answer
 abbrev pub AnswerOf : ℕ → ℕ → State → Move State → Type 0
-AnswerOf t n a (moves s es) = Steps t n n a s
+AnswerOf t n a (moves s es) = Notes a s es × Steps t n n a s
 AnswerOf t n a (asks s es x q) = ⊥
 AnswerOf t n a (stops s f) = Calm n n a s
 AnswerOf t n a (ends s) = Calm n n a s
@@ -111,20 +115,26 @@ module _ (t n : ℕ) (below : t < threads) (st : State) (sound : SoundState n st
   tracked-grows m c =
       recorded-grows m (versionRaised st t .clocks) (Cell.storeRace (versionRaised st t .clocks) t c) (stored c) t below
 
+  stored-next : (k c o v : ℕ) → c < 4 → (m : ℕ) → n + 1 ≤ m →
+      Steps t n m st
+      (completed
+      (Cell.storeDone (withClocks (versionRaised st t) (Cell.storeTracked (versionRaised st t .clocks) t c)) t c (zeros 5) v o) t
+      (oneMore k))
+  stored-next k c o v on m h =
+      let up = versionRaised st t in
+      let tracked = withClocks up (Cell.storeTracked (up .clocks) t c) in
+      let q : Calm n m st tracked = calm-trans (raised-calm m h) (calm-clocks m m up (tracked .clocks) (tracked-grows m c)) in
+      calm-after t n m below (completed-calm m (Cell.storeDone tracked t c (zeros 5) v o) t (oneMore k) below)
+      (calm-before t n m m below q
+      (store-steps m tracked t c (zeros 5) v o below on long (q .sound sound) (λ b. small-zeros m)))
+
   -- "1 store a; 2 store register"
   unless-next : (x : Race) (k opcode c o v : ℕ) → c < 4 →
       NextOf t n st
       (Machine.storesUnless x (versionRaised st t)
       (withClocks (versionRaised st t) (Cell.storeTracked (versionRaised st t .clocks) t c)) t k opcode c o v)
   unless-next (raceOf kind other) k opcode c o v on = raised-calm
-  unless-next noRace k opcode c o v on = λ m h.
-      let up = versionRaised st t in
-      let tracked = withClocks up (Cell.storeTracked (up .clocks) t c) in
-      let q : Calm n m st tracked =
-      calm-trans (raised-calm m (omega arith)) (calm-clocks m m up (tracked .clocks) (tracked-grows m c)) in
-      calm-after t n m below (completed-calm m (Cell.storeDone tracked t c (zeros 5) v o) t (oneMore k) below)
-      (calm-before t n m m below q
-      (store-steps m tracked t c (zeros 5) v o below on long (q .sound sound) (λ b. small-zeros m)))
+  unless-next noRace k opcode c o v on = (inl (omega arith), λ m h. stored-next k c o v on m (omega arith))
 
   stores-next : (k opcode c o v : ℕ) → c < 4 → NextOf t n st (Machine.stores st t k opcode c o v)
   unfolding Machine.stores
@@ -134,25 +144,34 @@ module _ (t n : ℕ) (below : t < threads) (st : State) (sound : SoundState n st
   reads-next : (x : Access) (k opcode r slot mask : ℕ) → ((m : ℕ) → n ≤ m → Accessed t m below st x) →
       NextOf t n st (Machine.reads x t k opcode r slot mask)
   reads-next (raced kind other s) k opcode r slot mask h = λ m l. calm-trans (more m (omega arith)) (h m (omega arith))
-  reads-next (read v s) k opcode r slot mask h = λ m l.
-      calm-before t n m m below (more m (omega arith))
-      (calm-after t m m below (kept-calm m s t r v (oneMore k) below) (h m (omega arith)))
+  reads-next (read v s) k opcode r slot mask h = (
+    inl (omega arith),
+    λ m l.
+        calm-before t n m m below (more m (omega arith))
+        (calm-after t m m below (kept-calm m s t r v (oneMore k) below) (h m (omega arith))),
+  )
 
   leaves-next : (x : Access) (k opcode c r : ℕ) → ((m : ℕ) → n ≤ m → Accessed t m below st x) →
       NextOf t n st (Machine.leavesIn x t k opcode c r)
   leaves-next (raced kind other s) k opcode c r h = λ m l. calm-trans (more m (omega arith)) (h m (omega arith))
-  leaves-next (read v s) k opcode c r h = λ m l.
-      calm-before t n m m below (more m (omega arith))
-      (calm-after t m m below (kept-calm m s t r v (oneMore k) below) (h m (omega arith)))
+  leaves-next (read v s) k opcode c r h = (
+    inl (omega arith),
+    λ m l.
+        calm-before t n m m below (more m (omega arith))
+        (calm-after t m m below (kept-calm m s t r v (oneMore k) below) (h m (omega arith))),
+  )
 
   -- "4 fence"
   fence-next : (p : Program) (k o : ℕ) (es : List Entry) → 1 ≤ length es →
       NextOf t n st (moves (completed (Machine.fences p st t o) t k) es)
-  fence-next p k o es some m h =
-      let up = versionRaised st t in
-      finished (Machine.fences p st t o) k m
-      (calm-trans (raised-calm m (omega arith))
-      (calm-clocks m m up (Machine.fences p st t o .clocks) (fenced-grows m (up .clocks) (up .marks) (up .numbers) t _ o below)))
+  fence-next p k o es some =
+      let up = versionRaised st t in (
+        inl some,
+        λ m h. finished (Machine.fences p st t o) k m
+            (calm-trans (raised-calm m (omega arith))
+            (calm-clocks m m up (Machine.fences p st t o .clocks)
+            (fenced-grows m (up .clocks) (up .marks) (up .numbers) t _ o below))),
+      )
 
   -- "7 yield"
   yield-calm : (k m : ℕ) → n ≤ m → Calm n m st (completed (Machine.yieldDone st t) t k)
@@ -191,13 +210,18 @@ module _ (t n : ℕ) (below : t < threads) (st : State) (sound : SoundState n st
   unfolding Machine.joins
   joins-next k opcode target l =
       pick (NextOf t n st) (Machine.isIn (st .numbers) Machine.ended target)
-      (λ e m h. finished (Machine.joinedWith st t target) (oneMore k) m (joined-calm target m l (omega arith)))
+      (λ e. (
+        inl (omega arith),
+        λ m h.
+            finished (Machine.joinedWith st t target) (oneMore k) m (joined-calm target m l (omega arith)),
+      ))
       (λ e. schedules-next (Machine.blockedOn st t target) [] (λ m h. blocked-calm target m (omega arith)))
 
   -- a row that changes numbers alone
   done-next : (s : State) (k : ℕ) (es : List Entry) → ((m : ℕ) → n ≤ m → Calm n m st s) →
       NextOf t n st (moves (completed s t k) es)
-  done-next s k es h m l = finished s k m (h m (omega arith))
+  done-next s k es h =
+      (inr (calm-trans (h n (omega arith)) (completed-calm n s t k below) .quiet), λ m l. finished s k m (h m (omega arith)))
 
   explores-next : (k opcode : ℕ) (on : Bool) → NextOf t n st (Machine.explores st t k opcode on)
   explores-next k opcode on =
@@ -263,7 +287,7 @@ module _ (t n : ℕ) (below : t < threads) (st : State) (sound : SoundState n st
       (counts-then a (withNumber a (operation t) op) s1 (operatesOn t) c (omega arith)))
 
   begun-next : (x : Pending) → NextOf t n st (Machine.begunAs st t x)
-  begun-next nothing = λ m h. calm-step (more m (omega arith)) sound
+  begun-next nothing = (inr (quiet-refl st), λ m h. calm-step (more m (omega arith)) sound)
   begun-next (pends action c) =
       schedules-next (Machine.withOperation st t action c) [] (λ m h. pending-calm st action c m (more m (omega arith)))
 
@@ -285,8 +309,12 @@ module _ (t n : ℕ) (below : t < threads) (st : State) (sound : SoundState n st
 
 -- a quiet step comes before
 module _ (t n : ℕ) (below : t < threads) {a b : State} (q : Calm n n a b) where
+  before-notes : (s : State) (es : List Entry) → Notes b s es → Notes a s es
+  before-notes s es (inl h) = inl h
+  before-notes s es (inr h) = inr (quiet-trans (q .quiet) h)
+
   before-next : (mv : Move State) → NextOf t n b mv → NextOf t n a mv
-  before-next (moves s es) h = λ m l. calm-before t n n m below q (h m l)
+  before-next (moves s es) (h, k) = (before-notes s es h, λ m l. calm-before t n n m below q (k m l))
   before-next (asks s es x (whichThread points initial standings)) h = λ m l. calm-trans q (h m l)
   before-next (asks s es x (whichSlot offered)) h = λ m l. calm-trans q (h m l)
   before-next (asks s es x whichBit) h = λ m l. calm-trans q (h m l)

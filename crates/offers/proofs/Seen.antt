@@ -1,6 +1,6 @@
 -- What a thread has read or written counts as seen by it, in every execution of every run.
---     ticks-seen         the ticks of an execution
---     all-seen           the statement
+--     ticks-seen                    the ticks of an execution
+--     all-seen, seen-in-runs        the statements
 use Prim.Native.Nat.{ℕ, zero, suc, _≤_, _<_}
 use mathlib.Core.List.{List, [], _∷_}
 use mathlib.Core.Bool.{true, and-eq-true-iff}
@@ -14,11 +14,14 @@ use Rattle.rules.specs.Table.{headerFine, threadsOf, cellsOf}
 use Rattle.rules.specs.State.{State, threads, cells}
 use Rattle.rules.specs.Machine.{Program, machine}
 use Rattle.rules.specs.Explorer.{Limits, Ledger, Walk, Tick, goes, over, faulted, tick, Execution, execution, After, after, stopsHere, goesOn, empty}
+use Rattle.rules.specs.Explored.{Settings, settingsFine, programOf, limitsOf}
 use Rattle.rules.proofs.MeasureStart.{start-ready}
+use Rattle.rules.proofs.MeasureAccepted.{good-header}
 use Rattle.ledger.specs.History.{Every, ticksFrom, starting, courseOf, coursesFrom, courses}
 use Rattle.ledger.specs.Replay.{Answered, Follows, Replay}
 use Rattle.ledger.proofs.Replay.{replay}
-use Rattle.offers.specs.Seen.{Sees, Taken, Watched, Watching, Since, here, on, Lasting, Seeing, Seen}
+use Rattle.offers.specs.Seen.{Sees, Taken, Watched, Watching, Since, here, on, Lasting, Seeing, Seen, SeenInRuns}
+use Rattle.offers.proofs.Counted.{start-counts}
 use Rattle.offers.proofs.Starts.{start-sound}
 use Rattle.offers.proofs.Watched.{Holds, holds-on, watching}
 
@@ -89,6 +92,7 @@ module _ (p : Program) (limits : Limits) (limited : p .operations ≤ largest) (
       sound = start-sound p (within .1) (within .2);
       ready = start-ready p (within .0) (within .1) (within .2);
       fit = omega arith;
+      counts = start-counts p (within .1) (within .2);
     }
 
     course-seen : (l : Ledger) → Follows (machine p) limits (courseOf (machine p) limits l) →
@@ -122,3 +126,15 @@ pub all-seen : Seen
 unfolding Seen Replay courses
 all-seen p limits n header limited room =
     courses-seen p limits limited room header n empty [] (replay (machine p) limits n)
+
+-- "operation limit L 1..4,096"
+operations-few : (settings : Settings) → settingsFine settings ≡ true → settings .operations ≤ 4096
+unfolding settingsFine
+operations-few settings e = let f = simp and-eq-true-iff at e in omega (arith, leb-true)
+
+pub seen-in-runs : SeenInRuns
+unfolding SeenInRuns Seen
+seen-in-runs table settings fine accepted =
+    let few = operations-few settings fine in
+    all-seen (programOf table settings) (limitsOf settings) (settings .executions) (good-header table accepted) (omega arith)
+    (omega arith)

@@ -19,7 +19,7 @@ use Rattle.offers.proofs.Sight.{Marked, rowIn, Sound, sound-grows}
 use Rattle.offers.proofs.Steps.{SoundState, calm-more, store-sound}
 use Rattle.offers.proofs.Moves.{small-zeros}
 
-replicate-has : {A : Type 0} (P : A → Type 0) (n k : ℕ) (x d : A) → P x → P d → P (getD (replicate n x) k d)
+pub replicate-has : {A : Type 0} (P : A → Type 0) (n k : ℕ) (x d : A) → P x → P d → P (getD (replicate n x) k d)
 replicate-has P zero k x d p q = q
 replicate-has P (suc n) zero x d p q = p
 replicate-has P (suc n) (suc k) x d p q = replicate-has P n k x d p q

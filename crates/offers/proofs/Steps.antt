@@ -61,16 +61,17 @@ quiet-refl a = record { stays = λ c i k h. refl; counts = λ c h. refl }
 stays-trans : (a b c : List ℕ) → Stays a b → Stays b c → Stays a c
 stays-trans a b c p q k h = let e = p k h in q k (λ u. h (sym e ∙ u)) ∙ e
 
+pub quiet-trans : {a b c : State} → Quiet a b → Quiet b c → Quiet a c
+quiet-trans {a} {b} {c} p q = record {
+  stays = λ d i. stays-trans (rowIn (a .marks) d i) (rowIn (b .marks) d i) (rowIn (c .marks) d i) (p .stays d i) (q .stays d i);
+  counts = λ d h. q .counts d h ∙ p .counts d h;
+}
+
 pub calm-trans : {n m l : ℕ} {a b c : State} → Calm n m a b → Calm m l b c → Calm n l a c
 calm-trans {n} {m} {l} {a} {b} {c} p q = record {
   grows = grows-trans (p .grows) (q .grows);
   sound = λ s. q .sound (p .sound s);
-  quiet = record {
-    stays = λ d i.
-        stays-trans (rowIn (a .marks) d i) (rowIn (b .marks) d i) (rowIn (c .marks) d i) (p .quiet .stays d i)
-        (q .quiet .stays d i);
-    counts = λ d h. q .quiet .counts d h ∙ p .quiet .counts d h;
-  };
+  quiet = quiet-trans (p .quiet) (q .quiet);
 }
 
 -- Sight
@@ -86,10 +87,7 @@ calm-step q s = record { grows = q .grows; sound = q .sound s; does = inl (q .qu
 
 module _ (t n m l : ℕ) (below : t < threads) {a b c : State} where
   before-does : Quiet a b → Quiet b c ⊎ Stores t l b c → Quiet a c ⊎ Stores t l a c
-  before-does p (inl q) = inl (record {
-    stays = λ d i. stays-trans (rowIn (a .marks) d i) (rowIn (b .marks) d i) (rowIn (c .marks) d i) (p .stays d i) (q .stays d i);
-    counts = λ d h. q .counts d h ∙ p .counts d h;
-  })
+  before-does p (inl q) = inl (quiet-trans p q)
   before-does p (inr q) =
       let e : number (b .numbers) (count (q .cell)) ≡ number (a .numbers) (count (q .cell)) = p .counts (q .cell) (q .below) in
       inr (record {
@@ -109,11 +107,7 @@ module _ (t n m l : ℕ) (below : t < threads) {a b c : State} where
 
 module _ (t n m : ℕ) (below : t < threads) {a b c : State} (q : Calm m m b c) where
   after-does : Quiet a b ⊎ Stores t m a b → Quiet a c ⊎ Stores t m a c
-  after-does (inl p) = inl (record {
-    stays = λ d i.
-        stays-trans (rowIn (a .marks) d i) (rowIn (b .marks) d i) (rowIn (c .marks) d i) (p .stays d i) (q .quiet .stays d i);
-    counts = λ d h. q .quiet .counts d h ∙ p .counts d h;
-  })
+  after-does (inl p) = inl (quiet-trans p (q .quiet))
   after-does (inr p) = inr (record {
     cell = p .cell;
     below = p .below;

@@ -9,6 +9,7 @@ use mathlib.Core.Path.{_≡_, refl, ap, sym, _∙_}
 use mathlib.Core.Logic.{_⊎_, inl, inr}
 use native.Mathlib.Omega.{arith}
 use native.Mathlib.Decide.{ℕ-discrete}
+use lib.Dec.{ltb}
 use lib.ListN.{length, getD, length-append}
 use borrow.Author.Tests.{lt-ltb}
 use Rattle.rules.specs.Vector.{Whom, largest, oneMore}
@@ -21,6 +22,7 @@ use Rattle.rules.specs.Machine as Machine
 use Rattle.rules.specs.Machine.{Program, machine, active}
 use Rattle.rules.specs.Explorer.{Limits, Walk, goes, noted, tick}
 use Rattle.rules.specs.Measure.{measure, Ready}
+use Rattle.rules.proofs.MeasureRows.{pick}
 use Rattle.rules.proofs.MeasureSteps.{Asked, Lower, asking}
 use Rattle.rules.proofs.MeasureTicks.{next-lower}
 use Rattle.rules.proofs.MeasureWalk.{tick-lowers}
@@ -29,12 +31,74 @@ use Rattle.offers.specs.Chosen.{Reading, aLoad, anRmw, Chosen}
 use Rattle.offers.specs.Offered.{Below, Among}
 use Rattle.offers.specs.Seen.{Sees, Taken, Watched, Watching}
 use Rattle.offers.proofs.Sight.{Stays, rowIn, seen-stays}
-use Rattle.offers.proofs.Steps.{SoundState, Quiet, Stores, Calm, Steps, calm-before, sees-calm}
-use Rattle.offers.proofs.Moves.{NextOf, AnswerOf, next-steps}
+use Rattle.offers.proofs.Steps.{SoundState, Quiet, quiet-trans, Stores, Calm, Steps, calm-before, sees-calm}
+use Rattle.offers.proofs.Moves.{Notes, NextOf, AnswerOf, next-steps}
 use Rattle.offers.proofs.Answers.{thread-steps, slot-steps, bit-steps, AfterOf, load-read, rmw-read}
 use Rattle.offers.proofs.Passing.{Passing, tick-passes}
 use Rattle.offers.proofs.Chosen.{slot-said, offering}
 use Rattle.offers.proofs.Following.{Replied, replied, Follow, follow, tick-moves, tick-stops}
+
+-- What a step leaves
+
+more-is : (x : ℕ) → x < largest → oneMore x ≡ x + 1
+more-is x h = rw (lt-ltb x largest h)
+
+more-most : (x : ℕ) → oneMore x ≤ x + 1
+more-most x = pick (λ (y : ℕ). y ≤ x + 1) (ltb x largest) (λ e. omega arith) (λ e. omega arith)
+
+module _ (t n m : ℕ) {a b : State} (q : Steps t n m a b) where
+  -- a cell has at most one store more
+  count-most : (c : ℕ) → c < 4 → number (b .numbers) (count c) ≤ number (a .numbers) (count c) + 1
+  count-most c l = go (q .does)
+    where
+      stored : Stores t m a b → number (b .numbers) (count c) ≤ number (a .numbers) (count c) + 1
+      stored s =
+          elim (ℕ-discrete c (s .cell)) [
+            | no d ↦ omega (arith, s .counts c l d)
+            | yes f ↦ rw f (omega (arith, s .one-more, more-most (number (a .numbers) (count (s .cell)))))
+          ]
+
+      go : Quiet a b ⊎ Stores t m a b → number (b .numbers) (count c) ≤ number (a .numbers) (count c) + 1
+      go (inl s) = omega (arith, s .counts c l)
+      go (inr s) = stored s
+
+  module _ (c i : ℕ) (l : c < 4) (small : number (a .numbers) (count c) < largest) where
+    seen-kept : (u : ℕ) → u < threads → Sees a u c i → Sees b u c i ⊎ Taken c i a b
+    seen-kept u h e = go (q .does)
+      where
+        again : Stays (rowIn (a .marks) c i) (rowIn (b .marks) c i) → Sees b u c i
+        again s =
+            seen-stays (rowIn (a .marks) c i) (rowIn (b .marks) c i) (vector (a .clocks) (causality u))
+            (vector (b .clocks) (causality u)) s (q .grows .grown u h) e
+
+        stored : Stores t m a b → Sees b u c i ⊎ Taken c i a b
+        stored s =
+            elim (ℕ-discrete c (s .cell)) [
+              | no d ↦ inl (again (s .stays c i (λ f g. d f)))
+              | yes f ↦ elim (ℕ-discrete i (slotOf (number (a .numbers) (count (s .cell))))) [
+                | no d ↦ inl (again (s .stays c i (λ f g. d g)))
+                | yes g ↦ inr (rw f (sym g), (rw f (s .one-more)) ∙ more-is (number (a .numbers) (count c)) small)
+              ]
+            ]
+
+        go : Quiet a b ⊎ Stores t m a b → Sees b u c i ⊎ Taken c i a b
+        go (inl s) = inl (again (s .stays c i))
+        go (inr s) = stored s
+
+    -- a count that rises is that of the cell where a store is made
+    seen-written : m < unseen → Taken c i a b → Sees b t c i
+    seen-written few (e, f) = go (q .does)
+      where
+        stored : Stores t m a b → Sees b t c i
+        stored s =
+            elim (ℕ-discrete c (s .cell)) [
+              | no d ↦ absurd (omega (arith, f, s .counts c l d))
+              | yes x ↦ rw (← e, x) (s .sees few)
+            ]
+
+        go : Quiet a b ⊎ Stores t m a b → Sees b t c i
+        go (inl s) = absurd (omega (arith, f, s .counts c l))
+        go (inr s) = stored s
 
 module _ (p : Program) (limits : Limits) where
   -- Between ticks
@@ -43,10 +107,13 @@ module _ (p : Program) (limits : Limits) where
     pub sound : SoundState (length (w .trace) + 2) (w .state)
     pub ready : Ready (w .state)
     pub fit : length (w .trace) ≤ limits .operations
+    pub counts : (c : ℕ) → c < 4 → number (w .state .numbers) (count c) ≤ length (w .trace) + 1
 
   pub record Went (w v : Walk State) : Type 0 where
     pub steps : Steps (active (w .state)) (length (w .trace) + 2) (length (v .trace) + 2) (w .state) (v .state)
     pub fit : length (v .trace) ≤ limits .operations
+    pub longer : length (w .trace) ≤ length (v .trace)
+    pub noted : (length (w .trace) < length (v .trace)) ⊎ Quiet (w .state) (v .state)
 
   asked-of : {n : ℕ} {s : State} {es : List Entry} {x : Bool} {q : Question} → Lower p n (asks s es x q) → Asked p n s q
   asked-of (asking h) = h
@@ -78,8 +145,19 @@ module _ (p : Program) (limits : Limits) where
         let length-is : length es ≡ length (f .entries) = ap length (entries-of (f .is)) in
         let long = ap length (f .trace-is) ∙ length-append (w .trace) (f .entries) in
         let k : NextOf t n (w .state) (moves s es) = rw e at nexts in
-        record { steps = rw here (k m (omega arith)); fit = f .fit }
+        record {
+          steps = rw here (k .1 m (omega arith));
+          fit = f .fit;
+          longer = omega arith;
+          noted = noting (k .0) here
+              (omega arith);
+        }
       where
+        noting : {a : State} → Notes (w .state) a es → v .state ≡ a → length (v .trace) ≡ length (w .trace) + length es →
+            (length (w .trace) < length (v .trace)) ⊎ Quiet (w .state) (v .state)
+        noting (inl l) e f = inl (omega arith)
+        noting (inr q) e f = inr (rw e q)
+
         entries-of : {a b : State} {x y : List Entry} → moves a x ≡ moves b y → x ≡ y
         entries-of z = cc
 
@@ -109,9 +187,15 @@ module _ (p : Program) (limits : Limits) where
       both-went calm k =
           let a : AnswerOf t m s (moves (after .state) (after .entries)) = rw (after .is) at k in
           record {
-            steps = rw (after .state-is) (calm-before t n m m (h .ready .below) calm a);
+            steps = rw (after .state-is) (calm-before t n m m (h .ready .below) calm (a .1));
             fit = after .fit;
+            longer = omega (arith, trace-long);
+            noted = noting (a .0);
           }
+        where
+          noting : Notes s (after .state) (after .entries) → (length (w .trace) < length (v .trace)) ⊎ Quiet (w .state) (v .state)
+          noting (inl l) = inl (omega (arith, trace-long))
+          noting (inr q) = inr (rw (after .state-is) (quiet-trans (calm .quiet) q))
 
     -- "(d) the branch chooses."
     thread-went : (s : State) (es : List Entry) (x : Bool) (points : List Event.Place) (initial : Whom) (standings : List Event.Standing) →
@@ -138,7 +222,7 @@ module _ (p : Program) (limits : Limits) where
           (e : Machine.next p (w .state) .move ≡ asks s es x (whichSlot q)) where
         chosen : Chosen p limits w s es q
         chosen =
-            let k = offering p limits w answered s es x q e in
+            let k = offering p limits w answered .at-slot s es x q e in
             k .chosen (let l = k .passes v g in rw g l)
 
         one-entry : m ≡ n + 1
@@ -171,50 +255,17 @@ module _ (p : Program) (limits : Limits) where
       went = by-move (Machine.next p (w .state) .move) refl
 
       pub holds-on : Holds v
-      holds-on = record { sound = went .steps .sound; ready = tick-lowers p limits limited w v (h .ready) g .0; fit = went .fit }
-
--- What the threads see after a step
-module _ (t n m : ℕ) {a b : State} (q : Steps t n m a b) where
-  seen-kept : (u c i : ℕ) → u < threads → c < 4 → Sees a u c i → Sees b u c i ⊎ Taken c i a b
-  seen-kept u c i h l e = go (q .does)
-    where
-      again : Stays (rowIn (a .marks) c i) (rowIn (b .marks) c i) → Sees b u c i
-      again s =
-          seen-stays (rowIn (a .marks) c i) (rowIn (b .marks) c i) (vector (a .clocks) (causality u))
-          (vector (b .clocks) (causality u)) s
-          (q .grows .grown u h) e
-
-      stored : Stores t m a b → Sees b u c i ⊎ Taken c i a b
-      stored s =
-          elim (ℕ-discrete c (s .cell)) [
-            | no d ↦ inl (again (s .stays c i (λ f g. d f)))
-            | yes f ↦ elim (ℕ-discrete i (slotOf (number (a .numbers) (count (s .cell))))) [
-              | no d ↦ inl (again (s .stays c i (λ f g. d g)))
-              | yes g ↦ inr (rw f (sym g), rw f (s .one-more))
-            ]
-          ]
-
-      go : Quiet a b ⊎ Stores t m a b → Sees b u c i ⊎ Taken c i a b
-      go (inl s) = inl (again (s .stays c i))
-      go (inr s) = stored s
-
-  -- a count that rises is that of the cell where a store is made
-  more-than : (x y : ℕ) → x < largest → y ≡ oneMore x → y ≡ x → ⊥
-  more-than x y h e f = let k : oneMore x ≡ x + 1 = rw (lt-ltb x largest h) in omega arith
-
-  seen-written : (c i : ℕ) → c < 4 → m < unseen → number (a .numbers) (count c) < largest → Taken c i a b → Sees b t c i
-  seen-written c i l few small (e, f) = go (q .does)
-    where
-      stored : Stores t m a b → Sees b t c i
-      stored s =
-          elim (ℕ-discrete c (s .cell)) [
-            | no d ↦ absurd (more-than (number (a .numbers) (count c)) (number (b .numbers) (count c)) small f (s .counts c l d))
-            | yes x ↦ rw (← e, x) (s .sees few)
-          ]
-
-      go : Quiet a b ⊎ Stores t m a b → Sees b t c i
-      go (inl s) = absurd (more-than (number (a .numbers) (count c)) (number (b .numbers) (count c)) small f (s .counts c l))
-      go (inr s) = stored s
+      holds-on = record {
+        sound = went .steps .sound;
+        ready = tick-lowers p limits limited w v (h .ready) g .0;
+        fit = went .fit;
+        counts = λ c l. count-on c l (went .noted);
+      }
+        where
+          count-on : (c : ℕ) → c < 4 → (length (w .trace) < length (v .trace)) ⊎ Quiet (w .state) (v .state) →
+              number (v .state .numbers) (count c) ≤ length (v .trace) + 1
+          count-on c l (inl k) = omega (arith, h .counts c l, count-most _ _ _ (went .steps) c l)
+          count-on c l (inr q) = omega (arith, h .counts c l, q .counts c l, went .longer)
 
 module _ (p : Program) (limits : Limits) (limited : p .operations ≤ largest) (room : limits .operations ≤ 65531)
     (w v : Walk State)
@@ -263,11 +314,14 @@ module _ (p : Program) (limits : Limits) (limited : p .operations ≤ largest) (
         ap (Machine.answered p s) (sym read-slot) ∙ f .is in
         rw (f .state-is) (rw is at after-reading)
 
+  few-stores : (c : ℕ) → c < 4 → number (w .state .numbers) (count c) < largest
+  few-stores c l = omega (arith, h .counts c l, h .fit)
+
   watched : Watched p limits w v
   watched = record {
     read = read-seen;
-    wrote = λ c i l small k. seen-written _ _ _ (went-on .steps) c i l (omega (arith, went-on .fit)) small k;
-    kept = λ t c i b l k. seen-kept _ _ _ (went-on .steps) t c i b l k;
+    wrote = λ c i l k. seen-written _ _ _ (went-on .steps) c i l (few-stores c l) (omega (arith, went-on .fit)) k;
+    kept = λ t c i b l k. seen-kept _ _ _ (went-on .steps) c i l (few-stores c l) t b k;
   }
 
 -- What a load or an RMW is never offered

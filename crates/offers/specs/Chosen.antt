@@ -3,6 +3,7 @@
 --     Reading          a row that reads a slot, with what it is offered
 --     Noted            the trace entry of such a row, or none where it faults
 --     Chosen           a tick at which a slot is chosen
+--     Offering         and that no other tick notes a load or an RMW
 --     Offers           the statement: every such tick of every execution of every run, of any table
 use Prim.Native.Nat.{ℕ, _<_}
 use mathlib.Core.List.{List, [], _++_}
@@ -39,10 +40,18 @@ Noted before it (goes v) = v .trace ≡ before ++ it
 Noted before it (over v) = ⊥
 Noted before it (faulted f site v) = v .trace ≡ before
 
+-- an entry that is neither a load's nor an RMW's
+abbrev pub NoRead : Entry → Type 0
+NoRead e = (e .opcode ≡ 0 → ⊥) × (e .opcode ≡ 3 → ⊥)
+
 module _ (p : Program) (limits : Limits) where
   -- the walk that a tick leaves
   abbrev pub left : Walk State → Walk State
   left w = leftBy (tick (machine p) limits w)
+
+  -- a tick at which the machine asks in this state, with these entries, for one of these offers; exploring or not
+  abbrev pub AsksSlot : Walk State → State → List Entry → Bool → Matched → Type 0
+  AsksSlot w s es x m = next p (w .state) .move ≡ asks s es x (whichSlot m)
 
   -- A tick at which the machine asks in this state for one of these offers, and is answered
   pub record Chosen (w : Walk State) (s : State) (es : List Entry) (m : Matched) : Type 0 where
@@ -73,10 +82,13 @@ module _ (p : Program) (limits : Limits) where
     pub passes : (v : Walk State) → tick (machine p) limits w ≡ goes v → w .pos < v .pos
     pub chosen : w .pos < left w .pos → Chosen w s es m
 
-  abbrev pub Offering : Walk State → Type 0
-  Offering w =
-      (s : State) (es : List Entry) (exploring : Bool) (m : Matched) → next p (w .state) .move ≡ asks s es exploring (whichSlot m)
-      → Unrefused w s es m
+  pub record Offering (w : Walk State) : Type 0 where
+    pub at-slot : (s : State) (es : List Entry) (x : Bool) (m : Matched) → AsksSlot w s es x m → Unrefused w s es m
+    -- a tick that asks for none notes no load and no RMW
+    pub no-other :
+        (v : Walk State) → tick (machine p) limits w ≡ goes v
+        → ((s : State) (es : List Entry) (x : Bool) (m : Matched) → AsksSlot w s es x m → ⊥)
+        → (new : List Entry) × (v .trace ≡ w .trace ++ new) × Every NoRead new
 
   abbrev pub OfferingCourse : Course State → Type 0
   OfferingCourse c = Every Offering (c .ticks)
