@@ -42,18 +42,18 @@ abbrev pub others : List ℕ
 others = 4 ∷ 5 ∷ 6 ∷ 7 ∷ 8 ∷ 9 ∷ 10 ∷ 11 ∷ 12 ∷ 13 ∷ 14 ∷ 15 ∷ 16 ∷ []
 
 pub pends-none : (op : Op) → OneOf others (tagOf Op.the-type op) → Pends pending.Nothing (pendingOf (opOf op))
-pends-none (code.Load cell order register) k = absurd (miss others 0 tt k)
-pends-none (code.Store cell order value) k = absurd (miss others 1 tt k)
-pends-none (code.StoreRegister cell order register) k = absurd (miss others 2 tt k)
-pends-none (code.Rmw cell order failure change register) k = absurd (miss others 3 tt k)
+pends-none (code.Load order cell register) k = absurd (miss others 0 tt k)
+pends-none (code.Store order cell value) k = absurd (miss others 1 tt k)
+pends-none (code.StoreRegister order cell register) k = absurd (miss others 2 tt k)
+pends-none (code.Rmw order cell register change failure) k = absurd (miss others 3 tt k)
 pends-none (code.Fence order) k = record { is = refl; within = tt }
 pends-none (code.UnsyncLoad cell register) k = record { is = refl; within = tt }
-pends-none (code.WithMut cell change register) k = record { is = refl; within = tt }
+pends-none (code.WithMut cell register change) k = record { is = refl; within = tt }
 pends-none code.Yield k = record { is = refl; within = tt }
 pends-none (code.Join thread) k = record { is = refl; within = tt }
 pends-none (code.Jump target) k = record { is = refl; within = tt }
-pends-none (code.JumpIf register a target) k = record { is = refl; within = tt }
-pends-none (code.JumpUnless register a target) k = record { is = refl; within = tt }
+pends-none (code.JumpIf target register a) k = record { is = refl; within = tt }
+pends-none (code.JumpUnless target register a) k = record { is = refl; within = tt }
 pends-none (code.Check register a) k = record { is = refl; within = tt }
 pends-none code.Critical k = record { is = refl; within = tt }
 pends-none code.ExploreState k = record { is = refl; within = tt }
@@ -182,18 +182,18 @@ module _ (st : State) (t k v : ℕ) where
 
   bit-none : (op : Op) → OneOf all-others (tagOf Op.the-type op) → stops st Event.impossible ≡ bitTaken st t k v (rules.decoded (opOf op))
   unfolding bitTaken
-  bit-none (code.Load cell order register) h = refl
-  bit-none (code.Store cell order value) h = refl
-  bit-none (code.StoreRegister cell order register) h = refl
-  bit-none (code.Rmw cell order failure change register) h = refl
+  bit-none (code.Load order cell register) h = refl
+  bit-none (code.Store order cell value) h = refl
+  bit-none (code.StoreRegister order cell register) h = refl
+  bit-none (code.Rmw order cell register change failure) h = refl
   bit-none (code.Fence order) h = refl
   bit-none (code.UnsyncLoad cell register) h = refl
-  bit-none (code.WithMut cell change register) h = refl
+  bit-none (code.WithMut cell register change) h = refl
   bit-none code.Yield h = refl
   bit-none (code.Join thread) h = refl
   bit-none (code.Jump target) h = refl
-  bit-none (code.JumpIf register a target) h = refl
-  bit-none (code.JumpUnless register a target) h = refl
+  bit-none (code.JumpIf target register a) h = refl
+  bit-none (code.JumpUnless target register a) h = refl
   bit-none (code.Check register a) h = refl
   bit-none code.Critical h = refl
   bit-none code.ExploreState h = refl
