@@ -40,10 +40,10 @@ use Rattle.accesses.specs.declared.Reading.the-variants.{Nothing, Of}
 pub row-within : (row : Decoded) (op : Op) → row ≡ Says op → opWithin row → inRange (opOf op)
 row-within row op e h = subst (λ (d : Decoded). opWithin d) e h
 
-pub load-within : (op : Op) (c o r : ℕ) → op ≡ code.Load c o r → inRange (opOf op) → (c < 4) × (r < 4)
+pub load-within : (op : Op) (c o r : ℕ) → op ≡ code.Load o c r → inRange (opOf op) → (c < 4) × (r < 4)
 load-within op c o r e h = subst (λ (p : Op). inRange (opOf p)) e h
 
-pub rmw-within : (op : Op) (c o f : ℕ) (change : Change) (r : ℕ) → op ≡ code.Rmw c o f change r → inRange (opOf op) → (c < 4) × (r < 4)
+pub rmw-within : (op : Op) (c o f : ℕ) (change : Change) (r : ℕ) → op ≡ code.Rmw o c r change f → inRange (opOf op) → (c < 4) × (r < 4)
 rmw-within op c o f change r e h = subst (λ (p : Op). inRange (opOf p)) e h
 
 pub of-within : (r : Reading) (cell register : ℕ) → r ≡ Of cell register → readWithin r → (cell < 4) × (register < 4)
@@ -61,18 +61,18 @@ pub record Other (op : Table.Op) : Type 0 where
   pub offers : (st : State) (t : ℕ) → matchedFor st t (Table.decoded op) ≡ Event.offers []
 
 pub others : (op : Op) → OneOf elsewhere (tagOf the-type op) → Other (opOf op)
-others (code.Load c o r) e = absurd (miss elsewhere 0 tt e)
-others (code.Store c o a) e = record { nothing = refl; done = λ st t slot. refl; offers = λ st t. refl }
-others (code.StoreRegister c o r) e = record { nothing = refl; done = λ st t slot. refl; offers = λ st t. refl }
-others (code.Rmw c o f change r) e = absurd (miss elsewhere 3 tt e)
+others (code.Load o c r) e = absurd (miss elsewhere 0 tt e)
+others (code.Store o c a) e = record { nothing = refl; done = λ st t slot. refl; offers = λ st t. refl }
+others (code.StoreRegister o c r) e = record { nothing = refl; done = λ st t slot. refl; offers = λ st t. refl }
+others (code.Rmw o c r change f) e = absurd (miss elsewhere 3 tt e)
 others (code.Fence o) e = record { nothing = refl; done = λ st t slot. refl; offers = λ st t. refl }
 others (code.UnsyncLoad c r) e = record { nothing = refl; done = λ st t slot. refl; offers = λ st t. refl }
-others (code.WithMut c change r) e = record { nothing = refl; done = λ st t slot. refl; offers = λ st t. refl }
+others (code.WithMut c r change) e = record { nothing = refl; done = λ st t slot. refl; offers = λ st t. refl }
 others code.Yield e = record { nothing = refl; done = λ st t slot. refl; offers = λ st t. refl }
 others (code.Join target) e = record { nothing = refl; done = λ st t slot. refl; offers = λ st t. refl }
 others (code.Jump target) e = record { nothing = refl; done = λ st t slot. refl; offers = λ st t. refl }
-others (code.JumpIf r a target) e = record { nothing = refl; done = λ st t slot. refl; offers = λ st t. refl }
-others (code.JumpUnless r a target) e = record { nothing = refl; done = λ st t slot. refl; offers = λ st t. refl }
+others (code.JumpIf target r a) e = record { nothing = refl; done = λ st t slot. refl; offers = λ st t. refl }
+others (code.JumpUnless target r a) e = record { nothing = refl; done = λ st t slot. refl; offers = λ st t. refl }
 others (code.Check r a) e = record { nothing = refl; done = λ st t slot. refl; offers = λ st t. refl }
 others code.Critical e = record { nothing = refl; done = λ st t slot. refl; offers = λ st t. refl }
 others code.ExploreState e = record { nothing = refl; done = λ st t slot. refl; offers = λ st t. refl }
@@ -81,10 +81,10 @@ others (code.Spurious r) e = record { nothing = refl; done = λ st t slot. refl;
 
 -- What is read
 
-pub load-read : (op : Op) (c o r : ℕ) → op ≡ code.Load c o r → inRange (opOf op) → Means (Of c r) (opOf op)
+pub load-read : (op : Op) (c o r : ℕ) → op ≡ code.Load o c r → inRange (opOf op) → Means (Of c r) (opOf op)
 load-read op c o r e h = record { is = sym (ap (λ (p : Op). readingOf (opOf p)) e); within = load-within op c o r e h }
 
-pub rmw-read : (op : Op) (c o f : ℕ) (change : Change) (r : ℕ) → op ≡ code.Rmw c o f change r → inRange (opOf op) → Means (Of c r) (opOf op)
+pub rmw-read : (op : Op) (c o f : ℕ) (change : Change) (r : ℕ) → op ≡ code.Rmw o c r change f → inRange (opOf op) → Means (Of c r) (opOf op)
 rmw-read op c o f change r e h =
     record { is = sym (ap (λ (p : Op). readingOf (opOf p)) e); within = rmw-within op c o f change r e h }
 
@@ -92,10 +92,10 @@ pub other-read : (op : Op) → OneOf elsewhere (tagOf the-type op) → Means Not
 other-read op e = record { is = others op e .nothing; within = tt }
 
 module _ (st : State) (t slot : ℕ) (x : Access) (op : Op) (c o : ℕ) where
-  pub load-done : (r : ℕ) → op ≡ code.Load c o r → x ≡ loadDone st t c slot o → x ≡ readDone st t slot (opOf op)
+  pub load-done : (r : ℕ) → op ≡ code.Load o c r → x ≡ loadDone st t c slot o → x ≡ readDone st t slot (opOf op)
   load-done r e f = f ∙ sym (ap (λ (p : Op). readDone st t slot (opOf p)) e)
 
-  pub rmw-done : (f : ℕ) (change : Change) (r : ℕ) → op ≡ code.Rmw c o f change r →
+  pub rmw-done : (f : ℕ) (change : Change) (r : ℕ) → op ≡ code.Rmw o c r change f →
       x ≡ rmwDone st t c slot (changeMeant change) o f → x ≡ readDone st t slot (opOf op)
   rmw-done f change r e g = g ∙ sym (ap (λ (p : Op). readDone st t slot (opOf p)) e)
 
@@ -115,13 +115,13 @@ module _ (clocks : Clocks) (marks : Marks) (values : Values) (numbers : Numbers)
         x ≡ offered (matchedFor (state clocks marks values numbers) t (decodedOf row)) dst
     there x f = f ∙ sym (ap (λ (d : Decoded). offered (matchedFor (state clocks marks values numbers) t (decodedOf d)) dst) says)
 
-    pub offers-load : (c o r : ℕ) → op ≡ code.Load c o r → (x : Scan) →
+    pub offers-load : (c o r : ℕ) → op ≡ code.Load o c r → (x : Scan) →
         x ≡ offered (matchedLoad clocks (marksOf marks c) numbers t c o) dst →
         x ≡ offered (matchedFor (state clocks marks values numbers) t (decodedOf row)) dst
     offers-load c o r e x f =
         there x (f ∙ sym (ap (λ (p : Op). offered (matchedFor (state clocks marks values numbers) t (Table.decoded (opOf p))) dst) e))
 
-    pub offers-rmw : (c o f : ℕ) (change : Change) (r : ℕ) → op ≡ code.Rmw c o f change r → (x : Scan) →
+    pub offers-rmw : (c o f : ℕ) (change : Change) (r : ℕ) → op ≡ code.Rmw o c r change f → (x : Scan) →
         x ≡ offered (matchedRmw clocks numbers c) dst →
         x ≡ offered (matchedFor (state clocks marks values numbers) t (decodedOf row)) dst
     offers-rmw c o f change r e x g =

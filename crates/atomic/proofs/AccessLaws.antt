@@ -5,15 +5,13 @@
 --     load-raced, load-done           a load
 --     rmw-raced, rmw-failed, rmw-succeeded, then-raced, then-stored      a read-modify-write, and its rest after a change
 use Prim.Native.Nat.{ℕ}
-use mathlib.Core.List.{List, []}
+use mathlib.Core.List.{List}
 use mathlib.Core.Path.{_≡_, ap, sym, _∙_}
-use mathlib.Core.Logic.{_≢_, ⊎-elim}
-use borrow.Author.Tests.{eq-eqb, ne-eqb, ltb-true, ltb-false}
-use lib.Dec.{ltb}
-use lib.ListN.{length, set}
-use lib.Seq.{set-out, set-set, getD-set-same}
+use mathlib.Core.Logic.{_≢_}
+use borrow.Author.Tests.{eq-eqb, ne-eqb}
+use lib.ListN.{set}
 use Rattle.rules.specs.Vector.{oneMore}
-use Rattle.rules.specs.Seen.{touched, touchedAt, unseens}
+use Rattle.rules.specs.Seen.{touched, unseens}
 use Rattle.rules.specs.State.{State, Clocks, Marks, Values, Numbers, vector, marksOf, withMarks, value, withValue, number, withNumber, storeAt, threads, causality, sync, ofStore, count, isSeqCst}
 use Rattle.rules.specs.Cell as rules
 use Rattle.rules.specs.Cell.{slotOf, withStore, version, seqCstOrder, seqCstFlag, storeOrder, storeSynced, storeDone, Access, raced, read}
@@ -23,7 +21,6 @@ use Rattle.rules.specs.Change.{Change, success, failure, applied}
 use Rattle.rules.specs.Cell.{sighted, loadDone, succeeded, rmwDone}
 use Rattle.change.specs.declared.Changed.{Changed}
 use Rattle.layout.specs.Tables.{state}
-use Rattle.synchronize.proofs.SeenLaws.{flag}
 use Rattle.change.specs.Changes.{changedOf}
 
 pub flag-set : (o : ℕ) → o ≡ seqCstOrder → 1 ≡ seqCstFlag o
@@ -32,42 +29,28 @@ flag-set o e = rw (eq-eqb o seqCstOrder e)
 pub flag-clear : (o : ℕ) → o ≢ seqCstOrder → 0 ≡ seqCstFlag o
 flag-clear o n = rw (ne-eqb o seqCstOrder n)
 
--- the mark on a slot whose marks were cleared
-touch-bare : (rows : List (List ℕ)) (slot t : ℕ) (fresh : List ℕ) (v : ℕ) →
-    touchedAt (set rows slot fresh) slot t v ≡ set rows slot (touched fresh t v)
-unfolding touchedAt
-touch-bare rows slot t fresh v =
-    ⊎-elim
-    (λ e. rw (getD-set-same rows slot fresh [] (ltb-true slot (length rows) e)) (set-set rows slot fresh (touched fresh t v)))
-    (λ e.
-    let out = ltb-false slot (length rows) e in
-    rw (set-out rows slot fresh out, set-out rows slot (touched fresh t v) out) (set-out rows slot _ out))
-    (flag (ltb slot (length rows)))
-
 -- an answer of a change that was taken apart
 pub changing : (r s : Changed) (x : Changes.Changed) → r ≡ s → changedOf r ≡ x → changedOf s ≡ x
 changing r s x e f = sym (ap changedOf e) ∙ f
 
 module _ (clocks : Clocks) (marks : Marks) (values : Values) (numbers : Numbers) (t c : ℕ) where
   -- the slot and the number of the new store, and what is written of it
-  pub stored : (from : List ℕ) (v o slot store more flag : ℕ) (so s : List ℕ) (bare rows : List (List ℕ)) →
+  pub stored : (from : List ℕ) (v o slot store more flag : ℕ) (so s row : List ℕ) →
       slot ≡ slotOf (number numbers (count c)) →
       store ≡ storeAt c slot →
       more ≡ oneMore (number numbers (count c)) →
       so ≡ storeOrder clocks (marksOf marks c) (number numbers (count c)) t c →
       s ≡ storeSynced clocks t from o →
-      bare ≡ set (marksOf marks c) slot (unseens threads) →
-      rows ≡ touchedAt bare slot t (version clocks t) →
+      row ≡ touched (unseens threads) t (version clocks t) →
       flag ≡ seqCstFlag o →
       state
       (withStore clocks store (vector clocks (causality t)) so s)
-      (withMarks marks c rows)
+      (withMarks marks c (set (marksOf marks c) slot row))
       (withValue values (ofStore store) v)
       (withNumber (withNumber numbers (count c) more) (isSeqCst store) flag)
       ≡ storeDone (state clocks marks values numbers) t c from v o
   unfolding storeDone
-  stored from v o slot store more flag so s bare rows a b d e f g k h =
-      rw (h, k, g, touch-bare (marksOf marks c) slot t (unseens threads) (version clocks t), f, e, d, b, a)
+  stored from v o slot store more flag so s row a b d e f g h = rw (h, g, f, e, d, b, a)
 
   -- after the tracking of a load: the clocks are as it left them
   module _ (slot : ℕ) (tracked : Clocks) (left : tracked ≡ loadTracked clocks t c) where

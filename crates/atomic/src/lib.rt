@@ -30,7 +30,7 @@ use layout::order;
 use layout::slots::index;
 use layout::slots::newest;
 use layout::store_at;
-use synchronize::first_seen;
+use synchronize::first_seen::fresh_row;
 use synchronize::sync_load;
 use synchronize::sync_store;
 use track::Race;
@@ -38,13 +38,13 @@ use track::Race;
 // The value read, or the race that stopped the access.
 pub enum Loaded {
     Value(u64),
-    Raced { kind: u8, other: usize },
+    Raced { kind: u8, other: u8 },
 }
 
 // The value that an exclusive change found and the one it left, or the race that stopped it.
 pub enum Mutated {
     Values { read: u64, left: u64 },
-    Raced { kind: u8, other: usize },
+    Raced { kind: u8, other: u8 },
 }
 
 // Loads from a slot: race, coherence, touch, sync, in that order.
@@ -92,15 +92,13 @@ pub fn store(
     let at = store_at(cell, slot);
     numbers[COUNT + cell] = vv::one_more(count);
     let causality = clocks[CAUSALITY + thread];
-    let seen = marks[cell];
-    let cleared = first_seen::cleared(seen, slot);
     // The slot that is replaced still counts here: its order is joined by the marks that it had.
-    let modification_order = store_order(clocks, seen, count, thread, cell);
+    let modification_order = store_order(clocks, marks, count, thread, cell);
     let sync = sync_store(clocks, thread, sync, access.order);
     clocks[HAPPENS_BEFORE + at] = causality;
     clocks[MODIFICATION_ORDER + at] = modification_order;
     clocks[SYNC + at] = sync;
-    marks[cell] = first_seen::touched(cleared, slot, thread, causality[thread]);
+    marks[cell][slot] = fresh_row(thread, causality[thread]);
     values[VALUE + at] = value;
     numbers[SEQ_CST + at] = is_seq_cst(access.order);
 }

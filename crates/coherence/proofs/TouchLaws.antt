@@ -22,10 +22,10 @@ mark-there marks t v n =
     (Seen.flag (ltb t (length marks)))
 
 module _ (clocks : Clocks) (marks : Marks) (t c slot : ℕ) where
-  pub touch-first : (rows : List (List ℕ)) → rows ≡ touchedAt (marksOf marks c) slot t (version clocks t) →
-      set marks c rows ≡ touchDone clocks marks t c slot
-  unfolding touchDone
-  touch-first rows e = rw e
+  pub touch-first : (row : List ℕ) → row ≡ touched (getD (marksOf marks c) slot []) t (version clocks t) →
+      set marks c (set (marksOf marks c) slot row) ≡ touchDone clocks marks t c slot
+  unfolding touchDone touchedAt
+  touch-first row e = rw e
 
   pub touch-again : getD (getD (marksOf marks c) slot []) t 0 ≢ unseen →
       marks ≡ touchDone clocks marks t c slot

@@ -12,7 +12,6 @@ ghost use Rattle.rules.specs.Cell.{coherent, touchDone, storeOrder};
 ghost use Rattle.rules.specs.State.{marksOf};
 ghost use Rattle.rules.specs.Vector.{less};
 use layout::Clocks;
-use layout::MAX_ATOMIC_HISTORY;
 use layout::MAX_THREADS;
 use layout::Marks;
 use layout::NONE;
@@ -23,9 +22,8 @@ use layout::of_store::MODIFICATION_ORDER;
 use layout::of_thread::CAUSALITY;
 use layout::slots::live_stores;
 use layout::store_at;
-use synchronize::first_seen::FirstSeen;
 use synchronize::first_seen::is_seen;
-use synchronize::first_seen::touched;
+use synchronize::first_seen::touched_row;
 use synchronize::join;
 use vv::VersionVec;
 
@@ -74,36 +72,34 @@ pub fn touch(clocks: &Clocks, marks: &mut Marks, thread: usize, cell: usize, slo
         return;
     }
     let causality = clocks[CAUSALITY + thread];
-    marks[cell] = touched(marks[cell], slot, thread, causality[thread]);
+    marks[cell][slot] = touched_row(row, thread, causality[thread]);
 }
 
 // The place of a new store in modification order: after all that its thread knows, and after each store it has seen of the
 // `count` before it, by the cell's marks as they were.
 pub fn store_order(
     clocks: &Clocks,
-    marks: [[u16; MAX_THREADS]; MAX_ATOMIC_HISTORY],
+    marks: &Marks,
     count: u16,
     thread: usize,
     cell: usize,
 ) -> [u16; MAX_THREADS]
     requires { ⌜ (thread < 5) × (cell < 4) ⌝ }
-    ensures { λ r. ⌜ r ≡ storeOrder (now (clocks .entry)) marks count thread cell ⌝ }
+    ensures { λ r. ⌜ r ≡ storeOrder (now (clocks .entry)) (marksOf (now (marks .entry)) cell) count thread cell ⌝ }
 {
     let causality = clocks[CAUSALITY + thread];
     let live = live_stores(count);
     // To start with the causality is write-write coherence.
     let mut order = causality;
-    let mut i = 0;
-    while i < live {
-        let row = marks[i];
-        let first = FirstSeen { versions: row };
+    let mut slot = 0;
+    while slot < live {
         // Read-write coherence.
-        if first.is_seen_by_current(causality) {
-            let other = clocks[MODIFICATION_ORDER + store_at(cell, i)];
+        if is_seen(marks, cell, slot, causality) {
+            let other = clocks[MODIFICATION_ORDER + store_at(cell, slot)];
             let both = join(order, other);
             order = both;
         }
-        i += 1;
+        slot += 1;
     }
     order
 }

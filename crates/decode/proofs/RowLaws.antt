@@ -1,5 +1,6 @@
 -- Laws for what a row says. Assumes nothing.
 --     arm, beyond, change-arm, change-beyond     the match on an opcode, and on a change kind
+--     fine                                       whether a row says something
 --     meant, told                                what was taken apart
 --     load-made .. spurious-made                 a row of each opcode, its tests as the code groups them
 use Prim.Native.Nat.{ℕ, zero, suc, _≤_, _<_, zero-le}
@@ -13,7 +14,7 @@ use Rattle.rules.specs.Change as rules
 use Rattle.decode.specs.declared.Op as code
 use Rattle.decode.specs.declared.fields.ChangeDecoded.{ChangeDecoded}
 use Rattle.decode.specs.Ops.{opOf, changeDecodedOf}
-use Rattle.rules.specs.Table.{Row, Op, Decoded, refused, decoded, onlyIf, rowDecoded, changeDecoded, loadRow, storeRow, storeRegisterRow, rmwRow, fenceRow, unsyncLoadRow, exclusiveRow, opcodeOf, bareRow, joinRow, jumpRow, jumpOnRow, checkRow, spuriousRow, anyOrder, loadOrder, storeOrder, fenceOrder, failureOrder, isRegister, load, store, storeRegister, rmw, fence, unsyncLoad, exclusive, join, jump, check, spurious}
+use Rattle.rules.specs.Table.{Row, Op, Decoded, refused, decoded, onlyIf, rowDecoded, changeDecoded, loadRow, storeRow, storeRegisterRow, rmwRow, fenceRow, unsyncLoadRow, exclusiveRow, opcodeOf, isFine, bareRow, joinRow, jumpRow, jumpOnRow, checkRow, spuriousRow, anyOrder, loadOrder, storeOrder, fenceOrder, failureOrder, isRegister, load, store, storeRegister, rmw, fence, unsyncLoad, exclusive, join, jump, check, spurious}
 
 -- what the last arm of a match knows of x, that it is none of the numbers below n, in the form that a match hands over
 abbrev pub NoneBelow : ℕ → ℕ → Type 0
@@ -71,6 +72,10 @@ module _ (kind a b : ℕ) where
   change-beyond h =
       rw
       (past {i = 0} h (omega arith), past {i = 1} h (omega arith), past {i = 2} h (omega arith), past {i = 3} h (omega arith), past {i = 4} h (omega arith), past {i = 5} h (omega arith), past {i = 6} h (omega arith), past {i = 7} h (omega arith), past {i = 8} h (omega arith), past {i = 9} h (omega arith), past {i = 10} h (omega arith), past {i = 11} h (omega arith), past {i = 12} h (omega arith))
+
+-- whether a row says something, by what it says
+pub fine : {b : Bool} {d e : Decoded Op} → b ≡ isFine d → d ≡ e → b ≡ isFine e
+fine h e = rw (← e) h
 
 -- what was taken apart: a change, an op
 pub meant : {x y : ChangeDecoded} {d : Decoded rules.Change} → x ≡ y → changeDecodedOf x ≡ d → changeDecodedOf y ≡ d

@@ -12,18 +12,18 @@ use Rattle.decode.specs.declared.fields.ChangeDecoded.the-variants as de
 use Rattle.decode.specs.declared.Row.{Row}
 
 abbrev pub opOf : Op → rules.Op
-opOf (code.Load cell order register) = rules.load cell order register
-opOf (code.Store cell order value) = rules.store cell order value
-opOf (code.StoreRegister cell order register) = rules.storeRegister cell order register
-opOf (code.Rmw cell order failure change register) = rules.rmw cell order failure (changeMeant change) register
+opOf (code.Load order cell register) = rules.load cell order register
+opOf (code.Store order cell value) = rules.store cell order value
+opOf (code.StoreRegister order cell register) = rules.storeRegister cell order register
+opOf (code.Rmw order cell register change failure) = rules.rmw cell order failure (changeMeant change) register
 opOf (code.Fence order) = rules.fence order
 opOf (code.UnsyncLoad cell register) = rules.unsyncLoad cell register
-opOf (code.WithMut cell change register) = rules.exclusive cell (changeMeant change) register
+opOf (code.WithMut cell register change) = rules.exclusive cell (changeMeant change) register
 opOf code.Yield = rules.yield
 opOf (code.Join thread) = rules.join thread
 opOf (code.Jump target) = rules.jump target
-opOf (code.JumpIf register a target) = rules.jumpIf register a target
-opOf (code.JumpUnless register a target) = rules.jumpUnless register a target
+opOf (code.JumpIf target register a) = rules.jumpIf register a target
+opOf (code.JumpUnless target register a) = rules.jumpUnless register a target
 opOf (code.Check register a) = rules.check register a
 opOf code.Critical = rules.critical
 opOf code.ExploreState = rules.exploreState

@@ -22,29 +22,30 @@ use layout::order::RELAXED;
 use layout::order::SEQ_CST;
 use layout::wide8;
 
-// What a row does, with the fields that its opcode uses.
+// What a row does, with the fields that its opcode uses. They stand in an order by which a field of one case never shares its
+// bytes with one of another width: then the compiler keeps each in a register of its own.
 pub enum Op {
     Load {
-        cell: usize,
         order: u8,
+        cell: usize,
         register: usize,
     },
     Store {
-        cell: usize,
         order: u8,
+        cell: usize,
         value: u64,
     },
     StoreRegister {
-        cell: usize,
         order: u8,
+        cell: usize,
         register: usize,
     },
     Rmw {
-        cell: usize,
         order: u8,
-        failure: u8,
-        change: Change,
+        cell: usize,
         register: usize,
+        change: Change,
+        failure: u8,
     },
     Fence {
         order: u8,
@@ -55,8 +56,8 @@ pub enum Op {
     },
     WithMut {
         cell: usize,
-        change: Change,
         register: usize,
+        change: Change,
     },
     Yield,
     Join {
@@ -66,14 +67,14 @@ pub enum Op {
         target: u16,
     },
     JumpIf {
+        target: u16,
         register: usize,
         a: u64,
-        target: u16,
     },
     JumpUnless {
+        target: u16,
         register: usize,
         a: u64,
-        target: u16,
     },
     Check {
         register: usize,
@@ -130,6 +131,42 @@ pub fn row_decoded(row: Row, threads: usize, cells: usize, count: usize) -> Deco
         15 => bare_row(row, Op::SkipBranch),
         16 => spurious_row(row),
         17..=255 => Decoded::Refused,
+    }
+}
+
+// Whether this row says something at all.
+pub fn is_row(row: Row, threads: usize, cells: usize, count: usize) -> bool
+    ensures { λ r. ⌜ r ≡ rules.isFine (rules.rowDecoded threads cells count (rowOf row)) ⌝ }
+{
+    let opcode = row.opcode;
+    match opcode {
+        0 => is_decoded(load_row(row, cells)),
+        1 => is_decoded(store_row(row, cells)),
+        2 => is_decoded(store_register_row(row, cells)),
+        3 => is_decoded(rmw_row(row, cells)),
+        4 => is_decoded(fence_row(row)),
+        5 => is_decoded(unsync_load_row(row, cells)),
+        6 => is_decoded(with_mut_row(row, cells)),
+        7 => is_decoded(bare_row(row, Op::Yield)),
+        8 => is_decoded(join_row(row, threads)),
+        9 => is_decoded(jump_row(row, count)),
+        10 => is_decoded(jump_if_row(row, count)),
+        11 => is_decoded(jump_unless_row(row, count)),
+        12 => is_decoded(check_row(row)),
+        13 => is_decoded(bare_row(row, Op::Critical)),
+        14 => is_decoded(bare_row(row, Op::ExploreState)),
+        15 => is_decoded(bare_row(row, Op::SkipBranch)),
+        16 => is_decoded(spurious_row(row)),
+        17..=255 => false,
+    }
+}
+
+fn is_decoded(decoded: Decoded) -> bool
+    ensures { λ r. ⌜ r ≡ rules.isFine (decodedOf decoded) ⌝ }
+{
+    match decoded {
+        Decoded::Row(_) => true,
+        Decoded::Refused => false,
     }
 }
 

@@ -8,7 +8,7 @@ pub enum Fault {
     Full,
     Rows,
     Equal,
-    Race { kind: u8, other: usize },
+    Race { kind: u8, other: u8 },
     Check,
     Flags,
     Preempted,

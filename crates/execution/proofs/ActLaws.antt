@@ -39,18 +39,18 @@ abbrev alone : List ℕ
 alone = 9 ∷ 10 ∷ 11 ∷ 12 ∷ 13 ∷ 14 ∷ 15 ∷ 16 ∷ []
 
 pub alone-of : (op : Op) → OneOf alone (tagOf Op.the-type op) → Alone (opOf op)
-alone-of (code.Load cell order register) k = absurd (miss alone 0 tt k)
-alone-of (code.Store cell order value) k = absurd (miss alone 1 tt k)
-alone-of (code.StoreRegister cell order register) k = absurd (miss alone 2 tt k)
-alone-of (code.Rmw cell order failure change register) k = absurd (miss alone 3 tt k)
+alone-of (code.Load order cell register) k = absurd (miss alone 0 tt k)
+alone-of (code.Store order cell value) k = absurd (miss alone 1 tt k)
+alone-of (code.StoreRegister order cell register) k = absurd (miss alone 2 tt k)
+alone-of (code.Rmw order cell register change failure) k = absurd (miss alone 3 tt k)
 alone-of (code.Fence order) k = absurd (miss alone 4 tt k)
 alone-of (code.UnsyncLoad cell register) k = absurd (miss alone 5 tt k)
-alone-of (code.WithMut cell change register) k = absurd (miss alone 6 tt k)
+alone-of (code.WithMut cell register change) k = absurd (miss alone 6 tt k)
 alone-of code.Yield k = absurd (miss alone 7 tt k)
 alone-of (code.Join thread) k = absurd (miss alone 8 tt k)
 alone-of (code.Jump target) k = tt
-alone-of (code.JumpIf register a target) k = tt
-alone-of (code.JumpUnless register a target) k = tt
+alone-of (code.JumpIf target register a) k = tt
+alone-of (code.JumpUnless target register a) k = tt
 alone-of (code.Check register a) k = tt
 alone-of code.Critical k = tt
 alone-of code.ExploreState k = tt
@@ -64,18 +64,18 @@ rest = 0 ∷ 1 ∷ 2 ∷ 3 ∷ 4 ∷ 5 ∷ 6 ∷ 7 ∷ 8 ∷ 16 ∷ []
 module _ (p : Program) (st : State) (t k : ℕ) where
   pub asks-bit : (op : Op) → OneOf rest (tagOf Op.the-type op) → Alone (opOf op) → asks st [] (isExploring (st .numbers)) whichBit ≡ acts p st t k (opOf op)
   unfolding actsAs
-  asks-bit (code.Load cell order register) k own = absurd own
-  asks-bit (code.Store cell order value) k own = absurd own
-  asks-bit (code.StoreRegister cell order register) k own = absurd own
-  asks-bit (code.Rmw cell order failure change register) k own = absurd own
+  asks-bit (code.Load order cell register) k own = absurd own
+  asks-bit (code.Store order cell value) k own = absurd own
+  asks-bit (code.StoreRegister order cell register) k own = absurd own
+  asks-bit (code.Rmw order cell register change failure) k own = absurd own
   asks-bit (code.Fence order) k own = absurd own
   asks-bit (code.UnsyncLoad cell register) k own = absurd own
-  asks-bit (code.WithMut cell change register) k own = absurd own
+  asks-bit (code.WithMut cell register change) k own = absurd own
   asks-bit code.Yield k own = absurd own
   asks-bit (code.Join thread) k own = absurd own
   asks-bit (code.Jump target) k own = absurd (miss rest 9 tt k)
-  asks-bit (code.JumpIf register a target) k own = absurd (miss rest 10 tt k)
-  asks-bit (code.JumpUnless register a target) k own = absurd (miss rest 11 tt k)
+  asks-bit (code.JumpIf target register a) k own = absurd (miss rest 10 tt k)
+  asks-bit (code.JumpUnless target register a) k own = absurd (miss rest 11 tt k)
   asks-bit (code.Check register a) k own = absurd (miss rest 12 tt k)
   asks-bit code.Critical k own = absurd (miss rest 13 tt k)
   asks-bit code.ExploreState k own = absurd (miss rest 14 tt k)

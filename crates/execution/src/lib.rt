@@ -30,7 +30,8 @@ use table::CELLS;
 use table::COUNTS;
 use table::Shape;
 
-// One tick of the active thread at its row: past its last row it ends; else it begins the row or, if that has begun, acts.
+// One tick of the active thread at its row: past its last row it ends; else it begins the row and, if no scheduling comes first
+// or the row has begun already, acts.
 pub fn tick(
     clocks: &mut Clocks,
     marks: &mut Marks,
@@ -59,7 +60,10 @@ pub fn tick(
         return Event::Stops(Fault::Impossible);
     };
     if to_begin {
-        return rows::begin(numbers, thread, limit, op);
+        let event = rows::begin(numbers, thread, limit, op);
+        let Event::Moves = event else {
+            return event;
+        };
     }
     let cells = wide16(shape[CELLS]);
     act(clocks, marks, values, numbers, site, cells, op)

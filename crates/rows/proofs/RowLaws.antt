@@ -10,6 +10,7 @@
 use Prim.Native.Nat.{ℕ, _+_, _*_, _≤_, _<_}
 use mathlib.Core.List.{List, [], _∷_}
 use mathlib.Core.Bool.{Bool, true, false, cond, not}
+use lib.Dec.{leb}
 use mathlib.Core.Path.{_≡_, refl, ap, sym, _∙_}
 use mathlib.Core.Logic.{_≢_, _⊎_, inl, inr}
 use lib.ListN.{getD, set}
@@ -22,7 +23,7 @@ use Rattle.rules.specs.Cell.{fenced}
 use Rattle.rules.specs.State as State
 use Rattle.rules.specs.State.{State, Clocks, Marks, Values, Numbers, number, withNumber, withValue, causality, scheduleOf, ofRegister, begun, rowsOf, phase, operation, operatesOn, exploring, skipping}
 use Rattle.rules.specs.Machine as machine
-use Rattle.rules.specs.Machine.{Program, begins, rowBegun, withOperation, pendingOf, done, completed, entry, noSlot, versionRaised, fences, yieldDone, schedules, joins, joinedWith, blockedOn, jumps, checks, explores, bitTaken, isIn, ended, withNumbers}
+use Rattle.rules.specs.Machine.{Program, acts, begins, rowBegun, withOperation, pendingOf, done, completed, entry, noSlot, versionRaised, fences, yieldDone, schedules, joins, joinedWith, blockedOn, jumps, checks, explores, bitTaken, isIn, ended, withNumbers}
 use Rattle.rules.specs.Table.{cellsOf, opcodeIn}
 use Rattle.rules.specs.Table as rules
 use Rattle.rules.specs.Vector.{oneMore, joined}
@@ -42,18 +43,18 @@ abbrev pub others : List ℕ
 others = 4 ∷ 5 ∷ 6 ∷ 7 ∷ 8 ∷ 9 ∷ 10 ∷ 11 ∷ 12 ∷ 13 ∷ 14 ∷ 15 ∷ 16 ∷ []
 
 pub pends-none : (op : Op) → OneOf others (tagOf Op.the-type op) → Pends pending.Nothing (pendingOf (opOf op))
-pends-none (code.Load cell order register) k = absurd (miss others 0 tt k)
-pends-none (code.Store cell order value) k = absurd (miss others 1 tt k)
-pends-none (code.StoreRegister cell order register) k = absurd (miss others 2 tt k)
-pends-none (code.Rmw cell order failure change register) k = absurd (miss others 3 tt k)
+pends-none (code.Load order cell register) k = absurd (miss others 0 tt k)
+pends-none (code.Store order cell value) k = absurd (miss others 1 tt k)
+pends-none (code.StoreRegister order cell register) k = absurd (miss others 2 tt k)
+pends-none (code.Rmw order cell register change failure) k = absurd (miss others 3 tt k)
 pends-none (code.Fence order) k = record { is = refl; within = tt }
 pends-none (code.UnsyncLoad cell register) k = record { is = refl; within = tt }
-pends-none (code.WithMut cell change register) k = record { is = refl; within = tt }
+pends-none (code.WithMut cell register change) k = record { is = refl; within = tt }
 pends-none code.Yield k = record { is = refl; within = tt }
 pends-none (code.Join thread) k = record { is = refl; within = tt }
 pends-none (code.Jump target) k = record { is = refl; within = tt }
-pends-none (code.JumpIf register a target) k = record { is = refl; within = tt }
-pends-none (code.JumpUnless register a target) k = record { is = refl; within = tt }
+pends-none (code.JumpIf target register a) k = record { is = refl; within = tt }
+pends-none (code.JumpUnless target register a) k = record { is = refl; within = tt }
 pends-none (code.Check register a) k = record { is = refl; within = tt }
 pends-none code.Critical k = record { is = refl; within = tt }
 pends-none code.ExploreState k = record { is = refl; within = tt }
@@ -76,27 +77,30 @@ module _ (r : Pending) (op : rules.Op) (means : Pends r (pendingOf op)) where
 
 -- A row begins
 
-pub begins-not : (p : Program) (st : State) (t limit : ℕ) (op : rules.Op) → p .operations ≡ limit → limit ≤ number (st .numbers) begun → stops st Event.rows ≡ begins p st t op
+pub begins-not : (p : Program) (st : State) (t k limit : ℕ) (op : rules.Op) → p .operations ≡ limit → limit ≤ number (st .numbers) begun → stops st Event.rows ≡ begins p st t k op
 unfolding begins
-begins-not p st t limit op e h = rw (e, le-leb limit (number (st .numbers) begun) h)
+begins-not p st t k limit op e h = rw (e, le-leb limit (number (st .numbers) begun) h)
 
 module _ (clocks : Clocks) (marks : Marks) (values : Values) (numbers : Numbers) (t all own : ℕ)
     (counted : all ≡ oneMore (number numbers begun)) (mine : own ≡ oneMore (number (withNumber numbers begun all) (rowsOf t))) where
   begun-as : state clocks marks values (withNumber (withNumber (withNumber numbers begun all) (rowsOf t) own) (phase t) machine.toAct) ≡ rowBegun (state clocks marks values numbers) t
   begun-as = rw (mine, counted)
 
-  module _ (p : Program) (limit : ℕ) (op : rules.Op) (e : p .operations ≡ limit) (fewer : number numbers begun < limit) where
+  module _ (p : Program) (k limit : ℕ) (op : rules.Op) (e : p .operations ≡ limit) (fewer : number numbers begun < limit) where
+    may-begin : leb (p .operations) (number numbers begun) ≡ false
+    may-begin = rw e (lt-leb limit (number numbers begun) fewer)
+
     pub begins-bare : pendingOf op ≡ machine.nothing →
-        moves (state clocks marks values (withNumber (withNumber (withNumber numbers begun all) (rowsOf t) own) (phase t) machine.toAct)) []
-        ≡ begins p (state clocks marks values numbers) t op
+        acts p (state clocks marks values (withNumber (withNumber (withNumber numbers begun all) (rowsOf t) own) (phase t) machine.toAct)) t k op
+        ≡ begins p (state clocks marks values numbers) t k op
     unfolding begins
-    begins-bare n = rw (e, lt-leb limit (number numbers begun) fewer, n) (ap (λ (st : State). moves st []) begun-as)
+    begins-bare n = rw (may-begin, n) (ap (λ (st : State). acts p st t k op) begun-as)
 
     pub begins-asking : (action cell : ℕ) → pendingOf op ≡ machine.pends action cell →
         schedules (state clocks marks values (withNumber (withNumber (withNumber (withNumber (withNumber numbers begun all) (rowsOf t) own) (phase t) machine.toAct) (operation t) action) (operatesOn t) cell)) []
-        ≡ begins p (state clocks marks values numbers) t op
+        ≡ begins p (state clocks marks values numbers) t k op
     unfolding begins
-    begins-asking action cell n = rw (e, lt-leb limit (number numbers begun) fewer, n) (ap (λ (st : State). schedules (withOperation st t action cell) []) begun-as)
+    begins-asking action cell n = rw (may-begin, n) (ap (λ (st : State). schedules (withOperation st t action cell) []) begun-as)
 
 -- Rows that leave neither slot nor value
 
@@ -182,18 +186,18 @@ module _ (st : State) (t k v : ℕ) where
 
   bit-none : (op : Op) → OneOf all-others (tagOf Op.the-type op) → stops st Event.impossible ≡ bitTaken st t k v (rules.decoded (opOf op))
   unfolding bitTaken
-  bit-none (code.Load cell order register) h = refl
-  bit-none (code.Store cell order value) h = refl
-  bit-none (code.StoreRegister cell order register) h = refl
-  bit-none (code.Rmw cell order failure change register) h = refl
+  bit-none (code.Load order cell register) h = refl
+  bit-none (code.Store order cell value) h = refl
+  bit-none (code.StoreRegister order cell register) h = refl
+  bit-none (code.Rmw order cell register change failure) h = refl
   bit-none (code.Fence order) h = refl
   bit-none (code.UnsyncLoad cell register) h = refl
-  bit-none (code.WithMut cell change register) h = refl
+  bit-none (code.WithMut cell register change) h = refl
   bit-none code.Yield h = refl
   bit-none (code.Join thread) h = refl
   bit-none (code.Jump target) h = refl
-  bit-none (code.JumpIf register a target) h = refl
-  bit-none (code.JumpUnless register a target) h = refl
+  bit-none (code.JumpIf target register a) h = refl
+  bit-none (code.JumpUnless target register a) h = refl
   bit-none (code.Check register a) h = refl
   bit-none code.Critical h = refl
   bit-none code.ExploreState h = refl

@@ -10,6 +10,7 @@ ghost use Rattle.rules.specs.Vector.{oneMore};
 ghost use Rattle.layout.specs.Tables.{state};
 ghost use Rattle.event.specs.Moves.{moveOf};
 ghost use Rattle.decode.specs.Ops.{opOf, decodedOf, inRange, opWithin};
+ghost use Rattle.rows.specs.Begins.{begunBy};
 ghost use Rattle.rows.specs.Pendings.{Pends};
 use decode::Decoded;
 use decode::Op;
@@ -42,10 +43,11 @@ pub enum Pending {
     On { action: u16, cell: usize },
 }
 
-// Begins a row, if fewer than the limit have begun. Opcodes 0 to 3 set their operation and call the scheduling first.
+// Begins a row, if fewer than the limit have begun. Opcodes 0 to 3 set their operation and call the scheduling first; where the
+// event is that it moves, the row acts at once.
 pub fn begin(numbers: &mut Numbers, thread: usize, limit: u16, op: Op) -> Event
     requires { ⌜ (thread < 5) × inRange (opOf op) ⌝ }
-    ensures { λ r. ⌜ ((p : machine.Program) (clocks : rules.Clocks) (marks : rules.Marks) (values : rules.Values) (k opcode : ℕ) (m : Matched) → p .operations ≡ limit → moveOf r thread k opcode m (state clocks marks values (now (numbers .exit))) ≡ machine.begins p (state clocks marks values (now (numbers .entry))) thread (opOf op)) ⌝ }
+    ensures { λ r. ⌜ ((p : machine.Program) (clocks : rules.Clocks) (marks : rules.Marks) (values : rules.Values) (k opcode : ℕ) (m : Matched) → p .operations ≡ limit → begunBy r (machine.acts p (state clocks marks values (now (numbers .exit))) thread k (opOf op)) (moveOf r thread k opcode m (state clocks marks values (now (numbers .exit)))) ≡ machine.begins p (state clocks marks values (now (numbers .entry))) thread k (opOf op)) ⌝ }
 {
     if limit <= numbers[ROWS_BEGUN] {
         return Event::Stops(Fault::Rows);

@@ -42,23 +42,23 @@ module _ (p : Program) (limited : p .operations ≤ largest) (t b m n : ℕ) (be
       (aside below (toBegun below is (oneMore (number (st .numbers) begun))) (rowsOf t) (oneMore (number numbers (rowsOf t))) (omega arith))
       toAct)
 
-  begun-lower : (st : State) (pending : Pending) → OnCell pending → Is t runnable toAct (b + 1) m (st .numbers) → b < p .operations →
-      Lower p n (Machine.begunAs st t pending)
+  begun-lower : (st : State) (k : ℕ) (op : Op) (pending : Pending) → OnCell (pendingOf op) → OnCell pending →
+      Is t runnable toAct (b + 1) m (st .numbers) → b < p .operations → Lower p n (Machine.begunAs p st t k op pending)
   unfolding Machine.schedules
-  begun-lower st nothing h after less = lowered (ready-is st below after) (omega (arith, measure-is p st after, at-begin))
-  begun-lower st (pends op c) h after less =
-      let st′ = Machine.withOperation st t op c in
-      let last = toCell below (aside below after (operation t) op (omega arith)) c h in
+  begun-lower st k op nothing row h after less = acts-lower p t toAct (b + 1) m n below refl (omega arith) st k op row after
+  begun-lower st k op (pends action c) row h after less =
+      let st′ = Machine.withOperation st t action c in
+      let last = toCell below (aside below after (operation t) action (omega arith)) c h in
       let low : Whole (st′ .numbers) × (measure p st′ < n) = (last .whole, omega (arith, measure-is p st′ last, at-begin)) in
       asking low
 
-  begins-lower : (st : State) (op : Op) → OnCell (pendingOf op) → At st → Lower p n (Machine.begins p st t op)
+  begins-lower : (st : State) (k : ℕ) (op : Op) → OnCell (pendingOf op) → At st → Lower p n (Machine.begins p st t k op)
   unfolding Machine.begins
-  begins-lower st op h is =
+  begins-lower st k op h is =
       pick (Lower p n) (leb (p .operations) (number (st .numbers) begun)) (λ e. stopping)
       (λ e.
       let less : b < p .operations = omega (arith, leb-false, is .rows) in
-      begun-lower (Machine.rowBegun st t) (pendingOf op) h (begun-is st is less) less)
+      begun-lower (Machine.rowBegun st t) k op (pendingOf op) h h (begun-is st is less) less)
 
   -- "Past its last row a thread ends"
   ended-lower : (st : State) → At st → Lower p n (Machine.schedules (Machine.threadEnded st t) [])
@@ -172,7 +172,7 @@ module _ (p : Program) (limited : p .operations ≤ largest) (st : State) (r : R
   row-lower k refused h = stopping
   row-lower k (decoded op) h =
       pick (Lower p (measure p st)) (Machine.isToBegin st (active st))
-      (λ e. begins-lower p limited (active st) _ _ (measure p st) (r .below) (begin-most e) st op h (begin-is e))
+      (λ e. begins-lower p limited (active st) _ _ (measure p st) (r .below) (begin-most e) st k op h (begin-is e))
       (λ e.
       let acting : Acting p (measure p st) st = record { ready = r; acts = e; most = omega arith } in
       acts-lower p (active st) _ _ _ (measure p st) (r .below) e (acting-most p (measure p st) st acting) st k op h

@@ -436,14 +436,16 @@ rowBegun st t =
 abbrev pub withOperation : State → ℕ → ℕ → ℕ → State
 withOperation st t op c = withNumbers st (withNumber (withNumber (st .numbers) (operation t) op) (operatesOn t) c)
 
-abbrev pub begunAs : State → ℕ → Pending → Move State
-begunAs st t nothing = moves st []
-begunAs st t (pends op c) = schedules (withOperation st t op c) []
+-- "Scheduling is called before opcodes 0, 1, 2, 3 act"; any other row, which sets no operation, acts at once
+abbrev pub begunAs : Program → State → ℕ → ℕ → Op → Pending → Move State
+begunAs p st t k op nothing = acts p st t k op
+begunAs p st t k op (pends action c) = schedules (withOperation st t action c) []
 
--- "12 a row is to begin with L begun" [Q1], and is then counted nowhere [Q2]; "Scheduling is called before opcodes 0, 1, 2, 3 act"
-unfoldable pub begins : Program → State → ℕ → Op → Move State
-begins p st t op =
-    cond (leb (p .operations) (number (st .numbers) begun)) (stops st Event.rows) (begunAs (rowBegun st t) t (pendingOf op))
+-- "12 a row is to begin with L begun" [Q1], and is then counted nowhere [Q2]
+unfoldable pub begins : Program → State → ℕ → ℕ → Op → Move State
+begins p st t k op =
+    cond (leb (p .operations) (number (st .numbers) begun)) (stops st Event.rows)
+    (begunAs p (rowBegun st t) t k op (pendingOf op))
 
 -- "Past its last row a thread ends, its pending operation none; only then are other threads' joins on it free.": "until the
 -- target's end makes it runnable (before that end's scheduling)"
@@ -471,7 +473,7 @@ isToBegin st t = eqb (number (st .numbers) (phase t)) toBegin
 -- it begins its row or, where that has begun, acts. No row of an accepted table is refused
 abbrev pub ofRow : Program → State → ℕ → ℕ → Decoded Op → Move State
 ofRow p st t k refused = stops st Event.impossible
-ofRow p st t k (decoded op) = cond (isToBegin st t) (begins p st t op) (acts p st t k op)
+ofRow p st t k (decoded op) = cond (isToBegin st t) (begins p st t k op) (acts p st t k op)
 
 -- past its last row it ends [Q3], at once unless that row is a yield [Q27]
 unfoldable pub nextAt : Program → State → ℕ → ℕ → Move State

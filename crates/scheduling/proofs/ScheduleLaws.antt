@@ -32,15 +32,20 @@ use Rattle.scheduling.specs.declared.Operation.the-variants as answer
 
 -- A thread's pending operation
 
+none-anyway : (b : Bool) → cond b noOperation noOperation ≡ noOperation
+none-anyway true = refl
+none-anyway false = refl
+
+pub operation-none : (clocks : Clocks) (marks : Marks) (values : Values) (numbers : Numbers) (t : ℕ) →
+    number numbers (operation t) ≡ noOperation → operationOf (state clocks marks values numbers) t ≡ noOperation
+operation-none clocks marks values numbers t e = rw e (none-anyway (ltb (number numbers (operatesOn t)) 4))
+
 module _ (clocks : Clocks) (marks : Marks) (values : Values) (numbers : Numbers) (t c : ℕ) (on : c ≡ number numbers (operatesOn t)) where
   abbrev here : State
   here = state clocks marks values numbers
 
   pub operation-away : 4 ≤ c → operationOf here t ≡ noOperation
   operation-away h = rw (← on, le-ltb c 4 h)
-
-  pub operation-none : c < 4 → number numbers (operation t) ≡ noOperation → operationOf here t ≡ noOperation
-  operation-none h e = rw (← on, lt-ltb c 4 h) e
 
   pub operation-some : c < 4 → number numbers (operation t) ≢ noOperation → On here t (number numbers (operation t)) c
   operation-some h n = record { is = rw (← on, lt-ltb c 4 h); some = n; on = sym on; within = h }

@@ -50,11 +50,11 @@ pub fn pending_operation(numbers: &Numbers, thread: usize) -> Operation
     ensures { λ r. ⌜ ((clocks : rules.Clocks) (marks : rules.Marks) (values : rules.Values) → operationMeans r (state clocks marks values (now (numbers .entry))) thread) ⌝ }
 {
     let action = numbers[OPERATION + thread];
-    let cell = wide16(numbers[OBJECT + thread]);
-    if MAX_CELLS <= cell {
+    if action == NO_OPERATION {
         return Operation::Nothing;
     }
-    if action == NO_OPERATION {
+    let cell = wide16(numbers[OBJECT + thread]);
+    if MAX_CELLS <= cell {
         return Operation::Nothing;
     }
     Operation::On { action, cell }

@@ -1,5 +1,5 @@
 -- The laws of an execution's start. Assumes nothing.
---     first-zero, first-other     the causality that a thread starts with
+--     first-at                    the causality that a thread starts with
 --     threads-..                  the walk that starts the threads
 --     cells-..                    the walk that makes the cells
 --     cell-as                     a cell is made
@@ -10,10 +10,8 @@ use Prim.Native.Nat.{ℕ, _+_, _-_, _≤_, _<_}
 use mathlib.Core.Bool.{Bool, true, false, cond}
 use mathlib.Core.List.{List}
 use mathlib.Core.Path.{_≡_}
-use mathlib.Core.Logic.{_≢_}
 use native.Mathlib.Omega.{arith}
 use lib.ListN.{set, replicate}
-use borrow.Author.Tests.{ne-eqb}
 use Rattle.rules.specs.Cell.{joinInto, storeDone}
 use Rattle.rules.specs.State.{State, Clocks, Marks, Values, Numbers, withVector, withNumber, causality, mutated, exploring, vectorsHeld, valuesHeld, numbersHeld}
 use Rattle.rules.specs.State as names
@@ -24,11 +22,8 @@ use Rattle.rules.specs.Machine.{Program, runnable, forThreads, noYield, noAcces
 use Rattle.layout.specs.Tables.{state}
 use Rattle.thread.proofs.ThreadLaws.{one-left, none-left}
 
-pub first-zero : (t : ℕ) → t ≡ 0 → set (zeros 5) 0 2 ≡ firstCausality t
-first-zero t e = rw e
-
-pub first-other : (t : ℕ) → t ≢ 0 → set (set (zeros 5) 0 1) t 1 ≡ firstCausality t
-first-other t n = rw (ne-eqb t 0 n)
+pub first-at : (t k : ℕ) → t ≡ k → firstCausality k ≡ firstCausality t
+first-at t k e = rw e
 
 -- Threads
 

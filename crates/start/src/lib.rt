@@ -134,12 +134,13 @@ fn first_causality(thread: usize) -> [u16; MAX_THREADS]
     requires { ⌜ thread < 5 ⌝ }
     ensures { λ r. ⌜ r ≡ machine.firstCausality thread ⌝ }
 {
-    if thread == 0 {
-        return [2, 0, 0, 0, 0];
+    match thread {
+        0 => [2, 0, 0, 0, 0],
+        1 => [1, 1, 0, 0, 0],
+        2 => [1, 0, 1, 0, 0],
+        3 => [1, 0, 0, 1, 0],
+        _ => [1, 0, 0, 0, 1],
     }
-    let mut causality = [1, 0, 0, 0, 0];
-    causality[thread] = 1;
-    causality
 }
 
 // No thread has yielded yet.

@@ -162,10 +162,6 @@ pub yield-none : (marks : List ℕ) (t y : ℕ) → y ≡ unseen → false ≡ s
 unfolding seenBeforeYield
 yield-none marks t y e = rw (eq-eqb y unseen e)
 
-pub touch-at : (rows : List (List ℕ)) (slot t v : ℕ) (row : List ℕ) → row ≡ touched (getD rows slot []) t v → set rows slot row ≡ touchedAt rows slot t v
-unfolding touchedAt
-touch-at rows slot t v row e = rw e
-
 -- What the definitions say of each thread and each slot
 
 -- "for some thread, mark ≤ that part"

@@ -3,7 +3,7 @@ ghost use mathlib.Core.Path.{_≡_};
 ghost use Prim.Native.Nat.{_<_};
 ghost use mathlib.Core.List.{[]};
 ghost use lib.ListN.{getD, set};
-ghost use Rattle.rules.specs.Seen.{unseens, seen, seenBeforeYield, seenSlots, touched, touchedAt};
+ghost use Rattle.rules.specs.Seen.{unseens, seen, seenBeforeYield, seenSlots, touched};
 use layout::MAX_ATOMIC_HISTORY;
 use layout::MAX_THREADS;
 use layout::Marks;
@@ -80,8 +80,8 @@ pub fn touch(seen: &mut FirstSeen, thread: usize, version: u16)
     *seen = own;
 }
 
-// The marks of one store, changed in place.
-fn touched_row(row: [u16; MAX_THREADS], thread: usize, version: u16) -> [u16; MAX_THREADS]
+// The marks of one store with this thread's, where it had none.
+pub fn touched_row(row: [u16; MAX_THREADS], thread: usize, version: u16) -> [u16; MAX_THREADS]
     ensures { λ r. ⌜ r ≡ touched row thread version ⌝ }
 {
     let mut seen = FirstSeen { versions: row };
@@ -89,34 +89,13 @@ fn touched_row(row: [u16; MAX_THREADS], thread: usize, version: u16) -> [u16; MA
     seen.versions
 }
 
-// The marks of a cell with none on one store, as a new one that is yet seen by no thread has them.
-pub fn cleared(
-    mut marks: [[u16; MAX_THREADS]; MAX_ATOMIC_HISTORY],
-    slot: usize,
-) -> [[u16; MAX_THREADS]; MAX_ATOMIC_HISTORY]
-    requires { ⌜ slot < 7 ⌝ }
-    ensures { λ r. ⌜ r ≡ set marks slot (unseens 5) ⌝ }
+// The marks of a new store: its own thread's alone.
+pub fn fresh_row(thread: usize, version: u16) -> [u16; MAX_THREADS]
+    ensures { λ r. ⌜ r ≡ touched (unseens 5) thread version ⌝ }
 {
     let fresh = FirstSeen::new();
     let row = fresh.versions;
-    marks[slot] = row;
-    marks
-}
-
-// The marks of a cell with this thread's mark on one store, where it had none.
-pub fn touched(
-    mut marks: [[u16; MAX_THREADS]; MAX_ATOMIC_HISTORY],
-    slot: usize,
-    thread: usize,
-    version: u16,
-) -> [[u16; MAX_THREADS]; MAX_ATOMIC_HISTORY]
-    requires { ⌜ slot < 7 ⌝ }
-    ensures { λ r. ⌜ r ≡ touchedAt marks slot thread version ⌝ }
-{
-    let row = marks[slot];
-    let row = touched_row(row, thread, version);
-    marks[slot] = row;
-    marks
+    touched_row(row, thread, version)
 }
 
 // Whether one store of a cell is seen.

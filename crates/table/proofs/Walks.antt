@@ -10,9 +10,7 @@ use lib.ListN.{length, getD, drop, drop-of-length-le}
 use lib.Seq.{drop-cons}
 use borrow.Author.Tests.{lt-ltb, le-ltb}
 use lib.Dec.{ltb}
-use Rattle.rules.specs.Table.{maxThreads, headerBytes, countsOf, countFine, countsFine, Op, Decoded, firstNot, firstBad, isFine, opAt, rowsJudged, badRow, good, badHeader, judged, headerFine, threadsOf, cellsOf}
-use Rattle.decode.specs.declared.Decoded as decode
-use Rattle.decode.specs.Ops.{decodedOf}
+use Rattle.rules.specs.Table.{maxThreads, headerBytes, countsOf, countFine, countsFine, firstNot, firstBad, isFine, opAt, rowsJudged, badRow, good, badHeader, judged, headerFine, threadsOf, cellsOf}
 use Rattle.table.proofs.Header.{counts-length, counts-at}
 
 -- a search for the first that is not fine
@@ -30,10 +28,6 @@ module _ (fine : ℕ → Bool) (n i : ℕ) where
   pub first-none : n ≤ i → i ≤ n → firstNot fine (n - i) i ≡ n
   unfolding firstNot
   first-none h k = let e : n - i ≡ 0 = omega arith in let d : i ≡ n = omega arith in rw (e, d)
-
--- a row that was decoded, or not, is fine, or not
-pub fine : {x y : decode.Decoded} {d : Decoded Op} → x ≡ y → decodedOf x ≡ d → isFine d ≡ isFine (decodedOf y)
-fine e f = rw (← f, e)
 
 -- the rows of one thread that are left at i
 abbrev pub badLeft : List ℕ → ℕ → ℕ → ℕ → ℕ → ℕ → ℕ

@@ -3,9 +3,9 @@
 ghost use mathlib.Core.Path.{_≡_};
 ghost use Prim.Native.Nat.{_+_, _<_, _≤_, _^_};
 ghost use lib.ListN.{length, getD};
-ghost use Rattle.rules.specs.Table.{headerBytes, rowBytes, headerFine, countFine, countsFine, countsOf, firstBad, judged, shapeOf, startValue, rowAt, rowFrom};
+ghost use Rattle.rules.specs.Table.{headerBytes, rowBytes, headerFine, countFine, countsFine, countsOf, firstBad, judged, shapeOf, startValue, rowFrom, opAt, isFine};
 ghost use Rattle.decode.specs.Ops.{rowOf};
-ghost use Rattle.table.specs.Answers.{judgedOf, OpAt};
+ghost use Rattle.table.specs.Answers.{judgedOf, OpAt, PlaceOf};
 
 pub mod limits;
 pub mod little;
@@ -13,6 +13,7 @@ pub mod little;
 pub use decode::Decoded;
 pub use decode::Op;
 use decode::Row;
+use decode::is_row;
 pub use decode::opcode;
 use decode::row_decoded;
 use layout::MAX_CELLS;
@@ -51,6 +52,12 @@ pub enum Judged {
     Accepted,
     Header,
     Row { thread: usize, row: usize },
+}
+
+// The first byte of a row, or that the table does not hold it.
+pub enum Place {
+    Nowhere,
+    At(usize),
 }
 
 // Whether these bytes are a table, and if not, what is wrong first. The header and the length are judged before any row.
@@ -139,37 +146,37 @@ pub fn row_of(table: &[u8], shape: &Shape, thread: usize, number: u16) -> Decode
 pub fn op_at(table: &[u8], threads: usize, cells: usize, count: usize, index: usize) -> Decoded
     ensures { λ r. ⌜ OpAt (now (table .entry)) threads cells count index r ⌝ }
 {
-    if threads <= MAX_THREADS {
-        let row = row_at(table, cells, index);
-        return row_decoded(row, threads, cells, count);
-    }
-    Decoded::Refused
+    let Place::At(at) = place_of(table, threads, cells, index) else {
+        return Decoded::Refused;
+    };
+    row_decoded(row_from(table, at), threads, cells, count)
 }
 
-// The row of this number among all rows of a table with this many cells. Where the table does not hold it, a row of opcode
-// 255, which is refused.
-fn row_at(table: &[u8], cells: usize, index: usize) -> Row
-    ensures { λ r. ⌜ rowOf r ≡ rowAt (now (table .entry)) cells index ⌝ }
+// Whether that row says something.
+fn is_fine(table: &[u8], threads: usize, cells: usize, count: usize, index: usize) -> bool
+    ensures { λ r. ⌜ r ≡ isFine (opAt (now (table .entry)) threads cells count index) ⌝ }
 {
-    if cells <= MAX_CELLS {
-        if index < ALL_ROWS {
-            let at = HEADER + VALUE * cells + ROW * index;
-            if at + ROW <= table.len() {
-                return row_from(table, at);
+    let Place::At(at) = place_of(table, threads, cells, index) else {
+        return false;
+    };
+    is_row(row_from(table, at), threads, cells, count)
+}
+
+// Where the row of this number among all rows stands.
+fn place_of(table: &[u8], threads: usize, cells: usize, index: usize) -> Place
+    ensures { λ r. ⌜ PlaceOf (now (table .entry)) threads cells index r ⌝ }
+{
+    if threads <= MAX_THREADS {
+        if cells <= MAX_CELLS {
+            if index < ALL_ROWS {
+                let at = HEADER + VALUE * cells + ROW * index;
+                if at + ROW <= table.len() {
+                    return Place::At(at);
+                }
             }
         }
     }
-    Row {
-        opcode: 255,
-        object: 0,
-        order: 0,
-        failure: 0,
-        kind: 0,
-        register: 0,
-        target: 0,
-        a: 0,
-        b: 0,
-    }
+    Place::Nowhere
 }
 
 // The row whose first byte is this one.
@@ -243,9 +250,9 @@ fn first_bad(table: &[u8], threads: usize, cells: usize, first: usize, count: us
 {
     let mut i = 0;
     while i < count {
-        let Decoded::Row(_) = op_at(table, threads, cells, count, first + i) else {
+        if !is_fine(table, threads, cells, count, first + i) {
             return i;
-        };
+        }
         i += 1;
     }
     count

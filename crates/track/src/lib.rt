@@ -22,7 +22,7 @@ pub mod access;
 // No race, or the kind of race by document 01's number and the lowest thread that is ahead.
 pub enum Race {
     Nothing,
-    With { kind: u8, other: usize },
+    With { kind: u8, other: u8 },
 }
 
 // A race of this kind where the accesses recorded at `at` have a thread ahead of the current one.

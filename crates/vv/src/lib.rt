@@ -14,7 +14,7 @@ pub struct VersionVec {
 // The thread that is ahead, or none.
 pub enum Ahead {
     Nobody,
-    Thread(usize),
+    Thread(u8),
 }
 
 // One more; the largest stays, so that a later version is never taken for an earlier one.
@@ -109,7 +109,7 @@ impl VersionVec {
         let mut i = 0;
         while i < MAX_THREADS {
             if self.versions[i] < other.versions[i] {
-                return Ahead::Thread(i);
+                return Ahead::Thread(i as u8);
             }
             i += 1;
         }

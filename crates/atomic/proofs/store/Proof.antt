@@ -39,29 +39,20 @@ mul-causality c = search needs
 element-copy-out-causality : tie.Need-element-copy-out-causality
 element-copy-out-causality c = search needs
 
-mul-seen : tie.Need-mul-seen
-mul-seen c = search needs
-
-element-copy-out-seen : tie.Need-element-copy-out-seen
-element-copy-out-seen c = search needs
-
-cleared-requires : tie.Need-cleared-requires
-cleared-requires c κs = search needs
-
 store-order-requires : tie.Need-store-order-requires
 store-order-requires c κs = search needs
 
 sync-store-requires : tie.Need-sync-store-requires
 sync-store-requires c κs = search needs
 
-add-t19 : tie.Need-add-t19
-add-t19 c = search needs
+add-marks : tie.Need-add-marks
+add-marks c = search needs
 
-mul-t18 : tie.Need-mul-t18
-mul-t18 c = search needs
+mul-marks : tie.Need-mul-marks
+mul-marks c = search needs
 
-element-set-from-clocks : tie.Need-element-set-from-clocks
-element-set-from-clocks c = search needs
+element-set-from-marks : tie.Need-element-set-from-marks
+element-set-from-marks c = search needs
 
 add-modification-order : tie.Need-add-modification-order
 add-modification-order c = search needs
@@ -81,20 +72,26 @@ mul-sync c = search needs
 element-set-from-sync : tie.Need-element-set-from-sync
 element-set-from-sync c = search needs
 
-mul-touched : tie.Need-mul-touched
-mul-touched c = search needs
+mul-fresh-row : tie.Need-mul-fresh-row
+mul-fresh-row c = search needs
 
-array-read-touched : tie.Need-array-read-touched
-array-read-touched c = search needs
+array-read-fresh-row : tie.Need-array-read-fresh-row
+array-read-fresh-row c = search needs
 
-touched-requires : tie.Need-touched-requires
-touched-requires c κs = search needs
+fresh-row-requires : tie.Need-fresh-row-requires
+fresh-row-requires c κs = search needs
 
-mul-t19 : tie.Need-mul-t19
-mul-t19 c = search needs
+mul-t16 : tie.Need-mul-t16
+mul-t16 c = search needs
 
-element-set-from-marks : tie.Need-element-set-from-marks
-element-set-from-marks c = search needs
+mul-t39 : tie.Need-mul-t39
+mul-t39 c = search needs
+
+index-1-marks : tie.Need-index-1-marks
+index-1-marks c = search needs
+
+index-2-marks : tie.Need-index-2-marks
+index-2-marks c = search needs
 
 add-values : tie.Need-add-values
 add-values c = search needs
@@ -120,8 +117,7 @@ element-write-numbers-2 c = search needs
 returns : tie.Need-returns
 returns c =
     let order = c .before .before .before .before in
-    let bare = order .before .before in
-    let more = bare .before .before .before in
+    let more = order .before .before .before .before in
     let placed = more .before in
     let args = placed .before .before .before .args in
     stored
@@ -141,14 +137,12 @@ returns c =
     _
     _
     _
-    _
     (placed .before .index .ensures .is)
     (placed .store-at .ensures)
     (more .one-more .ensures)
     (order .store-order .ensures)
     (c .before .before .sync-store .ensures)
-    (bare .cleared .ensures)
-    (c .before .touched .ensures)
+    (c .before .fresh-row .ensures)
     (c .is-seq-cst .ensures)
 
 pub store-spec : {M : Type 1} → statement M
@@ -167,25 +161,24 @@ store-spec =
     add-causality
     mul-causality
     element-copy-out-causality
-    mul-seen
-    element-copy-out-seen
-    cleared-requires
     store-order-requires
     sync-store-requires
-    add-t19
-    mul-t18
-    element-set-from-clocks
+    add-marks
+    mul-marks
+    element-set-from-marks
     add-modification-order
     mul-modification-order
     element-set-from-modification-order
     add-sync
     mul-sync
     element-set-from-sync
-    mul-touched
-    array-read-touched
-    touched-requires
-    mul-t19
-    element-set-from-marks
+    mul-fresh-row
+    array-read-fresh-row
+    fresh-row-requires
+    mul-t16
+    mul-t39
+    index-1-marks
+    index-2-marks
     add-values
     mul-values
     element-write-values

@@ -3,16 +3,18 @@ use mathlib.Core.Path.{_≡_, _∙_}
 use mathlib.Core.Logic.{⊎-elim}
 use Prim.Native.Nat.{_≤_, _-_}
 use Rattle.rules.specs.Cell.{storeOrderFrom, storeOrder}
+use Rattle.rules.specs.State.{marksOf}
 use Rattle.coherence.proofs.OrderLaws.{store-start, store-all, store-seen, store-unseen}
 use Rattle.coherence.proofs.store_order.Statement.{statement}
 use Rattle.coherence.proofs.store_order.Tie as tie
 
 abbrev Inv-loop : tie.InvT-loop
-Inv-loop clocks count thread cell marks causality live order₀ i₀ order i =
-    (i ≤ 7) × (storeOrderFrom clocks marks thread cell order (live - i) i ≡ storeOrder clocks marks count thread cell)
+Inv-loop clocks marks count thread cell causality live order₀ slot₀ order slot =
+    (slot ≤ 7)
+    × (storeOrderFrom clocks (marksOf marks cell) thread cell order (live - slot) slot ≡ storeOrder clocks (marksOf marks cell) count thread cell)
 
 abbrev μ-loop : tie.MeasureT-loop
-μ-loop clocks count thread cell marks causality live order₀ i₀ order i = 7 - i
+μ-loop clocks marks count thread cell causality live order₀ slot₀ order slot = 7 - slot
 
 add-causality : tie.Need-add-causality Inv-loop μ-loop
 add-causality c = search needs
@@ -29,14 +31,8 @@ live-stores-requires c κs = search needs
 loop-holds : tie.Need-loop-holds Inv-loop μ-loop
 loop-holds c = (search needs, store-start _ _ _ _ _ _ (c .live-stores .ensures .is))
 
-mul-row : tie.Need-mul-row Inv-loop μ-loop
-mul-row c = search needs
-
-array-copy-out-row : tie.Need-array-copy-out-row Inv-loop μ-loop
-array-copy-out-row c = search needs
-
-is-seen-by-current-requires : tie.Need-is-seen-by-current-requires Inv-loop μ-loop
-is-seen-by-current-requires c κs = search needs
+is-seen-requires : tie.Need-is-seen-requires Inv-loop μ-loop
+is-seen-requires c κs = search needs
 
 store-at-requires : tie.Need-store-at-requires Inv-loop μ-loop
 store-at-requires c κs = search needs
@@ -53,18 +49,18 @@ element-copy-out-other c = search needs
 join-requires : tie.Need-join-requires Inv-loop μ-loop
 join-requires c κs = search needs
 
-add-i : tie.Need-add-i Inv-loop μ-loop
-add-i c = search needs
+add-slot : tie.Need-add-slot Inv-loop μ-loop
+add-slot c = search needs
 
 loop-less : tie.Need-loop-less Inv-loop μ-loop
 loop-less c = search needs
 
 loop-again : tie.Need-loop-again Inv-loop μ-loop
 loop-again c =
-    let turn = c .before .before .before in
+    let turn = c .before .before in
     let at = turn .before in
     let h = turn .loop-test .taken in
-    let seen = c .before .is-seen-by-current .ensures in
+    let seen = c .before .is-seen .ensures in
     ⊎-elim
     (λ w. (search needs, store-seen _ _ _ _ _ _ _ _ (at .loop .inv .1) h _ _ seen (w .0 .taken) _ (w .1 .ensures) (w .4 ∙ w .3 .ensures)))
     (λ w. (search needs, store-unseen _ _ _ _ _ _ _ _ (at .loop .inv .1) h _ _ seen (w .0 .left) (w .1)))
@@ -84,15 +80,13 @@ store-order-spec =
     element-copy-out-causality
     live-stores-requires
     loop-holds
-    mul-row
-    array-copy-out-row
-    is-seen-by-current-requires
+    is-seen-requires
     store-at-requires
     add-other
     mul-other
     element-copy-out-other
     join-requires
-    add-i
+    add-slot
     loop-less
     loop-again
     returns)

@@ -33,29 +33,29 @@ mul-causality c = search needs
 element-copy-out-causality : tie.Need-element-copy-out-causality
 element-copy-out-causality c = search needs
 
-mul-touched : tie.Need-mul-touched
-mul-touched c = search needs
+mul-touched-row : tie.Need-mul-touched-row
+mul-touched-row c = search needs
 
-element-copy-out-touched : tie.Need-element-copy-out-touched
-element-copy-out-touched c = search needs
+array-read-touched-row : tie.Need-array-read-touched-row
+array-read-touched-row c = search needs
 
-mul-touched-2 : tie.Need-mul-touched-2
-mul-touched-2 c = search needs
+touched-row-requires : tie.Need-touched-row-requires
+touched-row-requires c κs = search needs
 
-array-read-touched : tie.Need-array-read-touched
-array-read-touched c = search needs
+mul-t8 : tie.Need-mul-t8
+mul-t8 c = search needs
 
-touched-requires : tie.Need-touched-requires
-touched-requires c κs = search needs
+mul-t26 : tie.Need-mul-t26
+mul-t26 c = search needs
 
-mul-t27 : tie.Need-mul-t27
-mul-t27 c = search needs
+index-1-marks : tie.Need-index-1-marks
+index-1-marks c = search needs
 
-element-set-from-marks : tie.Need-element-set-from-marks
-element-set-from-marks c = search needs
+index-2-marks : tie.Need-index-2-marks
+index-2-marks c = search needs
 
 returns-2 : tie.Need-returns-2
-returns-2 c = touch-first _ _ _ _ _ _ (c .touched .ensures)
+returns-2 c = touch-first _ _ _ _ _ _ (c .touched-row .ensures)
 
 pub touch-spec : {M : Type 1} → statement M
 touch-spec =
@@ -71,11 +71,11 @@ touch-spec =
     add-causality
     mul-causality
     element-copy-out-causality
-    mul-touched
-    element-copy-out-touched
-    mul-touched-2
-    array-read-touched
-    touched-requires
-    mul-t27
-    element-set-from-marks
+    mul-touched-row
+    array-read-touched-row
+    touched-row-requires
+    mul-t8
+    mul-t26
+    index-1-marks
+    index-2-marks
     returns-2)

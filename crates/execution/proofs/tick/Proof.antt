@@ -1,8 +1,13 @@
 use native.Mathlib.Omega.{arith}
-use mathlib.Core.Path.{sym, _∙_}
+use mathlib.Core.List.{[]}
+use mathlib.Core.Path.{ap, sym, _∙_}
 use mathlib.Core.Logic.{⊎-elim, inl, inr}
+use Rattle.rules.specs.Event.{offers}
+use Rattle.rules.specs.State.{Numbers}
 use Rattle.layout.specs.Tables.{state}
-use Rattle.execution.proofs.TickLaws.{row-within, next-ended, next-refused, next-begins, next-acts}
+use Rattle.decode.specs.Ops.{opOf}
+use Rattle.event.specs.Moves.{moveOf}
+use Rattle.execution.proofs.TickLaws.{row-within, begun-other, begun-acts, next-ended, next-refused, next-begins, next-acts}
 use borrow.Author.Needs.{needs}
 use Rattle.execution.proofs.tick.Statement.{statement}
 use Rattle.execution.proofs.tick.Tie as tie
@@ -53,9 +58,13 @@ begin-requires c κs =
     let start = joined .before .before .before in
     (start .pre .0, row-within _ _ (row .row .given .1) (start .pre .2))
 
+enum-told-2 : tie.Need-enum-told-2
+enum-told-2 c = search needs
+
 returns-3 : tie.Need-returns-3
 returns-3 c =
-    let test = c .before .before in
+    let begin = c .before in
+    let test = begin .before .before in
     let row = test .before .before in
     let joined = row .before .before in
     let call = joined .before in
@@ -63,7 +72,7 @@ returns-3 c =
     let args = start .args in
     λ p limited celled counted says.
     next-begins p (state (args .clocks .now) (args .marks .now) (args .values .now) (args .numbers .now)) (args .site .thread) (args .site .row) _ _ (call .is-to-begin .ensures (args .clocks .now) (args .marks .now) (args .values .now)) counted (⊎-elim (λ w. inl (w .3 .left)) (λ w. inr (w .left)) (joined .if1 .came)) (args .row) says _ (row .row .given .1) (test .if3 .taken) _
-    (c .begin .ensures p (args .clocks .now) (args .marks .now) (args .values .now) (args .site .row) _ _ limited)
+    (begun-other (begin .begin .result) _ _ (c .match2 .keys2) ∙ begin .begin .ensures p (args .clocks .now) (args .marks .now) (args .values .now) (args .site .row) _ _ limited)
 
 element-copy-out-wide16 : tie.Need-element-copy-out-wide16
 element-copy-out-wide16 c = search needs
@@ -89,7 +98,13 @@ returns-4 c =
     let start = call .before .before in
     let args = start .args in
     λ p limited celled counted says.
-    next-acts p (state (args .clocks .now) (args .marks .now) (args .values .now) (args .numbers .now)) (args .site .thread) (args .site .row) _ _ (call .is-to-begin .ensures (args .clocks .now) (args .marks .now) (args .values .now)) counted (⊎-elim (λ w. inl (w .3 .left)) (λ w. inr (w .left)) (joined .if1 .came)) (args .row) says _ (row .row .given .1) (test .if3 .left) (c .act .result) _
+    next-acts p (state (args .clocks .now) (args .marks .now) (args .values .now) (args .numbers .now)) (args .site .thread) (args .site .row) _ _ (call .is-to-begin .ensures (args .clocks .now) (args .marks .now) (args .values .now)) counted (⊎-elim (λ w. inl (w .3 .left)) (λ w. inr (w .left)) (joined .if1 .came)) (args .row) says _ (row .row .given .1)
+    (state (args .clocks .now) (args .marks .now) (args .values .now) (test .if3 .numbers))
+    (⊎-elim
+    (λ w. inl (w .0 .taken, begun-acts p (args .site .thread) (args .site .row) (opOf (row .row .given .0 .0)) _ _ (w .2 .result) (moveOf (w .2 .result) (args .site .thread) (args .site .row) 0 (offers []) _) _ (w .4 .given .1) (ap (λ (n : Numbers). state (args .clocks .now) (args .marks .now) (args .values .now) n) (w .5)) (w .2 .ensures p (args .clocks .now) (args .marks .now) (args .values .now) (args .site .row) 0 (offers []) limited)))
+    (λ w. inr (w .0 .left, ap (λ (n : Numbers). state (args .clocks .now) (args .marks .now) (args .values .now) n) (w .1)))
+    (test .if3 .came))
+    (c .act .result) _
     (c .act .ensures p (celled ∙ sym (wide .wide16 .ensures .same)))
 
 pub tick-spec : {M : Type 1} → statement M
@@ -106,6 +121,7 @@ tick-spec =
     enum-told
     returns-2
     begin-requires
+    enum-told-2
     returns-3
     element-copy-out-wide16
     wide16-requires

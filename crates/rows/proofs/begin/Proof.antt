@@ -12,7 +12,7 @@ element-copy-out-if1 c = search needs
 returns : tie.Need-returns
 returns c =
     let args = c .before .before .args in
-    λ p clocks marks values k opcode m e. begins-not p (state clocks marks values (args .numbers .now)) (args .thread) (args .limit) (opOf (args .op)) e (c .if1 .taken)
+    λ p clocks marks values k opcode m e. begins-not p (state clocks marks values (args .numbers .now)) (args .thread) k (args .limit) (opOf (args .op)) e (c .if1 .taken)
 
 element-copy-out-one-more : tie.Need-element-copy-out-one-more
 element-copy-out-one-more c = search needs
@@ -70,7 +70,7 @@ returns-2 c =
     let test = one .before .before in
     let args = test .before .before .args in
     λ p clocks marks values k opcode m e.
-    begins-bare clocks marks values (args .numbers .now) (args .thread) _ _ (one .one-more .ensures) (two .one-more2 .ensures) p (args .limit) (opOf (args .op)) e (test .if1 .left)
+    begins-bare clocks marks values (args .numbers .now) (args .thread) _ _ (one .one-more .ensures) (two .one-more2 .ensures) p k (args .limit) (opOf (args .op)) e (test .if1 .left)
     (sets-none _ (opOf (args .op)) (pend .pending-of .ensures) (c .enum-told .given .1))
 
 add-numbers-3 : tie.Need-add-numbers-3
@@ -110,7 +110,7 @@ returns-3 c =
     let test = one .before .before in
     let args = test .before .before .args in
     λ p clocks marks values k opcode m e.
-    begins-asking clocks marks values (args .numbers .now) (args .thread) _ _ (one .one-more .ensures) (two .one-more2 .ensures) p (args .limit) (opOf (args .op)) e (test .if1 .left) _ _
+    begins-asking clocks marks values (args .numbers .now) (args .thread) _ _ (one .one-more .ensures) (two .one-more2 .ensures) p k (args .limit) (opOf (args .op)) e (test .if1 .left) _ _
     (sets-one _ (opOf (args .op)) (pend .pending-of .ensures) _ _ (action .action .given .1))
 
 pub begin-spec : {M : Type 1} → statement M

@@ -44,6 +44,9 @@ mul-if2-2 c = search needs
 element-copy-out-if2-2 : tie.Need-element-copy-out-if2-2 Inv-loop μ-loop
 element-copy-out-if2-2 c = search needs
 
+cast-t18 : tie.Need-cast-t18 Inv-loop μ-loop
+cast-t18 c = search needs
+
 returns-2 : tie.Need-returns-2 Inv-loop μ-loop
 returns-2 c =
     let at = c .before .before .before .before in
@@ -84,6 +87,7 @@ ahead-spec =
     element-copy-out-if2
     mul-if2-2
     element-copy-out-if2-2
+    cast-t18
     returns-2
     add-i
     loop-less
