@@ -10,11 +10,12 @@ use Prim.Native.Nat.{ℕ, _+_, _≤_, _<_}
 use mathlib.Core.Path.{_≡_, refl, ap, sym, _∙_}
 use native.Mathlib.Omega.{arith}
 use Rattle.rules.specs.Vector.{largest}
-use Rattle.rules.specs.Event.{Move, moves, asks, stops, ends}
+use Rattle.rules.specs.Event.{Move}
 use Rattle.rules.specs.State.{State, Numbers, threads}
 use Rattle.rules.specs.Cell.{version}
 use Rattle.rules.specs.Machine.{Program, active, machine}
-use Rattle.bounds.specs.KeepsOver
+use Rattle.kept.specs.Kept.{OfNext, OfAnswer}
+use Rattle.kept.proofs.Held.{answer-next}
 use Rattle.bounds.specs.Bounds.{Kind, ofVersions, ofChoices, given, but, nothing, rowsIn, owed, waiting, Part, Tally, Bounded, Holds, Scheduling, Reading, Asked, Over}
 use Rattle.bounds.proofs.Parts.{eased}
 use Rattle.bounds.proofs.Accesses.{Sound}
@@ -131,13 +132,10 @@ has-room a t b h s = omega (arith, ofAll-has (rowsIn a) t b, s .rows, s .limit)
 
 -- a move that does not ask
 abbrev pub Ending : Program → ℕ → Move State → Type 0
-Ending p n m = KeepsOver.OfAnswer (machine p) (Holds p) (Over p) (Asked p) n m
+Ending p n m = OfAnswer (machine p) (Holds p) (Over p) n m
 
 abbrev pub Going : Program → ℕ → Move State → Type 0
-Going p n m = KeepsOver.OfNext (machine p) (Holds p) (Over p) (Asked p) n m
+Going p n m = OfNext (machine p) (Holds p) (Asked p) (Over p) n m
 
 pub ending-going : (p : Program) (n : ℕ) (m : Move State) → Ending p n m → Going p n m
-ending-going p n (moves s es) h = h
-ending-going p n (asks s es exploring q) h = absurd h
-ending-going p n (stops s f) h = h
-ending-going p n (ends s) h = h
+ending-going p = answer-next (machine p) (Holds p) (Asked p) (Over p)

@@ -17,8 +17,7 @@ use Rattle.rules.specs.Event.{Question, whichThread, whichSlot, whichBit, Answe
 use Rattle.rules.specs.State.{State, Vector, vector, number, threads, count}
 use Rattle.rules.proofs.StateLaws.{inVectors}
 use Rattle.rules.specs.Machine.{Program, machine, answered}
-use Rattle.kept.specs.Kept.{Fitting}
-use Rattle.bounds.specs.KeepsOver.{KeepsOver}
+use Rattle.kept.specs.Kept.{Fitting, Keeps}
 use Rattle.bounds.specs.Bounds.{Fits, Kind, ofVersions, ofChoices, kindOf, nothing, rowsIn, Part, Holds, Asked, Over, InRange}
 use Rattle.bounds.proofs.Accesses.{few-live}
 use Rattle.bounds.proofs.Numbers.{ofAll-has}
@@ -45,7 +44,7 @@ module _ (p : Program) (fits : Fits p) where
   goes-on st n whichBit (takeBit bit) s f = spurious-ending p fits n st bit s
 
   -- at every tick of every execution
-  pub keeps : KeepsOver (machine p) (Holds p) (Over p) (Asked p)
+  pub keeps : Keeps (machine p) (Holds p) (Asked p) (Over p)
   keeps = record {
     at-start = start-holds p fits;
     at-next = λ st n s. next-going p fits st n s;

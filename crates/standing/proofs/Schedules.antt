@@ -20,7 +20,7 @@ use Rattle.rules.specs.State as State
 use Rattle.rules.specs.State.{State, Numbers, number, withNumber, threads, cells, phase, begun, nextRow, activeThread, accessBranch, nonLoadBranch, withVector, lastAccess, lastNonLoad, scheduleOf}
 use Rattle.rules.specs.Cell.{withClocks}
 use Rattle.rules.specs.Machine as Machine
-use Rattle.rules.specs.Machine.{Program, machine, isIn, someCanRun, fewestFrom, yieldsLess, everyThread, absent, runnable, yielded, noOperation}
+use Rattle.rules.specs.Machine.{Program, isIn, someCanRun, fewestFrom, yieldsLess, everyThread, absent, runnable, yielded, noOperation}
 use Rattle.rules.specs.Measure.{ticksLeft, measure}
 use Rattle.rules.proofs.Measure.{Is, aside, toActive, otherWork}
 use Rattle.rules.proofs.MeasureLoops.{Wakes, awake-all, yielded-same}
@@ -161,7 +161,7 @@ module _ (numbers : Numbers) where
 module _ (p : Program) where
   -- the initial thread is one that can run; there is none only where the others that can have yielded
   pub is-answerable : (st : State) (n : ℕ) (first : Whom) (stand : List Standing) → Schedules p st n first stand →
-      Scheduling (machine p) first stand
+      Scheduling first stand
   is-answerable st n first stand h =
       let a = st .numbers in
       rw (h .isFirst, h .stand)

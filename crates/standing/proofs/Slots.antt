@@ -131,7 +131,7 @@ module _ (p : Program) (held : cellsOf (p .table) ≤ cells) (few : threadsOf (p
       subst (Names (threadsOf (p .table)) (cellsOf (p .table)) (rowCount p t)) same (said .2)
 
   -- some slot is offered, and those that are offered are slots
-  pub slot-answerable : SomeOffered → (m : Matched) → Reading p st m → Offering (machine p) m
+  pub slot-answerable : SomeOffered → (m : Matched) → Reading p st m → Offering m
   slot-answerable some m (ofLoad c o r e f) = record {
     some = λ offered g. some .toLoad (st .clocks) (marksOf (st .marks) c) a t c o offered (holds .counted c (names _ e)) (sym f ∙ g);
     few = λ offered g. omega (arith, offered-long a c m (rw f (load-long st t c o)) offered g, live-most (number a (count c)));

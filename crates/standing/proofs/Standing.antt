@@ -16,6 +16,7 @@ use Rattle.rules.specs.Machine.{Program, machine, next, answered}
 use Rattle.rules.specs.Explored.{Settings, settingsFine, programOf, limitsOf}
 use Rattle.rules.specs.Measure.{measure}
 use Rattle.kept.specs.Kept.{Fitting, OfNext, OfAnswer, Keeps, Possible, Answerable, Falls, Never}
+use Rattle.kept.proofs.Held.{answer-next}
 use Rattle.standing.specs.Standing.{Holds, Asked, SomeOffered, left}
 use Rattle.standing.proofs.Rows.{header-within}
 use Rattle.standing.proofs.Steps.{After, going, stopping, ending, Below, Good, moving, asking}
@@ -26,35 +27,30 @@ use Rattle.standing.proofs.Start.{start-holds, start-left}
 
 -- What is known of a move, in the words of crate kept
 module _ (p : Program) (n l : ℕ) where
-  after-keeps : {m : Move State} → After p n l m → OfAnswer (machine p) (Holds p) n m
+  after-keeps : {m : Move State} → After p n l m → OfAnswer (machine p) (Holds p) (Holds p) n m
   after-keeps (going h low) = h
   after-keeps (stopping h f) = h
   after-keeps (ending h) = h
 
-  after-possible : {m : Move State} → After p n l m → Possible (machine p) m
+  after-possible : {m : Move State} → After p n l m → Possible m
   after-possible (going h low) = tt
   after-possible (stopping h f) = f
   after-possible (ending h) = tt
 
-  after-falls : {m : Move State} → After p n l m → Falls (machine p) (left p) l m
+  after-falls : {m : Move State} → After p n l m → Falls (left p) l m
   after-falls (going h low) = low
   after-falls (stopping h f) = tt
   after-falls (ending h) = tt
 
-  after-next : {m : Move State} → After p n l m → OfNext (machine p) (Holds p) (Asked p) n m
-  after-next (going h low) = h
-  after-next (stopping h f) = h
-  after-next (ending h) = h
-
-  good-keeps : {m : Move State} → Good p n l m → OfNext (machine p) (Holds p) (Asked p) n m
-  good-keeps (moving h) = after-next h
+  good-keeps : {m : Move State} → Good p n l m → OfNext (machine p) (Holds p) (Asked p) (Holds p) n m
+  good-keeps {m} (moving h) = answer-next (machine p) (Holds p) (Asked p) (Holds p) n m (after-keeps h)
   good-keeps (asking h low) = h
 
-  good-possible : {m : Move State} → Good p n l m → Possible (machine p) m
+  good-possible : {m : Move State} → Good p n l m → Possible m
   good-possible (moving h) = after-possible h
   good-possible (asking h low) = tt
 
-  good-falls : {m : Move State} → Good p n l m → Falls (machine p) (left p) l m
+  good-falls : {m : Move State} → Good p n l m → Falls (left p) l m
   good-falls (moving h) = after-falls h
   good-falls (asking h low) = tt
 
@@ -107,21 +103,22 @@ module _ (table : List ℕ) (s : Settings) (accepted : judged table ≡ good) (f
   holds-asked st n (whichSlot m) h = h .holds
   holds-asked st n whichBit h = h .holds
 
-  answerable : SomeOffered → (st : State) (n : ℕ) (q : Question) → Asked p st n q → Answerable (machine p) q
+  answerable : SomeOffered → (st : State) (n : ℕ) (q : Question) → Asked p st n q → Answerable q
   answerable some st n (whichThread points first standings) h = is-answerable p st n first standings h
   answerable some st n (whichSlot m) h = slot-answerable p held few accepted st n (h .holds) (h .toAct) some m (h .reading)
   answerable some st n whichBit h = tt
 
-  pub standing-keeps : Keeps (machine p) (Holds p) (Asked p)
+  pub standing-keeps : Keeps (machine p) (Holds p) (Asked p) (Holds p)
   standing-keeps = record {
     at-start = start-holds p (header-within p accepted .0) few held;
     at-next = λ st n h. good-keeps p n (left p st) (nexts st n h);
     at-answer = λ st n q a h fit. let l = below-some p st q in after-keeps p n (l .0) (answers st n (l .0) q a h (l .1) fit);
     at-question = holds-asked;
+    at-tick = λ st n h. h;
   }
 
   -- where every match offers some store, unless orders are equal
-  pub standing-never : SomeOffered → Never (machine p) (limitsOf s) (Holds p) (Asked p)
+  pub standing-never : SomeOffered → Never (machine p) (limitsOf s) (Holds p) (Asked p) (Holds p)
   standing-never some = record {
     keeps = standing-keeps;
     room = λ st n h. omega (arith, h .entries, h .limited);
