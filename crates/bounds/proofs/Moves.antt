@@ -1,5 +1,5 @@
 -- The bounds at the machine's events: a row begins, a thread ends, a scheduling goes on, a row has its answer. Assumes nothing.
---     for-threads, Counted           what is kept for each thread; the numbers of a state
+--     Counted              the numbers of a state
 --     begun-acts           a row that has just begun would act in bounds, too
 --     next-going           what the active thread does next
 --     thread-ending, slot-ending, spurious-ending        how it goes on with an answer
@@ -24,6 +24,7 @@ use Rattle.rules.specs.State.{scheduleOf, lastAccess, lastNonLoad, rowsOf, oper
 use Rattle.rules.specs.Cell.{version, withClocks}
 use Rattle.rules.specs.Machine
 use Rattle.rules.specs.Machine.{Program, Pending, nothing, pends, pendingOf, active, activeRow, activeOp, rowOf, rowCount, forThreads, runnable, ended, toAct, noOperation}
+use Rattle.rules.proofs.NumberLaws.{for-threads}
 use Rattle.rules.proofs.MeasureRows.{pick, both-left}
 use Rattle.kept.specs.Kept.{FittingSlot}
 use Rattle.bounds.specs.Bounds
@@ -34,14 +35,6 @@ use Rattle.bounds.proofs.Numbers.{given-own, given-other, of-given, cou
 use Rattle.bounds.proofs.Named.{Names, InPlace, row-in-place}
 use Rattle.bounds.proofs.Stands.{At, part-eased, eased-at, over, holds, asks-thread, opened, has-room, Ending, Going}
 use Rattle.bounds.proofs.Rows.{no-more, acts-going, read-ending, bit-ending}
-
--- what is kept for each of the five threads is kept for the n threads from i on
-pub for-threads : (N : Numbers → Type 0) (f : ℕ → Numbers → Numbers) (top : ℕ) →
-    ((i : ℕ) (a : Numbers) → i < top → N a → N (f i a)) →
-    (n i : ℕ) (a : Numbers) → i + n ≤ top → N a → N (forThreads f n i a)
-unfolding forThreads
-for-threads N f top step zero i a h k = k
-for-threads N f top step (suc n) i a h k = for-threads N f top step n (i + 1) (f i a) (omega arith) (step i a (omega arith) k)
 
 -- the numbers of a state that stands so
 pub record Counted (p : Program) (t n : ℕ) (rows owing waits least : ℕ → ℕ) (a : Numbers) : Type 0 where

@@ -14,12 +14,13 @@ use Rattle.rules.specs.Event.{Move}
 use Rattle.rules.specs.State.{State, Numbers, threads}
 use Rattle.rules.specs.Cell.{version}
 use Rattle.rules.specs.Machine.{Program, active, machine}
+use Rattle.rules.proofs.NumberLaws.{five-has, five-same}
 use Rattle.kept.specs.Kept.{OfNext, OfAnswer}
 use Rattle.kept.proofs.Held.{answer-next}
 use Rattle.bounds.specs.Bounds.{Kind, ofVersions, ofChoices, given, but, nothing, rowsIn, owed, waiting, Part, Tally, Bounded, Holds, Scheduling, Reading, Asked, Over}
 use Rattle.bounds.proofs.Parts.{eased}
 use Rattle.bounds.proofs.Accesses.{Sound}
-use Rattle.bounds.proofs.Numbers.{given-own, given-other, of-given, ofAll-same, ofAll-has, re-owed, Links}
+use Rattle.bounds.proofs.Numbers.{given-own, given-other, of-given, re-owed, Links}
 
 -- Thread t is active. Each thread has begun so many rows and owes so much (for the tally, so much), and waits for at most so much
 pub record At (p : Program) (t n : ℕ) (rows tallied owing waits least : ℕ → ℕ) (P : Kind → ℕ → ℕ → Type 0)
@@ -64,7 +65,7 @@ module _ {p : Program} {t n : ℕ} {rows owing waits least o w : ℕ → ℕ} (s
             (s .sound .clocks .vectors);
         sights = s .sound .sights;
         tally = re-owed (st .numbers) (s .tally) (owed (st .numbers)) (version (st .clocks))
-            (omega (arith, s .tally .entries, ofAll-same owing (owed (st .numbers)) same)) (λ u b. omega (arith, same u b))
+            (omega (arith, s .tally .entries, five-same owing (owed (st .numbers)) same)) (λ u b. omega (arith, same u b))
             (s .sound .clocks .since);
       }
 
@@ -128,7 +129,7 @@ opened st s = record {
 pub has-room : {p : Program} {n : ℕ} {owing most : ℕ → ℕ} (a : Numbers) (t : ℕ) → t < threads → p .operations + 2 < largest →
     Tally p n owing most a →
     rowsIn a t + 2 < largest
-has-room a t b h s = omega (arith, ofAll-has (rowsIn a) t b, s .rows, s .limit)
+has-room a t b h s = omega (arith, five-has (rowsIn a) t b, s .rows, s .limit)
 
 -- a move that does not ask
 abbrev pub Ending : Program → ℕ → Move State → Type 0

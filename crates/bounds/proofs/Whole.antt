@@ -16,11 +16,11 @@ use Rattle.rules.specs.Explored.{Settings, settingsFine, programOf}
 use Rattle.rules.specs.Event.{Question, whichThread, whichSlot, whichBit, Answer, runThread, readSlot, takeBit}
 use Rattle.rules.specs.State.{State, Vector, vector, number, threads, count}
 use Rattle.rules.proofs.StateLaws.{inVectors}
+use Rattle.rules.proofs.NumberLaws.{five-has}
 use Rattle.rules.specs.Machine.{Program, machine, answered}
 use Rattle.kept.specs.Kept.{Fitting, Keeps}
 use Rattle.bounds.specs.Bounds.{Fits, Kind, ofVersions, ofChoices, kindOf, nothing, rowsIn, Part, Holds, Asked, Over, InRange}
 use Rattle.bounds.proofs.Accesses.{few-live}
-use Rattle.bounds.proofs.Numbers.{ofAll-has}
 use Rattle.bounds.proofs.Stands.{over, opened, Ending}
 use Rattle.bounds.proofs.Moves.{next-going, thread-ending, slot-ending, spurious-ending, slot-below}
 use Rattle.bounds.proofs.Start.{start-holds}
@@ -60,7 +60,7 @@ module _ (p : Program) (fits : Fits p) where
   pub in-range : (st : State) (n : ℕ) → Over p st n → InRange st
   in-range st n s =
       let rows : (u : ℕ) → u < threads → rowsIn (st .numbers) u ≤ p .operations =
-      λ u b. omega (arith, ofAll-has (rowsIn (st .numbers)) u b, s .tally .rows, s .tally .limit) in
+      λ u b. omega (arith, five-has (rowsIn (st .numbers)) u b, s .tally .rows, s .tally .limit) in
       record {
         parts = λ v h u b. part-below (rowsIn (st .numbers)) (kindOf v) u _ (rows u b) (s .vectors .parts v h u b);
         counts = λ c h. omega (arith, s .tally .counts c h, s .tally .limit, fits .limited);

@@ -8,6 +8,7 @@ pub mod MeasureStart
 pub mod MeasureSteps
 pub mod MeasureTicks
 pub mod MeasureWalk
+pub mod NumberLaws
 pub mod RecordLaws
 pub mod StateLaws
 pub mod VectorLaws
