@@ -1,7 +1,6 @@
 pub mod Accesses
 pub mod Marks
 pub mod Moves
-pub mod Named
 pub mod Numbers
 pub mod Parts
 pub mod Range

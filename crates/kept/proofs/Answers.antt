@@ -2,6 +2,7 @@
 --     comes-length, comes-disabled, comes-nobody     what marks and visits leave
 --     seed-..                                        how a thread stands in the seed
 --     added-agrees                                   a new record agrees
+--     slot-offered                                   a slot that fits is one of those that are offered
 --     answers                                        the answer
 use Prim.Native.Nat.{ℕ, zero, suc, _+_, _≤_, _<_}
 use mathlib.Core.List.{List, [], _∷_, map}
@@ -16,13 +17,14 @@ use borrow.Author.Tests.{lt-ltb, ltb-true, ltb-false}
 use Rattle.rules.specs.Vector.{Whom, nobody, thread}
 use Rattle.rules.specs.Path.{Branch, schedule, load, spurious, disabled, yield, pending, active, visited, firstIn, activeIn, toActive, toVisited, left, unlessActive, toggled, turned, marked, lastSchedule, preemptionsAfter, threadAdded, loadAdded, spuriousAdded}
 use Rattle.rules.specs.Event as Event
-use Rattle.rules.specs.Event.{Standing, yielded, cannotRun, other, offers, slotsFrom, Question, whichThread, whichSlot, whichBit, Answer, runThread, readSlot, takeBit}
+use Rattle.rules.specs.Event.{Standing, yielded, cannotRun, other, Matched, offers, slotsFrom, slotsOf, Question, whichThread, whichSlot, whichBit, Answer, runThread, readSlot, takeBit}
 use Rattle.rules.specs.Explorer.{seedOf, seedState, pushed, pushes, reply, says, allBelow, maxSlots}
+use Rattle.rules.proofs.SlotLaws.{slots-below}
 use Rattle.ledger.specs.Replay.{Comes, here, marks, visits, Agrees}
 use Rattle.ledger.proofs.Events.{StatesMarked, marked-states, states-active}
 use Rattle.ledger.proofs.States.{found, present, turned-someone}
 use Rattle.ledger.proofs.Outcomes.{only-branch, just-branch}
-use Rattle.kept.specs.Kept.{FittingThread, Fitting, Scheduling, Answerable}
+use Rattle.kept.specs.Kept.{FittingThread, FittingSlot, Fitting, Scheduling, Answerable}
 
 -- A state put in a place
 
@@ -145,11 +147,18 @@ toggled-nobody xs = go (activeIn xs) refl
 
 -- Slots
 
-slots-below : (i n : ℕ) (bs : List Bool) → i + length bs ≤ n → allBelow n (slotsFrom i bs) ≡ true
+slots-all : (i n : ℕ) (bs : List Bool) → i + length bs ≤ n → allBelow n (slotsFrom i bs) ≡ true
 unfolding allBelow slotsFrom
-slots-below i n [] h = refl
-slots-below i n (true ∷ bs) h = rw (lt-ltb i n (omega arith), slots-below (i + 1) n bs (omega arith))
-slots-below i n (false ∷ bs) h = slots-below (i + 1) n bs (omega arith)
+slots-all i n [] h = refl
+slots-all i n (true ∷ bs) h = rw (lt-ltb i n (omega arith), slots-all (i + 1) n bs (omega arith))
+slots-all i n (false ∷ bs) h = slots-all (i + 1) n bs (omega arith)
+
+-- one that is chosen is one of those that were looked at
+pub slot-offered : (m : Matched) (slot : ℕ) (values : List ℕ) (fit : FittingSlot m slot values) → slot < length (fit .offered)
+slot-offered m slot values fit =
+    let within : fit .at < length (slotsOf (fit .offered)) = rw (fit .all) at (fit .within) in
+    let chosen : slot ≡ getD (slotsOf (fit .offered)) (fit .at) 0 = rw (fit .all) at (fit .chosen) in
+    omega (arith, slots-below 0 (fit .offered) (fit .at) within)
 
 -- Questions that can be answered
 
@@ -219,7 +228,7 @@ answers x k (load l) (whichThread points initial standings) p g = absurd g
 answers x k (load l) (whichSlot m) p g =
     let within = lt-ltb (l .pos) (length (l .values)) (g .4) in
     let few = p .few (g .1) (g .2) in
-    let slots : allBelow maxSlots (l .values) ≡ true = rw (g .3) (slots-below 0 maxSlots (g .1) (omega arith)) in (
+    let slots : allBelow maxSlots (l .values) ≡ true = rw (g .3) (slots-all 0 maxSlots (g .1) (omega arith)) in (
       readSlot (getD (l .values) (l .pos) 0) (l .values),
       rw (within, slots),
       record { offered = g .1; is = g .2; all = g .3; at = l .pos; within = g .4; chosen = refl },

@@ -26,6 +26,7 @@ use Rattle.ledger.proofs.States.{found}
 use Rattle.ledger.proofs.Records.{open-values}
 use Rattle.ledger.proofs.Proper.{Proper, proper-marking, proper-turned, pushed-proper}
 use Rattle.ledger.proofs.Outcomes.{only-branch, just-branch}
+use Rattle.rules.proofs.SlotLaws.{slots-below}
 use Rattle.ledger.proofs.Lists.{rising-at, slots-rising}
 use Rattle.kept.specs.Kept.{Answerable}
 use Rattle.kept.specs.Rules.{IsSchedule, NoSchedule, Newest, RecordRules, PathRules}
@@ -243,13 +244,6 @@ slots-few i [] = omega arith
 slots-few i (true ∷ bs) = omega (arith, slots-few (i + 1) bs)
 slots-few i (false ∷ bs) = omega (arith, slots-few (i + 1) bs)
 
-slots-under : (i n : ℕ) (bs : List Bool) (k : ℕ) → i + length bs ≤ n → k < length (slotsFrom i bs) → getD (slotsFrom i bs) k 0 < n
-unfolding slotsFrom
-slots-under i n [] k h l = absurd (omega arith)
-slots-under i n (true ∷ bs) zero h l = omega arith
-slots-under i n (true ∷ bs) (suc k) h l = slots-under (i + 1) n bs k (omega arith) (omega arith)
-slots-under i n (false ∷ bs) k h l = slots-under (i + 1) n bs k (omega arith) l
-
 rules-new : (B : ℕ) (bs : List Branch) (x : Bool) (q : Question) (b : Branch) → Answerable q → pushed B bs x q ≡ pushes b →
     RecordRules bs b
 unfolding pushed threadAdded loadAdded spuriousAdded
@@ -273,7 +267,7 @@ rules-new B bs x (whichSlot (offers slots)) b p e =
       some = p .some slots refl;
       seven = omega (arith, slots-few 0 slots);
       rise = λ j k h l. rising-at (slotsOf slots) j k (slots-rising 0 slots) h l;
-      slots = λ k l. slots-under 0 7 slots k (omega arith) l;
+      slots = λ k l. omega (arith, slots-below 0 slots k l);
       pos = p .some slots refl;
     })
 rules-new B bs x (whichSlot Event.equal) b p e = let z : _≡_ {A = ℕ} 0 1 = cc in absurd (omega arith)

@@ -10,6 +10,7 @@ pub mod MeasureTicks
 pub mod MeasureWalk
 pub mod NumberLaws
 pub mod RecordLaws
+pub mod SlotLaws
 pub mod StateLaws
 pub mod VectorLaws
 pub mod Worked

@@ -3,10 +3,9 @@
 --     standing-never       and no move of its own is the impossible one, where every match offers some store unless orders are equal
 use Prim.Native.Nat.{ℕ, _≤_}
 use mathlib.Core.List.{List}
-use mathlib.Core.Bool.{Bool, true, and-eq-true-iff}
+use mathlib.Core.Bool.{Bool, true}
 use mathlib.Core.Path.{_≡_, subst}
 use native.Mathlib.Omega.{arith}
-use borrow.Author.Tests.{leb-true}
 use Rattle.rules.specs.Vector.{largest}
 use Rattle.rules.specs.Table.{judged, good, threadsOf, cellsOf}
 use Rattle.rules.specs.Event.{Entry, Question, whichThread, whichSlot, whichBit, Answer, runThread, readSlot, takeBit, Move, asks}
@@ -14,6 +13,7 @@ use Rattle.rules.specs.State.{State, threads, cells}
 use Rattle.rules.specs.Machine.{Program, machine, next, answered}
 use Rattle.rules.specs.Explored.{Settings, settingsFine, programOf, limitsOf}
 use Rattle.rules.specs.Measure.{measure}
+use Rattle.rules.proofs.MeasureAccepted.{good-header, header-within, operations-within}
 use Rattle.rules.proofs.MeasureStart.{start-measure}
 use Rattle.rules.proofs.MeasureSteps as MeasureSteps
 use Rattle.rules.proofs.MeasureSteps.{Lower, lowered}
@@ -21,7 +21,6 @@ use Rattle.rules.proofs.MeasureTicks.{next-lower, thread-lower, slot-lower, spu
 use Rattle.kept.specs.Kept.{Fitting, OfNext, OfAnswer, Keeps, Possible, Answerable, Falls, Never}
 use Rattle.kept.proofs.Held.{answer-next}
 use Rattle.standing.specs.Standing.{Over, Holds, Asked, SomeOffered}
-use Rattle.standing.proofs.Rows.{header-within}
 use Rattle.standing.proofs.Steps.{After, going, stopping, ending, Good, moving, asking}
 use Rattle.standing.proofs.Ticks.{next-good}
 use Rattle.standing.proofs.Schedules.{is-answerable, thread-after}
@@ -74,30 +73,27 @@ module _ (table : List ℕ) (s : Settings) (accepted : judged table ≡ good) (f
   abbrev p : Program
   p = programOf table s
 
-  few : threadsOf (p .table) ≤ threads
-  few = header-within p accepted .1
-
-  held : cellsOf (p .table) ≤ cells
-  held = header-within p accepted .2
+  -- "threads 1..5, cells 1..4"
+  within : (1 ≤ threadsOf table) × (threadsOf table ≤ threads) × (cellsOf table ≤ cells)
+  within = header-within table (good-header table accepted)
 
   -- "operation limit L 1..4,096"
-  limited : p .operations ≤ largest
-  unfolding settingsFine
-  limited = let f = simp and-eq-true-iff at fine in omega (arith, leb-true)
+  limited : s .operations ≤ largest
+  limited = operations-within s fine
 
   nexts : (st : State) (n : ℕ) → Holds p st n → Good p n (next p st .move)
-  nexts st n h = next-good p held few limited st n h accepted
+  nexts st n h = next-good p (within .2) (within .1) limited st n h accepted
 
   lowers : (st : State) (n : ℕ) → Holds p st n → Lower p (measure p st) (next p st .move)
   lowers st n h =
-      next-lower p limited st (record { whole = h .over .whole; below = omega (arith, h .over .runs, few); runs = h .ready })
+      next-lower p limited st (record { whole = h .over .whole; below = omega (arith, h .over .runs, within); runs = h .ready })
 
   answers : (st : State) (n : ℕ) (q : Question) (a : Answer) → Asked p st n q → Fitting q a → After p n (answered p st a)
-  answers st n (whichThread points first standings) (runThread whom at) h fit = thread-after p held few st n first standings h whom at fit
+  answers st n (whichThread points first standings) (runThread whom at) h fit = thread-after p (within .2) (within .1) st n first standings h whom at fit
   answers st n (whichSlot m) (readSlot slot values) h fit =
-      slot-after p held few accepted st n (h .holds) (h .toAct) m (h .reading) slot values fit
+      slot-after p (within .2) (within .1) accepted st n (h .holds) (h .toAct) m (h .reading) slot values fit
   answers st n whichBit (takeBit bit) h fit =
-      bit-after p held few accepted st n (h .holds) (h .toAct) (h .register) (h .isSpurious) bit
+      bit-after p (within .2) (within .1) accepted st n (h .holds) (h .toAct) (h .register) (h .isSpurious) bit
   answers st n (whichThread points first standings) (readSlot slot values) h fit = absurd fit
   answers st n (whichThread points first standings) (takeBit bit) h fit = absurd fit
   answers st n (whichSlot m) (runThread whom at) h fit = absurd fit
@@ -112,12 +108,12 @@ module _ (table : List ℕ) (s : Settings) (accepted : judged table ≡ good) (f
 
   answerable : SomeOffered → (st : State) (n : ℕ) (q : Question) → Asked p st n q → Answerable q
   answerable some st n (whichThread points first standings) h = is-answerable p st n first standings h
-  answerable some st n (whichSlot m) h = slot-answerable p held few accepted st n (h .holds) (h .toAct) some m (h .reading)
+  answerable some st n (whichSlot m) h = slot-answerable p (within .2) (within .1) accepted st n (h .holds) (h .toAct) some m (h .reading)
   answerable some st n whichBit h = tt
 
   pub standing-keeps : Keeps (machine p) (Holds p) (Asked p) (Over p)
   standing-keeps = record {
-    at-start = start-holds p (header-within p accepted .0) few held;
+    at-start = start-holds p (within .0) (within .1) (within .2);
     at-next = λ st n h. good-keeps p n (nexts st n h);
     at-answer = λ st n q a h fit. after-keeps p n (answers st n q a h fit);
     at-question = asked-over;
@@ -133,7 +129,7 @@ module _ (table : List ℕ) (s : Settings) (accepted : judged table ≡ good) (f
     question = answerable some;
     answer-possible = λ st n q a h fit. after-possible p n (answers st n q a h fit);
     left = measure p;
-    enough = omega (arith, start-measure p (header-within p accepted .0) few held);
+    enough = omega (arith, start-measure p (within .0) (within .1) (within .2));
     next-falls = λ st n h. lower-falls p (measure p st) (lowers st n h);
     answer-falls = λ st n u es explores q a h e fit.
         let l = measure p st in

@@ -26,10 +26,9 @@ use Rattle.rules.specs.Machine.{Program, rowCount, rowOf, activeOp, runnable, b
 use Rattle.rules.proofs.StateLaws.{number-same, number-other}
 use Rattle.rules.proofs.NumberLaws.{after, more-some}
 use Rattle.rules.proofs.Measure.{Is, aside, toState, toPhase}
-use Rattle.rules.proofs.MeasureRows.{pick}
+use Rattle.rules.proofs.MeasureRows.{pick, Names}
 use Rattle.standing.specs.Standing.{Thread, Over, Holds, Schedules, Reading, ofLoad, ofRmw, Reads, Takes, Asked}
 use Rattle.standing.proofs.Facts.{Facts, keep, toRow, closed, holding}
-use Rattle.standing.proofs.Rows.{Names}
 
 -- What is to be known of a move, with n entries in the trace before it
 

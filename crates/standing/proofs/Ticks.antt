@@ -10,7 +10,6 @@ use native.Mathlib.Omega.{arith}
 use lib.Dec.{leb}
 use borrow.Author.Tests.{eqb-true, eqb-false, leb-true, leb-false, lt-ltb}
 use Rattle.rules.specs.Vector.{oneMore, largest}
-use Rattle.rules.specs.Table as Table
 use Rattle.rules.specs.Table.{Op, decoded, threadsOf, cellsOf, judged, good}
 use Rattle.rules.specs.Event as Event
 use Rattle.rules.specs.State as State
@@ -20,31 +19,11 @@ use Rattle.rules.specs.Machine.{Program, Pending, nothing, pends, pendingOf, ac
 use Rattle.rules.proofs.NumberLaws.{five-has, more-below}
 use Rattle.rules.proofs.Measure.{Is, aside, toState, toPhase, toBegun, toCell, seen, otherWork}
 use Rattle.rules.proofs.MeasureLoops.{freed-all}
-use Rattle.rules.proofs.MeasureRows.{pick, both-left, both-right, OnCell}
+use Rattle.rules.proofs.MeasureRows.{pick, both-left, both-right, Names, names-more, OnCell, on-cell}
 use Rattle.standing.specs.Standing.{Thread, Over, Holds, Schedules, underWay}
 use Rattle.standing.proofs.Facts.{Facts, keep, begunOne, freed-facts, freed-none, opened, closed, holding}
-use Rattle.standing.proofs.Rows.{Names, accepted-row}
+use Rattle.standing.proofs.Rows.{accepted-row}
 use Rattle.standing.proofs.Steps.{going, Good, moving, asking, stops-at, acts-good}
-
--- what an operation is on, by what the row names
-on-cell : (threads few count : ℕ) → few ≤ cells → (op : Op) → Names threads few count op → OnCell (pendingOf op)
-on-cell threads few count h (Table.load c o r) e = omega arith
-on-cell threads few count h (Table.store c o a) e = omega arith
-on-cell threads few count h (Table.storeRegister c o r) e = omega arith
-on-cell threads few count h (Table.rmw c o f change r) e = omega arith
-on-cell threads few count h (Table.fence o) e = tt
-on-cell threads few count h (Table.unsyncLoad c r) e = tt
-on-cell threads few count h (Table.exclusive c change r) e = tt
-on-cell threads few count h Table.yield e = tt
-on-cell threads few count h (Table.join target) e = tt
-on-cell threads few count h (Table.jump target) e = tt
-on-cell threads few count h (Table.jumpIf r a target) e = tt
-on-cell threads few count h (Table.jumpUnless r a target) e = tt
-on-cell threads few count h (Table.check r a) e = tt
-on-cell threads few count h Table.critical e = tt
-on-cell threads few count h Table.exploreState e = tt
-on-cell threads few count h Table.skipBranch e = tt
-on-cell threads few count h (Table.spurious r) e = tt
 
 module _ (p : Program) (held : cellsOf (p .table) ≤ cells) (few : threadsOf (p .table) ≤ threads) (limited : p .operations ≤ largest) where
   -- A row has begun: thread t runs at row k, which is to act
@@ -179,7 +158,7 @@ module _ (p : Program) (held : cellsOf (p .table) ≤ cells) (few : threadsOf (p
           let op = said .0 in
           rw (said .1)
           (pick (Good p n) (Machine.isToBegin st t)
-          (λ e. begins-good (eqb-true _ _ e) op row (on-cell _ _ _ held op (said .2)))
+          (λ e. begins-good (eqb-true _ _ e) op row (on-cell threads (rowCount p t) op (names-more _ _ _ few held op (said .2))))
           (λ e. acts-next op (to-act (eqb-false _ _ e)) (said .1) (said .2)))
         where
           to-act : number a (phase t) ≢ toBegin → number a (phase t) ≡ toAct
