@@ -1,6 +1,5 @@
 -- What the accesses of a cell and the fences do to vectors and marks: parts only join, so whatever holds of each part is kept.
 -- Assumes nothing.
---     few-live             at most seven stores are live
 --     load-synced, store-synced, .-tracked, coherent-since, with-store, fenced-since       each change of the vectors
 --     Sound                the vectors and marks of a state
 --     with-clocks          its vectors changed
@@ -11,7 +10,6 @@ use mathlib.Core.Bool.{Bool, cond}
 use mathlib.Core.Path.{_≡_, refl}
 use native.Mathlib.Omega.{arith}
 use lib.Dec.{eqb, ltb}
-use borrow.Author.Tests.{ltb-true}
 use Rattle.rules.specs.Vector.{joined}
 use Rattle.rules.specs.Seen.{touchedAt, unseens}
 use Rattle.rules.specs.State.{State, Clocks, Marks, Numbers, Vector, vector, number, marksOf, threads, cells, history, storeAt}
@@ -19,19 +17,16 @@ use Rattle.rules.specs.State.{causality, released, seqCst, loaded, unsyncLoaded
 use Rattle.rules.specs.Cell as Cell
 use Rattle.rules.specs.Cell.{version, withClocks, liveStores, liveIn, slotOf, storeDone, sighted, Race, noRace, raceOf}
 use Rattle.rules.proofs.StateLaws.{inVectors}
+use Rattle.rules.proofs.SlotLaws.{live-most}
 use Rattle.rules.proofs.MeasureRows.{pick}
 use Rattle.bounds.specs.Bounds.{Kind, ofVersions, kindOf, Sights}
 use Rattle.bounds.proofs.Parts.{Fit, joined-fit, Since, fit-of, put, join-into, now, lowered}
 use Rattle.bounds.proofs.Marks.{later, row-of, row-set, touched-row, unseen-row}
 
--- at most seven stores are live
-pub few-live : (n : ℕ) → liveStores n ≤ history
-few-live n = pick (λ (x : ℕ). x ≤ history) (ltb n history) (λ e. omega (arith, ltb-true n history e)) (λ e. omega arith)
-
--- the k-th oldest of them is one
+-- the k-th oldest store is live
 oldest-live : (n k : ℕ) → k < liveStores n → Cell.kthOldest n k < history
 oldest-live n k h =
-    pick (λ (x : ℕ). x < history) (ltb n history) (λ e. omega (arith, few-live n)) (λ e. omega arith)
+    pick (λ (x : ℕ). x < history) (ltb n history) (λ e. omega (arith, live-most n)) (λ e. omega arith)
 
 module _ {P : Kind → ℕ → ℕ → Type 0} where
   module _ {least : ℕ → ℕ} (t c : ℕ) (below : t < threads) (on : c < cells) where
@@ -93,7 +88,7 @@ module _ {P : Kind → ℕ → ℕ → Type 0} where
     unfolding Cell.coherent
     coherent-since clocks rows numbers slot h s =
         put clocks (order (storeAt c slot)) _ (omega arith) s
-        (coherent-from clocks rows slot _ (liveIn numbers c) 0 (omega (arith, few-live (number numbers (count c)))) s
+        (coherent-from clocks rows slot _ (liveIn numbers c) 0 (omega (arith, live-most (number numbers (count c)))) s
         (fit-of clocks (order (storeAt c slot)) (omega arith) s))
         (λ u b e. absurd (omega arith))
 
@@ -110,7 +105,7 @@ module _ {P : Kind → ℕ → ℕ → Type 0} where
         Fit (P ofVersions) (Cell.storeOrder clocks rows cnt t c)
     unfolding Cell.storeOrder
     store-order clocks rows cnt s =
-        order-from clocks rows _ (liveStores cnt) 0 (omega (arith, few-live cnt)) s (fit-of clocks (causality t) below s)
+        order-from clocks rows _ (liveStores cnt) 0 (omega (arith, live-most cnt)) s (fit-of clocks (causality t) below s)
 
     -- a new store's three vectors
     pub with-store : (clocks : Clocks) (rows : List (List ℕ)) (cnt slot : ℕ) (from : List ℕ) (o : ℕ) → slot < history →

@@ -1,10 +1,9 @@
 pub mod Accesses
-pub mod HeldOver
 pub mod Marks
 pub mod Moves
-pub mod Named
 pub mod Numbers
 pub mod Parts
+pub mod Range
 pub mod Rows
 pub mod Stands
 pub mod Start

@@ -1,47 +1,37 @@
 -- The bounds at the machine's events: a row begins, a thread ends, a scheduling goes on, a row has its answer. Assumes nothing.
---     for-threads, Counted           what is kept for each thread; the numbers of a state
+--     Counted              the numbers of a state
 --     begun-acts           a row that has just begun would act in bounds, too
 --     next-going           what the active thread does next
 --     thread-ending, slot-ending, spurious-ending        how it goes on with an answer
---     slot-below           a slot that is chosen is one of the seven
-use Prim.Native.Nat.{ℕ, zero, suc, _+_, _≤_, _<_}
-use mathlib.Core.List.{List, [], _∷_}
+use Prim.Native.Nat.{ℕ, _+_, _≤_, _<_}
+use mathlib.Core.List.{List, []}
 use mathlib.Core.Bool.{Bool, true, false, cond, _&&_, true≢false}
 use mathlib.Core.Path.{_≡_, refl, ap, _∙_}
 use mathlib.Core.Logic.{_≢_}
 use native.Mathlib.Omega.{arith}
 use native.Mathlib.Decide.{ℕ-discrete}
 use lib.Dec.{eqb, ltb, leb}
-use lib.ListN.{length, getD}
+use lib.ListN.{getD}
 use borrow.Author.Tests.{ltb-true, leb-false}
 use Rattle.rules.specs.Vector.{Whom, nobody, thread, oneMore, joined}
 use Rattle.rules.specs.Table.{Op, Decoded, refused, decoded}
 use Rattle.rules.specs.Event as Event
-use Rattle.rules.specs.Event.{Matched, offers, slotsFrom, slotsOf, runThread, readSlot, takeBit}
+use Rattle.rules.specs.Event.{runThread, readSlot, takeBit}
 use Rattle.rules.specs.State as State
 use Rattle.rules.specs.State.{State, Numbers, vector, withVector, number, withNumber, threads, cells, history}
 use Rattle.rules.specs.State.{scheduleOf, lastAccess, lastNonLoad, rowsOf, operation, operatesOn, phase, accessBranch, nonLoadBranch, activeThread, begun}
 use Rattle.rules.specs.Cell.{version, withClocks}
 use Rattle.rules.specs.Machine
 use Rattle.rules.specs.Machine.{Program, Pending, nothing, pends, pendingOf, active, activeRow, activeOp, rowOf, rowCount, forThreads, runnable, ended, toAct, noOperation}
-use Rattle.rules.proofs.MeasureRows.{pick, both-left}
-use Rattle.kept.specs.Kept.{FittingSlot}
+use Rattle.rules.proofs.NumberLaws.{for-threads}
+use Rattle.rules.proofs.MeasureRows.{pick, both-left, Names, RowNames, row-in-place}
 use Rattle.bounds.specs.Bounds
 use Rattle.bounds.specs.Bounds.{Fits, Kind, ofVersions, ofChoices, given, but, owed, waiting, Part, Tally, Holds}
 use Rattle.bounds.proofs.Parts.{Fit, joined-fit, raised-fit, Since, fit-of, put}
 use Rattle.bounds.proofs.Accesses.{with-clocks}
 use Rattle.bounds.proofs.Numbers.{given-own, given-other, of-given, counted, moreRows, one-row, begins, aside, activates, Links, aside-links, phase-now, operation-now, rows-now, runs-now, wait-most}
-use Rattle.bounds.proofs.Named.{Names, InPlace, row-in-place}
 use Rattle.bounds.proofs.Stands.{At, part-eased, eased-at, over, holds, asks-thread, opened, has-room, Ending, Going}
 use Rattle.bounds.proofs.Rows.{no-more, acts-going, read-ending, bit-ending}
-
--- what is kept for each of the five threads is kept for the n threads from i on
-pub for-threads : (N : Numbers → Type 0) (f : ℕ → Numbers → Numbers) (top : ℕ) →
-    ((i : ℕ) (a : Numbers) → i < top → N a → N (f i a)) →
-    (n i : ℕ) (a : Numbers) → i + n ≤ top → N a → N (forThreads f n i a)
-unfolding forThreads
-for-threads N f top step zero i a h k = k
-for-threads N f top step (suc n) i a h k = for-threads N f top step n (i + 1) (f i a) (omega arith) (step i a (omega arith) k)
 
 -- the numbers of a state that stands so
 pub record Counted (p : Program) (t n : ℕ) (rows owing waits least : ℕ → ℕ) (a : Numbers) : Type 0 where
@@ -147,7 +137,7 @@ module _ (p : Program) (fits : Fits p) (t n : ℕ) (rows owing waits least : ℕ
       no-more (Bounds.Scheduling p st′) n (asks-thread st′ at (λ u b. omega arith) (λ u b. omega arith))
 
   -- it could act at once
-  pub begun-acts : (was st : State) (k : ℕ) (op : Op) → Names op → version (st .clocks) t ≤ least t → Begun was st →
+  pub begun-acts : (was st : State) (k : ℕ) (op : Op) → Names threads cells (rowCount p t) op → version (st .clocks) t ≤ least t → Begun was st →
       Going p n (Machine.acts p st t k op)
   begun-acts was st k op h v s =
       acts-going p fits t n (rowsThen was) (given t 1 owing) waits least below (given-own t 1 owing) st k op h v
@@ -189,8 +179,8 @@ module _ (p : Program) (fits : Fits p) (st : State) (n : ℕ) (s : Holds p st n)
   one-owed : Machine.isToBegin st now ≡ false → owed (st .numbers) now ≡ 1
   one-owed e = rw e refl
 
-  row-going : (k : ℕ) (row : Decoded Op) → InPlace row → Going p n (Machine.ofRow p st now k row)
-  unfolding InPlace
+  row-going : (k : ℕ) (row : Decoded Op) → RowNames threads cells (rowCount p now) row → Going p n (Machine.ofRow p st now k row)
+  unfolding RowNames
   row-going k refused h = over st (opened st s)
   row-going k (decoded op) h =
       pick (Going p n) (Machine.isToBegin st now)
@@ -340,25 +330,3 @@ module _ (p : Program) (fits : Fits p) (n : ℕ) where
   spurious-ending st bit s =
       bit-ending p fits (active st) n _ _ _ _ (s .0 .tally .runs) (s .1) st (activeRow st) (cond bit 1 0) (activeOp p st)
       (opened st (s .0))
-
--- a slot that is offered is one of those that were looked at
-slots-below : (l : List Bool) (i at : ℕ) → at < length (slotsFrom i l) → getD (slotsFrom i l) at 0 < i + length l
-unfolding slotsFrom
-slots-below [] i at h = absurd (omega arith)
-slots-below (true ∷ l) i zero h = omega arith
-slots-below (true ∷ l) i (suc at) h = omega (arith, slots-below l (i + 1) at (omega arith))
-slots-below (false ∷ l) i at h = omega (arith, slots-below l (i + 1) at h)
-
-pub slot-below : (m : Matched) (slot : ℕ) (values : List ℕ) →
-    ((offered : List Bool) → m ≡ offers offered → length offered ≤ history) →
-    FittingSlot m slot values → slot < history
-slot-below m slot values few f =
-    let e : values ≡ slotsOf (f .offered) = f .all in
-    let h : f .at < length (slotsOf (f .offered)) = omega (arith, f .within, ap length e) in
-    omega (
-      arith,
-      slots-below (f .offered) 0 (f .at) h,
-      few (f .offered) (f .is),
-      f .chosen,
-      ap (λ (l : List ℕ). getD l (f .at) 0) e,
-    )

@@ -1,26 +1,27 @@
 -- How writes to the numbers keep what is said of them. Assumes nothing.
 --     given-own, given-other, of-given         so much of one thread
---     ofAll-one, ofAll-has, ofAll-same, ofAll-given      the sum over the five threads
+--     ofAll-given          the sum over the five threads
 --     aside                a write that a tally does not read
 --     last-yield, count-now, activates, stored, yields-once, begins       the writes that it reads
 --     re-owed, acted       what is owed, with no write
 --     Links                what the numbers say of each thread: its rows, what it owes, whether it waits
 --     aside-links          a write that the links do not read
 --     runs-now, phase-now, operation-now, rows-now       the writes that they read
-use Prim.Native.Nat.{ℕ, zero, suc, _+_, _≤_, _<_}
+use Prim.Native.Nat.{ℕ, _+_, _≤_, _<_}
 use mathlib.Core.Bool.{cond}
 use mathlib.Core.Path.{_≡_, refl, ap, sym, _∙_}
 use mathlib.Core.Logic.{_≢_}
 use native.Mathlib.Omega.{arith}
 use native.Mathlib.Decide.{ℕ-discrete}
-use lib.Dec.{eqb, ltb}
+use lib.Dec.{eqb}
 use lib.ListN.{length}
-use borrow.Author.Tests.{eq-eqb, ne-eqb, lt-ltb}
+use borrow.Author.Tests.{eq-eqb, ne-eqb}
 use Rattle.rules.specs.Vector.{oneMore, largest}
 use Rattle.rules.specs.State.{Numbers, Number, number, withNumber, numberAt, numbersHeld, threads, cells}
 use Rattle.rules.specs.State.{rowsOf, yields, lastYield, operation, phase, count, activeThread, begun}
 use Rattle.rules.specs.Machine.{Program, toBegin, noOperation}
 use Rattle.rules.proofs.StateLaws.{number-same, number-other, number-kept}
+use Rattle.rules.proofs.NumberLaws.{five-one, five-has, five-same, after, more-some, more-below}
 use Rattle.rules.proofs.MeasureRows.{pick}
 use Rattle.bounds.specs.Bounds.{ofAll, given, but, rowsIn, owed, waiting, NoneOr, Tally}
 use Rattle.bounds.proofs.Marks.{none-later}
@@ -45,78 +46,8 @@ of-given Q t v f u g h =
 
 -- Five threads
 
--- where only one thread's part changes, so does the sum
-pub ofAll-one : (f g : ℕ → ℕ) (t : ℕ) → t < threads → ((u : ℕ) → u < threads → u ≢ t → g u ≡ f u) → ofAll g + f t ≡ ofAll f + g t
-ofAll-one f g zero h e =
-    omega (
-      arith,
-      e 1 (omega arith) (omega arith),
-      e 2 (omega arith) (omega arith),
-      e 3 (omega arith) (omega arith),
-      e 4 (omega arith) (omega arith),
-    )
-ofAll-one f g (suc zero) h e =
-    omega (
-      arith,
-      e 0 (omega arith) (omega arith),
-      e 2 (omega arith) (omega arith),
-      e 3 (omega arith) (omega arith),
-      e 4 (omega arith) (omega arith),
-    )
-ofAll-one f g (suc (suc zero)) h e =
-    omega (
-      arith,
-      e 0 (omega arith) (omega arith),
-      e 1 (omega arith) (omega arith),
-      e 3 (omega arith) (omega arith),
-      e 4 (omega arith) (omega arith),
-    )
-ofAll-one f g (suc (suc (suc zero))) h e =
-    omega (
-      arith,
-      e 0 (omega arith) (omega arith),
-      e 1 (omega arith) (omega arith),
-      e 2 (omega arith) (omega arith),
-      e 4 (omega arith) (omega arith),
-    )
-ofAll-one f g (suc (suc (suc (suc zero)))) h e =
-    omega (
-      arith,
-      e 0 (omega arith) (omega arith),
-      e 1 (omega arith) (omega arith),
-      e 2 (omega arith) (omega arith),
-      e 3 (omega arith) (omega arith),
-    )
-ofAll-one f g (suc (suc (suc (suc (suc t))))) h e = absurd (omega arith)
-
--- a thread's part is in the sum
-pub ofAll-has : (f : ℕ → ℕ) (t : ℕ) → t < threads → f t ≤ ofAll f
-ofAll-has f zero h = omega arith
-ofAll-has f (suc zero) h = omega arith
-ofAll-has f (suc (suc zero)) h = omega arith
-ofAll-has f (suc (suc (suc zero))) h = omega arith
-ofAll-has f (suc (suc (suc (suc zero)))) h = omega arith
-ofAll-has f (suc (suc (suc (suc (suc t))))) h = absurd (omega arith)
-
-pub ofAll-same : (f g : ℕ → ℕ) → ((u : ℕ) → u < threads → g u ≡ f u) → ofAll g ≡ ofAll f
-ofAll-same f g e =
-    omega (arith, e 0 (omega arith), e 1 (omega arith), e 2 (omega arith), e 3 (omega arith), e 4 (omega arith))
-
 pub ofAll-given : (f : ℕ → ℕ) (t v : ℕ) → t < threads → ofAll (given t v f) + f t ≡ ofAll f + v
-ofAll-given f t v h = omega (arith, ofAll-one f (given t v f) t h (λ u b d. given-other t v f u d), given-own t v f)
-
--- one more, at most
-pub more-most : (x : ℕ) → oneMore x ≤ x + 1
-more-most x = pick (λ (y : ℕ). y ≤ x + 1) (ltb x largest) (λ e. omega arith) (λ e. omega arith)
-
--- what is said of a number after a write under the name k
-after : (Q : ℕ → Type 0) (a : Numbers) (k j : Number) (v : ℕ) → numberAt k < length a → (numberAt j ≡ numberAt k → Q v) →
-    (numberAt j ≢ numberAt k → Q (number a j)) → Q (number (withNumber a k v) j)
-after Q a k j v h f g =
-    elim (ℕ-discrete (numberAt j) (numberAt k)) [
-      | yes e ↦ rw (e, number-same a k v h) (f e)
-      | no d ↦ rw (number-other a k j v d) (g d)
-    ]
+ofAll-given f t v h = omega (arith, five-one f (given t v f) t h (λ u b d. given-other t v f u d), given-own t v f)
 
 -- rows begun are one more, those of thread t too
 abbrev pub counted : Numbers → Numbers
@@ -160,7 +91,7 @@ module _ {p : Program} {n : ℕ} {owing most : ℕ → ℕ} (a : Numbers) (s : T
       record {
         held = number-kept a k v ∙ s .held;
         runs = rw (number-other a k activeThread v (d .1)) (s .runs);
-        rows = ofAll-same (rowsIn a) (rowsIn (withNumber a k v)) rows ∙ s .rows ∙ sym began;
+        rows = five-same (rowsIn a) (rowsIn (withNumber a k v)) rows ∙ s .rows ∙ sym began;
         limit = rw began (s .limit);
         entries = e ∙ sym began;
         counts = λ c b. rw began (after (λ (x : ℕ). x + ofAll owing′ ≤ 1 + number a begun) a k (count c) v h (f c b .0) (f c b .1));
@@ -218,7 +149,7 @@ module _ {p : Program} {n : ℕ} {owing most : ℕ → ℕ} (a : Numbers) (s : T
       record {
         held = number-kept a k t ∙ s .held;
         runs = rw (number-same a k t (omega (arith, s .held))) b;
-        rows = ofAll-same (rowsIn a) (rowsIn (withNumber a k t)) rows ∙ s .rows ∙ sym began;
+        rows = five-same (rowsIn a) (rowsIn (withNumber a k t)) rows ∙ s .rows ∙ sym began;
         limit = rw began (s .limit);
         entries = s .entries ∙ sym began;
         counts = λ c h. rw (number-other a k (count c) t (omega arith), began) (s .counts c h);
@@ -240,7 +171,7 @@ module _ {p : Program} {n : ℕ} {owing most : ℕ → ℕ} (a : Numbers) (s : T
     pub stored : (c : ℕ) → c < cells → Tally p (n + 1) (but t owing) most (withNumber a (count c) (oneMore (number a (count c))))
     stored c b =
         wrote (count c) _ (omega arith) less-owed
-        (λ d h. (λ e. omega (arith, more-most (number a (count c)), s .counts c b, ofAll-given owing t 0 below), λ e. acted .counts d h))
+        (λ d h. (λ e. omega (arith, more-some (number a (count c)) .1, s .counts c b, ofAll-given owing t 0 below), λ e. acted .counts d h))
         (λ u h. (omega arith, λ e. acted .yielded u h)) (λ u h. (λ e. absurd (omega arith), λ e. s .lasts u h))
 
     -- with one more yield
@@ -249,7 +180,7 @@ module _ {p : Program} {n : ℕ} {owing most : ℕ → ℕ} (a : Numbers) (s : T
         wrote (yields t) _ (omega arith) less-owed (λ c h. (omega arith, λ e. acted .counts c h))
         (λ u h. (
           λ e. let q : u ≡ t = omega arith in
-              rw q (omega (arith, more-most (number a (yields t)), s .yielded t below, given-own t 0 owing)),
+              rw q (omega (arith, more-some (number a (yields t)) .1, s .yielded t below, given-own t 0 owing)),
           λ e. acted .yielded u h,
         ))
         (λ u h. (λ e. absurd (omega arith), λ e. s .lasts u h))
@@ -261,12 +192,12 @@ module _ {p : Program} {n : ℕ} {owing most : ℕ → ℕ} (a : Numbers) (s : T
     began =
         number-other (counted a) (rowsOf t) begun _ (omega arith)
         ∙ number-same a begun _ (omega (arith, s .held))
-        ∙ rw (lt-ltb (number a begun) largest (omega arith)) refl
+        ∙ more-below (number a begun) (omega arith)
 
     pub one-row : oneMore (number (counted a) (rowsOf t)) ≡ rowsIn a t + 1
     one-row =
         ap oneMore (number-other a begun (rowsOf t) _ (omega arith))
-        ∙ rw (lt-ltb (rowsIn a t) largest (omega (arith, ofAll-has (rowsIn a) t below, s .rows))) refl
+        ∙ more-below (rowsIn a t) (omega (arith, five-has (rowsIn a) t below, s .rows))
 
     own-rows : rowsIn (moreRows a t) t ≡ rowsIn a t + 1
     own-rows =
@@ -285,7 +216,7 @@ module _ {p : Program} {n : ℕ} {owing most : ℕ → ℕ} (a : Numbers) (s : T
         record {
           held = kept ∙ s .held;
           runs = rw (stays activeThread (omega arith) (omega arith)) (s .runs);
-          rows = omega (arith, ofAll-one (rowsIn a) (rowsIn (moreRows a t)) t below other-rows, own-rows, began, s .rows);
+          rows = omega (arith, five-one (rowsIn a) (rowsIn (moreRows a t)) t below other-rows, own-rows, began, s .rows);
           limit = omega (arith, began);
           entries = omega (arith, s .entries, began);
           counts = λ c h. omega (arith, s .counts c h, began, stays (count c) (omega arith) (omega arith));

@@ -5,10 +5,10 @@
 --     acts-going           a row that has begun acts
 --     read-ending, bit-ending        a row that has its answer
 --     slots-few            at most seven slots are offered
-use Prim.Native.Nat.{ℕ, zero, suc, _+_, _≤_, _<_}
+use Prim.Native.Nat.{ℕ, _+_, _≤_, _<_}
 use mathlib.Core.List.{List, [], _∷_}
 use mathlib.Core.Bool.{Bool, true, false, cond}
-use mathlib.Core.Path.{_≡_, refl, ap, subst}
+use mathlib.Core.Path.{_≡_, refl, subst}
 use mathlib.Core.Logic.{inr}
 use native.Mathlib.Omega.{arith}
 use lib.Dec.{eqb, ltb}
@@ -17,46 +17,29 @@ use Rattle.rules.specs.Vector.{oneMore, largest, zeros, raised}
 use Rattle.rules.specs.Change.{Change, Changed, success, failure, applied}
 use Rattle.rules.specs.Table as Table
 use Rattle.rules.specs.Table.{Op, Decoded, refused, decoded}
-use Rattle.rules.specs.Event as Event
-use Rattle.rules.specs.Event.{Entry, Matched, offers}
+use Rattle.rules.specs.Event.{Entry, offers}
 use Rattle.rules.specs.State as State
 use Rattle.rules.specs.State.{State, vector, number, withNumber, threads, cells, history, storeAt}
 use Rattle.rules.specs.State.{causality, scheduleOf, seqCst, sync, phase, nextRow, yields, lastYield, operation, awaits, count, isSeqCst, exploring, skipping}
 use Rattle.rules.specs.Cell as Cell
 use Rattle.rules.specs.Cell.{version, storeDone, slotOf, withClocks, Access, raced, read, Race, noRace, raceOf, unlessRace, sighted, loadDone, byChange, succeeded, rmwDone, unsyncLoadDone, mutDone}
 use Rattle.rules.specs.Machine
-use Rattle.rules.specs.Machine.{Program, completed, toBegin, ended, blocked, yielded}
-use Rattle.rules.proofs.MeasureRows.{pick}
+use Rattle.rules.specs.Machine.{Program, rowCount, completed, toBegin, ended, blocked, yielded}
+use Rattle.rules.proofs.SlotLaws.{matched-long, offered-long, live-most}
+use Rattle.rules.proofs.MeasureRows.{pick, Names, RowNames}
 use Rattle.rules.proofs.VectorLaws.{raised-own}
 use Rattle.bounds.specs.Bounds
 use Rattle.bounds.specs.Bounds.{Fits, Kind, ofVersions, but, Part, Holds}
 use Rattle.bounds.proofs.Parts.{Fit, zeros-fit, raised-fit, Since, fit-of, put, join-into}
-use Rattle.bounds.proofs.Accesses.{few-live, with-clocks, sighted-sound, stored-sound, load-synced, store-tracked, unsync-tracked, mut-tracked, fenced-since}
+use Rattle.bounds.proofs.Accesses.{with-clocks, sighted-sound, stored-sound, load-synced, store-tracked, unsync-tracked, mut-tracked, fenced-since}
 use Rattle.bounds.proofs.Numbers.{given-own, of-given, aside, last-yield, acted, stored, yields-once, aside-links, phase-now, operation-now}
-use Rattle.bounds.proofs.Named.{Names, InPlace}
 use Rattle.bounds.proofs.Stands.{At, part-eased, eased-at, over, holds, asks-thread, asks-row, has-room, Ending, Going, ending-going}
 
 -- At most seven slots are offered
 
-by-fate : (f : Cell.Fate) (m : Matched) (l : List Bool) → Cell.byFate f m ≡ offers l →
-    (more : List Bool) × (m ≡ offers more) × (length l ≡ length more + 1)
-by-fate Cell.kept (offers more) l e = let q : l ≡ true ∷ more = cc in (more, refl, omega (arith, ap length q))
-by-fate Cell.dropped (offers more) l e = let q : l ≡ false ∷ more = cc in (more, refl, omega (arith, ap length q))
-by-fate Cell.equalMet (offers more) l e = let z : _≡_ {A = ℕ} 0 1 = cc in absurd (omega arith)
-by-fate Cell.kept Event.equal l e = let z : _≡_ {A = ℕ} 0 1 = cc in absurd (omega arith)
-by-fate Cell.dropped Event.equal l e = let z : _≡_ {A = ℕ} 0 1 = cc in absurd (omega arith)
-by-fate Cell.equalMet Event.equal l e = let z : _≡_ {A = ℕ} 0 1 = cc in absurd (omega arith)
-
-matched-length : (fate : ℕ → Cell.Fate) (n i : ℕ) (l : List Bool) → Cell.matchedFrom fate n i ≡ offers l → length l ≡ n
-unfolding Cell.matchedFrom
-matched-length fate zero i l e = let q : l ≡ [] = cc in ap length q
-matched-length fate (suc n) i l e =
-    let b = by-fate (fate i) (Cell.matchedFrom fate n (i + 1)) l e in
-    omega (arith, b .2, matched-length fate n (i + 1) (b .0) (b .1))
-
 pub slots-few : (fate : ℕ → Cell.Fate) (cnt : ℕ) (l : List Bool) → Cell.matchedFrom fate (Cell.liveStores cnt) 0 ≡ offers l →
     length l ≤ history
-slots-few fate cnt l e = omega (arith, matched-length fate (Cell.liveStores cnt) 0 l e, few-live cnt)
+slots-few fate cnt l e = omega (arith, offered-long (Cell.liveStores cnt) _ (matched-long fate (Cell.liveStores cnt) 0) l e, live-most cnt)
 
 -- no entry more
 pub no-more : (Q : ℕ → Type 0) (n : ℕ) → Q n → Q (n + 0)
@@ -339,7 +322,7 @@ module _ (p : Program) (fits : Fits p) (t n : ℕ) (rows owing waits least : ℕ
   slot-going st fate cnt s = (asks-now (Machine.versionRaised st t) (raise st s), slots-few fate cnt)
 
   -- What each row does, where it has begun
-  pub acts-going : (st : State) (k : ℕ) (op : Op) → Names op → version (st .clocks) t ≤ least t → Acting st →
+  pub acts-going : (st : State) (k : ℕ) (op : Op) → Names threads cells (rowCount p t) op → version (st .clocks) t ≤ least t → Acting st →
       Going p n (Machine.acts p st t k op)
   unfolding Machine.actsAs Cell.matchedLoad Cell.matchedRmw
   acts-going st k (Table.load c o r) h v s = slot-going st _ (number (st .numbers) (count c)) s
@@ -369,9 +352,9 @@ module _ (p : Program) (fits : Fits p) (t n : ℕ) (rows owing waits least : ℕ
   acts-going st k (Table.spurious r) h v s = asks-now st (not-raised st s)
 
   -- a load or an RMW reads its slot
-  pub read-ending : (st : State) (k slot mask : ℕ) (row : Decoded Op) → slot < history → InPlace row → Raised st →
+  pub read-ending : (st : State) (k slot mask : ℕ) (row : Decoded Op) → slot < history → RowNames threads cells (rowCount p t) row → Raised st →
       Ending p n (Machine.readFrom st t k slot mask row)
-  unfolding Machine.readFrom InPlace
+  unfolding Machine.readFrom RowNames
   read-ending st k slot mask refused d h s = over st s
   read-ending st k slot mask (decoded (Table.load c o r)) d h s =
       pick (Ending p n) (ltb slot (number (st .numbers) (count c)))

@@ -10,15 +10,17 @@ use Prim.Native.Nat.{ℕ, _+_, _≤_, _<_}
 use mathlib.Core.Path.{_≡_, refl, ap, sym, _∙_}
 use native.Mathlib.Omega.{arith}
 use Rattle.rules.specs.Vector.{largest}
-use Rattle.rules.specs.Event.{Move, moves, asks, stops, ends}
+use Rattle.rules.specs.Event.{Move}
 use Rattle.rules.specs.State.{State, Numbers, threads}
 use Rattle.rules.specs.Cell.{version}
 use Rattle.rules.specs.Machine.{Program, active, machine}
-use Rattle.bounds.specs.KeepsOver
+use Rattle.rules.proofs.NumberLaws.{five-has, five-same}
+use Rattle.kept.specs.Kept.{OfNext, OfAnswer}
+use Rattle.kept.proofs.Held.{answer-next}
 use Rattle.bounds.specs.Bounds.{Kind, ofVersions, ofChoices, given, but, nothing, rowsIn, owed, waiting, Part, Tally, Bounded, Holds, Scheduling, Reading, Asked, Over}
 use Rattle.bounds.proofs.Parts.{eased}
 use Rattle.bounds.proofs.Accesses.{Sound}
-use Rattle.bounds.proofs.Numbers.{given-own, given-other, of-given, ofAll-same, ofAll-has, re-owed, Links}
+use Rattle.bounds.proofs.Numbers.{given-own, given-other, of-given, re-owed, Links}
 
 -- Thread t is active. Each thread has begun so many rows and owes so much (for the tally, so much), and waits for at most so much
 pub record At (p : Program) (t n : ℕ) (rows tallied owing waits least : ℕ → ℕ) (P : Kind → ℕ → ℕ → Type 0)
@@ -63,7 +65,7 @@ module _ {p : Program} {t n : ℕ} {rows owing waits least o w : ℕ → ℕ} (s
             (s .sound .clocks .vectors);
         sights = s .sound .sights;
         tally = re-owed (st .numbers) (s .tally) (owed (st .numbers)) (version (st .clocks))
-            (omega (arith, s .tally .entries, ofAll-same owing (owed (st .numbers)) same)) (λ u b. omega (arith, same u b))
+            (omega (arith, s .tally .entries, five-same owing (owed (st .numbers)) same)) (λ u b. omega (arith, same u b))
             (s .sound .clocks .since);
       }
 
@@ -127,17 +129,14 @@ opened st s = record {
 pub has-room : {p : Program} {n : ℕ} {owing most : ℕ → ℕ} (a : Numbers) (t : ℕ) → t < threads → p .operations + 2 < largest →
     Tally p n owing most a →
     rowsIn a t + 2 < largest
-has-room a t b h s = omega (arith, ofAll-has (rowsIn a) t b, s .rows, s .limit)
+has-room a t b h s = omega (arith, five-has (rowsIn a) t b, s .rows, s .limit)
 
 -- a move that does not ask
 abbrev pub Ending : Program → ℕ → Move State → Type 0
-Ending p n m = KeepsOver.OfAnswer (machine p) (Holds p) (Over p) (Asked p) n m
+Ending p n m = OfAnswer (machine p) (Holds p) (Over p) n m
 
 abbrev pub Going : Program → ℕ → Move State → Type 0
-Going p n m = KeepsOver.OfNext (machine p) (Holds p) (Over p) (Asked p) n m
+Going p n m = OfNext (machine p) (Holds p) (Asked p) (Over p) n m
 
 pub ending-going : (p : Program) (n : ℕ) (m : Move State) → Ending p n m → Going p n m
-ending-going p n (moves s es) h = h
-ending-going p n (asks s es exploring q) h = absurd h
-ending-going p n (stops s f) h = h
-ending-going p n (ends s) h = h
+ending-going p = answer-next (machine p) (Holds p) (Asked p) (Over p)

@@ -20,14 +20,15 @@ use Rattle.rules.specs.Cell.{version, joinInto, withClocks, storeDone, slotOf, 
 use Rattle.rules.specs.Machine
 use Rattle.rules.specs.Machine.{Program, start, runnable}
 use Rattle.rules.proofs.StateLaws.{inVectors, vectorAt-within, vector-same, number-other}
+use Rattle.rules.proofs.NumberLaws.{for-threads, more-some}
 use Rattle.rules.proofs.MeasureRows.{pick}
 use Rattle.bounds.specs.Bounds.{Fits, Kind, ofVersions, ofChoices, kindOf, given, nothing, Part, Sights, Holds}
 use Rattle.bounds.proofs.Parts.{Fit, set-fit, zeros-fit, Since, put, join-into, eased}
 use Rattle.bounds.proofs.Marks.{Row, unseen-row, later}
 use Rattle.bounds.proofs.Accesses.{Sound, with-clocks, stored-sound}
-use Rattle.bounds.proofs.Numbers.{given-own, given-other, of-given, more-most, aside, last-yield, count-now, aside-links}
+use Rattle.bounds.proofs.Numbers.{given-own, given-other, of-given, aside, last-yield, count-now, aside-links}
 use Rattle.bounds.proofs.Stands.{At, holds}
-use Rattle.bounds.proofs.Moves.{for-threads, Counted, state-aside}
+use Rattle.bounds.proofs.Moves.{Counted, state-aside}
 
 -- while cells are made, thread 0's version is 1, and every other part is 0
 first : ℕ → ℕ
@@ -250,7 +251,7 @@ module _ (p : Program) where
       (record {
         tally =
             aside one (count-now a (s .tally) c (oneMore cnt) (omega arith)
-            (omega (arith, more-most cnt, u c (omega arith) (omega arith))))
+            (omega (arith, more-some cnt .1, u c (omega arith) (omega arith))))
             flag (seqCstFlag 1) (omega arith);
         links = aside-links one (aside-links a (s .links) (count c) (oneMore cnt) (omega arith) (omega arith)) flag (seqCstFlag 1)
             (omega arith) (omega arith);

@@ -16,14 +16,14 @@ use Rattle.rules.specs.Explored.{Settings, settingsFine, programOf}
 use Rattle.rules.specs.Event.{Question, whichThread, whichSlot, whichBit, Answer, runThread, readSlot, takeBit}
 use Rattle.rules.specs.State.{State, Vector, vector, number, threads, count}
 use Rattle.rules.proofs.StateLaws.{inVectors}
+use Rattle.rules.proofs.NumberLaws.{five-has}
+use Rattle.rules.proofs.SlotLaws.{live-most}
 use Rattle.rules.specs.Machine.{Program, machine, answered}
-use Rattle.kept.specs.Kept.{Fitting}
-use Rattle.bounds.specs.KeepsOver.{KeepsOver}
+use Rattle.kept.specs.Kept.{Fitting, Keeps}
+use Rattle.kept.proofs.Answers.{slot-offered}
 use Rattle.bounds.specs.Bounds.{Fits, Kind, ofVersions, ofChoices, kindOf, nothing, rowsIn, Part, Holds, Asked, Over, InRange}
-use Rattle.bounds.proofs.Accesses.{few-live}
-use Rattle.bounds.proofs.Numbers.{ofAll-has}
 use Rattle.bounds.proofs.Stands.{over, opened, Ending}
-use Rattle.bounds.proofs.Moves.{next-going, thread-ending, slot-ending, spurious-ending, slot-below}
+use Rattle.bounds.proofs.Moves.{next-going, thread-ending, slot-ending, spurious-ending}
 use Rattle.bounds.proofs.Start.{start-holds}
 
 module _ (p : Program) (fits : Fits p) where
@@ -38,14 +38,14 @@ module _ (p : Program) (fits : Fits p) where
   goes-on st n (whichThread points initial standings) (takeBit bit) s f = absurd f
   goes-on st n (whichSlot m) (runThread whom at) s f = absurd f
   goes-on st n (whichSlot m) (readSlot slot values) s f =
-      slot-ending p fits n st slot values (slot-below m slot values (s .1) f) (s .0)
+      slot-ending p fits n st slot values (omega (arith, slot-offered m slot values f, s .1 (f .offered) (f .is))) (s .0)
   goes-on st n (whichSlot m) (takeBit bit) s f = absurd f
   goes-on st n whichBit (runThread whom at) s f = absurd f
   goes-on st n whichBit (readSlot slot values) s f = absurd f
   goes-on st n whichBit (takeBit bit) s f = spurious-ending p fits n st bit s
 
   -- at every tick of every execution
-  pub keeps : KeepsOver (machine p) (Holds p) (Over p) (Asked p)
+  pub keeps : Keeps (machine p) (Holds p) (Asked p) (Over p)
   keeps = record {
     at-start = start-holds p fits;
     at-next = λ st n s. next-going p fits st n s;
@@ -61,11 +61,11 @@ module _ (p : Program) (fits : Fits p) where
   pub in-range : (st : State) (n : ℕ) → Over p st n → InRange st
   in-range st n s =
       let rows : (u : ℕ) → u < threads → rowsIn (st .numbers) u ≤ p .operations =
-      λ u b. omega (arith, ofAll-has (rowsIn (st .numbers)) u b, s .tally .rows, s .tally .limit) in
+      λ u b. omega (arith, five-has (rowsIn (st .numbers)) u b, s .tally .rows, s .tally .limit) in
       record {
         parts = λ v h u b. part-below (rowsIn (st .numbers)) (kindOf v) u _ (rows u b) (s .vectors .parts v h u b);
         counts = λ c h. omega (arith, s .tally .counts c h, s .tally .limit, fits .limited);
-        live = λ c h. few-live (number (st .numbers) (count c));
+        live = λ c h. live-most (number (st .numbers) (count c)) .1;
         marks = s .sights .marked;
         yielded = λ u b. omega (arith, s .tally .yielded u b, rows u b, fits .limited);
         rows = λ u b. omega (arith, rows u b, fits .limited);

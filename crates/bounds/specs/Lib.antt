@@ -1,3 +1,2 @@
 pub mod Bounds
-pub mod HeldOver
-pub mod KeepsOver
+pub mod Range

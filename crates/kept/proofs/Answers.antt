@@ -2,6 +2,7 @@
 --     comes-length, comes-disabled, comes-nobody     what marks and visits leave
 --     seed-..                                        how a thread stands in the seed
 --     added-agrees                                   a new record agrees
+--     slot-offered                                   a slot that fits is one of those that are offered
 --     answers                                        the answer
 use Prim.Native.Nat.{ℕ, zero, suc, _+_, _≤_, _<_}
 use mathlib.Core.List.{List, [], _∷_, map}
@@ -16,13 +17,14 @@ use borrow.Author.Tests.{lt-ltb, ltb-true, ltb-false}
 use Rattle.rules.specs.Vector.{Whom, nobody, thread}
 use Rattle.rules.specs.Path.{Branch, schedule, load, spurious, disabled, yield, pending, active, visited, firstIn, activeIn, toActive, toVisited, left, unlessActive, toggled, turned, marked, lastSchedule, preemptionsAfter, threadAdded, loadAdded, spuriousAdded}
 use Rattle.rules.specs.Event as Event
-use Rattle.rules.specs.Event.{Machine, Standing, yielded, cannotRun, other, offers, slotsFrom, Question, whichThread, whichSlot, whichBit, Answer, runThread, readSlot, takeBit}
+use Rattle.rules.specs.Event.{Standing, yielded, cannotRun, other, Matched, offers, slotsFrom, slotsOf, Question, whichThread, whichSlot, whichBit, Answer, runThread, readSlot, takeBit}
 use Rattle.rules.specs.Explorer.{seedOf, seedState, pushed, pushes, reply, says, allBelow, maxSlots}
+use Rattle.rules.proofs.SlotLaws.{slots-below}
 use Rattle.ledger.specs.Replay.{Comes, here, marks, visits, Agrees}
 use Rattle.ledger.proofs.Events.{StatesMarked, marked-states, states-active}
 use Rattle.ledger.proofs.States.{found, present, turned-someone}
 use Rattle.ledger.proofs.Outcomes.{only-branch, just-branch}
-use Rattle.kept.specs.Kept.{FittingThread, Fitting, Scheduling, Answerable}
+use Rattle.kept.specs.Kept.{FittingThread, FittingSlot, Fitting, Scheduling, Answerable}
 
 -- A state put in a place
 
@@ -145,87 +147,93 @@ toggled-nobody xs = go (activeIn xs) refl
 
 -- Slots
 
-slots-below : (i n : ℕ) (bs : List Bool) → i + length bs ≤ n → allBelow n (slotsFrom i bs) ≡ true
+slots-all : (i n : ℕ) (bs : List Bool) → i + length bs ≤ n → allBelow n (slotsFrom i bs) ≡ true
 unfolding allBelow slotsFrom
-slots-below i n [] h = refl
-slots-below i n (true ∷ bs) h = rw (lt-ltb i n (omega arith), slots-below (i + 1) n bs (omega arith))
-slots-below i n (false ∷ bs) h = slots-below (i + 1) n bs (omega arith)
+slots-all i n [] h = refl
+slots-all i n (true ∷ bs) h = rw (lt-ltb i n (omega arith), slots-all (i + 1) n bs (omega arith))
+slots-all i n (false ∷ bs) h = slots-all (i + 1) n bs (omega arith)
+
+-- one that is chosen is one of those that were looked at
+pub slot-offered : (m : Matched) (slot : ℕ) (values : List ℕ) (fit : FittingSlot m slot values) → slot < length (fit .offered)
+slot-offered m slot values fit =
+    let within : fit .at < length (slotsOf (fit .offered)) = rw (fit .all) at (fit .within) in
+    let chosen : slot ≡ getD (slotsOf (fit .offered)) (fit .at) 0 = rw (fit .all) at (fit .chosen) in
+    omega (arith, slots-below 0 (fit .offered) (fit .at) within)
 
 -- Questions that can be answered
 
-module _ (M : Machine) where
-  -- a thread that cannot run is Disabled in the seed
-  seed-disabled : (initial : Whom) (standings : List Standing) (t : ℕ) → Scheduling M initial standings →
-      getD standings t cannotRun ≡ cannotRun → getD (seedOf initial standings) t 0 ≡ disabled
-  unfolding seedOf
-  seed-disabled nobody standings t p e = seed-state standings t ∙ ap seedState e
-  seed-disabled (thread u) standings t p e =
-      let n : t ≢ u = λ z. p .can u refl .1 (sym (ap (λ (j : ℕ). getD standings j cannotRun) z) ∙ e) in
-      getD-set-other (map seedState standings) u t active 0 n ∙ seed-state standings t ∙ ap seedState e
+-- a thread that cannot run is Disabled in the seed
+seed-disabled : (initial : Whom) (standings : List Standing) (t : ℕ) → Scheduling initial standings →
+    getD standings t cannotRun ≡ cannotRun → getD (seedOf initial standings) t 0 ≡ disabled
+unfolding seedOf
+seed-disabled nobody standings t p e = seed-state standings t ∙ ap seedState e
+seed-disabled (thread u) standings t p e =
+    let n : t ≢ u = λ z. p .can u refl .1 (sym (ap (λ (j : ℕ). getD standings j cannotRun) z) ∙ e) in
+    getD-set-other (map seedState standings) u t active 0 n ∙ seed-state standings t ∙ ap seedState e
 
-  -- where nobody is Active in a seed, there is no initial thread and no other can run
-  seed-nobody : (initial : Whom) (standings : List Standing) → Scheduling M initial standings →
-      activeIn (toggled (seedOf initial standings)) ≡ nobody → FittingThread initial standings nobody
-  unfolding seedOf
-  seed-nobody nobody standings p e = (refl, λ t. go t (getD standings t cannotRun) refl)
-    where
-      none : firstIn yield (map seedState standings) ≡ nobody
-      none = toggled-nobody (map seedState standings) e .1
+-- where nobody is Active in a seed, there is no initial thread and no other can run
+seed-nobody : (initial : Whom) (standings : List Standing) → Scheduling initial standings →
+    activeIn (toggled (seedOf initial standings)) ≡ nobody → FittingThread initial standings nobody
+unfolding seedOf
+seed-nobody nobody standings p e = (refl, λ t. go t (getD standings t cannotRun) refl)
+  where
+    none : firstIn yield (map seedState standings) ≡ nobody
+    none = toggled-nobody (map seedState standings) e .1
 
-      go : (t : ℕ) (s : Standing) → getD standings t cannotRun ≡ s → s ≡ cannotRun
-      go t yielded f = absurd (unfound yield (map seedState standings) t (omega arith) none (seed-state standings t ∙ ap seedState f))
-      go t cannotRun f = refl
-      go t other f = absurd (p .none refl t f)
-  seed-nobody (thread u) standings p e =
-      let l : u < length (map seedState standings) = rw length-map (omega (arith, p .can u refl .0, p .five)) in
-      absurd (present active (set (map seedState standings) u active) u (rw length-set l)
-      (getD-set-same (map seedState standings) u active 0 l) (toggled-nobody (set (map seedState standings) u active) e .0))
+    go : (t : ℕ) (s : Standing) → getD standings t cannotRun ≡ s → s ≡ cannotRun
+    go t yielded f = absurd (unfound yield (map seedState standings) t (omega arith) none (seed-state standings t ∙ ap seedState f))
+    go t cannotRun f = refl
+    go t other f = absurd (p .none refl t f)
+seed-nobody (thread u) standings p e =
+    let l : u < length (map seedState standings) = rw length-map (omega (arith, p .can u refl .0, p .five)) in
+    absurd (present active (set (map seedState standings) u active) u (rw length-set l)
+    (getD-set-same (map seedState standings) u active 0 l) (toggled-nobody (set (map seedState standings) u active) e .0))
 
-  -- the thread that a schedule chooses
-  thread-fits : (initial : Whom) (standings : List Standing) (states : List ℕ) (whom : Whom) → Scheduling M initial standings →
-      Comes (toggled (seedOf initial standings)) states → activeIn states ≡ whom → FittingThread initial standings whom
-  thread-fits initial standings states nobody p c e = seed-nobody initial standings p (comes-nobody c e)
-  thread-fits initial standings states (thread t) p c e =
-      let f = found active states t e in
-      let l = comes-length c ∙ seed-length initial standings in (
-        omega (arith, l, f .0),
-        λ z.
-            let d = comes-disabled t c (toggled-disabled (seedOf initial standings) t (seed-disabled initial standings t p z)) in
-            omega (arith, f .1, d),
-      )
+-- the thread that a schedule chooses
+thread-fits : (initial : Whom) (standings : List Standing) (states : List ℕ) (whom : Whom) → Scheduling initial standings →
+    Comes (toggled (seedOf initial standings)) states → activeIn states ≡ whom → FittingThread initial standings whom
+thread-fits initial standings states nobody p c e = seed-nobody initial standings p (comes-nobody c e)
+thread-fits initial standings states (thread t) p c e =
+    let f = found active states t e in
+    let l = comes-length c ∙ seed-length initial standings in (
+      omega (arith, l, f .0),
+      λ z.
+          let d = comes-disabled t c (toggled-disabled (seedOf initial standings) t (seed-disabled initial standings t p z)) in
+          omega (arith, f .1, d),
+    )
 
-  -- A new record agrees with its question
+-- A new record agrees with its question
 
-  pub added-agrees : (B : ℕ) (bs : List Branch) (x : Bool) (q : Question) (b : Branch) → Answerable M q →
-      pushed B bs x q ≡ pushes b → Agrees x b q
-  unfolding pushed threadAdded loadAdded spuriousAdded
-  added-agrees B bs x (whichThread points initial standings) b p e =
-      let z = only-branch (leb B (length bs)) (ltb 255 (preemptionsAfter (lastSchedule bs))) _ b e in
-      rw (← z) (refl, here)
-  added-agrees B bs x (whichSlot (offers slots)) b p e =
-      let z = just-branch (leb B (length bs)) _ b e in rw (← z) (refl, slots, refl, refl, p .some slots refl)
-  added-agrees B bs x (whichSlot Event.equal) b p e = let z : _≡_ {A = ℕ} 0 1 = cc in absurd (omega arith)
-  added-agrees B bs x whichBit b p e = let z = just-branch (leb B (length bs)) _ b e in rw (← z) refl
+pub added-agrees : (B : ℕ) (bs : List Branch) (x : Bool) (q : Question) (b : Branch) → Answerable q →
+    pushed B bs x q ≡ pushes b → Agrees x b q
+unfolding pushed threadAdded loadAdded spuriousAdded
+added-agrees B bs x (whichThread points initial standings) b p e =
+    let z = only-branch (leb B (length bs)) (ltb 255 (preemptionsAfter (lastSchedule bs))) _ b e in
+    rw (← z) (refl, here)
+added-agrees B bs x (whichSlot (offers slots)) b p e =
+    let z = just-branch (leb B (length bs)) _ b e in rw (← z) (refl, slots, refl, refl, p .some slots refl)
+added-agrees B bs x (whichSlot Event.equal) b p e = let z : _≡_ {A = ℕ} 0 1 = cc in absurd (omega arith)
+added-agrees B bs x whichBit b p e = let z = just-branch (leb B (length bs)) _ b e in rw (← z) refl
 
-  -- And a record that agrees answers
+-- And a record that agrees answers
 
-  pub answers : (x : Bool) (k : ℕ) (b : Branch) (q : Question) → Answerable M q → Agrees x b q →
-      (a : Answer) × (reply k b q ≡ says a) × Fitting q a
-  unfolding reply
-  answers x k (schedule s) (whichThread points initial standings) p g =
-      (runThread (activeIn (s .states)) k, refl, thread-fits initial standings (s .states) (activeIn (s .states)) p (g .1) refl)
-  answers x k (schedule s) (whichSlot m) p g = absurd g
-  answers x k (schedule s) whichBit p g = absurd g
-  answers x k (load l) (whichThread points initial standings) p g = absurd g
-  answers x k (load l) (whichSlot m) p g =
-      let within = lt-ltb (l .pos) (length (l .values)) (g .4) in
-      let few = p .few (g .1) (g .2) in
-      let slots : allBelow maxSlots (l .values) ≡ true = rw (g .3) (slots-below 0 maxSlots (g .1) (omega arith)) in (
-        readSlot (getD (l .values) (l .pos) 0) (l .values),
-        rw (within, slots),
-        record { offered = g .1; is = g .2; all = g .3; at = l .pos; within = g .4; chosen = refl },
-      )
-  answers x k (load l) whichBit p g = absurd g
-  answers x k (spurious u) (whichThread points initial standings) p g = absurd g
-  answers x k (spurious u) (whichSlot m) p g = absurd g
-  answers x k (spurious u) whichBit p g = (takeBit (u .bit), refl, tt)
+pub answers : (x : Bool) (k : ℕ) (b : Branch) (q : Question) → Answerable q → Agrees x b q →
+    (a : Answer) × (reply k b q ≡ says a) × Fitting q a
+unfolding reply
+answers x k (schedule s) (whichThread points initial standings) p g =
+    (runThread (activeIn (s .states)) k, refl, thread-fits initial standings (s .states) (activeIn (s .states)) p (g .1) refl)
+answers x k (schedule s) (whichSlot m) p g = absurd g
+answers x k (schedule s) whichBit p g = absurd g
+answers x k (load l) (whichThread points initial standings) p g = absurd g
+answers x k (load l) (whichSlot m) p g =
+    let within = lt-ltb (l .pos) (length (l .values)) (g .4) in
+    let few = p .few (g .1) (g .2) in
+    let slots : allBelow maxSlots (l .values) ≡ true = rw (g .3) (slots-all 0 maxSlots (g .1) (omega arith)) in (
+      readSlot (getD (l .values) (l .pos) 0) (l .values),
+      rw (within, slots),
+      record { offered = g .1; is = g .2; all = g .3; at = l .pos; within = g .4; chosen = refl },
+    )
+answers x k (load l) whichBit p g = absurd g
+answers x k (spurious u) (whichThread points initial standings) p g = absurd g
+answers x k (spurious u) (whichSlot m) p g = absurd g
+answers x k (spurious u) whichBit p g = (takeBit (u .bit), refl, tt)

@@ -2,6 +2,7 @@ pub mod Answers
 pub mod Ticked
 pub mod Courses
 pub mod Held
+pub mod Both
 pub mod Possible
 pub mod RecordRules
 pub mod Rules

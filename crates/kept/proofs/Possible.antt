@@ -17,11 +17,11 @@ use Rattle.ledger.specs.History.{Every, Course, starting, courseOf, courses, le
 use Rattle.ledger.proofs.Runs.{Known}
 use Rattle.ledger.proofs.History.{real}
 use Rattle.kept.specs.Kept.{Holding, Asking, OfAnswer, Possible, Falls, Never}
-use Rattle.kept.specs.Held.{HoldsAt, HoldsAfter}
+use Rattle.kept.specs.Held.{HoldsAt, NotImpossible, EndsOver}
 use Rattle.kept.specs.Possible.{PossibleIn, NeverImpossible}
 use Rattle.kept.proofs.Ticked.{Expected, expected, Ticked, alone, crowded, refused, answered, passer}
 use Rattle.kept.proofs.Courses.{After, walk-by, every-course}
-use Rattle.kept.proofs.Held.{alone-holds, next-holds, next-asks, asks-noted, tick-cases, tick-holds, course-holds}
+use Rattle.kept.proofs.Held.{alone-holds, next-holds, next-asks, asks-noted, Later, tick-cases, tick-holds, course-holds}
 
 -- A record that cannot be added
 
@@ -38,7 +38,8 @@ pushed-possible B bs x (whichSlot (offers slots)) f e i = or-possible (loadAdded
 pushed-possible B bs x (whichSlot Event.equal) f e i = let z : _≡_ {A = ℕ} 0 1 = cc in omega arith
 pushed-possible B bs x whichBit f e i = or-possible (spuriousAdded B bs x) f e i
 
-module _ (M : Machine) (limits : Limits) (Holds : Holding M) (Asked : Asking M) (N : Never M limits Holds Asked) where
+module _ (M : Machine) (limits : Limits) (Holds : Holding M) (Asked : Asking M) (Over : Holding M)
+    (N : Never M limits Holds Asked Over) where
   abbrev sure-left : Walk (M .State) → ℕ
   sure-left w = N .left (w .state)
 
@@ -49,13 +50,13 @@ module _ (M : Machine) (limits : Limits) (Holds : Holding M) (Asked : Asking M) 
   Sure n (faulted f s w) = f ≡ impossible → ⊥
 
   -- entries have room where something holds with them
-  has-room : (s : M .State) (w : Walk (M .State)) (es : List Entry) → Holds s (length (w .trace) + length es) →
+  has-room : (s : M .State) (w : Walk (M .State)) (es : List Entry) → Over s (length (w .trace) + length es) →
       fits M limits w es ≡ true
   has-room s w es h = le-leb (length (w .trace) + length es) (limits .operations) (N .room s (length (w .trace) + length es) h)
 
-  followed-sure : (n : ℕ) (site : Site) (w : Walk (M .State)) (e : Move (M .State)) → OfAnswer M Holds (length (w .trace)) e →
-      Possible M e → Falls M (N .left) n e → Sure n (followed M limits site w e)
-  followed-sure n site w (moves s es) h p f = rw (has-room s w es h) f
+  followed-sure : (n : ℕ) (site : Site) (w : Walk (M .State)) (e : Move (M .State)) → OfAnswer M Holds Over (length (w .trace)) e →
+      Possible e → Falls (N .left) n e → Sure n (followed M limits site w e)
+  followed-sure n site w (moves s es) h p f = rw (has-room s w es (N .keeps .at-tick s (length (w .trace) + length es) h)) f
   followed-sure n site w (asks s es x q) h p f = absurd h
   followed-sure n site w (stops s g) h p f = p
   followed-sure n site w (ends s) h p f = tt
@@ -63,22 +64,22 @@ module _ (M : Machine) (limits : Limits) (Holds : Holding M) (Asked : Asking M) 
   ticked-sure : (w : Walk (M .State)) (t : Tick (M .State)) → HoldsAt M Holds w → Ticked M limits w t → Sure (sure-left w) t
   ticked-sure w t h (alone e p a) =
       followed-sure (sure-left w) _ w e
-      (alone-holds M limits Holds Asked (length (w .trace)) e a (next-holds M Holds Asked (N .keeps) w e h p))
+      (alone-holds M Holds Asked Over limits (length (w .trace)) e a (next-holds M Holds Asked Over (N .keeps) w e h p))
       (rw p at (N .next-possible (w .state) (length (w .trace)) h))
       (rw p at (N .next-falls (w .state) (length (w .trace)) h))
   ticked-sure w t h (crowded s es x q p f) =
-      let k = N .keeps .at-question s (length (w .trace) + length es) q (next-asks M Holds Asked (N .keeps) w h s es x q p) in
+      let k = N .keeps .at-question s (length (w .trace) + length es) q (next-asks M Holds Asked Over (N .keeps) w h s es x q p) in
       absurd (true≢false (sym (has-room s w es k) ∙ f))
   ticked-sure w t h (refused s es x q f p r) = pushed-possible _ _ x q f r
   ticked-sure w t h (answered s es x q l a p m g) =
-      let k = asks-noted M Holds Asked (N .keeps) w h s es x q p in
+      let k = asks-noted M Holds Asked Over (N .keeps) w h s es x q p in
       followed-sure (sure-left w) _ (passer M limits w s es l) (M .answered s a)
       (N .keeps .at-answer s (length (w .trace ++ es)) q a k g)
       (N .answer-possible s (length (w .trace ++ es)) q a k g)
       (N .answer-falls (w .state) (length (w .trace)) s es x q a h p g)
 
   tick-sure : (w : Walk (M .State)) → HoldsAt M Holds w → Expected M limits w → Sure (sure-left w) (tick M limits w)
-  tick-sure w h r = ticked-sure w (tick M limits w) h (tick-cases M limits Holds Asked (N .keeps) (N .question) w h r)
+  tick-sure w h r = ticked-sure w (tick M limits w) h (tick-cases M limits Holds Asked Over (N .keeps) (N .question) w h r)
 
   -- An execution
 
@@ -91,39 +92,38 @@ module _ (M : Machine) (limits : Limits) (Holds : Holding M) (Asked : Asking M) 
   abbrev Suffices : ℕ → Walk (M .State) → Type 0
   Suffices n w = HoldsAt M Holds w × (sure-left w < n)
 
-  on-sure : (n m : ℕ) (t : Tick (M .State)) → m ≤ n → HoldsAfter M Holds t → Sure m t → After (Suffices n) Outcome t
+  on-sure : (n m : ℕ) (t : Tick (M .State)) → m ≤ n → Later M Holds Over t → Sure m t → After (Suffices n) Outcome t
   on-sure n m (goes w) h k s = (k, omega arith)
   on-sure n m (over w) h k s = tt
   on-sure n m (faulted f s w) h k c = c
 
-  not-so : (t : Tick (M .State)) (site : Site) (w : Walk (M .State)) → Outcome t → t ≡ faulted impossible site w → ⊥
-  not-so t site w o e = (rw e at o) refl
+  not-so : (t : Tick (M .State)) → Outcome t → NotImpossible t
+  not-so t o site w e = (rw e at o) refl
 
-  left-holds : (t : Tick (M .State)) → Outcome t → HoldsAfter M Holds t → HoldsAt M Holds (leftBy t)
-  left-holds (goes w) o h = h
-  left-holds (over w) o h = h
-  left-holds (faulted f s w) o h = h o
+  left-holds : (t : Tick (M .State)) → NotImpossible t → EndsOver M Over t → HoldsAt M Over (leftBy t)
+  left-holds t o h = rw (h .2 o) at (h .1)
 
-  course-possible : (l : Ledger) → Known M limits (l .path) → PossibleIn M Holds Asked (courseOf M limits l)
+  course-possible : (l : Ledger) → Known M limits (l .path) → PossibleIn M Holds Asked Over (courseOf M limits l)
   unfolding courseOf execution
   course-possible l o =
       let r =
       walk-by M limits Suffices (HoldsAt M Holds) Outcome (λ n w p. p .0)
       (λ n w r p. on-sure n (sure-left w) (tick M limits w) (omega (arith, p .1))
-      (tick-holds M limits Holds Asked (N .keeps) (N .question) w (p .0) r) (tick-sure w (p .0) r))
+      (tick-holds M limits Holds Asked Over (N .keeps) (N .question) w (p .0) r) (tick-sure w (p .0) r))
       (λ w p. absurd (omega (arith, p .1)))
       (limits .ticks) (starting M limits l) (expected M limits l o) (N .keeps .at-start, N .enough) in
-      let h = course-holds M limits Holds Asked (N .keeps) (N .question) l o in
+      let h = course-holds M limits Holds Asked Over (N .keeps) (N .question) l o in
+      let o = not-so (execution M limits l) (r .1) in
       record {
-        never = λ site w e. not-so (execution M limits l) site w (r .1) e;
+        never = o;
         held = h;
-        at-end = left-holds (execution M limits l) (r .1) (h .at-end);
+        at-end = left-holds (execution M limits l) o (h .at-end);
       }
 
   -- The verdict
 
   no-verdict : (n : ℕ) (w : Walk (M .State)) (site : Site) (l : Ledger) (cs : List (Course (M .State))) → 1 ≤ n →
-      Made M limits n w (stopped impossible site) l cs → Every (PossibleIn M Holds Asked) cs → ⊥
+      Made M limits n w (stopped impossible site) l cs → Every (PossibleIn M Holds Asked Over) cs → ⊥
   unfolding courseOf
   no-verdict n w site l [] h m e = omega (arith, m .0)
   no-verdict n w site l (c ∷ []) h m e = e .0 .never site w (rw (m .0) (m .1))
@@ -131,13 +131,13 @@ module _ (M : Machine) (limits : Limits) (Holds : Holding M) (Asked : Asking M) 
 
 pub never-impossible : NeverImpossible
 unfolding NeverImpossible Real
-never-impossible M limits Holds Asked N n =
+never-impossible M limits Holds Asked Over N n =
     let all =
-    every-course M limits (λ l. Unit {0}) (PossibleIn M Holds Asked) (λ l o p. course-possible M limits Holds Asked N l o)
+    every-course M limits (λ l. Unit {0}) (PossibleIn M Holds Asked Over) (λ l o p. course-possible M limits Holds Asked Over N l o)
     (λ l o p w e. tt) tt n in
     record {
       executions = all;
       verdict = λ h site e.
-          no-verdict M limits Holds Asked N n (run M limits n .walk) site empty (courses M limits n) h
+          no-verdict M limits Holds Asked Over N n (run M limits n .walk) site empty (courses M limits n) h
           (rw e at (real M limits n .made)) all;
     }

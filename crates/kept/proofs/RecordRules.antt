@@ -18,7 +18,7 @@ use borrow.Author.Tests.{ltb-true, ltb-false, leb-false}
 use Rattle.rules.specs.Vector.{Whom, nobody, thread}
 use Rattle.rules.specs.Path.{Branch, schedule, load, spurious, yield, pending, active, visited, noThread, noPrev, noBranch, firstIn, activeIn, activeOf, orNone, toActive, toVisited, left, unlessActive, toggled, turned, turnedBranch, marked, openAt, stepped, orTurned, Last, none, at, orFirst, further, lastSchedule, prevOf, initialAfter, preemptionsAfter, Added, threadAdded, loadAdded, spuriousAdded}
 use Rattle.rules.specs.Event as Event
-use Rattle.rules.specs.Event.{Machine, Standing, yielded, cannotRun, other, Question, whichThread, whichSlot, whichBit, offers, slotsFrom, slotsOf}
+use Rattle.rules.specs.Event.{Standing, yielded, cannotRun, other, Question, whichThread, whichSlot, whichBit, offers, slotsFrom, slotsOf}
 use Rattle.rules.specs.Explorer.{seedOf, seedState, orFault, pushed, pushes}
 use Rattle.ledger.proofs.Events.{StatesMarked, marked-states}
 use Rattle.ledger.proofs.Marking.{Marking, same, mark, AllMarking, all-length}
@@ -26,6 +26,7 @@ use Rattle.ledger.proofs.States.{found}
 use Rattle.ledger.proofs.Records.{open-values}
 use Rattle.ledger.proofs.Proper.{Proper, proper-marking, proper-turned, pushed-proper}
 use Rattle.ledger.proofs.Outcomes.{only-branch, just-branch}
+use Rattle.rules.proofs.SlotLaws.{slots-below}
 use Rattle.ledger.proofs.Lists.{rising-at, slots-rising}
 use Rattle.kept.specs.Kept.{Answerable}
 use Rattle.kept.specs.Rules.{IsSchedule, NoSchedule, Newest, RecordRules, PathRules}
@@ -243,49 +244,41 @@ slots-few i [] = omega arith
 slots-few i (true ∷ bs) = omega (arith, slots-few (i + 1) bs)
 slots-few i (false ∷ bs) = omega (arith, slots-few (i + 1) bs)
 
-slots-under : (i n : ℕ) (bs : List Bool) (k : ℕ) → i + length bs ≤ n → k < length (slotsFrom i bs) → getD (slotsFrom i bs) k 0 < n
-unfolding slotsFrom
-slots-under i n [] k h l = absurd (omega arith)
-slots-under i n (true ∷ bs) zero h l = omega arith
-slots-under i n (true ∷ bs) (suc k) h l = slots-under (i + 1) n bs k (omega arith) (omega arith)
-slots-under i n (false ∷ bs) k h l = slots-under (i + 1) n bs k (omega arith) l
+rules-new : (B : ℕ) (bs : List Branch) (x : Bool) (q : Question) (b : Branch) → Answerable q → pushed B bs x q ≡ pushes b →
+    RecordRules bs b
+unfolding pushed threadAdded loadAdded spuriousAdded
+rules-new B bs x (whichThread points initial standings) b p e =
+    let z = only-branch (leb B (length bs)) (ltb 255 (preemptionsAfter (lastSchedule bs))) _ b e in
+    let f = few-preemptions (leb B (length bs)) (ltb 255 (preemptionsAfter (lastSchedule bs))) _ b e in
+    let five : length (toggled (seedOf initial standings)) ≡ 5 = seed-length initial standings ∙ p .five in
+    let one : Proper b = pushed-proper B bs x (whichThread points initial standings) b e in
+    rw (← z) (record {
+      five = five;
+      states = low-seed initial standings;
+      one-active = rw (← z) at one;
+      preemptions = ltb-false 255 (preemptionsAfter (lastSchedule bs)) f;
+      initial = initial-rule (toggled (seedOf initial standings)) (lastSchedule bs) five;
+      prev = prev-rule bs;
+    })
+rules-new B bs x (whichSlot (offers slots)) b p e =
+    let z = just-branch (leb B (length bs)) _ b e in
+    let few = p .few slots refl in
+    rw (← z) (record {
+      some = p .some slots refl;
+      seven = omega (arith, slots-few 0 slots);
+      rise = λ j k h l. rising-at (slotsOf slots) j k (slots-rising 0 slots) h l;
+      slots = λ k l. omega (arith, slots-below 0 slots k l);
+      pos = p .some slots refl;
+    })
+rules-new B bs x (whichSlot Event.equal) b p e = let z : _≡_ {A = ℕ} 0 1 = cc in absurd (omega arith)
+rules-new B bs x whichBit b p e = let z = just-branch (leb B (length bs)) _ b e in rw (← z) tt
 
-module _ (M : Machine) where
-  rules-new : (B : ℕ) (bs : List Branch) (x : Bool) (q : Question) (b : Branch) → Answerable M q → pushed B bs x q ≡ pushes b →
-      RecordRules bs b
-  unfolding pushed threadAdded loadAdded spuriousAdded
-  rules-new B bs x (whichThread points initial standings) b p e =
-      let z = only-branch (leb B (length bs)) (ltb 255 (preemptionsAfter (lastSchedule bs))) _ b e in
-      let f = few-preemptions (leb B (length bs)) (ltb 255 (preemptionsAfter (lastSchedule bs))) _ b e in
-      let five : length (toggled (seedOf initial standings)) ≡ 5 = seed-length initial standings ∙ p .five in
-      let one : Proper b = pushed-proper B bs x (whichThread points initial standings) b e in
-      rw (← z) (record {
-        five = five;
-        states = low-seed initial standings;
-        one-active = rw (← z) at one;
-        preemptions = ltb-false 255 (preemptionsAfter (lastSchedule bs)) f;
-        initial = initial-rule (toggled (seedOf initial standings)) (lastSchedule bs) five;
-        prev = prev-rule bs;
-      })
-  rules-new B bs x (whichSlot (offers slots)) b p e =
-      let z = just-branch (leb B (length bs)) _ b e in
-      let few = p .few slots refl in
-      rw (← z) (record {
-        some = p .some slots refl;
-        seven = omega (arith, slots-few 0 slots);
-        rise = λ j k h l. rising-at (slotsOf slots) j k (slots-rising 0 slots) h l;
-        slots = λ k l. slots-under 0 7 slots k (omega arith) l;
-        pos = p .some slots refl;
-      })
-  rules-new B bs x (whichSlot Event.equal) b p e = let z : _≡_ {A = ℕ} 0 1 = cc in absurd (omega arith)
-  rules-new B bs x whichBit b p e = let z = just-branch (leb B (length bs)) _ b e in rw (← z) tt
-
-  room-new : (B : ℕ) (bs : List Branch) (x : Bool) (q : Question) (b : Branch) → pushed B bs x q ≡ pushes b → length bs < B
-  unfolding pushed threadAdded loadAdded spuriousAdded
-  room-new B bs x (whichThread points initial standings) b e = leb-false B (length bs) (full-not (leb B (length bs)) _ b e)
-  room-new B bs x (whichSlot (offers slots)) b e = leb-false B (length bs) (full-not (leb B (length bs)) _ b e)
-  room-new B bs x (whichSlot Event.equal) b e = let z : _≡_ {A = ℕ} 0 1 = cc in absurd (omega arith)
-  room-new B bs x whichBit b e = leb-false B (length bs) (full-not (leb B (length bs)) _ b e)
+room-new : (B : ℕ) (bs : List Branch) (x : Bool) (q : Question) (b : Branch) → pushed B bs x q ≡ pushes b → length bs < B
+unfolding pushed threadAdded loadAdded spuriousAdded
+room-new B bs x (whichThread points initial standings) b e = leb-false B (length bs) (full-not (leb B (length bs)) _ b e)
+room-new B bs x (whichSlot (offers slots)) b e = leb-false B (length bs) (full-not (leb B (length bs)) _ b e)
+room-new B bs x (whichSlot Event.equal) b e = let z : _≡_ {A = ℕ} 0 1 = cc in absurd (omega arith)
+room-new B bs x whichBit b e = leb-false B (length bs) (full-not (leb B (length bs)) _ b e)
 
 -- A path
 
@@ -358,12 +351,12 @@ obeys-none B = record { room = omega arith; ruled = tt }
 pub obeys-marking : (B : ℕ) (bs cs : List Branch) → AllMarking bs cs → Obeys B bs → Obeys B cs
 obeys-marking B bs cs m o = record { room = rw (all-length bs cs m) (o .room); ruled = ruled-marking [] [] bs cs tt m (o .ruled) }
 
-pub obeys-added : (M : Machine) (B : ℕ) (bs : List Branch) (x : Bool) (q : Question) (b : Branch) → Answerable M q →
+pub obeys-added : (B : ℕ) (bs : List Branch) (x : Bool) (q : Question) (b : Branch) → Answerable q →
     pushed B bs x q ≡ pushes b → Obeys B bs → Obeys B (bs ++ (b ∷ []))
-obeys-added M B bs x q b p e o =
+obeys-added B bs x q b p e o =
     record {
-      room = rw length-append (omega (arith, room-new M B bs x q b e));
-      ruled = ruled-added [] bs b (o .ruled) (rules-new M B bs x q b p e);
+      room = rw length-append (omega (arith, room-new B bs x q b e));
+      ruled = ruled-added [] bs b (o .ruled) (rules-new B bs x q b p e);
     }
 
 pub obeys-stepped : (B : ℕ) (bs : List Branch) → Obeys B bs → Obeys B (stepped bs)

@@ -15,15 +15,15 @@ use Rattle.ledger.proofs.Runs.{Known}
 use Rattle.ledger.proofs.Balance.{stops-left}
 use Rattle.ledger.proofs.History.{real}
 use Rattle.kept.specs.Kept.{Holding, Asking, Keeps, Answerable}
-use Rattle.kept.specs.Held.{HoldsAt, HoldsAfter}
+use Rattle.kept.specs.Held.{HoldsAt}
 use Rattle.kept.specs.Rules.{PathRules, RuledIn, Ruled}
 use Rattle.kept.proofs.Ticked.{Expected, expected, marksMade, Met, known, new, Ticked, alone, crowded, refused, answered, passer}
 use Rattle.kept.proofs.Courses.{After, walk-by, every-course}
-use Rattle.kept.proofs.Held.{next-asks, tick-cases, tick-holds}
+use Rattle.kept.proofs.Held.{next-asks, Later, tick-cases, tick-holds}
 use Rattle.kept.proofs.RecordRules.{Obeys, obeys-rules, obeys-none, obeys-marking, obeys-added, obeys-stepped}
 
-module _ (M : Machine) (limits : Limits) (Holds : Holding M) (Asked : Asking M) (keeps : Keeps M Holds Asked)
-    (can : (s : M .State) (n : ℕ) (q : Question) → Asked s n q → Answerable M q) where
+module _ (M : Machine) (limits : Limits) (Holds : Holding M) (Asked : Asking M) (Over : Holding M)
+    (keeps : Keeps M Holds Asked Over) (can : (s : M .State) (n : ℕ) (q : Question) → Asked s n q → Answerable q) where
   abbrev PathObeys : Walk (M .State) → Type 0
   PathObeys w = Obeys (limits .branches) (w .ledger .path)
 
@@ -45,10 +45,10 @@ module _ (M : Machine) (limits : Limits) (Holds : Holding M) (Asked : Asking M) 
       obeys-marking (limits .branches) (w .ledger .path) (marksMade M limits w q .path)
       (firstMarked-marks (limits .bound) (w .ledger) q) o
 
-  met-obeys : (w : Walk (M .State)) (x : Bool) (q : Question) (l : Ledger) → Answerable M q → PathObeys w → Met M limits w x q l →
+  met-obeys : (w : Walk (M .State)) (x : Bool) (q : Question) (l : Ledger) → Answerable q → PathObeys w → Met M limits w x q l →
       Obeys (limits .branches) (l .path)
   met-obeys w x q l a o known = marks-obey w q o
-  met-obeys w x q l a o (new b e) = obeys-added M (limits .branches) (marksMade M limits w q .path) x q b a e (marks-obey w q o)
+  met-obeys w x q l a o (new b e) = obeys-added (limits .branches) (marksMade M limits w q .path) x q b a e (marks-obey w q o)
 
   ticked-obeys : (w : Walk (M .State)) (t : Tick (M .State)) → HoldsAt M Holds w → PathObeys w → Ticked M limits w t →
       PathObeys (leftBy t)
@@ -57,17 +57,17 @@ module _ (M : Machine) (limits : Limits) (Holds : Holding M) (Asked : Asking M) 
   ticked-obeys w t h o (refused s es x q f p r) = marks-obey w q o
   ticked-obeys w t h o (answered s es x q l a p m g) =
       followed-obeys _ (passer M limits w s es l) (M .answered s a)
-      (met-obeys w x q l (can s _ q (next-asks M Holds Asked keeps w h s es x q p)) o m)
+      (met-obeys w x q l (can s _ q (next-asks M Holds Asked Over keeps w h s es x q p)) o m)
 
   tick-obeys : (w : Walk (M .State)) → HoldsAt M Holds w → PathObeys w → Expected M limits w → PathObeys (leftBy (tick M limits w))
-  tick-obeys w h o r = ticked-obeys w (tick M limits w) h o (tick-cases M limits Holds Asked keeps can w h r)
+  tick-obeys w h o r = ticked-obeys w (tick M limits w) h o (tick-cases M limits Holds Asked Over keeps can w h r)
 
   -- An execution
 
   abbrev Both : Walk (M .State) → Type 0
   Both w = HoldsAt M Holds w × PathObeys w
 
-  on-obeys : (t : Tick (M .State)) → HoldsAfter M Holds t → PathObeys (leftBy t) → After Both (λ u. PathObeys (leftBy u)) t
+  on-obeys : (t : Tick (M .State)) → Later M Holds Over t → PathObeys (leftBy t) → After Both (λ u. PathObeys (leftBy u)) t
   on-obeys (goes w) h o = (h, o)
   on-obeys (over w) h o = o
   on-obeys (faulted f s w) h o = o
@@ -77,7 +77,7 @@ module _ (M : Machine) (limits : Limits) (Holds : Holding M) (Asked : Asking M) 
   unfolding execution
   course-obeys l k o =
       walk-by M limits (λ n. Both) PathObeys (λ u. PathObeys (leftBy u)) (λ n w p. p .1)
-      (λ n w r p. on-obeys (tick M limits w) (tick-holds M limits Holds Asked keeps can w (p .0) r) (tick-obeys w (p .0) (p .1) r))
+      (λ n w r p. on-obeys (tick M limits w) (tick-holds M limits Holds Asked Over keeps can w (p .0) r) (tick-obeys w (p .0) (p .1) r))
       (λ w p. p .1)
       (limits .ticks) (starting M limits l) (expected M limits l k) (keeps .at-start, o)
 
@@ -115,12 +115,12 @@ module _ (M : Machine) (limits : Limits) (Holds : Holding M) (Asked : Asking M) 
 
 pub ruled : Ruled
 unfolding Ruled Real
-ruled M limits Holds Asked keeps can n =
+ruled M limits Holds Asked Over keeps can n =
     let all = every-course M limits (λ l. Obeys (limits .branches) (l .path)) (RuledIn M (limits .branches))
-    (course-ruled M limits Holds Asked keeps can) (next-obeys M limits Holds Asked keeps can) (obeys-none (limits .branches)) n in
+    (course-ruled M limits Holds Asked Over keeps can) (next-obeys M limits Holds Asked Over keeps can) (obeys-none (limits .branches)) n in
     record {
       executions = all;
       left =
-          left-ruled M limits Holds Asked keeps can n (run M limits n .walk) (run M limits n .verdict) (courses M limits n)
+          left-ruled M limits Holds Asked Over keeps can n (run M limits n .walk) (run M limits n .verdict) (courses M limits n)
           (real M limits n .made) all;
     }

@@ -120,20 +120,20 @@ module _ (M : Machine) (limits : Limits) where
 
   module _ (w : Walk (M .State)) (ready : Expected w)
       (can : (s : M .State) (es : List Entry) (x : Bool) (q : Question) → M .next (w .state) .move ≡ asks s es x q →
-      Answerable M q) where
+      Answerable q) where
     -- a record that agrees answers
     replied-ticked : (s : M .State) (es : List Entry) (x : Bool) (q : Question) (l : Ledger) (b : Branch) →
         M .next (w .state) .move ≡ asks s es x q → Met w x q l → Agrees x b q →
         Ticked w (replied M limits (site w) (withLedger (noted w s es) l) (reply (w .pos) b q))
     replied-ticked s es x q l b e m g =
-        let r = answers M x (w .pos) b q (can s es x q e) g in rw (r .1) (answered s es x q l (r .0) e m (r .2))
+        let r = answers x (w .pos) b q (can s es x q e) g in rw (r .1) (answered s es x q l (r .0) e m (r .2))
 
     new-ticked : (s : M .State) (es : List Entry) (x : Bool) (q : Question) (p : Pushed) → M .next (w .state) .move ≡ asks s es x q →
         pushed (limits .branches) (marksMade w q .path) x q ≡ p →
         Ticked w (newBranch M limits (site w) (waiting w s es q) q p)
     new-ticked s es x q (pushes b) e h =
         replied-ticked s es x q (withBranch (marksMade w q) b) b e (new b h)
-        (added-agrees M (limits .branches) (marksMade w q .path) x q b (can s es x q e) h)
+        (added-agrees (limits .branches) (marksMade w q .path) x q b (can s es x q e) h)
     new-ticked s es x q (faults f) e h = refused s es x q f e h
 
     asked-ticked : (s : M .State) (es : List Entry) (x : Bool) (q : Question) → M .next (w .state) .move ≡ asks s es x q →

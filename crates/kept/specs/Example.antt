@@ -1,8 +1,8 @@
 -- The conditions under which the impossible outcome never comes can be met: a machine of four states that asks each kind of
 -- question. Assumes nothing.
---     asker, asksFor          the machine, and what it asks in a state
---     HoldsThere, AsksThere   what it keeps
---     Meets                   it meets the conditions
+--     asker, asksFor                       the machine, and what it asks in a state
+--     HoldsThere, AsksThere, OverThere     what it keeps
+--     Meets                                it meets the conditions
 use Prim.Native.Nat.{ℕ, zero, suc, _≤_}
 use mathlib.Core.List.{[], _∷_}
 use mathlib.Core.Bool.{true}
@@ -42,5 +42,8 @@ HoldsThere s n = (n ≡ 0) × (s ≤ 3)
 abbrev pub AsksThere : ℕ → ℕ → Question → Type 0
 AsksThere s n q = (n ≡ 0) × (s ≤ 2) × (q ≡ asksFor s)
 
+abbrev pub OverThere : ℕ → ℕ → Type 0
+OverThere s n = n ≡ 0
+
 unfoldable pub Meets : Type 0
-Meets = Never asker limitsThere HoldsThere AsksThere
+Meets = Never asker limitsThere HoldsThere AsksThere OverThere

@@ -91,6 +91,6 @@ pub record RuledRun (M : Machine) (limits : Limits) (n : ℕ) : Type 0 where
 -- Of any machine whose questions can be answered, by what it keeps
 unfoldable pub Ruled : Type 1
 Ruled =
-    (M : Machine) (limits : Limits) (Holds : Holding M) (Asked : Asking M) → Keeps M Holds Asked →
-    ((s : M .State) (n : ℕ) (q : Question) → Asked s n q → Answerable M q) →
+    (M : Machine) (limits : Limits) (Holds : Holding M) (Asked : Asking M) (Over : Holding M) → Keeps M Holds Asked Over →
+    ((s : M .State) (n : ℕ) (q : Question) → Asked s n q → Answerable q) →
     (n : ℕ) → RuledRun M limits n

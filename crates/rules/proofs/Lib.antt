@@ -8,7 +8,9 @@ pub mod MeasureStart
 pub mod MeasureSteps
 pub mod MeasureTicks
 pub mod MeasureWalk
+pub mod NumberLaws
 pub mod RecordLaws
+pub mod SlotLaws
 pub mod StateLaws
 pub mod VectorLaws
 pub mod Worked

@@ -3,44 +3,16 @@
 --     seen, toActive      so it is in any state that is whole, also where another thread becomes the active one
 --     aside               a write that neither the measure nor what every tick needs reads
 --     toState, toPhase, toBegun, toCell, otherState       the writes that they read
-use Prim.Native.Nat.{ℕ, zero, suc, _+_, _-_, _≤_, _<_}
+use Prim.Native.Nat.{ℕ, _+_, _-_, _<_}
 use mathlib.Core.Path.{_≡_, refl, ap₂, _∙_}
 use mathlib.Core.Logic.{_≢_}
 use native.Mathlib.Omega.{arith}
-use native.Mathlib.Decide.{ℕ-discrete}
 use lib.ListN.{length}
 use Rattle.rules.specs.State as State
 use Rattle.rules.specs.State.{State, Numbers, Number, number, withNumber, numberAt, numbersHeld, threads, cells, operatesOn, phase, activeThread, begun}
 use Rattle.rules.specs.Measure.{ticksLeft, ticksLeftOf, work, Whole}
 use Rattle.rules.proofs.StateLaws.{number-same, number-other, number-kept}
-
--- Five threads
-
-abbrev five : (ℕ → ℕ) → ℕ
-five f = f 0 + f 1 + f 2 + f 3 + f 4
-
--- where only one thread's part changes, so does the sum
-five-one : (f g : ℕ → ℕ) (t : ℕ) → t < threads → ((i : ℕ) → i < threads → i ≢ t → g i ≡ f i) → five g + f t ≡ five f + g t
-five-one f g zero h e =
-    omega (arith, e 1 (omega arith) (omega arith), e 2 (omega arith) (omega arith), e 3 (omega arith) (omega arith), e 4 (omega arith) (omega arith))
-five-one f g (suc zero) h e =
-    omega (arith, e 0 (omega arith) (omega arith), e 2 (omega arith) (omega arith), e 3 (omega arith) (omega arith), e 4 (omega arith) (omega arith))
-five-one f g (suc (suc zero)) h e =
-    omega (arith, e 0 (omega arith) (omega arith), e 1 (omega arith) (omega arith), e 3 (omega arith) (omega arith), e 4 (omega arith) (omega arith))
-five-one f g (suc (suc (suc zero))) h e =
-    omega (arith, e 0 (omega arith) (omega arith), e 1 (omega arith) (omega arith), e 2 (omega arith) (omega arith), e 4 (omega arith) (omega arith))
-five-one f g (suc (suc (suc (suc zero)))) h e =
-    omega (arith, e 0 (omega arith) (omega arith), e 1 (omega arith) (omega arith), e 2 (omega arith) (omega arith), e 3 (omega arith) (omega arith))
-five-one f g (suc (suc (suc (suc (suc t))))) h e = absurd (omega arith)
-
--- a thread's part is in the sum
-five-has : (f : ℕ → ℕ) (t : ℕ) → t < threads → f t ≤ five f
-five-has f zero h = omega arith
-five-has f (suc zero) h = omega arith
-five-has f (suc (suc zero)) h = omega arith
-five-has f (suc (suc (suc zero))) h = omega arith
-five-has f (suc (suc (suc (suc zero)))) h = omega arith
-five-has f (suc (suc (suc (suc (suc t))))) h = absurd (omega arith)
+use Rattle.rules.proofs.NumberLaws.{five-one, five-has, after}
 
 -- The active thread t stands so, its row is in this phase, so many rows have begun, and the other threads' work is m
 pub record Is (t s ph b m : ℕ) (a : Numbers) : Type 0 where
@@ -50,15 +22,6 @@ pub record Is (t s ph b m : ℕ) (a : Numbers) : Type 0 where
   pub inPhase : number a (phase t) ≡ ph
   pub rows : number a begun ≡ b
   pub worth : work a ≡ m + ticksLeft s ph
-
--- what is said of a number after a write under the name k: of what is written there, of what was under any other name
-after : (P : ℕ → Type 0) (a : Numbers) (k n : Number) (v : ℕ) → numberAt k < length a → (numberAt n ≡ numberAt k → P v) →
-    (numberAt n ≢ numberAt k → P (number a n)) → P (number (withNumber a k v) n)
-after P a k n v h f g =
-    elim (ℕ-discrete (numberAt n) (numberAt k)) [
-      | yes q ↦ rw (q, number-same a k v h) (f q)
-      | no d ↦ rw (number-other a k n v d) (g d)
-    ]
 
 -- the number of this name was x; it is y after the write
 abbrev Becomes : Number → ℕ → Number → ℕ → ℕ → Type 0

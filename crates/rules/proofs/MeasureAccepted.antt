@@ -1,5 +1,6 @@
 -- No execution of a table whose header is fine, as that of an accepted one is, runs out of ticks. Assumes nothing.
 --     good-header          an accepted table's header is fine
+--     header-within, operations-within     how many threads and cells there are, and the operation limit
 --     execution-enough     more ticks than an execution is given would change nothing
 --     execution-last       it comes out as its last tick does
 use Prim.Native.Nat.{ℕ, _≤_}
@@ -27,12 +28,12 @@ good-header table = fine (headerFine table) _
     fine false v e = cc
 
 -- "threads 1..5, cells 1..4"
-header-within : (table : List ℕ) → headerFine table ≡ true → (1 ≤ threadsOf table) × (threadsOf table ≤ threads) × (cellsOf table ≤ cells)
+pub header-within : (table : List ℕ) → headerFine table ≡ true → (1 ≤ threadsOf table) × (threadsOf table ≤ threads) × (cellsOf table ≤ cells)
 unfolding headerFine
 header-within table e = let f = simp and-eq-true-iff at e in omega (arith, leb-true)
 
 -- "operation limit L 1..4,096"
-operations-within : (s : Settings) → settingsFine s ≡ true → s .operations ≤ largest
+pub operations-within : (s : Settings) → settingsFine s ≡ true → s .operations ≤ largest
 unfolding settingsFine
 operations-within s e = let f = simp and-eq-true-iff at e in omega (arith, leb-true)
 

@@ -13,9 +13,10 @@ use Rattle.rules.specs.State as State
 use Rattle.rules.specs.State.{State, Numbers, Number, number, withNumber, numberAt, numbersHeld, threads, cells, none, operatesOn, phase, activeThread, count, isSeqCst, lastYield, accessBranch, nonLoadBranch, exploring, storeAt}
 use Rattle.rules.specs.Cell.{storeDone, slotOf}
 use Rattle.rules.specs.Machine
-use Rattle.rules.specs.Machine.{Program, forThreads, start, runnable, toBegin, ended}
+use Rattle.rules.specs.Machine.{Program, start, runnable, toBegin, ended}
 use Rattle.rules.specs.Measure.{ticksLeft, ticksLeftOf, measure, Ready}
 use Rattle.rules.proofs.StateLaws.{number-same, number-other, number-kept}
+use Rattle.rules.proofs.NumberLaws.{for-threads}
 use Rattle.rules.proofs.MeasureRows.{pick}
 
 -- no row has begun: every row is to begin, and no operation is pending
@@ -33,13 +34,6 @@ unbegun-with {a} u k v d e = record {
   phases = λ i h. number-other a k (phase i) v (e i h .1) ∙ u .phases i h;
   runs = number-other a k activeThread v d ∙ u .runs;
 }
-
--- what is kept for each thread below the top is kept for the n threads from t on
-for-threads : (P : Numbers → Type 0) (f : ℕ → Numbers → Numbers) (top : ℕ) → ((i : ℕ) (a : Numbers) → i < top → P a → P (f i a)) →
-    (n t : ℕ) (a : Numbers) → t + n ≤ top → P a → P (forThreads f n t a)
-unfolding forThreads
-for-threads P f top step zero t a h k = k
-for-threads P f top step (suc n) t a h k = for-threads P f top step n (t + 1) (f t a) (omega arith) (step t a (omega arith) k)
 
 zeros-unbegun : Unbegun (replicate numbersHeld 0)
 zeros-unbegun = record {

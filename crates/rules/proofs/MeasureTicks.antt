@@ -8,7 +8,7 @@ use mathlib.Core.Path.{_≡_, refl, ap, subst, _∙_}
 use mathlib.Core.Logic.{_⊎_, inl, inr}
 use native.Mathlib.Omega.{arith}
 use lib.Dec.{eqb, ltb, leb}
-use borrow.Author.Tests.{eqb-true, ltb-true, leb-false, lt-ltb}
+use borrow.Author.Tests.{eqb-true, ltb-true, leb-false}
 use Rattle.rules.specs.Vector.{Whom, nobody, thread, largest, oneMore}
 use Rattle.rules.specs.Table.{Op, Decoded, refused, decoded}
 use Rattle.rules.specs.Event.{Event, runThread, readSlot, takeBit, moves}
@@ -18,14 +18,11 @@ use Rattle.rules.specs.Cell.{withClocks}
 use Rattle.rules.specs.Machine
 use Rattle.rules.specs.Machine.{Program, Pending, nothing, pends, pendingOf, active, activeRow, activeOp, rowOf, rowCount, runnable, yielded, ended, toBegin, toAct, noOperation}
 use Rattle.rules.specs.Measure.{ticksLeft, measure, Whole, Ready}
+use Rattle.rules.proofs.NumberLaws.{more-below}
 use Rattle.rules.proofs.Measure.{Is, aside, toState, toPhase, toBegun, toCell, seen, toActive, otherWork}
 use Rattle.rules.proofs.MeasureLoops.{Wakes, awake-all, freed-all, yielded-same}
 use Rattle.rules.proofs.MeasureRows.{pick, both-left, both-right, OnCell, RowOnCell, row-on-cell}
 use Rattle.rules.proofs.MeasureSteps.{Acting, Lower, lowered, asking, stopping, ending, measure-is, ready-is, at-begin, measure-part, acting-is, acting-most, acts-lower, read-lower, bit-lower}
-
--- one more, below the largest number
-more-below : (x : ℕ) → x < largest → oneMore x ≡ x + 1
-more-below x h = rw (lt-ltb x largest h)
 
 -- A row that is to begin
 module _ (p : Program) (limited : p .operations ≤ largest) (t b m n : ℕ) (below : t < threads)
@@ -94,18 +91,18 @@ module _ {t s ph b m : ℕ} (below : t < threads) where
       (λ e. is)
       (λ e. recorded-is grown op c at parts (is .whole .onCell t below) is)
 
-  switched-is : (st : State) (at : ℕ) → Is t s ph b m (withNumber (st .numbers) activeThread t) → Wakes t s 0 →
+  pub switched-is : (st : State) (at : ℕ) → Is t s ph b m (withNumber (st .numbers) activeThread t) → Wakes t s 0 →
       Is t runnable ph b m (Machine.switched st t at .numbers)
   unfolding Machine.switched Machine.allAwake
   switched-is st at is w =
       let now = Machine.withNumbers st (withNumber (st .numbers) activeThread t) in
       awake-all below 5 0 (Machine.accessMade now t at .numbers) (omega arith) (access-is now at is) w
 
-either : (x y : Bool) → (x || y) ≡ true → (x ≡ true) ⊎ (y ≡ true)
+pub either : (x y : Bool) → (x || y) ≡ true → (x ≡ true) ⊎ (y ≡ true)
 either true y e = inl refl
 either false y e = inr e
 
-can-wake : (numbers : Numbers) (t : ℕ) → Machine.canRun numbers t ≡ true → Wakes t (number numbers (State.state t)) 0
+pub can-wake : (numbers : Numbers) (t : ℕ) → Machine.canRun numbers t ≡ true → Wakes t (number numbers (State.state t)) 0
 can-wake numbers t e =
     elim (either (Machine.isIn numbers runnable t) (Machine.isIn numbers yielded t) (both-right (ltb t threads) _ e)) [
       | inl f ↦ inl (eqb-true _ _ f)

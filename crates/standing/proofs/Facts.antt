@@ -3,55 +3,25 @@
 --     Facts                 of the others, the rows under way and begun, and the counts
 --     keep, toRow, begunOne         writes to the thread's own numbers and to those that nothing is said of
 --     awake-facts, freed-facts      the loops over the threads
---     closed, opened                back to what holds between ticks, and from it
+--     opened, closed, holding       from what stands in a state, back to it, and to what holds between ticks
 use Prim.Native.Nat.{ℕ, zero, suc, _+_, _-_, _≤_, _<_}
 use mathlib.Core.Bool.{Bool, true, _&&_, true≢false}
-use mathlib.Core.Path.{_≡_, refl, ap, sym, _∙_}
+use mathlib.Core.Path.{_≡_, refl, sym, _∙_}
 use mathlib.Core.Logic.{_≢_}
 use native.Mathlib.Omega.{arith}
 use native.Mathlib.Decide.{ℕ-discrete}
 use lib.Dec.{eqb}
 use lib.ListN.{length}
 use borrow.Author.Tests.{eqb-true, eqb-false, eq-eqb}
-use Rattle.rules.specs.Table.{Op, decoded, opcodeOf, opcodeIn, threadsOf, cellsOf}
+use Rattle.rules.specs.Table.{threadsOf, cellsOf}
 use Rattle.rules.specs.State as State
 use Rattle.rules.specs.State.{State, Numbers, Number, number, withNumber, numberAt, numbersHeld, threads, cells, nextRow, rowsOf, phase, count, begun, awaits}
-use Rattle.rules.specs.Machine.{Program, rowOf, forThreads, awake, freed, isIn, absent, runnable, blocked, yielded, ended, active}
+use Rattle.rules.specs.Machine.{Program, forThreads, awake, freed, isIn, absent, runnable, blocked, yielded, ended, active}
 use Rattle.rules.proofs.StateLaws.{number-same, number-other, number-kept}
+use Rattle.rules.proofs.NumberLaws.{five-one, five-has, five-same, after, for-threads}
 use Rattle.rules.proofs.Measure.{Is}
 use Rattle.rules.proofs.MeasureRows.{pick, both-left}
-use Rattle.standing.specs.Standing.{Thread, ThreadIn, Holds, underWay, begunBy}
-
--- Five threads
-
-abbrev five : (ℕ → ℕ) → ℕ
-five f = f 0 + f 1 + f 2 + f 3 + f 4
-
--- where only one thread's part changes, so does the sum
-five-one : (f g : ℕ → ℕ) (t : ℕ) → t < threads → ((i : ℕ) → i < threads → i ≢ t → g i ≡ f i) → five g + f t ≡ five f + g t
-five-one f g zero h e =
-    omega (arith, e 1 (omega arith) (omega arith), e 2 (omega arith) (omega arith), e 3 (omega arith) (omega arith), e 4 (omega arith) (omega arith))
-five-one f g (suc zero) h e =
-    omega (arith, e 0 (omega arith) (omega arith), e 2 (omega arith) (omega arith), e 3 (omega arith) (omega arith), e 4 (omega arith) (omega arith))
-five-one f g (suc (suc zero)) h e =
-    omega (arith, e 0 (omega arith) (omega arith), e 1 (omega arith) (omega arith), e 3 (omega arith) (omega arith), e 4 (omega arith) (omega arith))
-five-one f g (suc (suc (suc zero))) h e =
-    omega (arith, e 0 (omega arith) (omega arith), e 1 (omega arith) (omega arith), e 2 (omega arith) (omega arith), e 4 (omega arith) (omega arith))
-five-one f g (suc (suc (suc (suc zero)))) h e =
-    omega (arith, e 0 (omega arith) (omega arith), e 1 (omega arith) (omega arith), e 2 (omega arith) (omega arith), e 3 (omega arith) (omega arith))
-five-one f g (suc (suc (suc (suc (suc t))))) h e = absurd (omega arith)
-
-five-same : (f g : ℕ → ℕ) → ((i : ℕ) → i < threads → g i ≡ f i) → five g ≡ five f
-five-same f g e = omega (arith, e 0 (omega arith), e 1 (omega arith), e 2 (omega arith), e 3 (omega arith), e 4 (omega arith))
-
--- a thread's part is in the sum
-pub five-has : (f : ℕ → ℕ) (t : ℕ) → t < threads → f t ≤ five f
-five-has f zero h = omega arith
-five-has f (suc zero) h = omega arith
-five-has f (suc (suc zero)) h = omega arith
-five-has f (suc (suc (suc zero))) h = omega arith
-five-has f (suc (suc (suc (suc zero)))) h = omega arith
-five-has f (suc (suc (suc (suc (suc t))))) h = absurd (omega arith)
+use Rattle.standing.specs.Standing.{Thread, ThreadIn, Over, Holds, underWay, begunBy}
 
 -- One thread's numbers
 
@@ -78,19 +48,6 @@ waits-none p i s k ph w v d h = record {
   over = h .over;
   waits = λ e. absurd (d e);
 }
-
--- only a join blocks
-pub not-blocked : {p : Program} {i s k ph w : ℕ} (op : Op) → Thread p i s k ph w → rowOf p i k ≡ decoded op → opcodeOf op ≢ 8 → s ≢ blocked
-not-blocked op h e d g = d (sym (ap opcodeIn (sym (h .waits g .1) ∙ e)))
-
--- what is said of a number after a write under the name k: of what is written there, of what was under any other name
-pub after : (P : ℕ → Type 0) (a : Numbers) (k n : Number) (v : ℕ) → numberAt k < length a → (numberAt n ≡ numberAt k → P v) →
-    (numberAt n ≢ numberAt k → P (number a n)) → P (number (withNumber a k v) n)
-after P a k n v h f g =
-    elim (ℕ-discrete (numberAt n) (numberAt k)) [
-      | yes q ↦ rw (q, number-same a k v h) (f q)
-      | no d ↦ rw (number-other a k n v d) (g d)
-    ]
 
 -- The others, where thread t is at row k: q of their rows are under way, r rows have begun in all, and below u none has yielded
 
@@ -145,13 +102,6 @@ abbrev Apart : Number → ℕ → Type 0
 Apart n t = (i : ℕ) → i < threads → i ≢ t →
     (numberAt (State.state i) ≢ numberAt n) × (numberAt (nextRow i) ≢ numberAt n) × (numberAt (phase i) ≢ numberAt n)
     × (numberAt (awaits i) ≢ numberAt n)
-
--- what is kept for each thread below the top is kept for the n threads from t on
-pub for-threads : (P : Numbers → Type 0) (f : ℕ → Numbers → Numbers) (top : ℕ) → ((i : ℕ) (a : Numbers) → i < top → P a → P (f i a)) →
-    (n t : ℕ) (a : Numbers) → t + n ≤ top → P a → P (forThreads f n t a)
-unfolding forThreads
-for-threads P f top step zero t a h k = k
-for-threads P f top step (suc n) t a h k = for-threads P f top step n (t + 1) (f t a) (omega arith) (step t a (omega arith) k)
 
 module _ (p : Program) (held : cellsOf (p .table) ≤ cells) (few : threadsOf (p .table) ≤ threads) (t : ℕ) (below : t < threads) where
   module _ {k q r u : ℕ} {a : Numbers} (f : Facts p t k q r u a) where
@@ -306,8 +256,8 @@ module _ (p : Program) (held : cellsOf (p .table) ≤ cells) (few : threadsOf (p
   freed-facts {k} {q} {r} {u} a f =
       for-threads (Facts p t k q r u) (freed t) threads (λ i b h g. freed-one i b h g) threads 0 a (omega arith) f
 
-  -- What holds between ticks, with this thread apart: the active one, or another
-  pub opened : (st : State) (n u : ℕ) → (u ≢ 0 → t ≡ active st) → Holds p st n →
+  -- What stands in a state, with this thread apart: the active one, or another
+  pub opened : (st : State) (n u : ℕ) → (u ≢ 0 → t ≡ active st) → Over p st n →
       Facts p t (number (st .numbers) (nextRow t)) (underWay (st .numbers) - number (st .numbers) (phase t)) (number (st .numbers) begun) u
       (st .numbers)
   opened st n u same h = record {
@@ -326,7 +276,7 @@ module _ (p : Program) (held : cellsOf (p .table) ≤ cells) (few : threadsOf (p
       Facts p t k q r threads (st .numbers) → Thread p t s k ph (number (st .numbers) (awaits t)) →
       (s ≡ blocked → number (st .numbers) (State.state (number (st .numbers) (awaits t))) ≢ ended) →
       ((i : ℕ) → i < threads → number (st .numbers) (State.state i) ≡ blocked → number (st .numbers) (awaits i) ≡ t → s ≢ ended) →
-      (n + (q + ph) ≡ b) × (r ≡ b) × (b ≤ p .operations) → Holds p st n
+      (n + (q + ph) ≡ b) × (r ≡ b) × (b ≤ p .operations) → Over p st n
   closed {s} {k} {ph} st n within is f own mine others sums =
       let a = st .numbers in
       let stands : ThreadIn p a t = rw (is .stands, f .at, is .inPhase) own in
@@ -347,3 +297,11 @@ module _ (p : Program) (held : cellsOf (p .table) ≤ cells) (few : threadsOf (p
         shared = f .rows ∙ (sums .1 ∙ sym (is .rows));
         limited = omega (arith, is .rows, sums .2);
       }
+
+  -- and to what holds between ticks, where it runs, whomever it once waited for
+  pub holding : {k ph b m q r w : ℕ} (st : State) (n : ℕ) → t < threadsOf (p .table) → Is t runnable ph b m (st .numbers) →
+      Facts p t k q r threads (st .numbers) → Thread p t runnable k ph w → (n + (q + ph) ≡ b) × (r ≡ b) × (b ≤ p .operations) → Holds p st n
+  holding {w = w} st n within is f own sums = record {
+    over = closed st n within is f (waits-none p t runnable _ _ w _ (omega arith) own) (λ g. absurd (omega arith)) (λ i h g o. omega arith) sums;
+    ready = rw (is .runs) (is .stands);
+  }

@@ -6,30 +6,30 @@ use Prim.Native.Nat.{ℕ, zero, suc, _+_, _-_, _≤_, _<_}
 use mathlib.Core.List.{List, [], map}
 use mathlib.Core.Bool.{Bool, true, false, cond, _&&_, _||_, true≢false}
 use mathlib.Core.Path.{_≡_, refl, ap, sym, _∙_}
-use mathlib.Core.Logic.{_≢_, _⊎_, inl, inr}
+use mathlib.Core.Logic.{_≢_, inl, inr}
 use native.Mathlib.Omega.{arith}
 use native.Mathlib.Decide.{ℕ-discrete, decLt}
 use lib.Dec.{eqb, ltb}
 use lib.ListN.{getD}
-use borrow.Author.Tests.{eqb-true, ltb-true, lt-ltb}
+use borrow.Author.Tests.{ltb-true, lt-ltb}
 use Rattle.rules.specs.Vector.{Whom, nobody, thread}
 use Rattle.rules.specs.Table.{threadsOf, cellsOf}
 use Rattle.rules.specs.Event as Event
 use Rattle.rules.specs.Event.{Standing, cannotRun, other, moves}
 use Rattle.rules.specs.State as State
-use Rattle.rules.specs.State.{State, Numbers, number, withNumber, threads, cells, phase, begun, nextRow, activeThread, accessBranch, nonLoadBranch, withVector, lastAccess, lastNonLoad, scheduleOf}
+use Rattle.rules.specs.State.{State, Numbers, number, withNumber, threads, cells, operatesOn, phase, activeThread, accessBranch, nonLoadBranch, withVector, lastAccess, lastNonLoad, scheduleOf}
 use Rattle.rules.specs.Cell.{withClocks}
 use Rattle.rules.specs.Machine as Machine
-use Rattle.rules.specs.Machine.{Program, machine, isIn, someCanRun, fewestFrom, yieldsLess, everyThread, absent, runnable, yielded, noOperation}
-use Rattle.rules.specs.Measure.{ticksLeft, measure}
-use Rattle.rules.proofs.Measure.{Is, aside, toActive, otherWork}
-use Rattle.rules.proofs.MeasureLoops.{Wakes, awake-all, yielded-same}
+use Rattle.rules.specs.Machine.{Program, isIn, someCanRun, fewestFrom, yieldsLess, everyThread, absent, runnable, yielded, noOperation}
+use Rattle.rules.proofs.NumberLaws.{five-has}
+use Rattle.rules.proofs.Measure.{toActive}
+use Rattle.rules.proofs.MeasureLoops.{Wakes}
 use Rattle.rules.proofs.MeasureRows.{pick, both-left, both-right}
-use Rattle.rules.proofs.MeasureSteps.{measure-part}
+use Rattle.rules.proofs.MeasureTicks.{switched-is, can-wake}
 use Rattle.kept.specs.Kept.{FittingThread, Scheduling}
-use Rattle.standing.specs.Standing.{Holds, Schedules, underWay}
-use Rattle.standing.proofs.Facts.{Facts, keep, awake-facts, opened, closed, five-has, runs-again, waits-none}
-use Rattle.standing.proofs.Steps.{After, going, ending, stops-at, left-is, idle-none}
+use Rattle.standing.specs.Standing.{Over, Schedules}
+use Rattle.standing.proofs.Facts.{Facts, keep, awake-facts, opened, holding, runs-again}
+use Rattle.standing.proofs.Steps.{After, going, ending, stops-at}
 
 -- What a scheduling says of the threads
 module _ (numbers : Numbers) where
@@ -161,7 +161,7 @@ module _ (numbers : Numbers) where
 module _ (p : Program) where
   -- the initial thread is one that can run; there is none only where the others that can have yielded
   pub is-answerable : (st : State) (n : ℕ) (first : Whom) (stand : List Standing) → Schedules p st n first stand →
-      Scheduling (machine p) first stand
+      Scheduling first stand
   is-answerable st n first stand h =
       let a = st .numbers in
       rw (h .isFirst, h .stand)
@@ -178,128 +178,83 @@ module _ (p : Program) where
 
 -- How a scheduling goes on
 
-either : (x y : Bool) → (x || y) ≡ true → (x ≡ true) ⊎ (y ≡ true)
-either true y e = inl refl
-either false y e = inr e
+-- a thread that is woken was there
+wakes-there : {t s i : ℕ} → Wakes t s i → s ≢ absent
+wakes-there (inl e) d = omega arith
+wakes-there (inr e) d = omega (arith, e .0)
 
--- a thread that can run is runnable or has yielded
-abbrev Can : ℕ → Type 0
-Can s = (s ≡ runnable) ⊎ (s ≡ yielded)
-
-can-is : (numbers : Numbers) (t : ℕ) → (isIn numbers runnable t || isIn numbers yielded t) ≡ true → Can (number numbers (State.state t))
-can-is numbers t e =
-    elim (either (isIn numbers runnable t) (isIn numbers yielded t) e) [ inl f ↦ inl (eqb-true _ _ f) | inr f ↦ inr (eqb-true _ _ f) ]
-
-can-there : {s : ℕ} → Can s → s ≢ absent
-can-there (inl e) d = omega arith
-can-there (inr e) d = omega arith
-
-can-wakes : {s : ℕ} (t : ℕ) → Can s → Wakes t s 0
-can-wakes t (inl e) = inl e
-can-wakes t (inr e) = inr (e, omega arith)
-
-can-same : {s : ℕ} (ph : ℕ) → Can s → ticksLeft s ph ≡ ticksLeft runnable ph
-can-same ph (inl e) = ap (λ (x : ℕ). ticksLeft x ph) e
-can-same ph (inr e) = ap (λ (x : ℕ). ticksLeft x ph) e ∙ yielded-same ph
-
--- the chosen thread, where its access is recorded
+-- what stands of the others where the chosen thread's access is recorded, and all are awake
 module _ (p : Program) (held : cellsOf (p .table) ≤ cells) (few : threadsOf (p .table) ≤ threads) (t : ℕ) (below : t < threads) where
-  record On (s k ph b m q r u : ℕ) (a : Numbers) : Type 0 where
-    is : Is t s ph b m a
-    facts : Facts p t k q r u a
-
-  module _ {s k ph b m q r u : ℕ} where
-    recorded-on : (st : State) (op c at : ℕ) (parts : List ℕ) → c < cells → On s k ph b m q r u (st .numbers) →
-        On s k ph b m q r u (Machine.accessRecorded st op c at parts .numbers)
-    recorded-on st op c at parts h on =
-        let one : On s k ph b m q r u (withNumber (st .numbers) (accessBranch c) at) =
-        record {
-          is = aside below (on .is) (accessBranch c) at (omega arith);
-          facts = keep p held few t below (on .facts) (accessBranch c) at (omega arith);
-        } in
+  module _ {k q r u : ℕ} where
+    recorded-facts : (st : State) (op c at : ℕ) (parts : List ℕ) → c < cells → Facts p t k q r u (st .numbers) →
+        Facts p t k q r u (Machine.accessRecorded st op c at parts .numbers)
+    recorded-facts st op c at parts h facts =
+        let one = keep p held few t below facts (accessBranch c) at (omega arith) in
         let clocks = withVector (st .clocks) (lastAccess c) parts in
         let numbers = withNumber (st .numbers) (accessBranch c) at in
-        pick (λ (x : State). On s k ph b m q r u (x .numbers)) (eqb op Machine.aLoad)
+        pick (λ (x : State). Facts p t k q r u (x .numbers)) (eqb op Machine.aLoad)
         {x = Machine.withNumbers (withClocks st clocks) numbers}
         {y = Machine.withNumbers (withClocks st (withVector clocks (lastNonLoad c) parts)) (withNumber numbers (nonLoadBranch c) at)}
         (λ e. one)
-        (λ e. record {
-          is = aside below (one .is) (nonLoadBranch c) at (omega arith);
-          facts = keep p held few t below (one .facts) (nonLoadBranch c) at (omega arith);
-        })
+        (λ e. keep p held few t below one (nonLoadBranch c) at (omega arith))
 
-    access-on : (st : State) (at : ℕ) → On s k ph b m q r u (st .numbers) → On s k ph b m q r u (Machine.accessMade st t at .numbers)
+    access-facts : (st : State) (at : ℕ) → Machine.cellOf st t < cells → Facts p t k q r u (st .numbers) →
+        Facts p t k q r u (Machine.accessMade st t at .numbers)
     unfolding Machine.accessMade
-    access-on st at on =
+    access-facts st at h facts =
         let parts = Machine.scheduleGrown st t in
         let op = Machine.operationOf st t in
         let c = Machine.cellOf st t in
         let grown = withClocks st (withVector (st .clocks) (scheduleOf t) parts) in
-        pick (λ (x : State). On s k ph b m q r u (x .numbers)) (eqb op noOperation) {x = st} {y = Machine.accessRecorded grown op c at parts}
-        (λ e. on)
-        (λ e. recorded-on grown op c at parts (on .is .whole .onCell t below) on)
+        pick (λ (x : State). Facts p t k q r u (x .numbers)) (eqb op noOperation) {x = st} {y = Machine.accessRecorded grown op c at parts}
+        (λ e. facts)
+        (λ e. recorded-facts grown op c at parts h facts)
 
-  module _ {s k ph b m q r : ℕ} where
-    switched-on : (st : State) (at : ℕ) → On s k ph b m q r 0 (withNumber (st .numbers) activeThread t) → Wakes t s 0 →
-        On runnable k ph b m q r threads (Machine.switched st t at .numbers)
-    unfolding Machine.switched Machine.allAwake
-    switched-on st at on w =
-        let now = Machine.withNumbers st (withNumber (st .numbers) activeThread t) in
-        let made = access-on now at on in
-        record {
-          is = awake-all below 5 0 (Machine.accessMade now t at .numbers) (omega arith) (made .is) w;
-          facts = awake-facts p held few t below 5 0 (Machine.accessMade now t at .numbers) (omega arith) (made .facts);
-        }
+  switched-facts : {k q r : ℕ} (st : State) (at : ℕ) → number (withNumber (st .numbers) activeThread t) (operatesOn t) < cells →
+      Facts p t k q r 0 (withNumber (st .numbers) activeThread t) → Facts p t k q r threads (Machine.switched st t at .numbers)
+  unfolding Machine.switched Machine.allAwake
+  switched-facts st at h facts =
+      let now = Machine.withNumbers st (withNumber (st .numbers) activeThread t) in
+      awake-facts p held few t below 5 0 (Machine.accessMade now t at .numbers) (omega arith) (access-facts now at h facts)
 
-  module _ (st : State) (n l : ℕ) (holds : Holds p st n) (low : measure p st < l) where
+  module _ (st : State) (n : ℕ) (over : Over p st n) where
     abbrev a : Numbers
     a = st .numbers
 
-    runs-after : (at : ℕ) → (isIn a runnable t || isIn a yielded t) ≡ true → After p n l (moves (Machine.switched st t at) [])
+    runs-after : (at : ℕ) → Machine.canRun a t ≡ true → After p n (moves (Machine.switched st t at) [])
     runs-after at e =
-        let can = can-is a t e in
-        let own = holds .each t below in
+        let wakes = can-wake a t e in
+        let own = over .each t below in
         let within : t < threadsOf (p .table) =
         elim (decLt t (threadsOf (p .table))) [
           | yes h ↦ h
-          | no d ↦ absurd (can-there can (own .missing (omega arith)))
+          | no d ↦ absurd (wakes-there wakes (own .missing (omega arith)))
         ] in
-        let facts = keep p held few t below (opened p held few t below st n 0 (λ d. absurd (d refl)) holds) activeThread t (omega arith) in
-        let now : On (number a (State.state t)) (number a (nextRow t)) (number a (phase t)) (number a begun) (otherWork a t)
-        (underWay a - number a (phase t)) (number a begun) 0 (withNumber a activeThread t) =
-        record { is = toActive a t below (holds .whole); facts = facts } in
-        let on = switched-on st at now (can-wakes t can) in
+        let now = toActive a t below (over .whole) in
+        let facts = keep p held few t below (opened p held few t below st n 0 (λ d. absurd (d refl)) over) activeThread t (omega arith) in
         going
-        (closed p held few t below (Machine.switched st t at) (n + 0) within (on .is) (on .facts)
-        (waits-none p t runnable _ _ _ _ (omega arith) (runs-again p t _ _ _ _ (can-there can) own))
-        (λ g. absurd (omega arith)) (λ i h g o. omega arith)
-        (omega (arith, holds .entries, holds .limited, five-has (λ (i : ℕ). number a (phase i)) t below)))
-        (omega (
-          arith,
-          left-is p (Machine.switched st t at) (on .is),
-          idle-none,
-          measure-part p st t below (holds .whole),
-          can-same (number a (phase t)) can,
-        ))
+        (holding p held few t below (Machine.switched st t at) (n + 0) within (switched-is below st at now wakes)
+        (switched-facts st at (now .whole .onCell t below) facts) (runs-again p t _ _ _ _ (wakes-there wakes) own)
+        (omega (arith, over .entries, over .limited, five-has (λ (i : ℕ). number a (phase i)) t below)))
 
-module _ (p : Program) (held : cellsOf (p .table) ≤ cells) (few : threadsOf (p .table) ≤ threads) (st : State) (n l : ℕ) (low : measure p st < l)
+module _ (p : Program) (held : cellsOf (p .table) ≤ cells) (few : threadsOf (p .table) ≤ threads) (st : State) (n : ℕ)
     (first : Whom) (stand : List Standing) (asked : Schedules p st n first stand) where
   -- "(d) the branch chooses. None: if every present thread has ended, the execution ends, else 10."
-  scheduled-after : (whom : Whom) (at : ℕ) → FittingThread first stand whom → After p n l (Machine.scheduled st whom at)
+  scheduled-after : (whom : Whom) (at : ℕ) → FittingThread first stand whom → After p n (Machine.scheduled st whom at)
   unfolding Machine.scheduled
   scheduled-after nobody at fit =
       let a = st .numbers in
       let none : (i : ℕ) → i < threads → (isIn a runnable i || isIn a yielded i) ≡ false =
       λ i h. stands-cannot a i (sym (standing-at a i h) ∙ rw (asked .stand) at (fit .1 i)) in
-      pick (After p n l) (Machine.allOver (st .numbers) threads 0) (λ e. ending (asked .holds))
-      (λ e. rw (none-can a threads 0 (omega arith) none) (stops-at st Event.deadlock (omega arith) (asked .holds)))
+      pick (After p n) (Machine.allOver (st .numbers) threads 0) (λ e. ending (asked .over))
+      (λ e. rw (none-can a threads 0 (omega arith) none) (stops-at st Event.deadlock (omega arith) (asked .over)))
   scheduled-after (thread t) at fit =
       let a = st .numbers in
       let f = rw (asked .stand) at fit in
       let below : t < threads = f .0 in
       let can : (isIn a runnable t || isIn a yielded t) ≡ true = stands-can a t (λ e. f .1 (standing-at a t below ∙ e)) in
-      rw (lt-ltb t threads below, can) (runs-after p held few t below st n l (asked .holds) low at can)
+      rw (lt-ltb t threads below, can) (runs-after p held few t below st n (asked .over) at (rw (lt-ltb t threads below, can) refl))
 
-  pub thread-after : (whom : Whom) (at : ℕ) → FittingThread first stand whom → After p n l (Machine.answered p st (Event.runThread whom at))
+  pub thread-after : (whom : Whom) (at : ℕ) → FittingThread first stand whom → After p n (Machine.answered p st (Event.runThread whom at))
   unfolding Machine.answered
   thread-after whom at fit = scheduled-after whom at fit

@@ -1,86 +1,40 @@
 -- The questions for a slot and for a bit: that they can be answered, and how the row goes on with its answer. Assumes nothing.
 --     slot-answerable             some slot is offered, and those that are offered are slots
 --     slot-after, bit-after       a load or an RMW reads a slot that is live; a spurious row takes its bit
-use Prim.Native.Nat.{ℕ, zero, suc, _+_, _-_, _*_, _≤_, _<_}
-use mathlib.Core.List.{List, [], _∷_}
-use mathlib.Core.Bool.{Bool, true, false, cond}
-use mathlib.Core.Path.{_≡_, refl, ap, sym, subst, _∙_}
+use Prim.Native.Nat.{ℕ, _+_, _-_, _≤_, _<_}
+use mathlib.Core.List.{List}
+use mathlib.Core.Bool.{Bool, cond}
+use mathlib.Core.Path.{_≡_, refl, sym, subst, _∙_}
 use native.Mathlib.Omega.{arith}
-use lib.Dec.{ltb}
-use lib.ListN.{length, getD}
-use borrow.Author.Tests.{ltb-true, ltb-false}
 use Rattle.rules.specs.Table as Table
 use Rattle.rules.specs.Table.{Op, decoded, threadsOf, cellsOf, judged, good}
-use Rattle.rules.specs.Event as Event
-use Rattle.rules.specs.Event.{Matched, offers, slotsFrom, slotsOf, readSlot, takeBit}
-use Rattle.rules.specs.State as State
+use Rattle.rules.specs.Event.{Matched, readSlot, takeBit}
 use Rattle.rules.specs.State.{State, Numbers, number, marksOf, threads, cells, phase, begun, nextRow, awaits, count}
-use Rattle.rules.specs.Cell.{Fate, kept, dropped, equalMet, alsoOffered, byFate, matchedFrom, matchedLoad, matchedRmw, liveStores, liveIn}
+use Rattle.rules.specs.Cell.{matchedLoad, matchedRmw, liveIn}
 use Rattle.rules.specs.Machine as Machine
-use Rattle.rules.specs.Machine.{Program, machine, active, activeOp, rowCount, toAct}
-use Rattle.rules.specs.Measure.{ticksLeft}
-use Rattle.rules.proofs.Measure.{Is, seen, otherWork}
+use Rattle.rules.specs.Machine.{Program, active, activeOp, rowCount, runnable, toAct}
+use Rattle.rules.proofs.NumberLaws.{five-has}
+use Rattle.rules.proofs.SlotLaws.{Long, matched-long, offered-long, live-most}
+use Rattle.rules.proofs.MeasureRows.{Names}
+use Rattle.rules.proofs.Measure.{seen, otherWork}
 use Rattle.kept.specs.Kept.{FittingSlot, Offering}
-use Rattle.standing.specs.Standing.{Thread, Holds, Reading, ofLoad, ofRmw, SomeOffered, underWay, idle, left}
-use Rattle.standing.proofs.Facts.{Facts, opened, not-blocked, five-has}
-use Rattle.standing.proofs.Rows.{Names, accepted-row}
+use Rattle.kept.proofs.Answers.{slot-offered}
+use Rattle.standing.specs.Standing.{Thread, Over, Holds, Reading, ofLoad, ofRmw, SomeOffered, underWay}
+use Rattle.standing.proofs.Facts.{opened}
+use Rattle.standing.proofs.Rows.{accepted-row}
 use Rattle.standing.proofs.Steps as Steps
-use Rattle.standing.proofs.Steps.{After, left-is, On}
+use Rattle.standing.proofs.Steps.{After, On}
 
--- Slots
-
--- a match of n slots says of each whether it is offered
-abbrev Long : ℕ → Matched → Type 0
-Long n (offers offered) = length offered ≡ n
-Long n Event.equal = Unit
-
-also-long : (n : ℕ) (b : Bool) (m : Matched) → Long n m → Long (suc n) (alsoOffered b m)
-also-long n b (offers offered) e = ap suc e
-also-long n b Event.equal e = tt
-
-fate-long : (n : ℕ) (f : Fate) (m : Matched) → Long n m → Long (suc n) (byFate f m)
-fate-long n kept m e = also-long n true m e
-fate-long n dropped m e = also-long n false m e
-fate-long n equalMet m e = tt
-
-matched-long : (fate : ℕ → Fate) (n i : ℕ) → Long n (matchedFrom fate n i)
-unfolding matchedFrom
-matched-long fate zero i = refl
-matched-long fate (suc n) i = fate-long n (fate i) (matchedFrom fate n (i + 1)) (matched-long fate n (i + 1))
-
--- those that are live: at most seven, and at most as many as there were stores
-live-most : (x : ℕ) → (liveStores x ≤ x) × (liveStores x ≤ 7)
-live-most x = by (ltb x 7) refl
-  where
-    by : (b : Bool) → ltb x 7 ≡ b → (cond b x 7 ≤ x) × (cond b x 7 ≤ 7)
-    by true e = omega (arith, ltb-true x 7 e)
-    by false e = omega (arith, ltb-false x 7 e)
-
--- what is offered is one of the slots
-slots-below : (i : ℕ) (offered : List Bool) (at : ℕ) → at < length (slotsFrom i offered) →
-    getD (slotsFrom i offered) at 0 < i + length offered
-unfolding slotsFrom
-slots-below i [] at h = absurd (omega arith)
-slots-below i (false ∷ more) at h = omega (arith, slots-below (i + 1) more at h)
-slots-below i (true ∷ more) zero h = omega arith
-slots-below i (true ∷ more) (suc at) h = omega (arith, slots-below (i + 1) more at (omega arith))
-
--- of the match of a cell
-module _ (numbers : Numbers) (c : ℕ) (m : Matched) (long : Long (liveIn numbers c) m) where
-  offered-long : (offered : List Bool) → m ≡ offers offered → length offered ≡ liveIn numbers c
-  offered-long offered e = rw e at long
-
-  -- a slot that is answered is live
-  slot-live : (slot : ℕ) (values : List ℕ) → FittingSlot m slot values → slot < number numbers (count c)
-  slot-live slot values fit =
-      let at : fit .at < length (slotsOf (fit .offered)) = rw (fit .all) at (fit .within) in
-      let is : slot ≡ getD (slotsOf (fit .offered)) (fit .at) 0 = rw (fit .all) at (fit .chosen) in
-      omega (
-        arith,
-        slots-below 0 (fit .offered) (fit .at) at,
-        offered-long (fit .offered) (fit .is),
-        live-most (number numbers (count c)),
-      )
+-- a slot that is answered is live
+slot-live : (numbers : Numbers) (c : ℕ) (m : Matched) → Long (liveIn numbers c) m → (slot : ℕ) (values : List ℕ) →
+    FittingSlot m slot values → slot < number numbers (count c)
+slot-live numbers c m long slot values fit =
+    omega (
+      arith,
+      slot-offered m slot values fit,
+      offered-long (liveIn numbers c) m long (fit .offered) (fit .is),
+      live-most (number numbers (count c)),
+    )
 
 load-long : (st : State) (t c o : ℕ) → Long (liveIn (st .numbers) c) (matchedLoad (st .clocks) (marksOf (st .marks) c) (st .numbers) t c o)
 unfolding matchedLoad
@@ -99,9 +53,6 @@ module _ (p : Program) (held : cellsOf (p .table) ≤ cells) (few : threadsOf (p
   abbrev t : ℕ
   t = active st
 
-  abbrev s : ℕ
-  s = number a (State.state t)
-
   abbrev k : ℕ
   k = number a (nextRow t)
 
@@ -114,14 +65,14 @@ module _ (p : Program) (held : cellsOf (p .table) ≤ cells) (few : threadsOf (p
   abbrev q : ℕ
   q = underWay a - number a (phase t)
 
+  stands : Over p st n
+  stands = holds .over
+
   below : t < threads
-  below = omega (arith, holds .runs)
+  below = omega (arith, stands .runs)
 
-  own : Thread p t s k toAct w
-  own = rw acts at (holds .each t below)
-
-  is : Is t s toAct b (otherWork a t) a
-  is = seen a t below (holds .whole) refl refl acts
+  own : Thread p t runnable k toAct w
+  own = rw (acts, holds .ready) at (stands .each t below)
 
   -- what its row names is there
   names : (op : Op) → activeOp p st ≡ decoded op → Names (threadsOf (p .table)) (cellsOf (p .table)) (rowCount p t) op
@@ -131,50 +82,43 @@ module _ (p : Program) (held : cellsOf (p .table) ≤ cells) (few : threadsOf (p
       subst (Names (threadsOf (p .table)) (cellsOf (p .table)) (rowCount p t)) same (said .2)
 
   -- some slot is offered, and those that are offered are slots
-  pub slot-answerable : SomeOffered → (m : Matched) → Reading p st m → Offering (machine p) m
+  pub slot-answerable : SomeOffered → (m : Matched) → Reading p st m → Offering m
   slot-answerable some m (ofLoad c o r e f) = record {
-    some = λ offered g. some .toLoad (st .clocks) (marksOf (st .marks) c) a t c o offered (holds .counted c (names _ e)) (sym f ∙ g);
-    few = λ offered g. omega (arith, offered-long a c m (rw f (load-long st t c o)) offered g, live-most (number a (count c)));
+    some = λ offered g. some .toLoad (st .clocks) (marksOf (st .marks) c) a t c o offered (stands .counted c (names _ e)) (sym f ∙ g);
+    few = λ offered g. omega (arith, offered-long (liveIn a c) m (rw f (load-long st t c o)) offered g, live-most (number a (count c)));
   }
   slot-answerable some m (ofRmw c o f change r e g) = record {
-    some = λ offered h. some .toRmw (st .clocks) a c offered (holds .counted c (names _ e)) (sym g ∙ h);
-    few = λ offered h. omega (arith, offered-long a c m (rw g (rmw-long st c)) offered h, live-most (number a (count c)));
+    some = λ offered h. some .toRmw (st .clocks) a c offered (stands .counted c (names _ e)) (sym g ∙ h);
+    few = λ offered h. omega (arith, offered-long (liveIn a c) m (rw g (rmw-long st c)) offered h, live-most (number a (count c)));
   }
 
-  module _ (l : ℕ) (low : left p st ≤ l) where
-    facts : Facts p t k q b threads a
-    facts = opened p held few t below st n threads (λ d. refl) holds
+  sum : n + (q + toAct) ≡ b
+  sum = omega (arith, stands .entries, five-has (λ (i : ℕ). number a (phase i)) t below)
 
-    sum : n + (q + toAct) ≡ b
-    sum = omega (arith, holds .entries, five-has (λ (i : ℕ). number a (phase i)) t below)
+  on : On p held few t k w b (otherWork a t) q n (stands .runs) own sum (stands .limited) a
+  on = record {
+    is = seen a t below (stands .whole) refl (holds .ready) acts;
+    facts = opened p held few t below st n threads (λ d. refl) stands;
+  }
 
-    most : 3 * (p .operations - b) + (otherWork a t + ticksLeft s toAct) + idle s ≤ l
-    most = omega (arith, left-is p st is)
+  read-after : (m : Matched) → Reading p st m → (slot mask : ℕ) (values : List ℕ) → FittingSlot m slot values →
+      After p n (Machine.readFrom st t k slot mask (activeOp p st))
+  read-after m (ofLoad c o r e f) slot mask values fit =
+      rw e
+      (Steps.load-after p held few t k w b (otherWork a t) q n (stands .runs) own sum (stands .limited) st c o r slot mask
+      (slot-live a c m (rw f (load-long st t c o)) slot values fit) on)
+  read-after m (ofRmw c o f change r e g) slot mask values fit =
+      rw e
+      (Steps.rmw-after p held few t k w b (otherWork a t) q n (stands .runs) own sum (stands .limited) st c o f change r slot mask
+      (names _ e) (slot-live a c m (rw g (rmw-long st c)) slot values fit) on)
 
-    on : On p held few t s k w b (otherWork a t) q n l (holds .runs) own sum (holds .limited) most a
-    on = record { is = is; facts = facts }
+  pub slot-after : (m : Matched) → Reading p st m → (slot : ℕ) (values : List ℕ) → FittingSlot m slot values →
+      After p n (Machine.answered p st (readSlot slot values))
+  unfolding Machine.answered
+  slot-after m reading slot values fit = read-after m reading slot (Machine.maskOf 0 values) values fit
 
-    read-after : (m : Matched) → Reading p st m → (slot mask : ℕ) (values : List ℕ) → FittingSlot m slot values →
-        After p n l (Machine.readFrom st t k slot mask (activeOp p st))
-    read-after m (ofLoad c o r e f) slot mask values fit =
-        rw e
-        (Steps.load-after p held few t s k w b (otherWork a t) q n l (holds .runs) own sum (holds .limited) most
-        (not-blocked _ own e (omega arith)) st c o r slot mask
-        (slot-live a c m (rw f (load-long st t c o)) slot values fit) on)
-    read-after m (ofRmw c o f change r e g) slot mask values fit =
-        rw e
-        (Steps.rmw-after p held few t s k w b (otherWork a t) q n l (holds .runs) own sum (holds .limited) most
-        (not-blocked _ own e (omega arith)) st c o f change r slot mask
-        (names _ e) (slot-live a c m (rw g (rmw-long st c)) slot values fit) on)
-
-    pub slot-after : (m : Matched) → Reading p st m → (slot : ℕ) (values : List ℕ) → FittingSlot m slot values →
-        After p n l (Machine.answered p st (readSlot slot values))
-    unfolding Machine.answered
-    slot-after m reading slot values fit = read-after m reading slot (Machine.maskOf 0 values) values fit
-
-    pub bit-after : (r : ℕ) → activeOp p st ≡ decoded (Table.spurious r) → (bit : Bool) → After p n l (Machine.answered p st (takeBit bit))
-    unfolding Machine.answered
-    bit-after r e bit =
-        rw e
-        (Steps.bit-after p held few t s k w b (otherWork a t) q n l (holds .runs) own sum (holds .limited) most
-        (not-blocked _ own e (omega arith)) st r (cond bit 1 0) on)
+  pub bit-after : (r : ℕ) → activeOp p st ≡ decoded (Table.spurious r) → (bit : Bool) → After p n (Machine.answered p st (takeBit bit))
+  unfolding Machine.answered
+  bit-after r e bit =
+      rw e
+      (Steps.bit-after p held few t k w b (otherWork a t) q n (stands .runs) own sum (stands .limited) st r (cond bit 1 0) on)

@@ -1,10 +1,9 @@
 -- What stands at the start of each execution. Assumes nothing.
 --     start-holds      it is what stands between ticks, with no entry in the trace
---     start-left       and has fewer ticks left than it is given
-use Prim.Native.Nat.{ℕ, zero, suc, _+_, _*_, _≤_, _<_}
+use Prim.Native.Nat.{ℕ, zero, suc, _+_, _≤_, _<_}
 use mathlib.Core.List.{List}
 use mathlib.Core.Bool.{Bool, cond}
-use mathlib.Core.Path.{_≡_, refl, ap, sym, _∙_}
+use mathlib.Core.Path.{_≡_, refl, sym, _∙_}
 use mathlib.Core.Logic.{_≢_}
 use native.Mathlib.Omega.{arith}
 use native.Mathlib.Decide.{decLt}
@@ -15,12 +14,11 @@ use Rattle.rules.specs.State as State
 use Rattle.rules.specs.State.{State, Numbers, Number, number, withNumber, numberAt, numbersHeld, threads, cells, none, nextRow, rowsOf, phase, activeThread, begun, count, isSeqCst, lastYield, accessBranch, nonLoadBranch, exploring, storeAt}
 use Rattle.rules.specs.Cell.{storeDone, slotOf}
 use Rattle.rules.specs.Machine as Machine
-use Rattle.rules.specs.Machine.{Program, start, active, absent, runnable, blocked, yielded, ended}
+use Rattle.rules.specs.Machine.{Program, start, absent, runnable, blocked, yielded, ended}
 use Rattle.rules.proofs.StateLaws.{number-other, number-kept}
-use Rattle.rules.proofs.MeasureStart.{start-ready, start-measure}
-use Rattle.standing.specs.Standing.{ThreadIn, Holds, idle, left}
-use Rattle.standing.proofs.Facts.{after, for-threads}
-use Rattle.standing.proofs.Steps.{more-some, idle-none}
+use Rattle.rules.proofs.NumberLaws.{after, for-threads, more-some}
+use Rattle.rules.proofs.MeasureStart.{start-ready}
+use Rattle.standing.specs.Standing.{ThreadIn, Over, Holds}
 
 -- nothing has begun; the cells below `made` have a store, the threads below `up` are runnable, the others absent
 record New (made up : ℕ) (a : Numbers) : Type 0 where
@@ -133,8 +131,8 @@ module _ (p : Program) (some : 1 ≤ threadsOf (p .table)) (few : threadsOf (p .
       rw (zero-add (cellsOf (p .table))) at (cells-new (p .table) (cellsOf (p .table)) 0 first (omega arith) (blank-new (p .exploring))) in
       rw (zero-add (threadsOf (p .table))) at (threads-new (cellsOf (p .table)) (threadsOf (p .table)) 0 made held (omega arith) cellsAre)
 
-  pub start-holds : Holds p (start p) 0
-  start-holds =
+  start-over : Over p (start p) 0
+  start-over =
       let u = start-new in
       let a = start p .numbers in
       let state-in : (i : ℕ) → i < threads → ThreadIn p a i =
@@ -177,9 +175,5 @@ module _ (p : Program) (some : 1 ≤ threadsOf (p .table)) (few : threadsOf (p .
       not-yielded : (i : ℕ) → i < threads → number (start p .numbers) (State.state i) ≢ yielded
       not-yielded i h = omega (arith, first i h)
 
-  pub start-left : left p (start p) < 3 * p .operations + 26
-  unfolding left
-  start-left =
-      let r = start-ready p some few held in
-      let e : idle (number (start p .numbers) (State.state (active (start p)))) ≡ 0 = ap idle (r .runs) ∙ idle-none in
-      omega (arith, start-measure p some few held)
+  pub start-holds : Holds p (start p) 0
+  start-holds = record { over = start-over; ready = start-ready p some few held .runs }

@@ -1,111 +1,62 @@
 -- What stands after what a row does: the row is complete, or its thread blocks or yields, or it asks for what will complete it.
 -- Assumes nothing.
---     After, Good          a move after an answer, and any move: what holds of it, and that the ticks that are left fall
+--     After, Good          a move after an answer, and any move: what holds of it
 --     acts-good            a row that acts
 --     load-after, rmw-after, bit-after       a row that has its answer
-use Prim.Native.Nat.{ℕ, _+_, _-_, _*_, _≤_, _<_}
+use Prim.Native.Nat.{ℕ, _+_, _≤_, _<_}
 use mathlib.Core.List.{List, [], _∷_}
 use mathlib.Core.Bool.{Bool, true, false, cond, not}
-use mathlib.Core.Path.{_≡_, refl, ap, sym, _∙_}
+use mathlib.Core.Path.{_≡_, refl, ap, _∙_}
 use mathlib.Core.Logic.{_≢_}
 use native.Mathlib.Omega.{arith}
-use lib.Dec.{eqb, ltb}
+use lib.Dec.{eqb}
 use lib.ListN.{length}
-use borrow.Author.Tests.{ne-eqb, ltb-false, lt-ltb, eqb-true, eqb-false}
-use Rattle.rules.specs.Vector.{oneMore, largest}
+use borrow.Author.Tests.{lt-ltb, eqb-false}
+use Rattle.rules.specs.Vector.{oneMore}
 use Rattle.rules.specs.Change.{Change, Changed, success, failure}
 use Rattle.rules.specs.Table as Table
 use Rattle.rules.specs.Table.{Op, decoded, threadsOf, cellsOf}
 use Rattle.rules.specs.Event as Event
-use Rattle.rules.specs.Event.{Fault, impossible, faultNumber, Entry, Matched, Question, whichThread, whichSlot, whichBit, Move, moves, asks, stops, ends}
+use Rattle.rules.specs.Event.{Fault, impossible, faultNumber, Entry, Matched, Question, whichSlot, whichBit, Move, moves, asks, stops, ends}
 use Rattle.rules.specs.State as State
 use Rattle.rules.specs.State.{State, Numbers, number, withNumber, threads, cells, phase, nextRow, yields, lastYield, operation, awaits, count, isSeqCst, exploring, skipping, storeAt}
 use Rattle.rules.specs.Cell.{version, storeDone, slotOf, Access, raced, read, Race, noRace, raceOf, unlessRace, sighted, loadDone, byChange, succeeded, rmwDone, unsyncLoadDone, mutDone, storeRace, storeTracked, withClocks}
 use Rattle.rules.specs.Machine as Machine
 use Rattle.rules.specs.Machine.{Program, rowCount, rowOf, activeOp, runnable, blocked, yielded, ended, toBegin, toAct, completed}
-use Rattle.rules.specs.Measure.{ticksLeft, measure}
 use Rattle.rules.proofs.StateLaws.{number-same, number-other}
+use Rattle.rules.proofs.NumberLaws.{after, more-some}
 use Rattle.rules.proofs.Measure.{Is, aside, toState, toPhase}
-use Rattle.rules.proofs.MeasureRows.{pick}
-use Rattle.rules.proofs.MeasureSteps.{measure-is}
-use Rattle.standing.specs.Standing.{Thread, Holds, Schedules, Reading, ofLoad, ofRmw, Reads, Takes, Asked, idle, left}
-use Rattle.standing.proofs.Facts.{Facts, keep, toRow, closed, after, waits-none, not-blocked}
-use Rattle.standing.proofs.Rows.{Names}
+use Rattle.rules.proofs.MeasureRows.{pick, Names}
+use Rattle.standing.specs.Standing.{Thread, Over, Holds, Schedules, Reading, ofLoad, ofRmw, Reads, Takes, Asked}
+use Rattle.standing.proofs.Facts.{Facts, keep, toRow, closed, holding}
 
--- What is to be known of a move, with n entries in the trace before it and l ticks left
+-- What is to be known of a move, with n entries in the trace before it
 
-pub data After (p : Program) (n l : ℕ) : Move State → Type 0 where
-  going : {st : State} {es : List Entry} → Holds p st (n + length es) → left p st < l → After p n l (moves st es)
-  stopping : {st : State} {f : Fault} → Holds p st n → (f ≡ impossible → ⊥) → After p n l (stops st f)
-  ending : {st : State} → Holds p st n → After p n l (ends st)
+pub data After (p : Program) (n : ℕ) : Move State → Type 0 where
+  going : {st : State} {es : List Entry} → Holds p st (n + length es) → After p n (moves st es)
+  stopping : {st : State} {f : Fault} → Over p st n → (f ≡ impossible → ⊥) → After p n (stops st f)
+  ending : {st : State} → Over p st n → After p n (ends st)
 
--- a scheduling has lowered what is left, a row that reads a slot or takes a bit will
-abbrev pub Below : Program → ℕ → State → Question → Type 0
-Below p l st (whichThread points first standings) = measure p st < l
-Below p l st (whichSlot m) = left p st ≤ l
-Below p l st whichBit = left p st ≤ l
-
-pub data Good (p : Program) (n l : ℕ) : Move State → Type 0 where
-  moving : {m : Move State} → After p n l m → Good p n l m
-  asking : {st : State} {es : List Entry} {explores : Bool} {q : Question} → Asked p st (n + length es) q → Below p l st q →
-      Good p n l (asks st es explores q)
-
--- what is left, by the active thread's part
-pub left-is : {t s ph b m : ℕ} (p : Program) (st : State) → Is t s ph b m (st .numbers) →
-    left p st ≡ 3 * (p .operations - b) + (m + ticksLeft s ph) + idle s
-unfolding left
-left-is p st is = rw (is .runs, is .stands, measure-is p st is) refl
-
--- a thread that has not ended
-module _ (s : ℕ) (goes : s ≢ ended) where
-  pub ticks-begin : ticksLeft s toBegin ≡ 5
-  unfolding ticksLeft
-  ticks-begin = rw (ne-eqb s ended goes)
-
-  pub ticks-act : (6 ≤ ticksLeft s toAct) × (ticksLeft s toAct ≤ 7) × (7 ≤ ticksLeft s toAct + idle s)
-  unfolding ticksLeft idle
-  ticks-act = rw (ne-eqb s ended goes) (by (eqb s blocked))
-    where
-      by : (b : Bool) → (6 ≤ cond b 1 2 + 5) × (cond b 1 2 + 5 ≤ 7) × (7 ≤ cond b 1 2 + 5 + cond b 1 0)
-      by true = omega arith
-      by false = omega arith
-
-blocked-less : ticksLeft blocked toAct < 7
-unfolding ticksLeft
-blocked-less = omega arith
-
-pub idle-none : idle runnable ≡ 0
-unfolding idle
-idle-none = refl
+pub data Good (p : Program) (n : ℕ) : Move State → Type 0 where
+  moving : {m : Move State} → After p n m → Good p n m
+  asking : {st : State} {es : List Entry} {explores : Bool} {q : Question} → Asked p st (n + length es) q → Good p n (asks st es explores q)
 
 -- a fault that document 01 has
-pub stops-at : {p : Program} {n l : ℕ} (st : State) (f : Fault) → faultNumber f ≢ 20 → Holds p st n → After p n l (stops st f)
-stops-at st f d holds = stopping holds (λ e. d (ap faultNumber e))
+pub stops-at : {p : Program} {n : ℕ} (st : State) (f : Fault) → faultNumber f ≢ 20 → Over p st n → After p n (stops st f)
+stops-at st f d over = stopping over (λ e. d (ap faultNumber e))
 
--- one more is something, and at most one more
-pub more-some : (x : ℕ) → (1 ≤ oneMore x) × (oneMore x ≤ x + 1)
-more-some x = by (ltb x largest) refl
-  where
-    by : (b : Bool) → ltb x largest ≡ b → (1 ≤ cond b (x + 1) x) × (cond b (x + 1) x ≤ x + 1)
-    by true e = omega arith
-    by false e = omega (arith, ltb-false x largest e)
-
--- What a row that is to act does: thread t stands so at row k, and waits for thread w if
--- it is blocked; b rows have begun, and of the other threads' rows q are under way
-module _ (p : Program) (held : cellsOf (p .table) ≤ cells) (few : threadsOf (p .table) ≤ threads) (t s k w b m q n l : ℕ)
-    (within : t < threadsOf (p .table)) (own : Thread p t s k toAct w) (sum : n + (q + toAct) ≡ b) (limited : b ≤ p .operations)
-    (most : 3 * (p .operations - b) + (m + ticksLeft s toAct) + idle s ≤ l) where
+-- What a row that is to act does: thread t runs at row k; b rows have begun, and of the other threads' rows q are under way
+module _ (p : Program) (held : cellsOf (p .table) ≤ cells) (few : threadsOf (p .table) ≤ threads) (t k w b m q n : ℕ)
+    (within : t < threadsOf (p .table)) (own : Thread p t runnable k toAct w) (sum : n + (q + toAct) ≡ b)
+    (limited : b ≤ p .operations) where
   below : t < threads
   below = omega arith
-
-  going-on : s ≢ ended
-  going-on e = let z : _≡_ {A = ℕ} toAct toBegin = own .over e .0 in omega arith
 
   row : k < rowCount p t
   row = own .acts refl
 
   pub record On (a : Numbers) : Type 0 where
-    pub is : Is t s toAct b m a
+    pub is : Is t runnable toAct b m a
     pub facts : Facts p t k q b threads a
 
   abbrev pub At : State → Type 0
@@ -114,34 +65,32 @@ module _ (p : Program) (held : cellsOf (p .table) ≤ cells) (few : threadsOf (p
   next-row : oneMore k ≤ rowCount p t
   next-row = omega (arith, more-some k, row)
 
-  -- a thread past this row
-  passed : (s′ j v : ℕ) → j ≤ rowCount p t → s′ ≢ ended → s′ ≢ blocked → (t < threadsOf (p .table) → (1 ≤ s′) × (s′ ≤ 4)) →
-      Thread p t s′ j toBegin v
-  passed s′ j v h d e there = record {
-    present = there;
+  -- a thread past this row, which runs or has yielded
+  passed : (s j v : ℕ) → j ≤ rowCount p t → (runnable ≤ s) × (s ≤ ended) × (s ≢ ended) × (s ≢ blocked) → Thread p t s j toBegin v
+  passed s j v h so = record {
+    present = λ e. (so .0, so .1);
     missing = λ e. absurd (omega arith);
     phased = omega arith;
     row = h;
     acts = λ e. absurd (omega arith);
-    over = λ e. absurd (d e);
-    waits = λ g. absurd (e g);
+    over = λ e. absurd (so .2 e);
+    waits = λ e. absurd (so .3 e);
   }
 
   -- a scheduling, where the thread then stands so
-  schedules-good : {s′ k′ ph′ : ℕ} (st : State) (es : List Entry) → Is t s′ ph′ b m (st .numbers) → Facts p t k′ q b threads (st .numbers) →
-      Thread p t s′ k′ ph′ (number (st .numbers) (awaits t)) →
-      (s′ ≡ blocked → number (st .numbers) (State.state (number (st .numbers) (awaits t))) ≢ ended) → s′ ≢ ended →
-      n + length es + (q + ph′) ≡ b → ticksLeft s′ ph′ < 7 → Good p n l (Machine.schedules st es)
+  schedules-good : {s k′ ph : ℕ} (st : State) (es : List Entry) → Is t s ph b m (st .numbers) → Facts p t k′ q b threads (st .numbers) →
+      Thread p t s k′ ph (number (st .numbers) (awaits t)) →
+      (s ≡ blocked → number (st .numbers) (State.state (number (st .numbers) (awaits t))) ≢ ended) → s ≢ ended →
+      n + length es + (q + ph) ≡ b → Good p n (Machine.schedules st es)
   unfolding Machine.schedules
-  schedules-good st es is facts thread mine goes e less =
+  schedules-good st es is facts thread mine goes e =
       let asked : Schedules p st (n + length es) _ _ =
       record {
-        holds = closed p held few t below st (n + length es) within is facts thread mine (λ i h g o. goes) (omega arith);
+        over = closed p held few t below st (n + length es) within is facts thread mine (λ i h g o. goes) (omega arith);
         isFirst = refl;
         stand = refl;
       } in
-      let low : measure p st < l = omega (arith, measure-is p st is, ticks-act s going-on) in
-      asking asked low
+      asking asked
 
   -- a store writes two numbers of its cell
   store-at : (st : State) (u c : ℕ) (from : List ℕ) (v o : ℕ) → c < cellsOf (p .table) → At st → At (storeDone st u c from v o)
@@ -196,129 +145,117 @@ module _ (p : Program) (held : cellsOf (p .table) ≤ cells) (few : threadsOf (p
   op-is : (st : State) → At st → activeOp p st ≡ rowOf p t k
   op-is st at = rw (at .is .runs, at .facts .at) refl
 
-  left-most : (st : State) → At st → left p st ≤ l
-  left-most st at = omega (arith, left-is p st (at .is))
+  holds-at : (st : State) (x : ℕ) → x ≡ n → At st → Holds p st x
+  holds-at st x e at = holding p held few t below st x within (at .is) (at .facts) own (omega arith)
 
-  -- a thread that is not blocked
-  module _ (free : s ≢ blocked) where
-    holding : (st : State) (x : ℕ) → x ≡ n → At st → Holds p st x
-    holding st x e h =
-        closed p held few t below st x within (h .is) (h .facts) (waits-none p t s k toAct w _ free own) (λ g. absurd (free g))
-        (λ i l g o. going-on) (omega arith)
+  -- the row is complete
+  finished : (st : State) (j : ℕ) (x : Entry) → j ≤ rowCount p t → At st → After p n (moves (completed st t j) (x ∷ []))
+  finished st j x h at =
+      let is = toPhase below (aside below (at .is) (nextRow t) j (omega arith)) toBegin in
+      let facts = keep p held few t below (toRow p held few t below (at .facts) j) (phase t) toBegin (omega arith) in
+      going (holding p held few t below (completed st t j) (n + 1) within is facts (passed runnable j w h (omega arith)) (omega arith))
 
-    -- the row is complete
-    finished : (st : State) (j : ℕ) (x : Entry) → j ≤ rowCount p t → At st → After p n l (moves (completed st t j) (x ∷ []))
-    finished st j x h at =
-        let is = toPhase below (aside below (at .is) (nextRow t) j (omega arith)) toBegin in
-        let facts = keep p held few t below (toRow p held few t below (at .facts) j) (phase t) toBegin (omega arith) in
-        going
-        (closed p held few t below (completed st t j) (n + 1) within is facts (passed s j _ h going-on free (own .present))
-        (λ g. absurd (free g)) (λ i l g o. going-on) (omega arith))
-        (omega (arith, left-is p (completed st t j) is, ticks-begin s going-on, ticks-act s going-on))
+  stopped : (st : State) (f : Fault) → faultNumber f ≢ 20 → At st → After p n (stops st f)
+  stopped st f d at = stops-at st f d (holds-at st n refl at .over)
 
-    stopped : (st : State) (f : Fault) → faultNumber f ≢ 20 → At st → After p n l (stops st f)
-    stopped st f d at = stops-at st f d (holding st n refl at)
+  reads-after : (x : Access) (opcode r slot mask : ℕ) → AtRead x → After p n (Machine.reads x t k opcode r slot mask)
+  reads-after (raced kind other st) opcode r slot mask (isRaced at) = stopped st _ (omega arith) at
+  reads-after (read v st) opcode r slot mask (isRead at) = finished (Machine.withRegister st t r v) (oneMore k) _ next-row at
 
-    reads-after : (x : Access) (opcode r slot mask : ℕ) → AtRead x → After p n l (Machine.reads x t k opcode r slot mask)
-    reads-after (raced kind other st) opcode r slot mask (isRaced at) = stopped st _ (omega arith) at
-    reads-after (read v st) opcode r slot mask (isRead at) = finished (Machine.withRegister st t r v) (oneMore k) _ next-row at
+  leaves-after : (x : Access) (opcode c r : ℕ) → AtRead x → After p n (Machine.leavesIn x t k opcode c r)
+  leaves-after (raced kind other st) opcode c r (isRaced at) = stopped st _ (omega arith) at
+  leaves-after (read v st) opcode c r (isRead at) = finished (Machine.withRegister st t r v) (oneMore k) _ next-row at
 
-    leaves-after : (x : Access) (opcode c r : ℕ) → AtRead x → After p n l (Machine.leavesIn x t k opcode c r)
-    leaves-after (raced kind other st) opcode c r (isRaced at) = stopped st _ (omega arith) at
-    leaves-after (read v st) opcode c r (isRead at) = finished (Machine.withRegister st t r v) (oneMore k) _ next-row at
+  stores-unless : (x : Race) (st tracked : State) (opcode c o v : ℕ) → c < cellsOf (p .table) → At st → At tracked →
+      After p n (Machine.storesUnless x st tracked t k opcode c o v)
+  stores-unless (raceOf kind other) st tracked opcode c o v h at now = stopped st _ (omega arith) at
+  stores-unless noRace st tracked opcode c o v h at now = finished _ (oneMore k) _ next-row (store-at tracked t c _ v o h now)
 
-    stores-unless : (x : Race) (st tracked : State) (opcode c o v : ℕ) → c < cellsOf (p .table) → At st → At tracked →
-        After p n l (Machine.storesUnless x st tracked t k opcode c o v)
-    stores-unless (raceOf kind other) st tracked opcode c o v h at now = stopped st _ (omega arith) at
-    stores-unless noRace st tracked opcode c o v h at now = finished _ (oneMore k) _ next-row (store-at tracked t c _ v o h now)
+  stores-after : (st : State) (opcode c o v : ℕ) → c < cellsOf (p .table) → At st → After p n (Machine.stores st t k opcode c o v)
+  unfolding Machine.stores
+  stores-after st opcode c o v h at =
+      let up = Machine.versionRaised st t in
+      stores-unless (storeRace (up .clocks) t c) up (withClocks up (storeTracked (up .clocks) t c)) opcode c o v h
+      at at
 
-    stores-after : (st : State) (opcode c o v : ℕ) → c < cellsOf (p .table) → At st → After p n l (Machine.stores st t k opcode c o v)
-    unfolding Machine.stores
-    stores-after st opcode c o v h at =
-        let up = Machine.versionRaised st t in
-        stores-unless (storeRace (up .clocks) t c) up (withClocks up (storeTracked (up .clocks) t c)) opcode c o v h
-        at at
+  -- "7 yield": the row is complete, the thread has yielded
+  yield-good : (st : State) (x : Entry) → At st → Good p n (Machine.schedules (completed (Machine.yieldDone st t) t (oneMore k)) (x ∷ []))
+  yield-good st x at =
+      let v = version (st .clocks) t in
+      let numbers = withNumber (withNumber (st .numbers) (State.state t) yielded) (lastYield t) v in
+      let w = oneMore (number numbers (yields t)) in
+      let y1 = aside below (toState below (at .is) yielded) (lastYield t) v (omega arith) in
+      let y2 = aside below y1 (yields t) w (omega arith) in
+      let y3 = aside below y2 (operation t) Machine.noOperation (omega arith) in
+      let f0 = keep p held few t below (at .facts) (State.state t) yielded (omega arith) in
+      let f1 = keep p held few t below f0 (lastYield t) v (omega arith) in
+      let f2 = keep p held few t below f1 (yields t) w (omega arith) in
+      let f3 = keep p held few t below f2 (operation t) Machine.noOperation (omega arith) in
+      let f4 = toRow p held few t below f3 (oneMore k) in
+      let f5 = keep p held few t below f4 (phase t) toBegin (omega arith) in
+      schedules-good (completed (Machine.yieldDone st t) t (oneMore k)) (x ∷ [])
+      (toPhase below (aside below y3 (nextRow t) (oneMore k) (omega arith)) toBegin) f5
+      (passed yielded (oneMore k) _ next-row (omega arith)) (λ g. absurd (omega arith)) (omega arith) (omega arith)
 
-    -- "7 yield": the row is complete, the thread has yielded
-    yield-good : (st : State) (x : Entry) → At st → Good p n l (Machine.schedules (completed (Machine.yieldDone st t) t (oneMore k)) (x ∷ []))
-    yield-good st x at =
-        let v = version (st .clocks) t in
-        let numbers = withNumber (withNumber (st .numbers) (State.state t) yielded) (lastYield t) v in
-        let w = oneMore (number numbers (yields t)) in
-        let y1 = aside below (toState below (at .is) yielded) (lastYield t) v (omega arith) in
-        let y2 = aside below y1 (yields t) w (omega arith) in
-        let y3 = aside below y2 (operation t) Machine.noOperation (omega arith) in
-        let f0 = keep p held few t below (at .facts) (State.state t) yielded (omega arith) in
-        let f1 = keep p held few t below f0 (lastYield t) v (omega arith) in
-        let f2 = keep p held few t below f1 (yields t) w (omega arith) in
-        let f3 = keep p held few t below f2 (operation t) Machine.noOperation (omega arith) in
-        let f4 = toRow p held few t below f3 (oneMore k) in
-        let f5 = keep p held few t below f4 (phase t) toBegin (omega arith) in
-        schedules-good (completed (Machine.yieldDone st t) t (oneMore k)) (x ∷ [])
-        (toPhase below (aside below y3 (nextRow t) (oneMore k) (omega arith)) toBegin) f5
-        (passed yielded (oneMore k) _ next-row (omega arith) (omega arith) (λ h. omega arith))
-        (λ g. absurd (omega arith)) (omega arith) (omega arith)
-        (omega (arith, ticks-begin yielded (omega arith)))
+  -- "13 `critical`; 14 `explore_state`"
+  explores-after : (st : State) (opcode : ℕ) (on : Bool) → At st → After p n (Machine.explores st t k opcode on)
+  explores-after st opcode on at =
+      let v : ℕ = cond on 1 0 in
+      pick (After p n) (Machine.isSkipping (st .numbers)) (λ e. finished st (oneMore k) _ next-row at)
+      (λ e. pick (After p n) (eqb (number (st .numbers) exploring) v) (λ f. stopped st Event.flags (omega arith) at)
+      (λ f. finished (Machine.withNumbers st (withNumber (st .numbers) exploring v)) (oneMore k) _ next-row
+      (record { is = aside below (at .is) exploring v (omega arith); facts = keep p held few t below (at .facts) exploring v (omega arith) })))
 
-    -- "13 `critical`; 14 `explore_state`"
-    explores-after : (st : State) (opcode : ℕ) (on : Bool) → At st → After p n l (Machine.explores st t k opcode on)
-    explores-after st opcode on at =
-        let v : ℕ = cond on 1 0 in
-        pick (After p n l) (Machine.isSkipping (st .numbers)) (λ e. finished st (oneMore k) _ next-row at)
-        (λ e. pick (After p n l) (eqb (number (st .numbers) exploring) v) (λ f. stopped st Event.flags (omega arith) at)
-        (λ f. finished (Machine.withNumbers st (withNumber (st .numbers) exploring v)) (oneMore k) _ next-row
-        (record { is = aside below (at .is) exploring v (omega arith); facts = keep p held few t below (at .facts) exploring v (omega arith) })))
+  -- a load or an RMW asks for its slot
+  slot-good : (st : State) (explores : Bool) (m′ : Matched) → At st → Reading p st m′ → Good p n (asks st [] explores (whichSlot m′))
+  slot-good st explores m′ at reading =
+      let asked : Reads p st (n + 0) m′ =
+      record { holds = holds-at st (n + 0) (omega arith) at; toAct = rw (at .is .runs) (at .is .inPhase); reading = reading } in
+      asking asked
 
-    -- a load or an RMW asks for its slot
-    slot-good : (st : State) (explores : Bool) (m′ : Matched) → At st → Reading p st m′ → Good p n l (asks st [] explores (whichSlot m′))
-    slot-good st explores m′ at reading =
-        let asked : Reads p st (n + 0) m′ =
-        record { holds = holding st (n + 0) (omega arith) at; toAct = rw (at .is .runs) (at .is .inPhase); reading = reading } in
-        asking asked (left-most st at)
+  bit-good : (st : State) (explores : Bool) (r : ℕ) → At st → activeOp p st ≡ decoded (Table.spurious r) →
+      Good p n (asks st [] explores whichBit)
+  bit-good st explores r at e =
+      let asked : Takes p st (n + 0) =
+      record {
+        holds = holds-at st (n + 0) (omega arith) at;
+        toAct = rw (at .is .runs) (at .is .inPhase);
+        register = r;
+        isSpurious = e;
+      } in
+      asking asked
 
-    bit-good : (st : State) (explores : Bool) (r : ℕ) → At st → activeOp p st ≡ decoded (Table.spurious r) →
-        Good p n l (asks st [] explores whichBit)
-    bit-good st explores r at e =
-        let asked : Takes p st (n + 0) =
-        record {
-          holds = holding st (n + 0) (omega arith) at;
-          toAct = rw (at .is .runs) (at .is .inPhase);
-          register = r;
-          isSpurious = e;
-        } in
-        asking asked (left-most st at)
+  jumps-after : (st : State) (opcode : ℕ) (taken : Bool) (target : ℕ) → target ≤ rowCount p t → At st →
+      After p n (Machine.jumps st t k opcode taken target)
+  jumps-after st opcode taken target h at =
+      finished st (cond taken target (oneMore k)) _ (pick (λ (j : ℕ). j ≤ rowCount p t) taken (λ e. h) (λ e. next-row)) at
 
-    jumps-after : (st : State) (opcode : ℕ) (taken : Bool) (target : ℕ) → target ≤ rowCount p t → At st →
-        After p n l (Machine.jumps st t k opcode taken target)
-    jumps-after st opcode taken target h at =
-        finished st (cond taken target (oneMore k)) _ (pick (λ (j : ℕ). j ≤ rowCount p t) taken (λ e. h) (λ e. next-row)) at
+  -- a load or an RMW reads its slot, which is live
+  pub load-after : (st : State) (c o r slot mask : ℕ) → slot < number (st .numbers) (count c) → At st →
+      After p n (Machine.readFrom st t k slot mask (decoded (Table.load c o r)))
+  unfolding Machine.readFrom
+  load-after st c o r slot mask h at =
+      rw (lt-ltb slot (number (st .numbers) (count c)) h) (reads-after (loadDone st t c slot o) 0 r slot mask (load-at st c slot o at))
 
-    -- a load or an RMW reads its slot, which is live
-    pub load-after : (st : State) (c o r slot mask : ℕ) → slot < number (st .numbers) (count c) → At st →
-        After p n l (Machine.readFrom st t k slot mask (decoded (Table.load c o r)))
-    unfolding Machine.readFrom
-    load-after st c o r slot mask h at =
-        rw (lt-ltb slot (number (st .numbers) (count c)) h) (reads-after (loadDone st t c slot o) 0 r slot mask (load-at st c slot o at))
+  pub rmw-after : (st : State) (c o f : ℕ) (change : Change) (r slot mask : ℕ) → c < cellsOf (p .table) →
+      slot < number (st .numbers) (count c) → At st → After p n (Machine.readFrom st t k slot mask (decoded (Table.rmw c o f change r)))
+  unfolding Machine.readFrom
+  rmw-after st c o f change r slot mask named h at =
+      rw (lt-ltb slot (number (st .numbers) (count c)) h)
+      (reads-after (rmwDone st t c slot change o f) 3 r slot mask (rmw-at st c slot change o f named at))
 
-    pub rmw-after : (st : State) (c o f : ℕ) (change : Change) (r slot mask : ℕ) → c < cellsOf (p .table) →
-        slot < number (st .numbers) (count c) → At st → After p n l (Machine.readFrom st t k slot mask (decoded (Table.rmw c o f change r)))
-    unfolding Machine.readFrom
-    rmw-after st c o f change r slot mask named h at =
-        rw (lt-ltb slot (number (st .numbers) (count c)) h)
-        (reads-after (rmwDone st t c slot change o f) 3 r slot mask (rmw-at st c slot change o f named at))
+  -- "16 `branch_spurious` into register (0 or 1)"
+  pub bit-after : (st : State) (r v : ℕ) → At st → After p n (Machine.bitTaken st t k v (decoded (Table.spurious r)))
+  unfolding Machine.bitTaken
+  bit-after st r v at = finished (Machine.withRegister st t r v) (oneMore k) _ next-row at
 
-    -- "16 `branch_spurious` into register (0 or 1)"
-    pub bit-after : (st : State) (r v : ℕ) → At st → After p n l (Machine.bitTaken st t k v (decoded (Table.spurious r)))
-    unfolding Machine.bitTaken
-    bit-after st r v at = finished (Machine.withRegister st t r v) (oneMore k) _ next-row at
-
-  -- "8 join thread": the row is complete, or the thread blocks, or still is blocked
+  -- "8 join thread": the row is complete, or the thread blocks
   joins-good : (st : State) (opcode target : ℕ) → rowOf p t k ≡ decoded (Table.join target) → target < threadsOf (p .table) →
-      (s ≡ blocked → number (st .numbers) (State.state w) ≢ ended) → At st → Good p n l (Machine.joins st t k opcode target)
+      At st → Good p n (Machine.joins st t k opcode target)
   unfolding Machine.joins
-  joins-good st opcode target row named still at =
-      pick (Good p n l) (Machine.isIn (st .numbers) ended target)
-      (λ e. moving (finished (goes-through e) (Machine.joinedWith st t target) (oneMore k) _ next-row at))
+  joins-good st opcode target row named at =
+      pick (Good p n) (Machine.isIn (st .numbers) ended target)
+      (λ e. moving (finished (Machine.joinedWith st t target) (oneMore k) _ next-row at))
       (λ e.
       let a = st .numbers in
       let long = at .is .whole .long in
@@ -347,43 +284,38 @@ module _ (p : Program) (held : cellsOf (p .table) ≤ cells) (few : threadsOf (p
         over = λ h. absurd (omega arith);
         waits = λ h. (refl, row, named);
       } in
-      schedules-good (Machine.blockedOn st t target) [] is f3 (rw awaited stands) (λ g. rw awaited onIt) (omega arith) (omega arith) blocked-less)
-    where
-      goes-through : Machine.isIn (st .numbers) ended target ≡ true → s ≢ blocked
-      goes-through e g =
-          let same : w ≡ target = cc (own .waits g .1) in
-          still g (ap (λ (x : ℕ). number (st .numbers) (State.state x)) same ∙ eqb-true _ _ e)
+      schedules-good (Machine.blockedOn st t target) [] is f3 (rw awaited stands) (λ g. rw awaited onIt) (omega arith) (omega arith))
 
   pub acts-good : (st : State) (op : Op) → rowOf p t k ≡ decoded op → Names (threadsOf (p .table)) (cellsOf (p .table)) (rowCount p t) op →
-      (s ≡ blocked → number (st .numbers) (State.state w) ≢ ended) → At st → Good p n l (Machine.acts p st t k op)
+      At st → Good p n (Machine.acts p st t k op)
   unfolding Machine.actsAs
-  acts-good st (Table.load c o r) e h still at =
+  acts-good st (Table.load c o r) e h at =
       let up = Machine.versionRaised st t in
-      slot-good (not-blocked _ own e (omega arith)) up _ _ at (ofLoad c o r (op-is up at ∙ e) (rw (at .is .runs) refl))
-  acts-good st (Table.store c o a) e h still at = moving (stores-after (not-blocked _ own e (omega arith)) st 1 c o a h at)
-  acts-good st (Table.storeRegister c o r) e h still at =
-      moving (stores-after (not-blocked _ own e (omega arith)) st 2 c o (Machine.register st t r) h at)
-  acts-good st (Table.rmw c o f change r) e h still at =
+      slot-good up _ _ at (ofLoad c o r (op-is up at ∙ e) (rw (at .is .runs) refl))
+  acts-good st (Table.store c o a) e h at = moving (stores-after st 1 c o a h at)
+  acts-good st (Table.storeRegister c o r) e h at =
+      moving (stores-after st 2 c o (Machine.register st t r) h at)
+  acts-good st (Table.rmw c o f change r) e h at =
       let up = Machine.versionRaised st t in
-      slot-good (not-blocked _ own e (omega arith)) up _ _ at (ofRmw c o f change r (op-is up at ∙ e) refl)
-  acts-good st (Table.fence o) e h still at =
-      moving (finished (not-blocked _ own e (omega arith)) (Machine.fences p st t o) (oneMore k) _ next-row at)
-  acts-good st (Table.unsyncLoad c r) e h still at =
-      moving (reads-after (not-blocked _ own e (omega arith)) (unsyncLoadDone st t c) 5 r _ 0 (unsync-at st c at))
-  acts-good st (Table.exclusive c change r) e h still at =
-      moving (leaves-after (not-blocked _ own e (omega arith)) (mutDone st t c change) 6 c r (mut-at st c change at))
-  acts-good st Table.yield e h still at = yield-good (not-blocked _ own e (omega arith)) st _ at
-  acts-good st (Table.join target) e h still at = joins-good st 8 target e h still at
-  acts-good st (Table.jump target) e h still at = moving (jumps-after (not-blocked _ own e (omega arith)) st 9 true target h at)
-  acts-good st (Table.jumpIf r a target) e h still at =
-      moving (jumps-after (not-blocked _ own e (omega arith)) st 10 (eqb (Machine.register st t r) a) target h at)
-  acts-good st (Table.jumpUnless r a target) e h still at =
-      moving (jumps-after (not-blocked _ own e (omega arith)) st 11 (not (eqb (Machine.register st t r) a)) target h at)
-  acts-good st (Table.check r a) e h still at =
-      moving (pick (After p n l) (eqb (Machine.register st t r) a) (λ f. finished (not-blocked _ own e (omega arith)) st (oneMore k) _ next-row at)
-      (λ f. stopped (not-blocked _ own e (omega arith)) st Event.check (omega arith) at))
-  acts-good st Table.critical e h still at = moving (explores-after (not-blocked _ own e (omega arith)) st 13 false at)
-  acts-good st Table.exploreState e h still at = moving (explores-after (not-blocked _ own e (omega arith)) st 14 true at)
-  acts-good st Table.skipBranch e h still at =
-      moving (finished (not-blocked _ own e (omega arith)) (Machine.skipped st) (oneMore k) _ next-row (skipped-at st at))
-  acts-good st (Table.spurious r) e h still at = bit-good (not-blocked _ own e (omega arith)) st _ r at (op-is st at ∙ e)
+      slot-good up _ _ at (ofRmw c o f change r (op-is up at ∙ e) refl)
+  acts-good st (Table.fence o) e h at =
+      moving (finished (Machine.fences p st t o) (oneMore k) _ next-row at)
+  acts-good st (Table.unsyncLoad c r) e h at =
+      moving (reads-after (unsyncLoadDone st t c) 5 r _ 0 (unsync-at st c at))
+  acts-good st (Table.exclusive c change r) e h at =
+      moving (leaves-after (mutDone st t c change) 6 c r (mut-at st c change at))
+  acts-good st Table.yield e h at = yield-good st _ at
+  acts-good st (Table.join target) e h at = joins-good st 8 target e h at
+  acts-good st (Table.jump target) e h at = moving (jumps-after st 9 true target h at)
+  acts-good st (Table.jumpIf r a target) e h at =
+      moving (jumps-after st 10 (eqb (Machine.register st t r) a) target h at)
+  acts-good st (Table.jumpUnless r a target) e h at =
+      moving (jumps-after st 11 (not (eqb (Machine.register st t r) a)) target h at)
+  acts-good st (Table.check r a) e h at =
+      moving (pick (After p n) (eqb (Machine.register st t r) a) (λ f. finished st (oneMore k) _ next-row at)
+      (λ f. stopped st Event.check (omega arith) at))
+  acts-good st Table.critical e h at = moving (explores-after st 13 false at)
+  acts-good st Table.exploreState e h at = moving (explores-after st 14 true at)
+  acts-good st Table.skipBranch e h at =
+      moving (finished (Machine.skipped st) (oneMore k) _ next-row (skipped-at st at))
+  acts-good st (Table.spurious r) e h at = bit-good st _ r at (op-is st at ∙ e)

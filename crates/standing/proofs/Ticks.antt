@@ -1,88 +1,49 @@
 -- What the active thread does next: its row begins or acts, or the thread ends. Assumes nothing.
 --     begins-good, ended-good       a row that begins, a thread that ends
 --     next-good                     what the active thread does next
-use Prim.Native.Nat.{ℕ, _+_, _-_, _*_, _≤_, _<_}
+use Prim.Native.Nat.{ℕ, _+_, _-_, _≤_, _<_}
 use mathlib.Core.List.{[]}
-use mathlib.Core.Bool.{Bool, true, false, cond, _&&_}
+use mathlib.Core.Bool.{Bool, true, false, _&&_}
 use mathlib.Core.Path.{_≡_, refl, subst}
 use mathlib.Core.Logic.{_≢_}
 use native.Mathlib.Omega.{arith}
-use lib.Dec.{eqb, leb}
+use lib.Dec.{leb}
 use borrow.Author.Tests.{eqb-true, eqb-false, leb-true, leb-false, lt-ltb}
 use Rattle.rules.specs.Vector.{oneMore, largest}
-use Rattle.rules.specs.Table as Table
 use Rattle.rules.specs.Table.{Op, decoded, threadsOf, cellsOf, judged, good}
 use Rattle.rules.specs.Event as Event
 use Rattle.rules.specs.State as State
 use Rattle.rules.specs.State.{State, Numbers, number, withNumber, threads, cells, phase, begun, rowsOf, operation, operatesOn, nextRow, awaits}
 use Rattle.rules.specs.Machine as Machine
-use Rattle.rules.specs.Machine.{Program, Pending, nothing, pends, pendingOf, active, rowOf, rowCount, forThreads, freed, blocked, ended, toBegin, toAct, noOperation}
-use Rattle.rules.specs.Measure.{ticksLeft, measure}
+use Rattle.rules.specs.Machine.{Program, Pending, nothing, pends, pendingOf, active, rowOf, rowCount, forThreads, freed, runnable, ended, toBegin, toAct, noOperation}
+use Rattle.rules.proofs.NumberLaws.{five-has, more-below}
 use Rattle.rules.proofs.Measure.{Is, aside, toState, toPhase, toBegun, toCell, seen, otherWork}
 use Rattle.rules.proofs.MeasureLoops.{freed-all}
-use Rattle.rules.proofs.MeasureRows.{pick, both-left, both-right, OnCell}
-use Rattle.rules.proofs.MeasureSteps.{measure-is}
-use Rattle.standing.specs.Standing.{Thread, Holds, Schedules, underWay, idle, left}
-use Rattle.standing.proofs.Facts.{Facts, keep, begunOne, freed-facts, freed-none, waits-none, opened, closed, five-has}
-use Rattle.standing.proofs.Rows.{Names, accepted-row}
-use Rattle.standing.proofs.Steps.{going, Good, moving, asking, stops-at, left-is, ticks-begin, ticks-act, acts-good}
-
--- one more, below the largest number
-more-below : (x : ℕ) → x < largest → oneMore x ≡ x + 1
-more-below x h = rw (lt-ltb x largest h)
-
--- what an operation is on, by what the row names
-on-cell : (threads few count : ℕ) → few ≤ cells → (op : Op) → Names threads few count op → OnCell (pendingOf op)
-on-cell threads few count h (Table.load c o r) e = omega arith
-on-cell threads few count h (Table.store c o a) e = omega arith
-on-cell threads few count h (Table.storeRegister c o r) e = omega arith
-on-cell threads few count h (Table.rmw c o f change r) e = omega arith
-on-cell threads few count h (Table.fence o) e = tt
-on-cell threads few count h (Table.unsyncLoad c r) e = tt
-on-cell threads few count h (Table.exclusive c change r) e = tt
-on-cell threads few count h Table.yield e = tt
-on-cell threads few count h (Table.join target) e = tt
-on-cell threads few count h (Table.jump target) e = tt
-on-cell threads few count h (Table.jumpIf r a target) e = tt
-on-cell threads few count h (Table.jumpUnless r a target) e = tt
-on-cell threads few count h (Table.check r a) e = tt
-on-cell threads few count h Table.critical e = tt
-on-cell threads few count h Table.exploreState e = tt
-on-cell threads few count h Table.skipBranch e = tt
-on-cell threads few count h (Table.spurious r) e = tt
-
--- a thread that has ended is as idle as its end takes
-ended-ticks : (s : ℕ) → (ticksLeft ended toBegin ≡ 0) × (5 ≤ ticksLeft s toBegin + idle s)
-unfolding ticksLeft idle
-ended-ticks s = (refl, by (eqb s ended) _)
-  where
-    by : (b : Bool) (x : ℕ) → 5 ≤ 0 + cond b 0 5 + cond b 5 x
-    by true x = omega arith
-    by false x = omega arith
+use Rattle.rules.proofs.MeasureRows.{pick, both-left, both-right, Names, names-more, OnCell, on-cell}
+use Rattle.standing.specs.Standing.{Thread, Over, Holds, Schedules, underWay}
+use Rattle.standing.proofs.Facts.{Facts, keep, begunOne, freed-facts, freed-none, opened, closed, holding}
+use Rattle.standing.proofs.Rows.{accepted-row}
+use Rattle.standing.proofs.Steps.{going, Good, moving, asking, stops-at, acts-good}
 
 module _ (p : Program) (held : cellsOf (p .table) ≤ cells) (few : threadsOf (p .table) ≤ threads) (limited : p .operations ≤ largest) where
-  -- A row has begun: thread t stands so at row k, which is to act
-  module _ (t s k w b m q n l : ℕ) (within : t < threadsOf (p .table)) (own : Thread p t s k toAct w) (free : s ≢ blocked) (sum : n + (q + toAct) ≡ b)
-      (most : b ≤ p .operations) (low : 3 * (p .operations - b) + (m + ticksLeft s toAct) + idle s < l) where
-    begun-holds : (st : State) → Is t s toAct b m (st .numbers) → Facts p t k q b threads (st .numbers) → Holds p st (n + 0)
-    begun-holds st is facts =
-        closed p held few t (omega arith) st (n + 0) within is facts (waits-none p t s k toAct w _ free own) (λ g. absurd (free g))
-        (λ i h g o z. let x : _≡_ {A = ℕ} toAct toBegin = own .over z .0 in omega arith) (omega arith)
+  -- A row has begun: thread t runs at row k, which is to act
+  module _ (t k w b m q n : ℕ) (within : t < threadsOf (p .table)) (own : Thread p t runnable k toAct w) (sum : n + (q + toAct) ≡ b)
+      (most : b ≤ p .operations) where
+    begun-holds : (st : State) → Is t runnable toAct b m (st .numbers) → Facts p t k q b threads (st .numbers) → Holds p st (n + 0)
+    begun-holds st is facts = holding p held few t (omega arith) st (n + 0) within is facts own (omega arith)
 
-    begun-good : (st : State) (pending : Pending) → OnCell pending → Is t s toAct b m (st .numbers) → Facts p t k q b threads (st .numbers) →
-        Good p n l (Machine.begunAs st t pending)
+    begun-good : (st : State) (pending : Pending) → OnCell pending → Is t runnable toAct b m (st .numbers) →
+        Facts p t k q b threads (st .numbers) → Good p n (Machine.begunAs st t pending)
     unfolding Machine.schedules
-    begun-good st nothing h is facts =
-        moving (going (begun-holds st is facts) (omega (arith, left-is p st is)))
+    begun-good st nothing h is facts = moving (going (begun-holds st is facts))
     begun-good st (pends op c) h is facts =
         let below : t < threads = omega arith in
         let st′ = Machine.withOperation st t op c in
         let last = toCell below (aside below is (operation t) op (omega arith)) c h in
         let facts′ = keep p held few t below (keep p held few t below facts (operation t) op (omega arith)) (operatesOn t) c (omega arith) in
         let asked : Schedules p st′ (n + 0) _ _ =
-        record { holds = begun-holds st′ last facts′; isFirst = refl; stand = refl } in
-        let less : measure p st′ < l = omega (arith, measure-is p st′ last) in
-        asking asked less
+        record { over = begun-holds st′ last facts′ .over; isFirst = refl; stand = refl } in
+        asking asked
 
   -- The active thread
   module _ (st : State) (n : ℕ) (holds : Holds p st n) where
@@ -92,71 +53,67 @@ module _ (p : Program) (held : cellsOf (p .table) ≤ cells) (few : threadsOf (p
     abbrev t : ℕ
     t = active st
 
-    abbrev s : ℕ
-    s = number a (State.state t)
-
     abbrev k : ℕ
     k = number a (nextRow t)
 
     abbrev q : ℕ
     q = underWay a - number a (phase t)
 
+    stands : Over p st n
+    stands = holds .over
+
     below : t < threads
-    below = omega (arith, holds .runs)
+    below = omega (arith, stands .runs)
 
     phase-in : number a (phase t) ≤ underWay a
     phase-in = five-has (λ (i : ℕ). number a (phase i)) t below
 
-    own : Thread p t s k (number a (phase t)) (number a (awaits t))
-    own = holds .each t below
+    own : Thread p t runnable k (number a (phase t)) (number a (awaits t))
+    own = rw (holds .ready) at (stands .each t below)
 
     facts : Facts p t k q (number a begun) threads a
-    facts = opened p held few t below st n threads (λ d. refl) holds
+    facts = opened p held few t below st n threads (λ d. refl) stands
 
     module _ (e : number a (phase t) ≡ toBegin) where
-      is-begin : Is t s toBegin (number a begun) (otherWork a t) a
-      is-begin = seen a t below (holds .whole) refl refl e
+      is-begin : Is t runnable toBegin (number a begun) (otherWork a t) a
+      is-begin = seen a t below (stands .whole) refl (holds .ready) e
 
       -- "12 a row is to begin with L begun"
-      begins-good : (op : Op) → k < rowCount p t → OnCell (pendingOf op) → Good p n (left p st) (Machine.begins p st t op)
+      begins-good : (op : Op) → k < rowCount p t → OnCell (pendingOf op) → Good p n (Machine.begins p st t op)
       unfolding Machine.begins
       begins-good op row onCell =
-          pick (Good p n (left p st)) (leb (p .operations) (number a begun))
-          (λ f. moving (stops-at st Event.rows (omega arith) holds))
+          pick (Good p n) (leb (p .operations) (number a begun))
+          (λ f. moving (stops-at st Event.rows (omega arith) stands))
           (λ f. begin (leb-false _ _ f))
         where
-          begin : number a begun < p .operations → Good p n (left p st) (Machine.begunAs (Machine.rowBegun st t) t (pendingOf op))
+          begin : number a begun < p .operations → Good p n (Machine.begunAs (Machine.rowBegun st t) t (pendingOf op))
           begin less =
               let small : t < threads = below in
               let b = number a begun in
-              let free : s ≢ blocked = λ g. let z : number a (phase t) ≡ toAct = own .waits g .0 in omega arith in
-              let going : s ≢ ended = λ g. let z : k ≡ rowCount p t = own .over g .1 in omega arith in
               let more : oneMore b ≡ b + 1 = more-below b (omega arith) in
               let numbers = withNumber a begun (oneMore b) in
-              let begun-is : Is t s toAct (b + 1) (otherWork a t) (Machine.rowBegun st t .numbers) =
-              subst (λ (x : ℕ). Is t s toAct x (otherWork a t) (Machine.rowBegun st t .numbers)) more
+              let begun-is : Is t runnable toAct (b + 1) (otherWork a t) (Machine.rowBegun st t .numbers) =
+              subst (λ (x : ℕ). Is t runnable toAct x (otherWork a t) (Machine.rowBegun st t .numbers)) more
               (toPhase below (aside below (toBegun below is-begin (oneMore b)) (rowsOf t) (oneMore (number numbers (rowsOf t))) (omega arith)) toAct) in
               let f1 = keep p held few t below facts begun (oneMore b) (omega arith) in
               let fewer : number numbers (rowsOf t) ≤ b = omega (arith, five-has (λ (i : ℕ). number numbers (rowsOf i)) t below, f1 .rows) in
               let f2 = begunOne p held few t below f1 (oneMore (number numbers (rowsOf t))) (more-below _ (omega arith)) in
               let f3 = keep p held few t below f2 (phase t) toAct (omega arith) in
-              let acts : Thread p t s k toAct (number a (awaits t)) =
+              let acts : Thread p t runnable k toAct (number a (awaits t)) =
               record {
                 present = own .present;
                 missing = own .missing;
                 phased = omega arith;
                 row = own .row;
                 acts = λ g. row;
-                over = λ g. absurd (going g);
-                waits = λ g. absurd (free g);
+                over = λ g. absurd (omega arith);
+                waits = λ g. absurd (omega arith);
               } in
-              begun-good t s k (number a (awaits t)) (b + 1) (otherWork a t) q n (left p st) (holds .runs) acts free
-              (omega (arith, holds .entries, phase-in)) (omega arith)
-              (omega (arith, left-is p st is-begin, ticks-begin s going, ticks-act s going))
-              (Machine.rowBegun st t) (pendingOf op) onCell begun-is f3
+              begun-good t k (number a (awaits t)) (b + 1) (otherWork a t) q n (stands .runs) acts
+              (omega (arith, stands .entries, phase-in)) (omega arith) (Machine.rowBegun st t) (pendingOf op) onCell begun-is f3
 
       -- "Past its last row a thread ends"
-      ended-good : rowCount p t ≤ k → Good p n (left p st) (Machine.schedules (Machine.threadEnded st t) [])
+      ended-good : rowCount p t ≤ k → Good p n (Machine.schedules (Machine.threadEnded st t) [])
       unfolding Machine.threadEnded Machine.schedules
       ended-good past =
           let small : t < threads = below in
@@ -168,7 +125,7 @@ module _ (p : Program) (held : cellsOf (p .table) ≤ cells) (few : threadsOf (p
           let over : Thread p t ended k toBegin (number (forThreads (freed t) threads 0 a2) (awaits t)) =
           record {
             present = λ h. omega arith;
-            missing = λ h. absurd (omega (arith, holds .runs));
+            missing = λ h. absurd (omega (arith, stands .runs));
             phased = omega arith;
             row = own .row;
             acts = λ h. absurd (omega arith);
@@ -177,43 +134,40 @@ module _ (p : Program) (held : cellsOf (p .table) ≤ cells) (few : threadsOf (p
           } in
           let asked : Schedules p (Machine.threadEnded st t) (n + 0) _ _ =
           record {
-            holds = closed p held few t below (Machine.threadEnded st t) (n + 0) (holds .runs) (all .1) f3 over
+            over = closed p held few t below (Machine.threadEnded st t) (n + 0) (stands .runs) (all .1) f3 over
                 (λ g. absurd (omega arith)) (λ i h g o. absurd (freed-none t a2 (f2 .long) i h g o))
-                (omega (arith, holds .entries, phase-in, holds .limited));
+                (omega (arith, stands .entries, phase-in, stands .limited));
             isFirst = refl;
             stand = refl;
           } in
-          let less : measure p (Machine.threadEnded st t) < left p st =
-          omega (arith, measure-is p (Machine.threadEnded st t) (all .1), all .3 (omega arith), left-is p st is-begin, ended-ticks s) in
-          asking asked less
+          asking asked
 
     -- the row has begun
     acts-next : (op : Op) → number a (phase t) ≡ toAct → rowOf p t k ≡ decoded op →
-        Names (threadsOf (p .table)) (cellsOf (p .table)) (rowCount p t) op → Good p n (left p st) (Machine.acts p st t k op)
+        Names (threadsOf (p .table)) (cellsOf (p .table)) (rowCount p t) op → Good p n (Machine.acts p st t k op)
     acts-next op e row names =
-        let is : Is t s toAct (number a begun) (otherWork a t) a = seen a t below (holds .whole) refl refl e in
-        acts-good p held few t s k (number a (awaits t)) (number a begun) (otherWork a t) q n (left p st) (holds .runs) (rw e at own)
-        (omega (arith, holds .entries, phase-in)) (holds .limited) (omega (arith, left-is p st is)) st op row names
-        (holds .blocks t below) (record { is = is; facts = facts })
+        let is : Is t runnable toAct (number a begun) (otherWork a t) a = seen a t below (stands .whole) refl (holds .ready) e in
+        acts-good p held few t k (number a (awaits t)) (number a begun) (otherWork a t) q n (stands .runs) (rw e at own)
+        (omega (arith, stands .entries, phase-in)) (stands .limited) st op row names (record { is = is; facts = facts })
 
     module _ (accepted : judged (p .table) ≡ good) where
       -- it begins its row or, where that has begun, acts
-      row-good : k < rowCount p t → Good p n (left p st) (Machine.ofRow p st t k (rowOf p t k))
+      row-good : k < rowCount p t → Good p n (Machine.ofRow p st t k (rowOf p t k))
       row-good row =
           let said = accepted-row p accepted t k row in
           let op = said .0 in
           rw (said .1)
-          (pick (Good p n (left p st)) (Machine.isToBegin st t)
-          (λ e. begins-good (eqb-true _ _ e) op row (on-cell _ _ _ held op (said .2)))
+          (pick (Good p n) (Machine.isToBegin st t)
+          (λ e. begins-good (eqb-true _ _ e) op row (on-cell threads (rowCount p t) op (names-more _ _ _ few held op (said .2))))
           (λ e. acts-next op (to-act (eqb-false _ _ e)) (said .1) (said .2)))
         where
           to-act : number a (phase t) ≢ toBegin → number a (phase t) ≡ toAct
           to-act d = omega (arith, own .phased)
 
-      next-at : Good p n (left p st) (Machine.nextAt p st t k)
+      next-at : Good p n (Machine.nextAt p st t k)
       unfolding Machine.nextAt
       next-at =
-          pick (Good p n (left p st)) (Machine.isToBegin st t && leb (rowCount p t) k)
+          pick (Good p n) (Machine.isToBegin st t && leb (rowCount p t) k)
           (λ e. ended-good (eqb-true _ _ (both-left _ _ e)) (leb-true _ _ (both-right (Machine.isToBegin st t) _ e)))
           (λ e. row-good (is-row (Machine.isToBegin st t) refl e))
         where
@@ -221,6 +175,6 @@ module _ (p : Program) (held : cellsOf (p .table) ≤ cells) (few : threadsOf (p
           is-row true e f = leb-false _ _ f
           is-row false e f = let d : number a (phase t) ≢ toBegin = eqb-false _ _ e in own .acts (omega (arith, own .phased))
 
-      pub next-good : Good p n (left p st) (Machine.next p st .move)
+      pub next-good : Good p n (Machine.next p st .move)
       unfolding Machine.next
       next-good = rw (lt-ltb (active st) threads below) next-at

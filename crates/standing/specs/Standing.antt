@@ -2,16 +2,15 @@
 -- entries of the trace; and what stands where the machine asks. It is what a machine keeps (crate kept), so it speaks of every
 -- state that a run comes to: between ticks, where it asks, where it stops and where it ends. Assumes nothing.
 --     Thread              one thread's state, row and phase, and whom it waits for
---     Holds               the numbers of a state, with so many entries in the trace
+--     Over                the numbers of a state, with so many entries in the trace
+--     Holds               and between ticks, where the active thread runs
 --     Asked               and of a state that asks, its question
---     left                how many ticks an execution may still take, also from a state that stopped
 --     SomeOffered         where orders are not equal, some store is offered
 use Prim.Native.Nat.{ℕ, _+_, _≤_, _<_}
 use mathlib.Core.List.{List, map}
-use mathlib.Core.Bool.{Bool, cond}
+use mathlib.Core.Bool.{Bool}
 use mathlib.Core.Path.{_≡_}
 use mathlib.Core.Logic.{_≢_}
-use lib.Dec.{eqb}
 use lib.ListN.{length}
 use Rattle.rules.specs.Vector.{Whom}
 use Rattle.rules.specs.Change.{Change}
@@ -23,9 +22,9 @@ use Rattle.rules.specs.State.{State, Clocks, Numbers, number, marksOf, threads,
 use Rattle.rules.specs.Cell.{matchedLoad, matchedRmw}
 use Rattle.rules.specs.Machine as Machine
 use Rattle.rules.specs.Machine.{Program, rowCount, rowOf, absent, runnable, blocked, yielded, ended, toBegin, toAct, active, activeOp, everyThread}
-use Rattle.rules.specs.Measure.{Whole, measure}
+use Rattle.rules.specs.Measure.{Whole}
 
--- Between ticks
+-- Wherever a run comes to
 
 -- a thread that stands so, at row k, which is in this phase; and the thread that it waits for, where it is blocked
 pub record Thread (p : Program) (t stands k ph target : ℕ) : Type 0 where
@@ -56,7 +55,7 @@ abbrev pub begunBy : Numbers → ℕ
 begunBy a = number a (rowsOf 0) + number a (rowsOf 1) + number a (rowsOf 2) + number a (rowsOf 3) + number a (rowsOf 4)
 
 -- a state, with n entries in the trace
-pub record Holds (p : Program) (st : State) (n : ℕ) : Type 0 where
+pub record Over (p : Program) (st : State) (n : ℕ) : Type 0 where
   -- the numbers are all there, and every pending operation is on a cell
   pub whole : Whole (st .numbers)
   -- the active thread is one of the table's
@@ -75,11 +74,17 @@ pub record Holds (p : Program) (st : State) (n : ℕ) : Type 0 where
   pub shared : begunBy (st .numbers) ≡ number (st .numbers) begun
   pub limited : number (st .numbers) begun ≤ p .operations
 
+-- between ticks the active thread is one that can act; where a scheduling is asked for, and where an execution has stopped or ended,
+-- it may be blocked, may have yielded or ended
+pub record Holds (p : Program) (st : State) (n : ℕ) : Type 0 where
+  pub over : Over p st n
+  pub ready : number (st .numbers) (State.state (active st)) ≡ runnable
+
 -- Where it asks
 
 -- for a scheduling
 pub record Schedules (p : Program) (st : State) (n : ℕ) (first : Whom) (standings : List Standing) : Type 0 where
-  pub holds : Holds p st n
+  pub over : Over p st n
   pub isFirst : first ≡ Machine.initial (st .numbers)
   pub stand : standings ≡ map (Machine.standing (st .numbers)) everyThread
 
@@ -107,16 +112,6 @@ abbrev pub Asked : Program → State → ℕ → Question → Type 0
 Asked p st n (whichThread points first standings) = Schedules p st n first standings
 Asked p st n (whichSlot m) = Reads p st n m
 Asked p st n whichBit = Takes p st n
-
--- The ticks that are left
-
--- Where an execution has stopped or ended its active thread may be one that cannot run: blocked, or ended. So that each tick counts
--- even there, as much is added as that thread's next tick could take back
-unfoldable pub idle : ℕ → ℕ
-idle stands = cond (eqb stands ended) 5 (cond (eqb stands blocked) 1 0)
-
-unfoldable pub left : Program → State → ℕ
-left p st = measure p st + idle (number (st .numbers) (State.state (active st)))
 
 -- What is taken from the match: a cell that has a store offers one, where no equal orders are met
 
