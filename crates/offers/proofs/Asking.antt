@@ -96,16 +96,16 @@ module _ (p : Program) (st : State) (t k : ℕ) (row : Decoded Op) (s : State) w
   bare-ask Table.skipBranch e = tt
   bare-ask (Table.spurious r) e = tt
 
-  begun-ask : (x : Pending) → OfMove st t row (Machine.begunAs s t x)
-  begun-ask nothing = tt
-  begun-ask (pends action c) = schedules-ask (Machine.withOperation s t action c) []
+  begun-ask : (op : Op) (x : Pending) → pendingOf op ≡ x → OfMove st t row (Machine.begunAs p s t k op x)
+  begun-ask op nothing e = bare-ask op e
+  begun-ask op (pends action c) e = schedules-ask (Machine.withOperation s t action c) []
 
 module _ (p : Program) (st : State) (t k : ℕ) where
-  begins-ask : (row : Decoded Op) (op : Op) → OfMove st t row (Machine.begins p st t op)
+  begins-ask : (row : Decoded Op) (op : Op) → OfMove st t row (Machine.begins p st t k op)
   unfolding Machine.begins
   begins-ask row op =
       pick (OfMove st t row) (leb (p .operations) (number (st .numbers) begun)) (λ e. tt)
-      (λ e. begun-ask p st t k row (Machine.rowBegun st t) (pendingOf op))
+      (λ e. begun-ask p st t k row (Machine.rowBegun st t) op (pendingOf op) refl)
 
   acts-ask : (op : Op) → OfMove st t (decoded op) (Machine.acts p st t k op)
   unfolding Machine.actsAs

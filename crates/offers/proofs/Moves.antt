@@ -25,7 +25,7 @@ use Rattle.rules.proofs.StateLaws.{number-other, number-kept}
 use Rattle.rules.proofs.MeasureRows.{pick, OnCell, RowOnCell, row-on-cell}
 use Rattle.offers.proofs.Joined.{targetOf, RowJoins, row-joins}
 use Rattle.offers.proofs.Growing.{low, Grows, grows-trans, join-grows, raise-grows, schedule-flows, fenced-grows, recorded-grows, Small}
-use Rattle.offers.proofs.Steps.{SameCounts, SoundState, Quiet, quiet-refl, quiet-trans, Calm, Steps, calm-trans, calm-more, calm-clocks, calm-rest, calm-step, calm-before, calm-after, store-steps}
+use Rattle.offers.proofs.Steps.{SameCounts, SoundState, Quiet, quiet-trans, Calm, Steps, calm-trans, calm-more, calm-clocks, calm-rest, calm-step, calm-before, calm-after, store-steps}
 use Rattle.offers.proofs.Accessing.{Accessed, unsync-accessed, mut-accessed}
 
 -- Counts
@@ -286,9 +286,10 @@ module _ (t n : ℕ) (below : t < threads) (st : State) (sound : SoundState n st
       (calm-rest m s (s .values) (Machine.withOperation s t op c .numbers)
       (counts-then a (withNumber a (operation t) op) s1 (operatesOn t) c (omega arith)))
 
-  begun-next : (x : Pending) → NextOf t n st (Machine.begunAs st t x)
-  begun-next nothing = (inr (quiet-refl st), λ m h. calm-step (more m (omega arith)) sound)
-  begun-next (pends action c) =
+  begun-next : (p : Program) (k : ℕ) (op : Op) (x : Pending) → OnCell (pendingOf op) → targetOf op < 5 →
+      NextOf t n st (Machine.begunAs p st t k op x)
+  begun-next p k op nothing on l = acts-next p k op on l
+  begun-next p k op (pends action c) on l =
       schedules-next (Machine.withOperation st t action c) [] (λ m h. pending-calm st action c m (more m (omega arith)))
 
   ended-calm : (m : ℕ) → n ≤ m → Calm n m st (Machine.threadEnded st t)
@@ -334,19 +335,20 @@ module _ (t n : ℕ) (below : t < threads) (st : State) (sound : SoundState n st
         number-kept a2 (phase t) Machine.toAct,
       )
 
-  begins-next : (p : Program) (op : Op) → NextOf t n st (Machine.begins p st t op)
+  begins-next : (p : Program) (k : ℕ) (op : Op) → OnCell (pendingOf op) → targetOf op < 5 →
+      NextOf t n st (Machine.begins p st t k op)
   unfolding Machine.begins
-  begins-next p op =
+  begins-next p k op on l =
       let calm = begun-calm t n below st sound long n (omega arith) in
       pick (NextOf t n st) (leb (p .operations) (number (st .numbers) begun)) (λ e m h. calm-more n m st (omega arith))
-      (λ e. before-next t n below calm (Machine.begunAs (Machine.rowBegun st t) t (pendingOf op))
-      (begun-next t n below (Machine.rowBegun st t) (calm .sound sound) begun-long (pendingOf op)))
+      (λ e. before-next t n below calm (Machine.begunAs p (Machine.rowBegun st t) t k op (pendingOf op))
+      (begun-next t n below (Machine.rowBegun st t) (calm .sound sound) begun-long p k op (pendingOf op) on l))
 
   row-next : (p : Program) (k : ℕ) (row : Decoded Op) → RowOnCell row → RowJoins row → NextOf t n st (Machine.ofRow p st t k row)
   unfolding RowOnCell RowJoins
   row-next p k refused on l = λ m h. calm-more n m st (omega arith)
   row-next p k (decoded op) on l =
-      pick (NextOf t n st) (Machine.isToBegin st t) (λ e. begins-next p op) (λ e. acts-next t n below st sound long p k op on l)
+      pick (NextOf t n st) (Machine.isToBegin st t) (λ e. begins-next p k op on l) (λ e. acts-next t n below st sound long p k op on l)
 
   at-next : (p : Program) (k : ℕ) → NextOf t n st (Machine.nextAt p st t k)
   unfolding Machine.nextAt

@@ -98,24 +98,25 @@ module _ (st : State) (t k : ℕ) where
   acts-entries p Table.skipBranch = bare t k 15 (omega arith) (omega arith)
   acts-entries p (Table.spurious r) = tt
 
-  begun-entries : (s : State) (x : Pending) → EntriesOf (Machine.begunAs s t x)
-  begun-entries s nothing = tt
-  begun-entries s (pends op c) = schedules-entries (Machine.withOperation s t op c) [] tt
+  begun-entries : (p : Program) (op : Op) (x : Pending) → EntriesOf (Machine.begunAs p st t k op x)
+  begun-entries p op nothing = acts-entries p op
+  begun-entries p op (pends action c) = schedules-entries (Machine.withOperation st t action c) [] tt
 
-  begins-entries : (p : Program) (op : Op) → EntriesOf (Machine.begins p st t op)
+module _ (st : State) (t k : ℕ) where
+  begins-entries : (p : Program) (op : Op) → EntriesOf (Machine.begins p st t k op)
   unfolding Machine.begins
   begins-entries p op =
       pick EntriesOf (leb (p .operations) (number (st .numbers) begun)) (λ e. tt)
-      (λ e. begun-entries (Machine.rowBegun st t) (pendingOf op))
+      (λ e. begun-entries (Machine.rowBegun st t) t k p op (pendingOf op))
 
   row-entries : (p : Program) (row : Decoded Op) → EntriesOf (Machine.ofRow p st t k row)
   row-entries p refused = tt
-  row-entries p (decoded op) = pick EntriesOf (Machine.isToBegin st t) (λ e. begins-entries p op) (λ e. acts-entries p op)
+  row-entries p (decoded op) = pick EntriesOf (Machine.isToBegin st t) (λ e. begins-entries p op) (λ e. acts-entries st t k p op)
 
   at-entries : (p : Program) → EntriesOf (Machine.nextAt p st t k)
   unfolding Machine.nextAt
   at-entries p =
-      pick EntriesOf (Machine.isToBegin st t && leb (rowCount p t) k) (λ e. schedules-entries (Machine.threadEnded st t) [] tt)
+      pick EntriesOf (Machine.isToBegin st t && leb (rowCount p t) k) (λ e. schedules-entries st t k (Machine.threadEnded st t) [] tt)
       (λ e. row-entries p (rowOf p t k))
 
   bit-entries : (v : ℕ) (row : Decoded Op) → EntriesOf (Machine.bitTaken st t k v row)
