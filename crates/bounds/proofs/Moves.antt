@@ -1,6 +1,5 @@
 -- The bounds at the machine's events: a row begins, a thread ends, a scheduling goes on, a row has its answer. Assumes nothing.
 --     Counted              the numbers of a state
---     begun-acts           a row that has just begun would act in bounds, too
 --     next-going           what the active thread does next
 --     thread-ending, slot-ending, spurious-ending        how it goes on with an answer
 use Prim.Native.Nat.{ℕ, _+_, _≤_, _<_}
@@ -117,12 +116,22 @@ module _ (p : Program) (fits : Fits p) (t n : ℕ) (rows owing waits least : ℕ
   begun-waits u =
       of-given (λ (x : ℕ). x ≤ given t 1 waits u) t 0 waits u (λ e. omega arith) (λ d. omega (arith, given-other t 1 waits u d))
 
+  -- a row that sets no operation acts at once
+  begun-acts : (was st : State) (k : ℕ) (op : Op) → Names threads cells (rowCount p t) op → version (st .clocks) t ≤ least t → Begun was st →
+      Going p n (Machine.acts p st t k op)
+  begun-acts was st k op h v s =
+      acts-going p fits t n (rowsThen was) (given t 1 owing) waits least below (given-own t 1 owing) st k op h v
+      (eased-at st
+      (λ i u x b j. part-eased (rowsThen was) (rowsThen was) (given t 1 owing) (given t 1 waits) (given t 1 owing) (but t waits) i u x
+      (omega arith) (omega arith) (begun-waits u) j)
+      s)
+
   -- "Scheduling is called before opcodes 0, 1, 2, 3 act (pending operation set first)"
-  begun-going : (was st : State) (pending : Pending) → Begun was st → Going p n (Machine.begunAs st t pending)
+  begun-going : (was st : State) (k : ℕ) (row : Op) (pending : Pending) → Names threads cells (rowCount p t) row → version (st .clocks) t ≤ least t →
+      Begun was st → Going p n (Machine.begunAs p st t k row pending)
   unfolding Machine.schedules
-  begun-going was st nothing s =
-      no-more (Holds p st) n (holds st s (λ u b. omega arith) (λ u b. begun-waits u))
-  begun-going was st (pends op c) s =
+  begun-going was st k row nothing h v s = begun-acts was st k row h v s
+  begun-going was st k row (pends op c) h v s =
       let a = st .numbers in
       let st′ = Machine.withOperation st t op c in
       let at : At p t n (rowsThen was) (given t 1 owing) (given t 1 owing) (given t 1 waits) least
@@ -136,21 +145,12 @@ module _ (p : Program) (fits : Fits p) (t n : ℕ) (rows owing waits least : ℕ
       } in
       no-more (Bounds.Scheduling p st′) n (asks-thread st′ at (λ u b. omega arith) (λ u b. omega arith))
 
-  -- it could act at once
-  pub begun-acts : (was st : State) (k : ℕ) (op : Op) → Names threads cells (rowCount p t) op → version (st .clocks) t ≤ least t → Begun was st →
-      Going p n (Machine.acts p st t k op)
-  begun-acts was st k op h v s =
-      acts-going p fits t n (rowsThen was) (given t 1 owing) waits least below (given-own t 1 owing) st k op h v
-      (eased-at st
-      (λ i u x b j. part-eased (rowsThen was) (rowsThen was) (given t 1 owing) (given t 1 waits) (given t 1 owing) (but t waits) i u x
-      (omega arith) (omega arith) (begun-waits u) j)
-      s)
-
-  begins-going : (st : State) (op : Op) → Idle st → Going p n (Machine.begins p st t op)
+  begins-going : (st : State) (k : ℕ) (op : Op) → Names threads cells (rowCount p t) op → version (st .clocks) t ≤ least t → Idle st →
+      Going p n (Machine.begins p st t k op)
   unfolding Machine.begins
-  begins-going st op s =
+  begins-going st k op h v s =
       pick (Going p n) (leb (p .operations) (number (st .numbers) begun)) (λ e. over st s)
-      (λ e. begun-going st (Machine.rowBegun st t) (pendingOf op) (begun-at st (leb-false _ _ e) s))
+      (λ e. begun-going st (Machine.rowBegun st t) k op (pendingOf op) h v (begun-at st (leb-false _ _ e) s))
 
   -- "Past its last row a thread ends"
   ends-going : (st : State) → Idle st → Going p n (Machine.schedules (Machine.threadEnded st t) [])
@@ -184,7 +184,7 @@ module _ (p : Program) (fits : Fits p) (st : State) (n : ℕ) (s : Holds p st n)
   row-going k refused h = over st (opened st s)
   row-going k (decoded op) h =
       pick (Going p n) (Machine.isToBegin st now)
-      (λ e. begins-going p fits now n _ _ _ _ (s .tally .runs) (nothing-owed e) st op (opened st s))
+      (λ e. begins-going p fits now n _ _ _ _ (s .tally .runs) (nothing-owed e) st k op h (omega arith) (opened st s))
       (λ e. acts-going p fits now n _ _ _ _ (s .tally .runs) (one-owed e) st k op h (omega arith) (opened st s))
 
   next-at : (k : ℕ) → Going p n (Machine.nextAt p st now k)

@@ -32,11 +32,13 @@ module _ (p : Program) (held : cellsOf (p .table) ≤ cells) (few : threadsOf (p
     begun-holds : (st : State) → Is t runnable toAct b m (st .numbers) → Facts p t k q b threads (st .numbers) → Holds p st (n + 0)
     begun-holds st is facts = holding p held few t (omega arith) st (n + 0) within is facts own (omega arith)
 
-    begun-good : (st : State) (pending : Pending) → OnCell pending → Is t runnable toAct b m (st .numbers) →
-        Facts p t k q b threads (st .numbers) → Good p n (Machine.begunAs st t pending)
+    begun-good : (st : State) (row : Op) (pending : Pending) → rowOf p t k ≡ decoded row →
+        Names (threadsOf (p .table)) (cellsOf (p .table)) (rowCount p t) row → OnCell pending → Is t runnable toAct b m (st .numbers) →
+        Facts p t k q b threads (st .numbers) → Good p n (Machine.begunAs p st t k row pending)
     unfolding Machine.schedules
-    begun-good st nothing h is facts = moving (going (begun-holds st is facts))
-    begun-good st (pends op c) h is facts =
+    begun-good st row nothing e names h is facts =
+        acts-good p held few t k w b m q n within own (omega arith) most st row e names (record { is = is; facts = facts })
+    begun-good st row (pends op c) e names h is facts =
         let below : t < threads = omega arith in
         let st′ = Machine.withOperation st t op c in
         let last = toCell below (aside below is (operation t) op (omega arith)) c h in
@@ -79,14 +81,15 @@ module _ (p : Program) (held : cellsOf (p .table) ≤ cells) (few : threadsOf (p
       is-begin = seen a t below (stands .whole) refl (holds .ready) e
 
       -- "12 a row is to begin with L begun"
-      begins-good : (op : Op) → k < rowCount p t → OnCell (pendingOf op) → Good p n (Machine.begins p st t op)
+      begins-good : (op : Op) → k < rowCount p t → rowOf p t k ≡ decoded op → Names (threadsOf (p .table)) (cellsOf (p .table)) (rowCount p t) op →
+          OnCell (pendingOf op) → Good p n (Machine.begins p st t k op)
       unfolding Machine.begins
-      begins-good op row onCell =
+      begins-good op row is-row names onCell =
           pick (Good p n) (leb (p .operations) (number a begun))
           (λ f. moving (stops-at st Event.rows (omega arith) stands))
           (λ f. begin (leb-false _ _ f))
         where
-          begin : number a begun < p .operations → Good p n (Machine.begunAs (Machine.rowBegun st t) t (pendingOf op))
+          begin : number a begun < p .operations → Good p n (Machine.begunAs p (Machine.rowBegun st t) t k op (pendingOf op))
           begin less =
               let small : t < threads = below in
               let b = number a begun in
@@ -110,7 +113,7 @@ module _ (p : Program) (held : cellsOf (p .table) ≤ cells) (few : threadsOf (p
                 waits = λ g. absurd (omega arith);
               } in
               begun-good t k (number a (awaits t)) (b + 1) (otherWork a t) q n (stands .runs) acts
-              (omega (arith, stands .entries, phase-in)) (omega arith) (Machine.rowBegun st t) (pendingOf op) onCell begun-is f3
+              (omega (arith, stands .entries, phase-in)) (omega arith) (Machine.rowBegun st t) op (pendingOf op) is-row names onCell begun-is f3
 
       -- "Past its last row a thread ends"
       ended-good : rowCount p t ≤ k → Good p n (Machine.schedules (Machine.threadEnded st t) [])
@@ -158,7 +161,7 @@ module _ (p : Program) (held : cellsOf (p .table) ≤ cells) (few : threadsOf (p
           let op = said .0 in
           rw (said .1)
           (pick (Good p n) (Machine.isToBegin st t)
-          (λ e. begins-good (eqb-true _ _ e) op row (on-cell threads (rowCount p t) op (names-more _ _ _ few held op (said .2))))
+          (λ e. begins-good (eqb-true _ _ e) op row (said .1) (said .2) (on-cell threads (rowCount p t) op (names-more _ _ _ few held op (said .2))))
           (λ e. acts-next op (to-act (eqb-false _ _ e)) (said .1) (said .2)))
         where
           to-act : number a (phase t) ≢ toBegin → number a (phase t) ≡ toAct
