@@ -20,7 +20,7 @@ use Rattle.rules.specs.Explorer.{Verdict, exhausted, spent, stopped}
 use Rattle.rules.specs.Explored.{Settings, Explored, explored, refused, ran, reported, isRefusal, settingsFine, stopOf, noted, verdictNumber}
 use Rattle.rules.proofs.ExploredLaws.{explored-2, explored-3, explored-4, explored-5-header, explored-5-row, explored-ran}
 use Rattle.offers.specs.Offered.{Among}
-use Rattle.demands.specs.Demands.{Answered, Exactly, inRange, pathFits, traceFits, it, report, run, theAnswers}
+use Rattle.demands.specs.Demands.{right, Answered, Exactly, inRange, pathFits, traceFits, it, report, run, theAnswers}
 
 -- A verdict's number
 
@@ -84,16 +84,16 @@ same-row e = (ap (λ (j : Table.Verdict). place j .0) e, ap (λ (j : Table.Verdi
 
 module _ (table : List ℕ) (s : Settings) (path trace : List ℕ) where
   abbrev whole : Explored
-  whole = it table s path trace
+  whole = it right table s path trace
 
   abbrev fine : Type 0
-  fine = inRange table s path trace
+  fine = inRange right table s path trace
 
   abbrev pathy : Type 0
-  pathy = pathFits table s path trace
+  pathy = pathFits right table s path trace
 
   abbrev tracy : Type 0
-  tracy = traceFits table s path trace
+  tracy = traceFits right table s path trace
 
   pub data Case : Type 0 where
     badSettings : settingsFine s ≡ false → whole ≡ refused 2 255 255 path trace → Case
@@ -128,30 +128,30 @@ module _ (table : List ℕ) (s : Settings) (path trace : List ℕ) where
       bySettings false e = badSettings e (explored-2 table s path trace e)
 
   -- the answer of each
-  refused-number : (n t k : ℕ) → whole ≡ refused n t k path trace → (report table s path trace .answer ≡ n) × (report table s path trace .thread ≡ t) × (report table s path trace .row ≡ k)
+  refused-number : (n t k : ℕ) → whole ≡ refused n t k path trace → (report right table s path trace .answer ≡ n) × (report right table s path trace .thread ≡ t) × (report right table s path trace .row ≡ k)
   unfolding refused
   refused-number n t k e =
       (ap (λ (x : Explored). x .report .answer) e, ap (λ (x : Explored). x .report .thread) e, ap (λ (x : Explored). x .report .row) e)
 
-  pub ran-number : whole ≡ ran (length path) (length trace) (stopOf table s) → report table s path trace .answer ≡ verdictNumber (run table s path trace .verdict)
+  pub ran-number : whole ≡ ran (length path) (length trace) (stopOf table s) → report right table s path trace .answer ≡ verdictNumber (run right table s path trace .verdict)
   unfolding ran reported
   ran-number e = ap (λ (x : Explored). x .report .answer) e
 
   -- a run's number is none of the refusals'
-  ran-not : (n : ℕ) → 2 ≤ n → n ≤ 5 → whole ≡ ran (length path) (length trace) (stopOf table s) → report table s path trace .answer ≢ n
-  ran-not n h k e f = go (numbered (run table s path trace .verdict))
+  ran-not : (n : ℕ) → 2 ≤ n → n ≤ 5 → whole ≡ ran (length path) (length trace) (stopOf table s) → report right table s path trace .answer ≢ n
+  ran-not n h k e f = go (numbered (run right table s path trace .verdict))
     where
-      go : Numbered (verdictNumber (run table s path trace .verdict)) → ⊥
+      go : Numbered (verdictNumber (run right table s path trace .verdict)) → ⊥
       go (ended l) = omega (arith, ran-number e)
       go (faulty l) = omega (arith, ran-number e)
 
-  refused-as : (n t k : ℕ) → whole ≡ refused n t k path trace → whole ≡ refused (report table s path trace .answer) (report table s path trace .thread) (report table s path trace .row) path trace
+  refused-as : (n t k : ℕ) → whole ≡ refused n t k path trace → whole ≡ refused (report right table s path trace .answer) (report right table s path trace .thread) (report right table s path trace .row) path trace
   refused-as n t k e = let z = refused-number n t k e in e ∙ (cc (z .0, z .1, z .2))
 
   -- Which reason an answer has
 
   abbrev answer : ℕ
-  answer = report table s path trace .answer
+  answer = report right table s path trace .answer
 
   differs : (n m t k : ℕ) → whole ≡ refused m t k path trace → (n ≡ m → ⊥) → answer ≡ n → ⊥
   differs n m t k e h f = h (sym f ∙ refused-number m t k e .0)
@@ -179,8 +179,8 @@ module _ (table : List ℕ) (s : Settings) (path trace : List ℕ) where
 
   pub record Bad : Type 0 where
     pub first : fine × pathy × tracy × (judged table ≢ good)
-    pub header : judged table ≡ badHeader → (report table s path trace .thread ≡ 255) × (report table s path trace .row ≡ 255)
-    pub row : (t k : ℕ) → judged table ≡ badRow t k → (report table s path trace .thread ≡ t) × (report table s path trace .row ≡ k)
+    pub header : judged table ≡ badHeader → (report right table s path trace .thread ≡ 255) × (report right table s path trace .row ≡ 255)
+    pub row : (t k : ℕ) → judged table ≡ badRow t k → (report right table s path trace .thread ≡ t) × (report right table s path trace .row ≡ k)
 
   five-only : Case → answer ≡ 5 → Bad
   five-only (badSettings f e) h = absurd (differs 5 2 255 255 e (λ z. omega (arith, z)) h)
@@ -198,12 +198,12 @@ module _ (table : List ℕ) (s : Settings) (path trace : List ℕ) where
   five-whenever (badTable a b c t k d u v e) h = refused-number 5 t k e .0
   five-whenever (runs a b c d e) h = absurd (h .3 d)
 
-  refuses : Case → isRefusal answer ≡ true → whole ≡ refused answer (report table s path trace .thread) (report table s path trace .row) path trace
+  refuses : Case → isRefusal answer ≡ true → whole ≡ refused answer (report right table s path trace .thread) (report right table s path trace .row) path trace
   refuses (badSettings f e) h = refused-as 2 255 255 e
   refuses (badPath a b e) h = refused-as 3 255 255 e
   refuses (badTrace a b c e) h = refused-as 4 255 255 e
   refuses (badTable a b c t k d u v e) h = refused-as 5 t k e
-  refuses (runs a b c d e) h = absurd (true-false h (ap isRefusal (ran-number e) ∙ not-refusal (run table s path trace .verdict)))
+  refuses (runs a b c d e) h = absurd (true-false h (ap isRefusal (ran-number e) ∙ not-refusal (run right table s path trace .verdict)))
 
   -- what a run has passed, and what it then is
   pub record Ran : Type 0 where
@@ -227,22 +227,22 @@ module _ (table : List ℕ) (s : Settings) (path trace : List ℕ) where
   pub has-run : isRefusal answer ≡ false → Ran
   has-run = ran-by whichCase
 
-  among-by : Case → ((r : Ran) (site : Site) → run table s path trace .verdict ≡ stopped Event.impossible site → ⊥) → Among answer theAnswers
+  among-by : Case → ((r : Ran) (site : Site) → run right table s path trace .verdict ≡ stopped Event.impossible site → ⊥) → Among answer theAnswers
   among-by (badSettings f e) h = (2, omega arith, sym (refused-number 2 255 255 e .0))
   among-by (badPath a b e) h = (3, omega arith, sym (refused-number 3 255 255 e .0))
   among-by (badTrace a b c e) h = (4, omega arith, sym (refused-number 4 255 255 e .0))
   among-by (badTable a b c t k d u v e) h = (5, omega arith, sym (refused-number 5 t k e .0))
   among-by (runs a b c d e) h =
       let r : Ran = record { range = a; path-long = b; trace-long = c; accepted = d; is = e } in
-      rw (ran-number e) (among-answers (run table s path trace .verdict) (h r))
+      rw (ran-number e) (among-answers (run right table s path trace .verdict) (h r))
 
   left-by : whole ≡ ran (length path) (length trace) (stopOf table s)
-      → (whole .path ≡ written (length path) (run table s path trace .walk .ledger .path)) × (whole .trace ≡ noted (length trace) (run table s path trace .walk .trace))
+      → (whole .path ≡ written (length path) (run right table s path trace .walk .ledger .path)) × (whole .trace ≡ noted (length trace) (run right table s path trace .walk .trace))
   unfolding ran
   left-by e = (ap (λ (x : Explored). x .path) e, ap (λ (x : Explored). x .trace) e)
 
   -- where a run that has passed the checks is never impossible
-  pub answered : ((r : Ran) (site : Site) → run table s path trace .verdict ≡ stopped Event.impossible site → ⊥) → Answered table s path trace
+  pub answered : ((r : Ran) (site : Site) → run right table s path trace .verdict ≡ stopped Event.impossible site → ⊥) → Answered right table s path trace
   answered never =
       record {
         one = among-by whichCase never;

@@ -37,9 +37,9 @@ use Rattle.kept.proofs.Possible.{never-impossible}
 use Rattle.kept.proofs.Rules.{ruled}
 use Rattle.standing.specs.Standing as standing
 use Rattle.standing.proofs.Standing.{standing-never}
-use Rattle.bounds.specs.HeldOver.{RangeIn, RangeHeld}
+use Rattle.bounds.specs.Range.{RangeIn, RangeHeld}
 use Rattle.bounds.proofs.Whole.{accepted-fits}
-use Rattle.bounds.proofs.HeldOver.{range-held}
+use Rattle.bounds.proofs.Range.{range-held}
 use Rattle.offers.specs.Offered.{SomeOffered, SomeOfferedRmw}
 use Rattle.offers.specs.Chosen.{Offers}
 use Rattle.offers.specs.Seen.{Seen}
@@ -47,7 +47,7 @@ use Rattle.offers.proofs.Chosen.{all-offers}
 use Rattle.offers.proofs.Seen.{all-seen}
 use Rattle.offers.proofs.Offered.{some-offered, some-offered-rmw}
 use Rattle.demands.specs.Demands as Demands
-use Rattle.demands.specs.Demands.{it, report, run, theMachine, executions, Balances, Apart, Turns, LastIs}
+use Rattle.demands.specs.Demands.{right, it, report, run, theMachine, executions, openedChoices, turnedChoices, openChoices, Balances, Apart, Turns, LastIs}
 use Rattle.demands.proofs.Answered.{Ran, has-run, ran-number, answered}
 
 only-exhausted : (v : Verdict) → verdictNumber v ≡ 0 → v ≡ exhausted
@@ -87,25 +87,25 @@ module _ (p : Program) (limits : Limits) (n : ℕ) (w : Walk State) (v : Verdict
 
 module _ (table : List ℕ) (s : Settings) (path trace : List ℕ) (r : Ran table s path trace) where
   abbrev whole : Stop State
-  whole = run table s path trace
+  whole = run right table s path trace
 
   abbrev itself : Machine
-  itself = theMachine table s path trace
+  itself = theMachine right table s path trace
 
   allowed : 1 ≤ s .executions
   unfolding settingsFine
   allowed = let f = simp and-eq-true-iff at (r .range) in omega (arith, leb-true)
 
   -- the report is that of the run's stop
-  begun-is : report table s path trace .begun ≡ whole .walk .ledger .begun
+  begun-is : report right table s path trace .begun ≡ whole .walk .ledger .begun
   unfolding ran reported
   begun-is = ap (λ (x : Explored). x .report .begun) (r .is)
 
-  opened-is : report table s path trace .opened ≡ whole .walk .ledger .opened
+  opened-is : report right table s path trace .opened ≡ whole .walk .ledger .opened
   unfolding ran reported
   opened-is = ap (λ (x : Explored). x .report .opened) (r .is)
 
-  open-is : report table s path trace .stillOpen ≡ openIn (whole .walk .ledger .path)
+  open-is : report right table s path trace .stillOpen ≡ openIn (whole .walk .ledger .path)
   unfolding ran reported
   open-is = ap (λ (x : Explored). x .report .stillOpen) (r .is)
 
@@ -113,7 +113,7 @@ module _ (table : List ℕ) (s : Settings) (path trace : List ℕ) (r : Ran tabl
   unfolding stopOf Balanced
   balance = balanced itself (limitsOf s) (s .executions) allowed
 
-  told : Told itself (limitsOf s) (s .executions) (executions table s path trace) whole
+  told : Told itself (limitsOf s) (s .executions) (executions right table s path trace) whole
   unfolding stopOf Real
   told = real itself (limitsOf s) (s .executions)
 
@@ -125,36 +125,39 @@ module _ (table : List ℕ) (s : Settings) (path trace : List ℕ) (r : Ran tabl
   unfolding turning.Turning
   turns-so = turned.turning itself (limitsOf s) (s .executions)
 
-  counted-so : length (turning.openedOf itself (limitsOf s) (s .executions)) ≡ whole .walk .ledger .opened
-  unfolding stopOf
+  -- the choices by name are the ledger's
+  counted-so : length (openedChoices right table s path trace) ≡ whole .walk .ledger .opened
+  unfolding stopOf turning.openedOf
   counted-so = turns-so .counted
 
-  left-so : length (turning.openOf itself (limitsOf s) (s .executions)) ≡ openIn (whole .walk .ledger .path)
-  unfolding stopOf
+  left-so : length (openChoices right table s path trace) ≡ openIn (whole .walk .ledger .path)
+  unfolding stopOf turning.openOf
   left-so = turns-so .as-many
 
-  all-turned : whole .verdict ≡ exhausted → Perm (turning.openedOf itself (limitsOf s) (s .executions)) (turning.turnedOf itself (limitsOf s) (s .executions))
-  unfolding stopOf
+  all-turned : whole .verdict ≡ exhausted → Perm (openedChoices right table s path trace) (turnedChoices right table s path trace)
+  unfolding stopOf turning.openedOf turning.turnedOf
   all-turned e = turns-so .in-the-end e .1
 
-  pub balances : Balances table s path trace
+  pub balances : Balances right table s path trace
   balances =
       record {
         equation = omega (arith, balance .equation, begun-is, opened-is, open-is);
         within = omega (arith, balance .within, opened-is, open-is);
-        begun = begun-is ∙ as-many ∙ ap length (told .history) ∙ length-map (executions table s path trace) executed;
+        begun = begun-is ∙ as-many ∙ ap length (told .history) ∙ length-map (executions right table s path trace) executed;
         opened = opened-is ∙ sym counted-so;
         left = open-is ∙ sym left-so;
+        told = told;
       }
 
-  pub apart : Apart table s path trace
+  pub apart : Apart right table s path trace
   unfolding stopOf Tree
   apart i j h k = tree itself (limitsOf s) (s .executions) i j h k
 
-  exhausted-is : report table s path trace .answer ≡ 0 → whole .verdict ≡ exhausted
+  exhausted-is : report right table s path trace .answer ≡ 0 → whole .verdict ≡ exhausted
   exhausted-is e = only-exhausted (whole .verdict) (sym (ran-number table s path trace (r .is)) ∙ e)
 
-  pub turns : Turns table s path trace
+  pub turns : Turns right table s path trace
+  unfolding stopOf turning.openedOf turning.turnedOf turning.openOf
   turns =
       record {
         turns = turns-so .turns;
@@ -164,13 +167,13 @@ module _ (table : List ℕ) (s : Settings) (path trace : List ℕ) (r : Ran tabl
         exhausted = λ e. (open-is ∙ balance .none-left (exhausted-is e) .0, all-turned (exhausted-is e));
       }
 
-  last-so : (t : Tick State) × LastIs (executions table s path trace) t × history.Stops itself (limitsOf s) (s .executions) (whole .walk) (whole .verdict) t
-  last-so = last-came (programOf table s) (limitsOf s) (s .executions) (whole .walk) (whole .verdict) (executions table s path trace) allowed (told .made)
+  last-so : (t : Tick State) × LastIs (executions right table s path trace) t × history.Stops itself (limitsOf s) (s .executions) (whole .walk) (whole .verdict) t
+  last-so = last-came (programOf table s) (limitsOf s) (s .executions) (whole .walk) (whole .verdict) (executions right table s path trace) allowed (told .made)
 
-  last-as : (t : Tick State) → last-so .0 ≡ t → LastIs (executions table s path trace) t
-  last-as t e = subst (LastIs (executions table s path trace)) e (last-so .1)
+  last-as : (t : Tick State) → last-so .0 ≡ t → LastIs (executions right table s path trace) t
+  last-as t e = subst (LastIs (executions right table s path trace)) e (last-so .1)
 
-  pub stops : Demands.Stops table s path trace
+  pub stops : Demands.Stops right table s path trace
   stops =
       record {
         says = ran-number table s path trace (r .is);
@@ -191,42 +194,45 @@ module _ (table : List ℕ) (s : Settings) (path trace : List ℕ) (r : Ran tabl
   unfolding SomeOffered SomeOfferedRmw
   some = record { toLoad = some-offered; toRmw = some-offered-rmw }
 
-  never : Never itself (limitsOf s) (standing.Holds (programOf table s)) (standing.Asked (programOf table s))
+  never : Never itself (limitsOf s) (standing.Holds (programOf table s)) (standing.Asked (programOf table s)) (standing.Over (programOf table s))
   never = standing-never table s (r .accepted) (r .range) some
 
-  possible-so : PossibleRun itself (limitsOf s) (standing.Holds (programOf table s)) (standing.Asked (programOf table s)) (s .executions)
+  possible-so : PossibleRun itself (limitsOf s) (standing.Holds (programOf table s)) (standing.Asked (programOf table s)) (standing.Over (programOf table s)) (s .executions)
   unfolding NeverImpossible
-  possible-so = never-impossible itself (limitsOf s) (standing.Holds (programOf table s)) (standing.Asked (programOf table s)) never (s .executions)
+  possible-so = never-impossible itself (limitsOf s) (standing.Holds (programOf table s)) (standing.Asked (programOf table s)) (standing.Over (programOf table s)) never (s .executions)
 
   ruled-so : RuledRun itself (limitsOf s) (s .executions)
   unfolding Ruled
-  ruled-so = ruled itself (limitsOf s) (standing.Holds (programOf table s)) (standing.Asked (programOf table s)) (never .keeps) (never .question) (s .executions)
+  ruled-so = ruled itself (limitsOf s) (standing.Holds (programOf table s)) (standing.Asked (programOf table s)) (standing.Over (programOf table s)) (never .keeps) (never .question) (s .executions)
 
   pub never-so : (site : Site) → whole .verdict ≡ stopped impossible site → ⊥
   unfolding stopOf
   never-so = possible-so .verdict allowed
 
-  ranges-so : Every (RangeIn (programOf table s)) (executions table s path trace)
+  ranges-so : Every (RangeIn (programOf table s)) (executions right table s path trace)
   unfolding RangeHeld
   ranges-so =
       range-held (programOf table s) (accepted-fits table s (good-header table (r .accepted)) (r .range)) (standing.Holds (programOf table s))
-      (standing.Asked (programOf table s)) (never .keeps) (never .question) (limitsOf s) (s .executions)
+      (standing.Asked (programOf table s)) (standing.Over (programOf table s)) (never .keeps) (never .question) (limitsOf s) (s .executions)
 
-  follows-so : Every (Follows itself (limitsOf s)) (executions table s path trace)
+  follows-so : Every (Follows itself (limitsOf s)) (executions right table s path trace)
   unfolding Replay
   follows-so = replay itself (limitsOf s) (s .executions)
 
   abbrev Facts : Walk State → Type 0
   Facts = HoldsAt itself (standing.Holds (programOf table s))
 
-  pub sound : Demands.Sound table s path trace
+  abbrev FactsLeft : Walk State → Type 0
+  FactsLeft = HoldsAt itself (standing.Over (programOf table s))
+
+  pub sound : Demands.Sound right table s path trace
   sound =
-      let P = PossibleIn itself (standing.Holds (programOf table s)) (standing.Asked (programOf table s)) in
-      let cs = executions table s path trace in
+      let P = PossibleIn itself (standing.Holds (programOf table s)) (standing.Asked (programOf table s)) (standing.Over (programOf table s)) in
+      let cs = executions right table s path trace in
       record {
         possible = every-map P (λ c. (site : Site) (w : Walk State) → c .outcome ≡ faulted impossible site w → ⊥) cs (λ c h. h .never) (possible-so .executions);
         stands = every-map P (λ c. Every Facts (c .ticks)) cs (λ c h. h .held .at-ticks) (possible-so .executions);
-        stood = every-map P (λ c. Facts (end c)) cs (λ c h. h .at-end) (possible-so .executions);
+        stood = every-map P (λ c. FactsLeft (end c)) cs (λ c h. h .at-end) (possible-so .executions);
         ranges = ranges-so;
         records = ruled-so .executions;
         follows = follows-so;
@@ -238,7 +244,7 @@ module _ (table : List ℕ) (s : Settings) (path trace : List ℕ) (r : Ran tabl
   unfolding settingsFine
   few-rows = let f = simp and-eq-true-iff at (r .range) in omega (arith, leb-true)
 
-  pub offered : Demands.Offered table s path trace
+  pub offered : Demands.Offered right table s path trace
   unfolding Offers Seen
   offered =
       record {
@@ -246,7 +252,7 @@ module _ (table : List ℕ) (s : Settings) (path trace : List ℕ) (r : Ran tabl
         seen = all-seen (programOf table s) (limitsOf s) (s .executions) (good-header table (r .accepted)) (omega (arith, few-rows)) (omega (arith, few-rows));
       }
 
-  pub run-demanded : Demands.Run table s path trace
+  pub run-demanded : Demands.Run right table s path trace
   run-demanded =
       record { balances = balances; apart = apart; turns = turns; offered = offered; stops = stops; sound = sound }
 

@@ -1,2 +1,4 @@
 pub mod Answered
 pub mod Demanded
+pub mod Exchanged
+pub mod Wrong

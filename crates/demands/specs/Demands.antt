@@ -1,13 +1,15 @@
 -- The demands, sentence by sentence, of the definition's `explored`, which is what `explore` returns and leaves in the buffers, for
--- all bytes, settings and buffers. Assumes nothing.
+-- all bytes, settings and buffers. What is looked at is named first, so that the same sentences can be said of an explorer that is
+-- wrong (Wrong); what is demanded is demanded of the right one. Assumes nothing.
+--     Explorer, right      what the page looks at, and the definition's own
 --     Answered       demand 1: one of document 01's answers, refusals exactly when, and what is left
 --     Balances, Apart, Turns      demand 3: the ledger, the tree, the turning points
 --     Offered        demand 3: what loads and RMWs are offered
---     Stopped        why a run stopped
+--     Stops          why a run stopped
 --     Sound          what holds at every tick: nothing impossible, everything in range
 --     Demands        all of it
 use Prim.Native.Nat.{ℕ, _+_, _-_, _*_, _≤_, _<_}
-use mathlib.Core.List.{List, [], _∷_, _++_, Perm, List·Nodup}
+use mathlib.Core.List.{List, [], _∷_, _++_, map, Perm, List·Nodup}
 use mathlib.Core.Bool.{Bool, true, false}
 use mathlib.Core.Path.{_≡_}
 use mathlib.Core.Logic.{_≢_}
@@ -19,15 +21,15 @@ use Rattle.rules.specs.State.{State, number, begun}
 use Rattle.rules.specs.Machine.{Program, machine}
 use Rattle.rules.specs.Explorer.{Limits, Walk, Tick, over, faulted, Stop, exhausted, spent, stopped}
 use Rattle.rules.specs.Explored.{Settings, Explored, Report, explored, refused, isRefusal, settingsFine, stopOf, programOf, limitsOf, noted, verdictNumber}
-use Rattle.ledger.specs.History.{Every, Course, courses, leftBy, end, executed}
+use Rattle.ledger.specs.History.{Every, Course, courses, end, Told}
 use Rattle.ledger.specs.Tree.{Parted, noExecution}
 use Rattle.ledger.specs.Turning as turning
-use Rattle.ledger.specs.Turning.{Each, Name}
+use Rattle.ledger.specs.Turning.{Each, Name, joinedOver, turningPoint, others, openNames}
 use Rattle.ledger.specs.Replay as replay
 use Rattle.kept.specs.Held.{HoldsAt}
 use Rattle.kept.specs.Rules.{PathRules, RuledIn}
 use Rattle.standing.specs.Standing as standing
-use Rattle.bounds.specs.HeldOver.{RangeIn}
+use Rattle.bounds.specs.Range.{RangeIn}
 use Rattle.offers.specs.Offered.{Among}
 use Rattle.offers.specs.Chosen.{OfferingCourse}
 use Rattle.offers.specs.Seen.{Seeing}
@@ -47,23 +49,49 @@ LastIs [] t = ⊥
 LastIs (c ∷ []) t = c .outcome ≡ t
 LastIs (c ∷ d ∷ more) t = LastIs (d ∷ more) t
 
-module _ (table : List ℕ) (s : Settings) (path trace : List ℕ) where
+-- What is looked at: what is returned and left for any bytes, settings and buffers; the run behind it; and its executions, each
+-- from its beginning to its end
+pub record Explorer : Type 0 where
+  pub explored : List ℕ → Settings → List ℕ → List ℕ → Explored
+  pub run : List ℕ → Settings → Stop State
+  pub executions : List ℕ → Settings → List (Course State)
+
+-- those of the definition
+abbrev pub right : Explorer
+right = record {
+  explored = explored;
+  run = stopOf;
+  executions = λ table s. courses (machine (programOf table s)) (limitsOf s) (s .executions);
+}
+
+module _ (x : Explorer) (table : List ℕ) (s : Settings) (path trace : List ℕ) where
   -- what `explore` returns and leaves
   abbrev pub it : Explored
-  it = explored table s path trace
+  it = x .explored table s path trace
 
   abbrev pub report : Report
   report = it .report
 
-  -- the run behind it, and its executions, each from its beginning to its end
+  -- the run behind it, and its executions
   abbrev pub run : Stop State
-  run = stopOf table s
+  run = x .run table s
 
+  abbrev pub executions : List (Course State)
+  executions = x .executions table s
+
+  -- the machine that they are judged by, and the choices by name: opened at their ticks, turned to by all but the first, and open
+  -- in the path left
   abbrev pub theMachine : Machine
   theMachine = machine (programOf table s)
 
-  abbrev pub executions : List (Course State)
-  executions = courses theMachine (limitsOf s) (s .executions)
+  abbrev pub openedChoices : List Name
+  openedChoices = joinedOver (turning.openedCourse theMachine (limitsOf s)) executions
+
+  abbrev pub turnedChoices : List Name
+  turnedChoices = map turningPoint (others executions)
+
+  abbrev pub openChoices : List Name
+  openChoices = openNames (run .walk .ledger .path)
 
   -- Demand 1
 
@@ -103,8 +131,10 @@ module _ (table : List ℕ) (s : Settings) (path trace : List ℕ) where
     pub within : report .stillOpen ≤ report .opened
     -- what is counted is what there is: the executions, the choices opened at each tick of each, those open in the path left
     pub begun : report .begun ≡ length executions
-    pub opened : report .opened ≡ length (turning.openedOf theMachine (limitsOf s) (s .executions))
-    pub left : report .stillOpen ≡ length (turning.openOf theMachine (limitsOf s) (s .executions))
+    pub opened : report .opened ≡ length openedChoices
+    pub left : report .stillOpen ≡ length openChoices
+    -- the executions are those that the machine makes one after another, each from the path that follows, and the history is theirs
+    pub told : Told theMachine (limitsOf s) (s .executions) executions run
 
   -- "Any two executions made equal choices up to some branch, which both reach, then different ones."
   abbrev pub Apart : Type 0
@@ -115,17 +145,12 @@ module _ (table : List ℕ) (s : Settings) (path trace : List ℕ) where
   pub record Turns : Type 0 where
     -- each execution but the first turns where the one before has not: to a choice that was opened and that none turned to before
     pub turns : Each turning.Turns executions
-    pub different : List·Nodup (turning.turnedOf theMachine (limitsOf s) (s .executions))
+    pub different : List·Nodup turnedChoices
     -- at any stop the choices opened are those turned to, and those open
-    pub together :
-        Perm (turning.openedOf theMachine (limitsOf s) (s .executions))
-        (turning.turnedOf theMachine (limitsOf s) (s .executions) ++ turning.openOf theMachine (limitsOf s) (s .executions))
-    pub once : List·Nodup (turning.openedOf theMachine (limitsOf s) (s .executions))
+    pub together : Perm openedChoices (turnedChoices ++ openChoices)
+    pub once : List·Nodup openedChoices
     -- "At exhaustion nothing is open and each opened choice was the turning point of exactly one execution."
-    pub exhausted :
-        report .answer ≡ 0
-        → (report .stillOpen ≡ 0)
-        × Perm (turning.openedOf theMachine (limitsOf s) (s .executions)) (turning.turnedOf theMachine (limitsOf s) (s .executions))
+    pub exhausted : report .answer ≡ 0 → (report .stillOpen ≡ 0) × Perm openedChoices turnedChoices
 
   pub record Offered : Type 0 where
     -- "Every unrefused load and RMW is offered, judged as its slot is chosen, each live store recorded below no other, and never one
@@ -150,7 +175,7 @@ module _ (table : List ℕ) (s : Settings) (path trace : List ℕ) where
     pub possible : Every (λ c. (site : Site) (w : Walk State) → c .outcome ≡ faulted impossible site w → ⊥) executions
     -- threads, rows and entries stand as they should at every tick, and where an execution has ended or stopped
     pub stands : Every (λ c. Every (HoldsAt theMachine (standing.Holds (programOf table s))) (c .ticks)) executions
-    pub stood : Every (λ c. HoldsAt theMachine (standing.Holds (programOf table s)) (end c)) executions
+    pub stood : Every (λ c. HoldsAt theMachine (standing.Over (programOf table s)) (end c)) executions
     -- every part of every vector, every count and every mark is in range, by the rows that were begun
     pub ranges : Every (RangeIn (programOf table s)) executions
     -- every record of the path obeys document 01's rules, at every moment
@@ -167,9 +192,9 @@ module _ (table : List ℕ) (s : Settings) (path trace : List ℕ) where
     pub sound : Sound
 
 -- For any input
-pub record Demanded (table : List ℕ) (s : Settings) (path trace : List ℕ) : Type 0 where
-  pub answered : Answered table s path trace
-  pub run : isRefusal (report table s path trace .answer) ≡ false → Run table s path trace
+pub record Demanded (x : Explorer) (table : List ℕ) (s : Settings) (path trace : List ℕ) : Type 0 where
+  pub answered : Answered x table s path trace
+  pub run : isRefusal (report x table s path trace .answer) ≡ false → Run x table s path trace
 
 unfoldable pub Demands : Type 0
-Demands = (table : List ℕ) (s : Settings) (path trace : List ℕ) → Demanded table s path trace
+Demands = (table : List ℕ) (s : Settings) (path trace : List ℕ) → Demanded right table s path trace

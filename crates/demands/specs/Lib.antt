@@ -1,1 +1,3 @@
 pub mod Demands
+pub mod Exchanged
+pub mod Wrong
