@@ -1,9 +1,10 @@
 #!/usr/bin/env bash
-# Writes the table of every example, those of docs/COVERAGE.md (coverage/) too, and the two copies that the proved programs are
-# tried on: examples/make.sh, from anywhere. For tables of one's own see rows.sh, which writes nothing by itself.
+# Writes the table of every example, those of docs/COVERAGE.md (coverage/) too: 'make.sh FOLDER' into that folder, 'make.sh' beside
+# this file, and then also the two copies that the gate tries the programs on. For tables of one's own see rows.sh.
 set -euo pipefail
-cd "$(dirname "$0")"
-. ./rows.sh
+here=$(cd "$(dirname "$0")" && pwd)
+. "$here/rows.sh"
+cd "${1-$here}"
 
 # Document 01's P1: one load.
 p1() {
@@ -320,5 +321,7 @@ table two_lookers >coverage/two-lookers.table
 table half_way >coverage/half-way.table
 table switched_off >coverage/switched-off.table
 
-cp hand-off-wrong.table ../crates/explore/data/
-cp hand-off-wrong.table ../crates/show/stdin
+if [ $# = 0 ]; then
+    cp hand-off-wrong.table ../crates/explore/data/
+    cp hand-off-wrong.table ../crates/show/stdin
+fi
