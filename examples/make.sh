@@ -152,6 +152,40 @@ ping_pong_relaxed() {
 
 # The programs of docs/COVERAGE.md.
 
+# ping_pong_looks RESET: the ping-pong with one look in place of each wait: who finds the flag in the wrong state gives up.
+ping_pong_looks() {
+    cells 0 0
+    thread
+    put 7
+    store 1 1 Release
+    load 1 Acquire 0
+    jump_unless 0 0 end
+    put 8
+    thread
+    load 1 Acquire 0
+    jump_unless 0 1 end
+    look
+    check 1 7
+    store 0 1 "$1"
+}
+
+# two_flags_looks BACK: the same with a flag for each direction, cells 1 and 2.
+two_flags_looks() {
+    cells 0 0 0
+    thread
+    put 7
+    store 1 1 Release
+    load 2 Acquire 0
+    jump_unless 0 1 end
+    put 8
+    thread
+    load 1 Acquire 0
+    jump_unless 0 1 end
+    look
+    check 1 7
+    store 1 2 "$1"
+}
+
 # hidden_order: thread 0 looks at cell 0; thread 1 looks, then stores. That thread 0 looks after the store is never tried.
 hidden_order() {
     cells 0
@@ -227,6 +261,20 @@ store_buffering() {
     "${@:2}"
     load 0 "$1" 0
     store_register 0 2 Relaxed
+}
+
+# own_older: thread 1 stores 2, then 3, and claims that it does not load 2 afterwards.
+own_older() {
+    cells 0
+    thread
+    store 1 0 Relaxed
+    load 0 Relaxed 0
+    thread
+    store 2 0 Relaxed
+    store 3 0 Relaxed
+    load 0 Relaxed 0
+    jump_unless 0 2 end
+    check 0 3
 }
 
 # The wrong hand-off, whose reader takes the buffer by a compare that fails.
@@ -309,12 +357,15 @@ table ping_pong Release Acquire Release Relaxed >ping-pong-back.table
 mkdir -p coverage
 table hidden_order >coverage/hidden-order.table
 table hidden_order_swapped >coverage/hidden-order-swapped.table
+table ping_pong_looks Relaxed >coverage/one-flag-looks.table
+table two_flags_looks Relaxed >coverage/two-flags-looks.table
 table stores 6 >coverage/six-stores.table
 table stores 7 >coverage/seven-stores.table
 table load_buffering >coverage/load-buffering.table
 table failed_compare >coverage/failed-compare.table
 table store_buffering SeqCst : >coverage/store-buffering.table
 table store_buffering Relaxed fence SeqCst >coverage/store-buffering-fences.table
+table own_older >coverage/own-older.table
 table ping_pong_relaxed Release Acquire Relaxed Acquire >coverage/ping-pong-relaxed.table
 table two_waiters >coverage/two-waiters.table
 table two_lookers >coverage/two-lookers.table
