@@ -40,6 +40,19 @@ take_tape() {
     check 1 7
 }
 
+# hand_off_plain STORED: the same with a buffer that is no atomic.
+hand_off_plain() {
+    cells 0 0
+    thread
+    exclusive Swap 7 0 1
+    store 1 1 "$1"
+    thread
+    load 1 Acquire 0
+    jump_unless 0 1 end
+    unsync_load 0 1
+    check 1 7
+}
+
 # The same with a relaxed flag, and a fence on each side.
 hand_off_fence() {
     cells 0 0
@@ -343,6 +356,8 @@ table p1 >p1.table
 table p3 >p3.table
 table hand_off Release Acquire >hand-off-right.table
 table hand_off Relaxed Acquire >hand-off-wrong.table
+table hand_off_plain Release >hand-off-plain.table
+table hand_off_plain Relaxed >hand-off-plain-wrong.table
 table hand_off_fence >hand-off-fence.table
 table spin_wait >spin-wait.table
 table lock >lock.table
@@ -373,6 +388,7 @@ table half_way >coverage/half-way.table
 table switched_off >coverage/switched-off.table
 
 if [ $# = 0 ]; then
-    cp hand-off-wrong.table ../crates/explore/data/
-    cp hand-off-wrong.table ../crates/show/stdin
+    for copy in ../crates/explore/data/hand-off-wrong.table ../crates/show/stdin; do
+        cmp -s hand-off-wrong.table "$copy" || cp hand-off-wrong.table "$copy"
+    done
 fi

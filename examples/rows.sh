@@ -3,8 +3,8 @@
 #     table FUNCTION [ARGUMENT...] >NAME.table
 #
 # The function says, in this order: 'cells' with the start values; then for each thread 'thread' and its rows. docs/FORMAT.md
-# has the bytes. Nothing is written but by 'table', to its standard output. Names stand with or without '$'; one that is spelled
-# wrong ends the script (this file sets -eu). examples/make.sh has programs to start from.
+# has the bytes. Names stand with or without '$'; one that is spelled wrong is an error, and nothing is then printed. Nothing but
+# 'table' prints, and no option of the shell is changed. examples/make.sh has programs to start from.
 #
 #     cells VALUE...                                one start value for each cell, 1 to 4 of them
 #     thread                                        what follows are the rows of the next thread, 0 first, at most 5 of them
@@ -30,7 +30,6 @@
 #
 # CELL and THREAD count from 0, REG is 0 to 3, VALUE a number (0x.. too, up to 2^64 - 1), ROW a label, 'end', or a number of a
 # row of the same thread.
-set -eu
 
 Relaxed=0 Release=1 Acquire=2 AcqRel=3 SeqCst=4
 Swap=0 Add=1 Subtract=2 And=3 Or=4 Xor=5 Nand=6 Max=7 Min=8 SignedMax=9 SignedMin=10 Compare=11 Decrement=12
@@ -57,14 +56,20 @@ explore_state() { row 14 0 0 0 0 0 0 0 0; }
 skip_branch() { row 15 0 0 0 0 0 0 0 0; }
 spurious() { row 16 0 0 0 0 "$1" 0 0 0; }
 
+wrong() {
+    echo "rows.sh: $1" >&2
+    exit 2
+}
+
 # little BYTES NUMBER: appends the number in hexadecimal, least byte first, to the text made so far.
 little() {
-    local n=$2 i byte
+    local n=${2:?rows.sh: a word is empty} i byte
     for ((i = 0; i < $1; i++)); do
         printf -v byte '\\x%02x' $((n & 255))
         made+=$byte
         n=$((n >> 8))
     done
+    ((n == 0 || n == -1)) || wrong "$2 is too large for its field"
 }
 
 cells() {
@@ -95,7 +100,7 @@ place() {
     esac
     if [ "$at" = missing ]; then
         # The first time round a name may stand before its row.
-        ((again == 0)) || { echo "rows.sh: no row is called $1" >&2 && exit 2; }
+        ((again == 0)) || wrong "no row is called $1"
         at=0
     fi
 }
@@ -103,6 +108,7 @@ place() {
 # row OPCODE OBJECT ORDER FAILURE KIND REG TARGET A B: one row, by its fields.
 row() {
     local field at
+    ((${#counts[@]})) || wrong "a row stands before 'thread'"
     place "$7"
     for field in "${@:1:6}"; do little 1 "$field"; done
     little 2 "$at"
@@ -114,6 +120,7 @@ row() {
 # table FUNCTION [ARGUMENT...]: the program's bytes: header, start values, rows. It is gone through twice, so that a jump may
 # name a row behind it.
 table() (
+    set -eu
     declare -A rows_at=()
     for again in 0 1; do
         made='' starts=0 counts=()
