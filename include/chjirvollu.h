@@ -1,0 +1,73 @@
+/* The explorer's entry for C. Link target/staticlib/libexports.a, which 'rt staticlib exports' proves and writes (x86-64).
+   docs/FORMAT.md has the bytes of a table, of a path and of a trace, and says what each number means. */
+#ifndef CHJIRVOLLU_H
+#define CHJIRVOLLU_H
+
+#include <stddef.h>
+#include <stdint.h>
+
+#ifdef __cplusplus
+extern "C" {
+#endif
+
+/* The largest settings, and the bound that is none. */
+#define CHJIRVOLLU_MAX_BRANCHES 1024
+#define CHJIRVOLLU_MAX_OPERATIONS 4096
+#define CHJIRVOLLU_MAX_EXECUTIONS 65535
+#define CHJIRVOLLU_UNBOUNDED 256
+
+/* A path record and a trace entry have this many bytes. */
+#define CHJIRVOLLU_RECORD 16
+
+/* The numbers of a report, by their places; four for each of the five threads from CHJIRVOLLU_THREADS on. */
+enum {
+    CHJIRVOLLU_ANSWER = 0,
+    CHJIRVOLLU_EXECUTIONS_BEGUN = 1,
+    CHJIRVOLLU_CHOICES_OPENED = 2,
+    CHJIRVOLLU_CHOICES_OPEN = 3,
+    CHJIRVOLLU_ROWS_BEGUN = 4,
+    CHJIRVOLLU_THREAD = 5,
+    CHJIRVOLLU_ROW = 6,
+    CHJIRVOLLU_RACE_KIND = 7,
+    CHJIRVOLLU_OTHER_THREAD = 8,
+    CHJIRVOLLU_THREADS = 9,
+    CHJIRVOLLU_NUMBERS = 29
+};
+
+/* The answers. 255 is none of them: it is returned, and nothing written, where bound, exploring or report_length is wrong. */
+enum {
+    CHJIRVOLLU_EXHAUSTED = 0,
+    CHJIRVOLLU_BUDGET_SPENT = 1,
+    CHJIRVOLLU_BAD_SETTINGS = 2,
+    CHJIRVOLLU_BAD_PATH_LENGTH = 3,
+    CHJIRVOLLU_BAD_TRACE_LENGTH = 4,
+    CHJIRVOLLU_BAD_TABLE = 5,
+    CHJIRVOLLU_DEADLOCK = 10,
+    CHJIRVOLLU_BRANCH_LIMIT = 11,
+    CHJIRVOLLU_OPERATION_LIMIT = 12,
+    CHJIRVOLLU_EQUAL_ORDERS = 13,
+    CHJIRVOLLU_RACE = 14,
+    CHJIRVOLLU_CHECK_FAILED = 15,
+    CHJIRVOLLU_WRONG_EXPLORING = 16,
+    CHJIRVOLLU_PREEMPTION_LIMIT = 17,
+    CHJIRVOLLU_NO_RUN = 255
+};
+
+/* Explores the table, writes path and trace of the last execution and the report, and returns the report's first number, the
+   answer. Lengths count elements. No address is kept, and no other memory is used. What is lent must not overlap. */
+uint64_t chjirvollu_explore(
+    const uint8_t *table, size_t table_length,
+    uint64_t branches,                        /* 1 to 1024, else answer 2 */
+    uint64_t operations,                      /* 1 to 4096, else answer 2 */
+    uint64_t executions,                      /* 1 to 65535, else answer 2 */
+    uint64_t bound,                           /* 0 to 255 preemptions, or 256 for no bound, else 255 */
+    uint64_t exploring,                       /* 1 exploring on start, 0 not, else 255 */
+    uint8_t *path, size_t path_length,        /* exactly 16 * branches bytes, else answer 3 */
+    uint8_t *trace, size_t trace_length,      /* exactly 16 * operations bytes, else answer 4 */
+    uint64_t *report, size_t report_length);  /* exactly 29 numbers, else 255 */
+
+#ifdef __cplusplus
+}
+#endif
+
+#endif
