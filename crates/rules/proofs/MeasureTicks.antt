@@ -98,7 +98,7 @@ module _ {t s ph b m : ℕ} (below : t < threads) where
       let now = Machine.withNumbers st (withNumber (st .numbers) activeThread t) in
       awake-all below 5 0 (Machine.accessMade now t at .numbers) (omega arith) (access-is now at is) w
 
-pub either : (x y : Bool) → (x || y) ≡ true → (x ≡ true) ⊎ (y ≡ true)
+either : (x y : Bool) → (x || y) ≡ true → (x ≡ true) ⊎ (y ≡ true)
 either true y e = inl refl
 either false y e = inr e
 
