@@ -137,7 +137,8 @@ module _ (p : Program) (fits : Fits p) (t n : ℕ) (rows owing waits least : ℕ
       no-more (Bounds.Scheduling p st′) n (asks-thread st′ at (λ u b. omega arith) (λ u b. omega arith))
 
   -- it could act at once
-  pub begun-acts : (was st : State) (k : ℕ) (op : Op) → Names threads cells (rowCount p t) op → version (st .clocks) t ≤ least t → Begun was st →
+  pub begun-acts : (was st : State) (k : ℕ) (op : Op) → Names threads cells (rowCount p t) op →
+      version (st .clocks) t ≤ least t → Begun was st →
       Going p n (Machine.acts p st t k op)
   begun-acts was st k op h v s =
       acts-going p fits t n (rowsThen was) (given t 1 owing) waits least below (given-own t 1 owing) st k op h v

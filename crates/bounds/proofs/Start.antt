@@ -20,9 +20,10 @@ use Rattle.rules.specs.Cell.{version, joinInto, withClocks}
 use Rattle.rules.specs.Machine
 use Rattle.rules.specs.Machine.{Program, start}
 use Rattle.rules.proofs.StateLaws.{inVectors, vectorAt-within, vector-same}
+use Rattle.rules.proofs.NumberLaws.{five-same}
 use Rattle.rules.proofs.MeasureStart.{New, start-new}
 use Rattle.rules.proofs.MeasureRows.{pick}
-use Rattle.bounds.specs.Bounds.{Fits, Kind, ofVersions, ofChoices, kindOf, given, nothing, Part, NoneOr, Sights, Tally, Holds}
+use Rattle.bounds.specs.Bounds.{Fits, Kind, ofVersions, ofChoices, kindOf, given, nothing, rowsIn, Part, NoneOr, Sights, Tally, Holds}
 use Rattle.bounds.proofs.Parts.{Fit, set-fit, zeros-fit, Since, put, join-into, eased}
 use Rattle.bounds.proofs.Marks.{Row, unseen-row, later}
 use Rattle.bounds.proofs.Accesses.{Sound, with-clocks, stored-sound}
@@ -178,15 +179,7 @@ module _ (p : Program) (fits : Fits p) where
   start-tally = record {
     held = is-new .long;
     runs = omega (arith, is-new .nothing activeThread (omega arith));
-    rows = omega (
-      arith,
-      begun-none,
-      rows-none 0 (omega arith),
-      rows-none 1 (omega arith),
-      rows-none 2 (omega arith),
-      rows-none 3 (omega arith),
-      rows-none 4 (omega arith),
-    );
+    rows = omega (arith, begun-none, five-same nothing (rowsIn (start p .numbers)) rows-none);
     limit = omega (arith, begun-none);
     entries = omega (arith, begun-none);
     counts = λ c h. omega (arith, one-store c h);

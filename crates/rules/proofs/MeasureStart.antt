@@ -30,7 +30,8 @@ Untouched k =
     (numberAt k < numbersHeld)
     × (numberAt k ≢ numberAt exploring)
     × ((i : ℕ) → i < threads → (numberAt k ≢ numberAt (State.state i)) × (numberAt k ≢ numberAt (lastYield i)))
-    × ((c : ℕ) → c < cells → (numberAt k ≢ numberAt (count c)) × (numberAt k ≢ numberAt (accessBranch c)) × (numberAt k ≢ numberAt (nonLoadBranch c)))
+    × ((c : ℕ) → c < cells → (numberAt k ≢ numberAt (count c)) × (numberAt k ≢ numberAt (accessBranch c))
+    × (numberAt k ≢ numberAt (nonLoadBranch c)))
     × ((s : ℕ) → s < 28 → numberAt k ≢ numberAt (isSeqCst s))
 
 -- the cells below `made` have a store, and the threads below `up` are runnable
@@ -93,24 +94,28 @@ unfolding Machine.blank
 blank-new explores =
     aside
     (for-threads (New 0 0) Machine.noAccess cells
-    (λ c a h u. aside (aside u (accessBranch c) none (λ j e. e .3 c h .1) (omega arith)) (nonLoadBranch c) none (λ j e. e .3 c h .2) (omega arith))
+    (λ c a h u. aside (aside u (accessBranch c) none (λ j e. e .3 c h .1) (omega arith)) (nonLoadBranch c) none (λ j e. e .3 c h .2)
+    (omega arith))
     cells 0 _ (omega arith)
     (for-threads (New 0 0) Machine.noYield threads (λ i a h u. aside u (lastYield i) none (λ j e. e .2 i h .1) (omega arith))
     threads 0 _ (omega arith) zeros-new))
     exploring (cond explores 1 0) (λ j e. e .1) (omega arith)
 
 -- "cells take a Release store of their start value"
-cell-new : (table : List ℕ) (c : ℕ) (st : State) → c < cells → New c 0 (st .numbers) → New (c + 1) 0 (Machine.cellMade table st c .numbers)
+cell-new : (table : List ℕ) (c : ℕ) (st : State) → c < cells → New c 0 (st .numbers) →
+    New (c + 1) 0 (Machine.cellMade table st c .numbers)
 unfolding storeDone
 cell-new table c st h u =
     let x = number (st .numbers) (count c) in
     let first : oneMore x ≡ 1 = ap oneMore (u .unmade c h (omega arith)) in
     let slot = storeAt c (slotOf x) in
     let small : slot < 28 = omega arith in
-    let one : New (c + 1) 0 (withNumber (st .numbers) (count c) (oneMore x)) = written u (count c) (oneMore x) (λ j e. e .3 c h .0) (omega arith) in
+    let one : New (c + 1) 0 (withNumber (st .numbers) (count c) (oneMore x)) =
+    written u (count c) (oneMore x) (λ j e. e .3 c h .0) (omega arith) in
     aside one (isSeqCst slot) _ (λ j e. e .4 slot small) (omega arith)
 
-cells-new : (table : List ℕ) (n c : ℕ) (st : State) → c + n ≤ cells → New c 0 (st .numbers) → New (c + n) 0 (Machine.cellsMade table st n c .numbers)
+cells-new : (table : List ℕ) (n c : ℕ) (st : State) → c + n ≤ cells → New c 0 (st .numbers) →
+    New (c + n) 0 (Machine.cellsMade table st n c .numbers)
 unfolding Machine.cellsMade
 cells-new table zero c st h u = rw (add-zero c) u
 cells-new table (suc n) c st h u =
@@ -118,7 +123,8 @@ cells-new table (suc n) c st h u =
     rw (sym e) (cells-new table n (c + 1) (Machine.cellMade table st c) (omega arith) (cell-new table c st (omega arith) u))
 
 -- "All are runnable"
-threads-new : (made n t : ℕ) (st : State) → t + n ≤ threads → New made t (st .numbers) → New made (t + n) (Machine.threadsStarted st n t .numbers)
+threads-new : (made n t : ℕ) (st : State) → t + n ≤ threads → New made t (st .numbers) →
+    New made (t + n) (Machine.threadsStarted st n t .numbers)
 unfolding Machine.threadsStarted
 threads-new made zero t st h u = rw (add-zero t) u
 threads-new made (suc n) t st h u =

@@ -8,6 +8,7 @@ use Rattle.rules.specs.Table.{threadsOf, cellsOf}
 use Rattle.rules.specs.State as State
 use Rattle.rules.specs.State.{number, threads, cells, nextRow, rowsOf, phase, activeThread, begun}
 use Rattle.rules.specs.Machine.{Program, start, runnable}
+use Rattle.rules.proofs.NumberLaws.{five-same}
 use Rattle.rules.proofs.MeasureStart.{New, start-new, start-ready}
 use Rattle.standing.specs.Standing.{ThreadIn, Over, Holds}
 
@@ -51,8 +52,8 @@ module _ (p : Program) (some : 1 ≤ threadsOf (p .table)) (few : threadsOf (p .
     blocks = λ i h e. absurd (omega (arith, first i h));
     awake = λ i h d. omega (arith, first i h);
     counted = λ c h. omega (arith, is-new .stored c (omega arith) h);
-    entries = omega (arith, none, rows 0 (omega arith), rows 1 (omega arith), rows 2 (omega arith), rows 3 (omega arith), rows 4 (omega arith));
-    shared = omega (arith, none, rows 0 (omega arith), rows 1 (omega arith), rows 2 (omega arith), rows 3 (omega arith), rows 4 (omega arith));
+    entries = omega (arith, none, five-same (λ (i : ℕ). 0) (λ (i : ℕ). number (start p .numbers) (phase i)) (λ i h. rows i h .1));
+    shared = omega (arith, none, five-same (λ (i : ℕ). 0) (λ (i : ℕ). number (start p .numbers) (rowsOf i)) (λ i h. rows i h .2));
     limited = omega (arith, none);
   }
 
