@@ -33,13 +33,13 @@ use Rattle.bounds.proofs.Stands.{At, part-eased, eased-at, over, holds,
 use Rattle.bounds.proofs.Rows.{no-more, acts-going, read-ending, bit-ending}
 
 -- the numbers of a state that stands so
-pub record Counted (p : Program) (t n : ℕ) (rows owing waits least : ℕ → ℕ) (a : Numbers) : Type 0 where
-  pub tally : Tally p n owing least a
-  pub links : Links t rows owing waits a
+record Counted (p : Program) (t n : ℕ) (rows owing waits least : ℕ → ℕ) (a : Numbers) : Type 0 where
+  tally : Tally p n owing least a
+  links : Links t rows owing waits a
 
 module _ {p : Program} {t n : ℕ} {rows owing waits least : ℕ → ℕ} where
   -- a thread's state is none of what is counted
-  pub state-aside : (i v : ℕ) (a : Numbers) → i < threads → Counted p t n rows owing waits least a →
+  state-aside : (i v : ℕ) (a : Numbers) → i < threads → Counted p t n rows owing waits least a →
       Counted p t n rows owing waits least (withNumber a (State.state i) v)
   state-aside i v a h s = record {
     tally = aside a (s .tally) (State.state i) v (omega arith);

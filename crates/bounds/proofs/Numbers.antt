@@ -2,7 +2,7 @@
 --     given-own, given-other, of-given         so much of one thread
 --     ofAll-given          the sum over the five threads
 --     aside                a write that a tally does not read
---     last-yield, count-now, activates, stored, yields-once, begins       the writes that it reads
+--     last-yield, activates, stored, yields-once, begins       the writes that it reads
 --     re-owed, acted       what is owed, with no write
 --     Links                what the numbers say of each thread: its rows, what it owes, whether it waits
 --     aside-links          a write that the links do not read
@@ -110,12 +110,6 @@ module _ {p : Program} {n : ℕ} {owing most : ℕ → ℕ} (a : Numbers) (s : T
       wrote (lastYield t) v (omega arith) (s .entries) (λ c h. (omega arith, λ e. s .counts c h))
       (λ u h. (omega arith, λ e. s .yielded u h))
       (λ u h. (λ e. let q : u ≡ t = omega arith in rw q l, λ e. s .lasts u h))
-
-  -- a cell's stores
-  pub count-now : (c v : ℕ) → c < cells → v + ofAll owing ≤ 1 + number a begun → Tally p n owing most (withNumber a (count c) v)
-  count-now c v b l =
-      wrote (count c) v (omega arith) (s .entries) (λ d h. (λ e. l, λ e. s .counts d h)) (λ u h. (omega arith, λ e. s .yielded u h))
-      (λ u h. (λ e. absurd (omega arith), λ e. s .lasts u h))
 
   -- so much is owed, and versions have come so far
   pub re-owed : {m : ℕ} (owing′ most′ : ℕ → ℕ) → m + ofAll owing′ ≡ number a begun →

@@ -352,7 +352,8 @@ module _ (p : Program) (fits : Fits p) (t n : ℕ) (rows owing waits least : ℕ
   acts-going st k (Table.spurious r) h v s = asks-now st (not-raised st s)
 
   -- a load or an RMW reads its slot
-  pub read-ending : (st : State) (k slot mask : ℕ) (row : Decoded Op) → slot < history → RowNames threads cells (rowCount p t) row → Raised st →
+  pub read-ending : (st : State) (k slot mask : ℕ) (row : Decoded Op) → slot < history →
+      RowNames threads cells (rowCount p t) row → Raised st →
       Ending p n (Machine.readFrom st t k slot mask row)
   unfolding Machine.readFrom RowNames
   read-ending st k slot mask refused d h s = over st s

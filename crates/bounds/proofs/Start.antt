@@ -2,33 +2,33 @@
 --     start-holds          what is kept between ticks holds there
 use Prim.Native.Nat.{ℕ, zero, suc, _+_, _≤_, _<_}
 use mathlib.Core.List.{List, []}
-use mathlib.Core.Bool.{Bool, cond}
-use mathlib.Core.Path.{_≡_, refl, ap, _∙_}
-use mathlib.Core.Logic.{_≢_, inl, inr}
+use mathlib.Core.Bool.{Bool}
+use mathlib.Core.Path.{_≡_, refl, ap}
+use mathlib.Core.Logic.{_≢_, _⊎_, inl, inr}
 use native.Mathlib.Omega.{arith}
-use native.Mathlib.Decide.{ℕ-discrete}
+use native.Mathlib.Decide.{ℕ-discrete, decLt}
 use lib.Dec.{eqb}
 use lib.ListN.{getD, set, replicate, length-replicate, getD-replicate}
 use lib.Seq.{getD-set-same}
 use borrow.Author.Tests.{eqb-true, eqb-false}
-use Rattle.rules.specs.Vector.{oneMore, zeros}
+use Rattle.rules.specs.Vector.{zeros}
 use Rattle.rules.specs.Seen.{unseens}
 use Rattle.rules.specs.Table.{threadsOf, cellsOf}
-use Rattle.rules.specs.State.{State, Numbers, Number, Vector, vector, withVector, vectorAt, number, withNumber, numberAt, vectorsHeld, numbersHeld, threads, cells, history, none, storeAt}
-use Rattle.rules.specs.State.{causality, mutated, rowsOf, yields, lastYield, operation, phase, count, isSeqCst, accessBranch, nonLoadBranch, activeThread, begun, exploring}
-use Rattle.rules.specs.Cell.{version, joinInto, withClocks, storeDone, slotOf, seqCstFlag}
+use Rattle.rules.specs.State.{State, Vector, vector, withVector, vectorAt, number, vectorsHeld, threads, cells, history, none}
+use Rattle.rules.specs.State.{causality, mutated, rowsOf, yields, lastYield, operation, phase, count, activeThread, begun, exploring}
+use Rattle.rules.specs.Cell.{version, joinInto, withClocks}
 use Rattle.rules.specs.Machine
-use Rattle.rules.specs.Machine.{Program, start, runnable}
-use Rattle.rules.proofs.StateLaws.{inVectors, vectorAt-within, vector-same, number-other}
-use Rattle.rules.proofs.NumberLaws.{for-threads, more-some}
+use Rattle.rules.specs.Machine.{Program, start}
+use Rattle.rules.proofs.StateLaws.{inVectors, vectorAt-within, vector-same}
+use Rattle.rules.proofs.NumberLaws.{five-same}
+use Rattle.rules.proofs.MeasureStart.{New, start-new}
 use Rattle.rules.proofs.MeasureRows.{pick}
-use Rattle.bounds.specs.Bounds.{Fits, Kind, ofVersions, ofChoices, kindOf, given, nothing, Part, Sights, Holds}
+use Rattle.bounds.specs.Bounds.{Fits, Kind, ofVersions, ofChoices, kindOf, given, nothing, rowsIn, Part, NoneOr, Sights, Tally, Holds}
 use Rattle.bounds.proofs.Parts.{Fit, set-fit, zeros-fit, Since, put, join-into, eased}
 use Rattle.bounds.proofs.Marks.{Row, unseen-row, later}
 use Rattle.bounds.proofs.Accesses.{Sound, with-clocks, stored-sound}
-use Rattle.bounds.proofs.Numbers.{given-own, given-other, of-given, aside, last-yield, count-now, aside-links}
+use Rattle.bounds.proofs.Numbers.{given-own, given-other, of-given, Links}
 use Rattle.bounds.proofs.Stands.{At, holds}
-use Rattle.bounds.proofs.Moves.{Counted, state-aside}
 
 -- while cells are made, thread 0's version is 1, and every other part is 0
 first : ℕ → ℕ
@@ -152,154 +152,77 @@ started-marks (suc n) t st = started-marks n (t + 1) (Machine.threadStarted st t
 
 -- The numbers
 
-module _ (p : Program) where
-  abbrev Unbegun : Numbers → Type 0
-  Unbegun a = Counted p 0 0 nothing nothing nothing first a
+module _ (p : Program) (fits : Fits p) where
+  is-new : New (cellsOf (p .table)) (threadsOf (p .table)) (start p .numbers)
+  is-new = start-new p (fits .few) (fits .held)
 
-  -- the cells from c on have no store
-  abbrev Unmade : ℕ → Numbers → Type 0
-  Unmade c a = (d : ℕ) → c ≤ d → d < cells → number a (count d) ≡ 0
+  begun-none : number (start p .numbers) begun ≡ 0
+  begun-none = is-new .nothing begun (omega arith)
 
-  zero-at : (k : Number) → numberAt k < numbersHeld → number (replicate numbersHeld 0) k ≡ 0
-  zero-at k h = getD-replicate {A = ℕ} numbersHeld (numberAt k) 0 0 h
-
-  zeros-unbegun : Unbegun (replicate numbersHeld 0)
-  zeros-unbegun = record {
-    tally = record {
-      held = length-replicate {A = ℕ} numbersHeld 0;
-      runs = omega (arith, zero-at activeThread (omega arith));
-      rows = omega (
-        arith,
-        zero-at begun (omega arith),
-        zero-at (rowsOf 0) (omega arith),
-        zero-at (rowsOf 1) (omega arith),
-        zero-at (rowsOf 2) (omega arith),
-        zero-at (rowsOf 3) (omega arith),
-        zero-at (rowsOf 4) (omega arith),
-      );
-      limit = omega (arith, zero-at begun (omega arith));
-      entries = omega (arith, zero-at begun (omega arith));
-      counts = λ c h. omega (arith, zero-at (count c) (omega arith));
-      yielded = λ u h. omega (arith, zero-at (yields u) (omega arith));
-      lasts = λ u h. inr (omega (arith, zero-at (lastYield u) (omega arith)));
-    };
-    links = record {
-      held = length-replicate {A = ℕ} numbersHeld 0;
-      runs = zero-at activeThread (omega arith);
-      begunRows = λ u h. zero-at (rowsOf u) (omega arith);
-      owes = λ u h. rw (zero-at (phase u) (omega arith)) refl;
-      pends = λ u h. rw (zero-at (operation u) (omega arith)) (omega arith);
-    };
-  }
-
-  no-yield : (i : ℕ) (a : Numbers) → i < threads → Unbegun a → Unbegun (Machine.noYield i a)
-  no-yield i a h s = record {
-    tally = last-yield a (s .tally) i none h (inl refl);
-    links = aside-links a (s .links) (lastYield i) none (omega arith) (omega arith);
-  }
-
-  no-access : (i : ℕ) (a : Numbers) → i < cells → Unbegun a → Unbegun (Machine.noAccess i a)
-  no-access i a h s = record {
-    tally = aside (withNumber a (accessBranch i) none) (aside a (s .tally) (accessBranch i) none (omega arith))
-        (nonLoadBranch i) none (omega arith);
-    links =
-        aside-links (withNumber a (accessBranch i) none) (aside-links a (s .links) (accessBranch i) none (omega arith)
-        (omega arith))
-        (nonLoadBranch i) none (omega arith) (omega arith);
-  }
-
-  abbrev listed : Numbers
-  listed = Machine.forThreads Machine.noAccess cells 0 (Machine.forThreads Machine.noYield threads 0 (replicate numbersHeld 0))
-
-  listed-unbegun : Unbegun listed
-  listed-unbegun =
-      for-threads Unbegun Machine.noAccess cells no-access cells 0 _ (omega arith)
-      (for-threads Unbegun Machine.noYield threads no-yield threads 0 _ (omega arith) zeros-unbegun)
-
-  -- no store is counted yet
-  listed-unmade : Unmade 0 listed
-  listed-unmade =
-      for-threads (Unmade 0) Machine.noAccess cells
-      (λ i a h u d l b. number-other (withNumber a (accessBranch i) none) (nonLoadBranch i) (count d) none (omega arith)
-      ∙ number-other a (accessBranch i) (count d) none (omega arith) ∙ u d l b)
-      cells 0 _ (omega arith)
-      (for-threads (Unmade 0) Machine.noYield threads (λ i a h u d l b. number-other a (lastYield i) (count d) none
-      (omega arith) ∙ u d l b)
-      threads 0 _ (omega arith) (λ d l b. zero-at (count d) (omega arith)))
-
-  blank-unbegun : (explores : Bool) → Unbegun (Machine.blank explores .numbers) × Unmade 0 (Machine.blank explores .numbers)
-  unfolding Machine.blank
-  blank-unbegun explores = (
-    record {
-      tally = aside listed (listed-unbegun .tally) exploring (cond explores 1 0) (omega arith);
-      links = aside-links listed (listed-unbegun .links) exploring (cond explores 1 0) (omega arith) (omega arith);
-    },
-    λ d l b. number-other listed exploring (count d) _ (omega arith) ∙ listed-unmade d l b,
-  )
+  rows-none : (u : ℕ) → u < threads → number (start p .numbers) (rowsOf u) ≡ 0
+  rows-none u h = is-new .nothing (rowsOf u) (omega arith)
 
   -- each cell takes one store
-  made-unbegun : (table : List ℕ) (n c : ℕ) (st : State) → c + n ≤ cells → Unbegun (st .numbers) → Unmade c (st .numbers) →
-      Unbegun (Machine.cellsMade table st n c .numbers)
-  unfolding Machine.cellsMade storeDone
-  made-unbegun table zero c st h s u = s
-  made-unbegun table (suc n) c st h s u =
-      let a = st .numbers in
-      let cnt = number a (count c) in
-      let one = withNumber a (count c) (oneMore cnt) in
-      let flag = isSeqCst (storeAt c (slotOf cnt)) in
-      made-unbegun table n (c + 1) (Machine.cellMade table st c) (omega arith)
-      (record {
-        tally =
-            aside one (count-now a (s .tally) c (oneMore cnt) (omega arith)
-            (omega (arith, more-some cnt .1, u c (omega arith) (omega arith))))
-            flag (seqCstFlag 1) (omega arith);
-        links = aside-links one (aside-links a (s .links) (count c) (oneMore cnt) (omega arith) (omega arith)) flag (seqCstFlag 1)
-            (omega arith) (omega arith);
-      })
-      (λ d l b. number-other one flag (count d) (seqCstFlag 1) (omega arith) ∙ number-other a (count c) (count d) (oneMore cnt)
-      (omega arith)
-      ∙ u d (omega arith) b)
+  one-store : (c : ℕ) → c < cells → number (start p .numbers) (count c) ≤ 1
+  one-store c h =
+      elim (decLt c (cellsOf (p .table))) [
+        | yes l ↦ omega (arith, is-new .stored c h l)
+        | no d ↦ omega (arith, is-new .unmade c h (omega arith))
+      ]
 
-  started-unbegun : (n t : ℕ) (st : State) → t + n ≤ threads → Unbegun (st .numbers) →
-      Unbegun (Machine.threadsStarted st n t .numbers)
-  unfolding Machine.threadsStarted
-  started-unbegun zero t st h s = s
-  started-unbegun (suc n) t st h s =
-      started-unbegun n (t + 1) (Machine.threadStarted st t) (omega arith) (state-aside t runnable (st .numbers) (omega arith) s)
+  last-none : (u : ℕ) → (number (start p .numbers) (lastYield u) ≡ none) ⊎ (number (start p .numbers) (lastYield u) ≡ 0) →
+      NoneOr (first u) (number (start p .numbers) (lastYield u))
+  last-none u (inl e) = inl e
+  last-none u (inr e) = inr (omega arith)
+
+  start-tally : Tally p 0 nothing first (start p .numbers)
+  start-tally = record {
+    held = is-new .long;
+    runs = omega (arith, is-new .nothing activeThread (omega arith));
+    rows = omega (arith, begun-none, five-same nothing (rowsIn (start p .numbers)) rows-none);
+    limit = omega (arith, begun-none);
+    entries = omega (arith, begun-none);
+    counts = λ c h. omega (arith, one-store c h);
+    yielded = λ u h. omega (arith, is-new .nothing (yields u) (omega arith));
+    lasts = λ u h. last-none u (is-new .lasts u h);
+  }
+
+  start-links : Links 0 nothing nothing nothing (start p .numbers)
+  start-links = record {
+    held = is-new .long;
+    runs = is-new .nothing activeThread (omega arith);
+    begunRows = rows-none;
+    owes = λ u h. rw (is-new .nothing (phase u) (omega arith)) refl;
+    pends = λ u h. rw (is-new .nothing (operation u) (omega arith)) (omega arith);
+  }
 
   -- The whole
 
-  module _ (fits : Fits p) where
-    made : State
-    made = Machine.cellsMade (p .table) (Machine.thread0Making (Machine.blank (p .exploring))) (cellsOf (p .table)) 0
+  made : State
+  made = Machine.cellsMade (p .table) (Machine.thread0Making (Machine.blank (p .exploring))) (cellsOf (p .table)) 0
 
-    made-at : Sound Making first made × Unbegun (made .numbers)
-    unfolding made
-    made-at =
-        let blank = blank-unbegun (p .exploring) in (
-          made-sound (p .table) (cellsOf (p .table)) 0 _ (omega (arith, fits .held)) (making-sound (p .exploring)),
-          made-unbegun (p .table) (cellsOf (p .table)) 0 _ (omega (arith, fits .held)) (blank .0) (blank .1),
-        )
+  made-at : Sound Making first made
+  unfolding made
+  made-at = made-sound (p .table) (cellsOf (p .table)) 0 _ (omega (arith, fits .held)) (making-sound (p .exploring))
 
-    started-part : (k : Kind) (u x : ℕ) → u < threads → Making k u x → Started k u x
-    started-part ofVersions u x b h = omega (arith, first-most u)
-    started-part ofChoices u x b h = omega arith
+  started-part : (k : Kind) (u x : ℕ) → u < threads → Making k u x → Started k u x
+  started-part ofVersions u x b h = omega (arith, first-most u)
+  started-part ofChoices u x b h = omega arith
 
-    pub start-holds : Holds p (start p) 0
-    unfolding start made
-    start-holds =
-        let sound = made-at .0 in
-        let clocks = started-since (threadsOf (p .table)) 0 made (omega (arith, fits .few))
-        (record { vectors = eased (made .clocks) started-part (sound .clocks .vectors); since = sound .clocks .since }) in
-        let numbers = started-unbegun (threadsOf (p .table)) 0 made (omega (arith, fits .few)) (made-at .1) in
-        let at : At p 0 0 nothing nothing nothing nothing first Started (start p) = record {
-          sound = record {
-            clocks = clocks;
-            sights = rw (started-marks (threadsOf (p .table)) 0 made) (later (made .marks)
-                (λ u b. omega (arith, sound .clocks .vectors .parts (causality u) b u b, clocks .since u b)) (sound .sights));
-          };
-          tally = numbers .tally;
-          links = numbers .links;
-        } in
-        holds (start p) at (λ u b. omega arith) (λ u b. of-given (λ (x : ℕ). x ≤ 0) 0 0 nothing u (λ e. omega arith)
-        (λ d. omega arith))
+  start-sound : Sound Started first (start p)
+  unfolding start made
+  start-sound =
+      let clocks = started-since (threadsOf (p .table)) 0 made (omega (arith, fits .few))
+      (record { vectors = eased (made .clocks) started-part (made-at .clocks .vectors); since = made-at .clocks .since }) in
+      record {
+        clocks = clocks;
+        sights = rw (started-marks (threadsOf (p .table)) 0 made) (later (made .marks)
+            (λ u b. omega (arith, made-at .clocks .vectors .parts (causality u) b u b, clocks .since u b)) (made-at .sights));
+      }
+
+  pub start-holds : Holds p (start p) 0
+  start-holds =
+      let at : At p 0 0 nothing nothing nothing nothing first Started (start p) =
+      record { sound = start-sound; tally = start-tally; links = start-links } in
+      holds (start p) at (λ u b. omega arith) (λ u b. of-given (λ (x : ℕ). x ≤ 0) 0 0 nothing u (λ e. omega arith)
+      (λ d. omega arith))

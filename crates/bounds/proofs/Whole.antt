@@ -17,6 +17,7 @@ use Rattle.rules.specs.Event.{Question, whichThread, whichSlot, whichBit, Answe
 use Rattle.rules.specs.State.{State, Vector, vector, number, threads, count}
 use Rattle.rules.proofs.StateLaws.{inVectors}
 use Rattle.rules.proofs.NumberLaws.{five-has}
+use Rattle.rules.proofs.MeasureAccepted.{header-within}
 use Rattle.rules.proofs.SlotLaws.{live-most}
 use Rattle.rules.specs.Machine.{Program, machine, answered}
 use Rattle.kept.specs.Kept.{Fitting, Keeps}
@@ -79,8 +80,8 @@ raised-by-one st r v h t b = rw (lt-ltb (getD (vector (st .clocks) v) t 0) large
 
 -- "threads 1..5, cells 1..4", "operation limit L 1..4,096"
 pub accepted-fits : (table : List ℕ) (s : Settings) → headerFine table ≡ true → settingsFine s ≡ true → Fits (programOf table s)
-unfolding headerFine settingsFine
+unfolding settingsFine
 accepted-fits table s h f =
-    let header = simp and-eq-true-iff at h in
+    let header = header-within table h in
     let settings = simp and-eq-true-iff at f in
-    record { few = omega (arith, leb-true); held = omega (arith, leb-true); limited = omega (arith, leb-true) }
+    record { few = header .1; held = header .2; limited = omega (arith, leb-true) }

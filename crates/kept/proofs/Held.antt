@@ -17,7 +17,8 @@ use Rattle.kept.proofs.Ticked.{Expected, expected, Alone, Ticked, alone
 use Rattle.kept.proofs.Courses.{After, walk-by, every-course}
 
 module _ (M : Machine) (Holds : Holding M) (Asked : Asking M) (Over : Holding M) where
-  pub alone-holds : (limits : Limits) (n : ℕ) (e : Move (M .State)) → Alone M limits e → OfNext M Holds Asked Over n e → OfAnswer M Holds Over n e
+  pub alone-holds : (limits : Limits) (n : ℕ) (e : Move (M .State)) → Alone M limits e → OfNext M Holds Asked Over n e →
+      OfAnswer M Holds Over n e
   alone-holds limits n (moves s es) a h = h
   alone-holds limits n (asks s es x q) a h = absurd a
   alone-holds limits n (stops s f) a h = h

@@ -91,14 +91,14 @@ module _ (M : Machine) where
   OfAnswer Holds Over n (stops s f) = Over s n
   OfAnswer Holds Over n (ends s) = Over s n
 
-  -- between ticks, of a state that asks, and, of less, where a machine has asked, stopped or ended: from there no tick is made, so
-  -- what is over need not be kept from there
+  -- between ticks; of a state that asks; and, which may be less, of one that has asked, stopped or ended: from there no tick is made,
+  -- so that nothing has to be kept from there on
   pub record Keeps (Holds : Holding) (Asked : Asking) (Over : Holding) : Type 0 where
     pub at-start : Holds (M .start) 0
     pub at-next : (s : M .State) (n : ℕ) → Holds s n → OfNext Holds Asked Over n (M .next s .move)
     pub at-answer : (s : M .State) (n : ℕ) (q : Question) (a : Answer) → Asked s n q → Fitting q a →
         OfAnswer Holds Over n (M .answered s a)
-    -- whatever the path does with a question, and however few ticks or entries are allowed
+    -- the path may refuse any question, and ticks and entries may run out
     pub at-question : (s : M .State) (n : ℕ) (q : Question) → Asked s n q → Over s n
     pub at-tick : (s : M .State) (n : ℕ) → Holds s n → Over s n
 

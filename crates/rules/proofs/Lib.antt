@@ -1,3 +1,4 @@
+pub mod AccessLaws
 pub mod ExploredLaws
 pub mod MarkLaws
 pub mod Measure

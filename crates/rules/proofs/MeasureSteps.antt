@@ -10,19 +10,19 @@ use mathlib.Core.Path.{_≡_, refl, ap, _∙_}
 use native.Mathlib.Omega.{arith}
 use lib.Dec.{eqb, ltb}
 use Rattle.rules.specs.Vector.{oneMore}
-use Rattle.rules.specs.Change.{Change, Changed, success, failure}
 use Rattle.rules.specs.Table as Table
 use Rattle.rules.specs.Table.{Op, Decoded, refused, decoded}
 use Rattle.rules.specs.Event as Event
 use Rattle.rules.specs.Event.{Entry, Question, whichThread, whichSlot, whichBit, moves, asks, stops, ends}
 use Rattle.rules.specs.State as State
 use Rattle.rules.specs.State.{State, number, withNumber, threads, cells, phase, begun, nextRow, yields, lastYield, operation, awaits, count, isSeqCst, exploring, skipping, storeAt}
-use Rattle.rules.specs.Cell.{version, storeDone, slotOf, Access, raced, read, Race, noRace, raceOf, unlessRace, sighted, loadDone, byChange, succeeded, rmwDone, unsyncLoadDone, mutDone, storeRace, storeTracked, withClocks}
+use Rattle.rules.specs.Cell.{version, storeDone, slotOf, Access, raced, read, Race, noRace, raceOf, loadDone, rmwDone, unsyncLoadDone, mutDone, storeRace, storeTracked, withClocks}
 use Rattle.rules.specs.Machine
 use Rattle.rules.specs.Machine.{Program, pendingOf, active, runnable, blocked, yielded, ended, toBegin, toAct, completed}
 use Rattle.rules.specs.Measure.{ticksLeft, ticksLeftOf, measure, Whole, Ready}
 use Rattle.rules.proofs.Measure.{Is, aside, toState, toPhase, seen, otherWork, has-part}
 use Rattle.rules.proofs.MeasureRows.{pick, OnCell, RowOnCell}
+use Rattle.rules.proofs.AccessLaws.{Leaves, isRead, load-leaves, rmw-leaves, unsync-leaves, mut-leaves}
 
 -- the active thread's row is to act
 pub record Acting (p : Program) (n : ℕ) (st : State) : Type 0 where
@@ -106,41 +106,11 @@ module _ (p : Program) (t ph b m n : ℕ) (below : t < threads) (acts : eqb ph t
       let store = storeAt c (slotOf (number (st .numbers) (count c))) in
       aside below (aside below is (count c) _ (omega arith)) (isSeqCst store) _ (omega arith)
 
-  -- what an access leaves, where no race stops it
-  data AtRead : Access → Type 0 where
-    isRaced : {kind other : ℕ} {st : State} → AtRead (raced kind other st)
-    isRead : {v : ℕ} {st : State} → At st → AtRead (read v st)
-
-  unless-race : (r : Race) (st : State) (x : Access) → AtRead x → AtRead (unlessRace r st x)
-  unless-race noRace st x h = h
-  unless-race (raceOf kind other) st x h = isRaced
-
-  load-at : (st : State) (c slot o : ℕ) → At st → AtRead (loadDone st t c slot o)
-  unfolding loadDone sighted
-  load-at st c slot o is = search (unless-race, isRead)
-
-  change-at : (x : Changed) (st : State) (c store v o f : ℕ) → c < cells → At st → AtRead (byChange x st t c store v o f)
-  unfolding succeeded
-  change-at (success new) st c store v o f h is = search (unless-race, isRead, store-at)
-  change-at failure st c store v o f h is = isRead is
-
-  rmw-at : (st : State) (c slot : ℕ) (change : Change) (o f : ℕ) → c < cells → At st → AtRead (rmwDone st t c slot change o f)
-  unfolding rmwDone sighted
-  rmw-at st c slot change o f h is = search (unless-race, change-at)
-
-  unsync-at : (st : State) (c : ℕ) → At st → AtRead (unsyncLoadDone st t c)
-  unfolding unsyncLoadDone
-  unsync-at st c is = search (unless-race, isRead)
-
-  mut-at : (st : State) (c : ℕ) (change : Change) → At st → AtRead (mutDone st t c change)
-  unfolding mutDone
-  mut-at st c change is = search (unless-race, isRead)
-
-  reads-lower : (x : Access) (k opcode r slot mask : ℕ) → AtRead x → Lower p n (Machine.reads x t k opcode r slot mask)
+  reads-lower : (x : Access) (k opcode r slot mask : ℕ) → Leaves (Is t runnable ph b m) x → Lower p n (Machine.reads x t k opcode r slot mask)
   reads-lower (raced kind other st) k opcode r slot mask h = stopping
   reads-lower (read v st) k opcode r slot mask (isRead h) = finished (Machine.withRegister st t r v) (oneMore k) _ h
 
-  leaves-lower : (x : Access) (k opcode c r : ℕ) → AtRead x → Lower p n (Machine.leavesIn x t k opcode c r)
+  leaves-lower : (x : Access) (k opcode c r : ℕ) → Leaves (Is t runnable ph b m) x → Lower p n (Machine.leavesIn x t k opcode c r)
   leaves-lower (raced kind other st) k opcode c r h = stopping
   leaves-lower (read v st) k opcode c r (isRead h) = finished (Machine.withRegister st t r v) (oneMore k) _ h
 
@@ -198,8 +168,8 @@ module _ (p : Program) (t ph b m n : ℕ) (below : t < threads) (acts : eqb ph t
   acts-lower st k (Table.storeRegister c o r) h is = stores-lower st k 2 c o (Machine.register st t r) h is
   acts-lower st k (Table.rmw c o f change r) h is = asking (acting (Machine.versionRaised st t) is)
   acts-lower st k (Table.fence o) h is = finished (Machine.fences p st t o) (oneMore k) _ is
-  acts-lower st k (Table.unsyncLoad c r) h is = reads-lower (unsyncLoadDone st t c) k 5 r _ 0 (unsync-at st c is)
-  acts-lower st k (Table.exclusive c change r) h is = leaves-lower (mutDone st t c change) k 6 c r (mut-at st c change is)
+  acts-lower st k (Table.unsyncLoad c r) h is = reads-lower (unsyncLoadDone st t c) k 5 r _ 0 (unsync-leaves (Is t runnable ph b m) st t c is)
+  acts-lower st k (Table.exclusive c change r) h is = leaves-lower (mutDone st t c change) k 6 c r (mut-leaves (Is t runnable ph b m) st t c change is)
   acts-lower st k Table.yield h is = yield-lower st (oneMore k) _ is
   acts-lower st k (Table.join target) h is = joins-lower st k 8 target is
   acts-lower st k (Table.jump target) h is = finished st _ _ is
@@ -220,10 +190,10 @@ module _ (p : Program) (t ph b m n : ℕ) (below : t < threads) (acts : eqb ph t
   read-lower st k slot mask refused h is = stopping
   read-lower st k slot mask (decoded (Table.load c o r)) h is =
       pick (Lower p n) (ltb slot (number (st .numbers) (count c)))
-      (λ e. reads-lower (loadDone st t c slot o) k 0 r slot mask (load-at st c slot o is)) (λ e. stopping)
+      (λ e. reads-lower (loadDone st t c slot o) k 0 r slot mask (load-leaves (Is t runnable ph b m) st t c slot o is)) (λ e. stopping)
   read-lower st k slot mask (decoded (Table.rmw c o f change r)) h is =
       pick (Lower p n) (ltb slot (number (st .numbers) (count c)))
-      (λ e. reads-lower (rmwDone st t c slot change o f) k 3 r slot mask (rmw-at st c slot change o f h is)) (λ e. stopping)
+      (λ e. reads-lower (rmwDone st t c slot change o f) k 3 r slot mask (rmw-leaves (Is t runnable ph b m) cells store-at st t c slot change o f h is)) (λ e. stopping)
   read-lower st k slot mask (decoded (Table.store c o a)) h is = stopping
   read-lower st k slot mask (decoded (Table.storeRegister c o r)) h is = stopping
   read-lower st k slot mask (decoded (Table.fence o)) h is = stopping

@@ -13,8 +13,7 @@ use Rattle.rules.specs.Vector.{Whom, nobody, thread, largest, oneMore}
 use Rattle.rules.specs.Table.{Op, Decoded, refused, decoded}
 use Rattle.rules.specs.Event.{Event, runThread, readSlot, takeBit, moves}
 use Rattle.rules.specs.State as State
-use Rattle.rules.specs.State.{State, Numbers, number, withNumber, threads, cells, phase, begun, activeThread, rowsOf, operation, accessBranch, nonLoadBranch, withVector, lastAccess, lastNonLoad, scheduleOf}
-use Rattle.rules.specs.Cell.{withClocks}
+use Rattle.rules.specs.State.{State, Numbers, number, withNumber, threads, phase, begun, activeThread, rowsOf, operation, accessBranch, nonLoadBranch}
 use Rattle.rules.specs.Machine
 use Rattle.rules.specs.Machine.{Program, Pending, nothing, pends, pendingOf, active, activeRow, activeOp, rowOf, rowCount, runnable, yielded, ended, toBegin, toAct, noOperation}
 use Rattle.rules.specs.Measure.{ticksLeft, measure, Whole, Ready}
@@ -22,6 +21,7 @@ use Rattle.rules.proofs.NumberLaws.{more-below}
 use Rattle.rules.proofs.Measure.{Is, aside, toState, toPhase, toBegun, toCell, seen, toActive, otherWork}
 use Rattle.rules.proofs.MeasureLoops.{Wakes, awake-all, freed-all, yielded-same}
 use Rattle.rules.proofs.MeasureRows.{pick, both-left, both-right, OnCell, RowOnCell, row-on-cell}
+use Rattle.rules.proofs.AccessLaws.{access-kept}
 use Rattle.rules.proofs.MeasureSteps.{Acting, Lower, lowered, asking, stopping, ending, measure-is, ready-is, at-begin, measure-part, acting-is, acting-most, acts-lower, read-lower, bit-lower}
 
 -- A row that is to begin
@@ -68,37 +68,15 @@ module _ (p : Program) (limited : p .operations ≤ largest) (t b m n : ℕ) (be
 
 -- A scheduling goes on with the chosen thread
 module _ {t s ph b m : ℕ} (below : t < threads) where
-  recorded-is : (st : State) (op c at : ℕ) (parts : List ℕ) → c < cells → Is t s ph b m (st .numbers) →
-      Is t s ph b m (Machine.accessRecorded st op c at parts .numbers)
-  recorded-is st op c at parts h is =
-      let one = aside below is (accessBranch c) at (omega arith) in
-      let clocks = withVector (st .clocks) (lastAccess c) parts in
-      let numbers = withNumber (st .numbers) (accessBranch c) at in
-      pick (λ (x : State). Is t s ph b m (x .numbers)) (eqb op Machine.aLoad)
-      {x = Machine.withNumbers (withClocks st clocks) numbers}
-      {y = Machine.withNumbers (withClocks st (withVector clocks (lastNonLoad c) parts)) (withNumber numbers (nonLoadBranch c) at)}
-      (λ e. one)
-      (λ e. aside below one (nonLoadBranch c) at (omega arith))
-
-  access-is : (st : State) (at : ℕ) → Is t s ph b m (st .numbers) → Is t s ph b m (Machine.accessMade st t at .numbers)
-  unfolding Machine.accessMade
-  access-is st at is =
-      let parts = Machine.scheduleGrown st t in
-      let op = Machine.operationOf st t in
-      let c = Machine.cellOf st t in
-      let grown = withClocks st (withVector (st .clocks) (scheduleOf t) parts) in
-      pick (λ (x : State). Is t s ph b m (x .numbers)) (eqb op noOperation) {x = st} {y = Machine.accessRecorded grown op c at parts}
-      (λ e. is)
-      (λ e. recorded-is grown op c at parts (is .whole .onCell t below) is)
-
   pub switched-is : (st : State) (at : ℕ) → Is t s ph b m (withNumber (st .numbers) activeThread t) → Wakes t s 0 →
       Is t runnable ph b m (Machine.switched st t at .numbers)
   unfolding Machine.switched Machine.allAwake
   switched-is st at is w =
       let now = Machine.withNumbers st (withNumber (st .numbers) activeThread t) in
-      awake-all below 5 0 (Machine.accessMade now t at .numbers) (omega arith) (access-is now at is) w
+      awake-all below 5 0 (Machine.accessMade now t at .numbers) (omega arith) (access-kept (Is t s ph b m) (λ a c at h is. aside below is (accessBranch c) at (omega arith))
+      (λ a c at h is. aside below is (nonLoadBranch c) at (omega arith)) now t at (is .whole .onCell t below) is) w
 
-pub either : (x y : Bool) → (x || y) ≡ true → (x ≡ true) ⊎ (y ≡ true)
+either : (x y : Bool) → (x || y) ≡ true → (x ≡ true) ⊎ (y ≡ true)
 either true y e = inl refl
 either false y e = inr e
 

@@ -300,8 +300,10 @@ module _ (p : Program) (held : cellsOf (p .table) ≤ cells) (few : threadsOf (p
 
   -- and to what holds between ticks, where it runs, whomever it once waited for
   pub holding : {k ph b m q r w : ℕ} (st : State) (n : ℕ) → t < threadsOf (p .table) → Is t runnable ph b m (st .numbers) →
-      Facts p t k q r threads (st .numbers) → Thread p t runnable k ph w → (n + (q + ph) ≡ b) × (r ≡ b) × (b ≤ p .operations) → Holds p st n
+      Facts p t k q r threads (st .numbers) → Thread p t runnable k ph w →
+      (n + (q + ph) ≡ b) × (r ≡ b) × (b ≤ p .operations) → Holds p st n
   holding {w = w} st n within is f own sums = record {
-    over = closed st n within is f (waits-none p t runnable _ _ w _ (omega arith) own) (λ g. absurd (omega arith)) (λ i h g o. omega arith) sums;
+    over = closed st n within is f (waits-none p t runnable _ _ w _ (omega arith) own) (λ g. absurd (omega arith))
+        (λ i h g o. omega arith) sums;
     ready = rw (is .runs) (is .stands);
   }

@@ -9,7 +9,7 @@ use mathlib.Core.Path.{_≡_, refl, ap, sym, _∙_}
 use mathlib.Core.Logic.{_≢_, inl, inr}
 use native.Mathlib.Omega.{arith}
 use native.Mathlib.Decide.{ℕ-discrete, decLt}
-use lib.Dec.{eqb, ltb}
+use lib.Dec.{ltb}
 use lib.ListN.{getD}
 use borrow.Author.Tests.{ltb-true, lt-ltb}
 use Rattle.rules.specs.Vector.{Whom, nobody, thread}
@@ -17,14 +17,14 @@ use Rattle.rules.specs.Table.{threadsOf, cellsOf}
 use Rattle.rules.specs.Event as Event
 use Rattle.rules.specs.Event.{Standing, cannotRun, other, moves}
 use Rattle.rules.specs.State as State
-use Rattle.rules.specs.State.{State, Numbers, number, withNumber, threads, cells, operatesOn, phase, activeThread, accessBranch, nonLoadBranch, withVector, lastAccess, lastNonLoad, scheduleOf}
-use Rattle.rules.specs.Cell.{withClocks}
+use Rattle.rules.specs.State.{State, Numbers, number, withNumber, threads, cells, operatesOn, phase, activeThread, accessBranch, nonLoadBranch}
 use Rattle.rules.specs.Machine as Machine
-use Rattle.rules.specs.Machine.{Program, isIn, someCanRun, fewestFrom, yieldsLess, everyThread, absent, runnable, yielded, noOperation}
+use Rattle.rules.specs.Machine.{Program, isIn, someCanRun, fewestFrom, yieldsLess, everyThread, absent, runnable, yielded}
 use Rattle.rules.proofs.NumberLaws.{five-has}
 use Rattle.rules.proofs.Measure.{toActive}
 use Rattle.rules.proofs.MeasureLoops.{Wakes}
 use Rattle.rules.proofs.MeasureRows.{pick, both-left, both-right}
+use Rattle.rules.proofs.AccessLaws.{access-kept}
 use Rattle.rules.proofs.MeasureTicks.{switched-is, can-wake}
 use Rattle.kept.specs.Kept.{FittingThread, Scheduling}
 use Rattle.standing.specs.Standing.{Over, Schedules}
@@ -185,37 +185,14 @@ wakes-there (inr e) d = omega (arith, e .0)
 
 -- what stands of the others where the chosen thread's access is recorded, and all are awake
 module _ (p : Program) (held : cellsOf (p .table) ≤ cells) (few : threadsOf (p .table) ≤ threads) (t : ℕ) (below : t < threads) where
-  module _ {k q r u : ℕ} where
-    recorded-facts : (st : State) (op c at : ℕ) (parts : List ℕ) → c < cells → Facts p t k q r u (st .numbers) →
-        Facts p t k q r u (Machine.accessRecorded st op c at parts .numbers)
-    recorded-facts st op c at parts h facts =
-        let one = keep p held few t below facts (accessBranch c) at (omega arith) in
-        let clocks = withVector (st .clocks) (lastAccess c) parts in
-        let numbers = withNumber (st .numbers) (accessBranch c) at in
-        pick (λ (x : State). Facts p t k q r u (x .numbers)) (eqb op Machine.aLoad)
-        {x = Machine.withNumbers (withClocks st clocks) numbers}
-        {y = Machine.withNumbers (withClocks st (withVector clocks (lastNonLoad c) parts)) (withNumber numbers (nonLoadBranch c) at)}
-        (λ e. one)
-        (λ e. keep p held few t below one (nonLoadBranch c) at (omega arith))
-
-    access-facts : (st : State) (at : ℕ) → Machine.cellOf st t < cells → Facts p t k q r u (st .numbers) →
-        Facts p t k q r u (Machine.accessMade st t at .numbers)
-    unfolding Machine.accessMade
-    access-facts st at h facts =
-        let parts = Machine.scheduleGrown st t in
-        let op = Machine.operationOf st t in
-        let c = Machine.cellOf st t in
-        let grown = withClocks st (withVector (st .clocks) (scheduleOf t) parts) in
-        pick (λ (x : State). Facts p t k q r u (x .numbers)) (eqb op noOperation) {x = st} {y = Machine.accessRecorded grown op c at parts}
-        (λ e. facts)
-        (λ e. recorded-facts grown op c at parts h facts)
-
   switched-facts : {k q r : ℕ} (st : State) (at : ℕ) → number (withNumber (st .numbers) activeThread t) (operatesOn t) < cells →
       Facts p t k q r 0 (withNumber (st .numbers) activeThread t) → Facts p t k q r threads (Machine.switched st t at .numbers)
   unfolding Machine.switched Machine.allAwake
   switched-facts st at h facts =
       let now = Machine.withNumbers st (withNumber (st .numbers) activeThread t) in
-      awake-facts p held few t below 5 0 (Machine.accessMade now t at .numbers) (omega arith) (access-facts now at h facts)
+      awake-facts p held few t below 5 0 (Machine.accessMade now t at .numbers) (omega arith)
+      (access-kept (Facts p t _ _ _ 0) (λ a c at l f. keep p held few t below f (accessBranch c) at (omega arith))
+      (λ a c at l f. keep p held few t below f (nonLoadBranch c) at (omega arith)) now t at h facts)
 
   module _ (st : State) (n : ℕ) (over : Over p st n) where
     abbrev a : Numbers

@@ -55,7 +55,8 @@ module _ (p : Program) (l : ℕ) where
   lower-falls MeasureSteps.stopping = tt
   lower-falls MeasureSteps.ending = tt
 
-  lower-asks : {st : State} {es : List Entry} {explores : Bool} {q : Question} → Lower p l (asks st es explores q) → MeasureSteps.Asked p l st q
+  lower-asks : {st : State} {es : List Entry} {explores : Bool} {q : Question} → Lower p l (asks st es explores q) →
+      MeasureSteps.Asked p l st q
   lower-asks (MeasureSteps.asking h) = h
 
   answer-lower : (st : State) (q : Question) (a : Answer) → MeasureSteps.Asked p l st q → Fitting q a → Lower p l (answered p st a)
@@ -89,7 +90,8 @@ module _ (table : List ℕ) (s : Settings) (accepted : judged table ≡ good) (f
       next-lower p limited st (record { whole = h .over .whole; below = omega (arith, h .over .runs, within); runs = h .ready })
 
   answers : (st : State) (n : ℕ) (q : Question) (a : Answer) → Asked p st n q → Fitting q a → After p n (answered p st a)
-  answers st n (whichThread points first standings) (runThread whom at) h fit = thread-after p (within .2) (within .1) st n first standings h whom at fit
+  answers st n (whichThread points first standings) (runThread whom at) h fit =
+      thread-after p (within .2) (within .1) st n first standings h whom at fit
   answers st n (whichSlot m) (readSlot slot values) h fit =
       slot-after p (within .2) (within .1) accepted st n (h .holds) (h .toAct) m (h .reading) slot values fit
   answers st n whichBit (takeBit bit) h fit =

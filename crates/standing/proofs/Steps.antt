@@ -13,20 +13,21 @@ use lib.Dec.{eqb}
 use lib.ListN.{length}
 use borrow.Author.Tests.{lt-ltb, eqb-false}
 use Rattle.rules.specs.Vector.{oneMore}
-use Rattle.rules.specs.Change.{Change, Changed, success, failure}
+use Rattle.rules.specs.Change.{Change}
 use Rattle.rules.specs.Table as Table
 use Rattle.rules.specs.Table.{Op, decoded, threadsOf, cellsOf}
 use Rattle.rules.specs.Event as Event
 use Rattle.rules.specs.Event.{Fault, impossible, faultNumber, Entry, Matched, Question, whichSlot, whichBit, Move, moves, asks, stops, ends}
 use Rattle.rules.specs.State as State
 use Rattle.rules.specs.State.{State, Numbers, number, withNumber, threads, cells, phase, nextRow, yields, lastYield, operation, awaits, count, isSeqCst, exploring, skipping, storeAt}
-use Rattle.rules.specs.Cell.{version, storeDone, slotOf, Access, raced, read, Race, noRace, raceOf, unlessRace, sighted, loadDone, byChange, succeeded, rmwDone, unsyncLoadDone, mutDone, storeRace, storeTracked, withClocks}
+use Rattle.rules.specs.Cell.{version, storeDone, slotOf, Access, raced, read, Race, noRace, raceOf, loadDone, rmwDone, unsyncLoadDone, mutDone, storeRace, storeTracked, withClocks}
 use Rattle.rules.specs.Machine as Machine
 use Rattle.rules.specs.Machine.{Program, rowCount, rowOf, activeOp, runnable, blocked, yielded, ended, toBegin, toAct, completed}
 use Rattle.rules.proofs.StateLaws.{number-same, number-other}
 use Rattle.rules.proofs.NumberLaws.{after, more-some}
 use Rattle.rules.proofs.Measure.{Is, aside, toState, toPhase}
 use Rattle.rules.proofs.MeasureRows.{pick, Names}
+use Rattle.rules.proofs.AccessLaws.{Leaves, isRaced, isRead, load-leaves, rmw-leaves, unsync-leaves, mut-leaves}
 use Rattle.standing.specs.Standing.{Thread, Over, Holds, Schedules, Reading, ofLoad, ofRmw, Reads, Takes, Asked}
 use Rattle.standing.proofs.Facts.{Facts, keep, toRow, closed, holding}
 
@@ -105,36 +106,6 @@ module _ (p : Program) (held : cellsOf (p .table) ≤ cells) (few : threadsOf (p
             keep p held few t below one (isSeqCst store) _ (omega arith);
       }
 
-  -- what an access leaves, where no race stops it
-  data AtRead : Access → Type 0 where
-    isRaced : {kind other : ℕ} {st : State} → At st → AtRead (raced kind other st)
-    isRead : {v : ℕ} {st : State} → At st → AtRead (read v st)
-
-  unless-race : (r : Race) (st : State) (x : Access) → At st → AtRead x → AtRead (unlessRace r st x)
-  unless-race noRace st x at h = h
-  unless-race (raceOf kind other) st x at h = isRaced at
-
-  load-at : (st : State) (c slot o : ℕ) → At st → AtRead (loadDone st t c slot o)
-  unfolding loadDone sighted
-  load-at st c slot o at = search (unless-race, isRead)
-
-  change-at : (x : Changed) (st : State) (c store v o f : ℕ) → c < cellsOf (p .table) → At st → AtRead (byChange x st t c store v o f)
-  unfolding succeeded
-  change-at (success new) st c store v o f h at = search (unless-race, isRead, store-at)
-  change-at failure st c store v o f h at = isRead at
-
-  rmw-at : (st : State) (c slot : ℕ) (change : Change) (o f : ℕ) → c < cellsOf (p .table) → At st → AtRead (rmwDone st t c slot change o f)
-  unfolding rmwDone sighted
-  rmw-at st c slot change o f h at = search (unless-race, change-at)
-
-  unsync-at : (st : State) (c : ℕ) → At st → AtRead (unsyncLoadDone st t c)
-  unfolding unsyncLoadDone
-  unsync-at st c at = search (unless-race, isRead)
-
-  mut-at : (st : State) (c : ℕ) (change : Change) → At st → AtRead (mutDone st t c change)
-  unfolding mutDone
-  mut-at st c change at = search (unless-race, isRead)
-
   skipped-at : (st : State) → At st → At (Machine.skipped st)
   skipped-at st at = record {
     is = aside below (aside below (at .is) exploring 0 (omega arith)) skipping 1 (omega arith);
@@ -158,11 +129,11 @@ module _ (p : Program) (held : cellsOf (p .table) ≤ cells) (few : threadsOf (p
   stopped : (st : State) (f : Fault) → faultNumber f ≢ 20 → At st → After p n (stops st f)
   stopped st f d at = stops-at st f d (holds-at st n refl at .over)
 
-  reads-after : (x : Access) (opcode r slot mask : ℕ) → AtRead x → After p n (Machine.reads x t k opcode r slot mask)
+  reads-after : (x : Access) (opcode r slot mask : ℕ) → Leaves On x → After p n (Machine.reads x t k opcode r slot mask)
   reads-after (raced kind other st) opcode r slot mask (isRaced at) = stopped st _ (omega arith) at
   reads-after (read v st) opcode r slot mask (isRead at) = finished (Machine.withRegister st t r v) (oneMore k) _ next-row at
 
-  leaves-after : (x : Access) (opcode c r : ℕ) → AtRead x → After p n (Machine.leavesIn x t k opcode c r)
+  leaves-after : (x : Access) (opcode c r : ℕ) → Leaves On x → After p n (Machine.leavesIn x t k opcode c r)
   leaves-after (raced kind other st) opcode c r (isRaced at) = stopped st _ (omega arith) at
   leaves-after (read v st) opcode c r (isRead at) = finished (Machine.withRegister st t r v) (oneMore k) _ next-row at
 
@@ -235,14 +206,14 @@ module _ (p : Program) (held : cellsOf (p .table) ≤ cells) (few : threadsOf (p
       After p n (Machine.readFrom st t k slot mask (decoded (Table.load c o r)))
   unfolding Machine.readFrom
   load-after st c o r slot mask h at =
-      rw (lt-ltb slot (number (st .numbers) (count c)) h) (reads-after (loadDone st t c slot o) 0 r slot mask (load-at st c slot o at))
+      rw (lt-ltb slot (number (st .numbers) (count c)) h) (reads-after (loadDone st t c slot o) 0 r slot mask (load-leaves On st t c slot o at))
 
   pub rmw-after : (st : State) (c o f : ℕ) (change : Change) (r slot mask : ℕ) → c < cellsOf (p .table) →
       slot < number (st .numbers) (count c) → At st → After p n (Machine.readFrom st t k slot mask (decoded (Table.rmw c o f change r)))
   unfolding Machine.readFrom
   rmw-after st c o f change r slot mask named h at =
       rw (lt-ltb slot (number (st .numbers) (count c)) h)
-      (reads-after (rmwDone st t c slot change o f) 3 r slot mask (rmw-at st c slot change o f named at))
+      (reads-after (rmwDone st t c slot change o f) 3 r slot mask (rmw-leaves On (cellsOf (p .table)) store-at st t c slot change o f named at))
 
   -- "16 `branch_spurious` into register (0 or 1)"
   pub bit-after : (st : State) (r v : ℕ) → At st → After p n (Machine.bitTaken st t k v (decoded (Table.spurious r)))
@@ -301,9 +272,9 @@ module _ (p : Program) (held : cellsOf (p .table) ≤ cells) (few : threadsOf (p
   acts-good st (Table.fence o) e h at =
       moving (finished (Machine.fences p st t o) (oneMore k) _ next-row at)
   acts-good st (Table.unsyncLoad c r) e h at =
-      moving (reads-after (unsyncLoadDone st t c) 5 r _ 0 (unsync-at st c at))
+      moving (reads-after (unsyncLoadDone st t c) 5 r _ 0 (unsync-leaves On st t c at))
   acts-good st (Table.exclusive c change r) e h at =
-      moving (leaves-after (mutDone st t c change) 6 c r (mut-at st c change at))
+      moving (leaves-after (mutDone st t c change) 6 c r (mut-leaves On st t c change at))
   acts-good st Table.yield e h at = yield-good st _ at
   acts-good st (Table.join target) e h at = joins-good st 8 target e h at
   acts-good st (Table.jump target) e h at = moving (jumps-after st 9 true target h at)

@@ -137,7 +137,7 @@ module _ (p : Program) (held : cellsOf (p .table) ≤ cells) (few : threadsOf (p
           } in
           let asked : Schedules p (Machine.threadEnded st t) (n + 0) _ _ =
           record {
-            over = closed p held few t below (Machine.threadEnded st t) (n + 0) (stands .runs) (all .1) f3 over
+            over = closed p held few t below {m = all .0} (Machine.threadEnded st t) (n + 0) (stands .runs) (all .1) f3 over
                 (λ g. absurd (omega arith)) (λ i h g o. absurd (freed-none t a2 (f2 .long) i h g o))
                 (omega (arith, stands .entries, phase-in, stands .limited));
             isFirst = refl;
