@@ -3,7 +3,7 @@
 --     store-..           a new store's order takes in those of the stores that its thread has seen
 use Prim.Native.Nat.{ℕ, suc, _+_, _-_, _≤_, _<_}
 use mathlib.Core.List.{List, []}
-use mathlib.Core.Bool.{Bool, true, false, cond, _||_}
+use mathlib.Core.Bool.{Bool, true, false, cond}
 use mathlib.Core.Path.{_≡_, refl, ap, sym, _∙_}
 use mathlib.Core.Logic.{_≢_}
 use native.Mathlib.Omega.{arith}
@@ -69,18 +69,27 @@ module _ (clocks : Clocks) (rows : List (List ℕ)) (t c slot : ℕ) where
       pub cohere-own : i ≡ slot → now ≡ so → coherentFrom clocks rows t c slot now (l - (i + 1)) (i + 1) ≡ whole
       cohere-own e f = cohere-on h now (rw (eq-eqb i slot e) f)
 
-      module _ (n : i ≢ slot) (store : ℕ) (at : store ≡ storeAt c i) (a b : Bool)
-          (e : a ≡ seen (getD rows i []) (vector clocks (causality t)))
-          (f : b ≡ less (vector clocks (happensBefore store)) (vector clocks (causality t))) where
-        known : (k : Bool) → a || b ≡ k → coheres clocks rows t c slot i ≡ k
-        known k g = rw (ne-eqb i slot n, ← at, ← e, ← f) g
-
-        pub cohere-known : a || b ≡ true → now ≡ joined so (vector clocks (order store)) →
+      module _ (n : i ≢ slot) (store : ℕ) (at : store ≡ storeAt c i) (a : Bool)
+          (e : a ≡ seen (getD rows i []) (vector clocks (causality t))) where
+        cohere-with : coheres clocks rows t c slot i ≡ true → now ≡ joined so (vector clocks (order store)) →
             coherentFrom clocks rows t c slot now (l - (i + 1)) (i + 1) ≡ whole
-        cohere-known g j = cohere-on h now (rw (known true g, ← at) j)
+        cohere-with g j = cohere-on h now (rw (g, ← at) j)
 
-        pub cohere-unknown : a || b ≡ false → now ≡ so → coherentFrom clocks rows t c slot now (l - (i + 1)) (i + 1) ≡ whole
-        cohere-unknown g j = cohere-on h now (rw (known false g) j)
+        -- a store that is seen is not asked whether it happened before
+        pub cohere-seen : a ≡ true → now ≡ joined so (vector clocks (order store)) →
+            coherentFrom clocks rows t c slot now (l - (i + 1)) (i + 1) ≡ whole
+        cohere-seen g j = cohere-with (rw (ne-eqb i slot n, ← e, g)) j
+
+        module _ (unseen : a ≡ false) (b : Bool) (f : b ≡ less (vector clocks (happensBefore store)) (vector clocks (causality t))) where
+          known : (k : Bool) → b ≡ k → coheres clocks rows t c slot i ≡ k
+          known k g = rw (ne-eqb i slot n, ← at, ← e, ← f, unseen) g
+
+          pub cohere-before : b ≡ true → now ≡ joined so (vector clocks (order store)) →
+              coherentFrom clocks rows t c slot now (l - (i + 1)) (i + 1) ≡ whole
+          cohere-before g j = cohere-with (known true g) j
+
+          pub cohere-unknown : b ≡ false → now ≡ so → coherentFrom clocks rows t c slot now (l - (i + 1)) (i + 1) ≡ whole
+          cohere-unknown g j = cohere-on h now (rw (known false g) j)
 
 -- A new store's order
 

@@ -51,7 +51,7 @@ pub fn apply_load_coherence(
             let at = store_at(cell, i);
             let before = clocks[HAPPENS_BEFORE + at];
             // Read-read on the left, write-read on the right.
-            if is_seen(marks, cell, i, causality) | is_before(before, causality) {
+            if is_seen(marks, cell, i, causality) || is_before(before, causality) {
                 let other = clocks[MODIFICATION_ORDER + at];
                 let both = join(order, other);
                 order = both;

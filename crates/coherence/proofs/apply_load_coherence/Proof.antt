@@ -4,7 +4,7 @@ use mathlib.Core.Logic.{⊎-elim}
 use Prim.Native.Nat.{_≤_, _-_}
 use Rattle.rules.specs.State.{marksOf}
 use Rattle.rules.specs.Cell.{coherentFrom, liveIn, orderOf}
-use Rattle.coherence.proofs.OrderLaws.{cohere-start, cohere-all, cohere-done, cohere-own, cohere-known, cohere-unknown}
+use Rattle.coherence.proofs.OrderLaws.{cohere-start, cohere-all, cohere-done, cohere-own, cohere-seen, cohere-before, cohere-unknown}
 use Rattle.coherence.proofs.apply_load_coherence.Statement.{statement}
 use Rattle.coherence.proofs.apply_load_coherence.Tie as tie
 
@@ -95,9 +95,15 @@ loop-again c =
     let at = c .before .before in
     let h = c .before .loop-test .taken in
     ⊎-elim
-    (λ w. (search needs, cohere-known _ _ _ _ _ _ _ _ _ (at .loop .inv .1) h _ (w .0 .taken) _ (w .1 .ensures) _ _ (w .3 .ensures) (w .4 .ensures) (w .5 .taken) (w .8 ∙ w .7 .ensures)))
+    (λ w. (
+      search needs,
+      ⊎-elim
+      (λ v. cohere-seen _ _ _ _ _ _ _ _ _ (at .loop .inv .1) h _ (w .0 .taken) _ (w .1 .ensures) _ (w .3 .ensures) (v .taken) (w .7 ∙ w .6 .ensures))
+      (λ v. cohere-before _ _ _ _ _ _ _ _ _ (at .loop .inv .1) h _ (w .0 .taken) _ (w .1 .ensures) _ (w .3 .ensures) (v .0 .left) _ (v .1 .ensures) (v .2 .taken) (w .7 ∙ w .6 .ensures))
+      (w .4 .came),
+    ))
     (⊎-elim
-    (λ w. (search needs, cohere-unknown _ _ _ _ _ _ _ _ _ (at .loop .inv .1) h _ (w .0 .taken) _ (w .1 .ensures) _ _ (w .3 .ensures) (w .4 .ensures) (w .5 .left) (w .6)))
+    (λ w. (search needs, cohere-unknown _ _ _ _ _ _ _ _ _ (at .loop .inv .1) h _ (w .0 .taken) _ (w .1 .ensures) _ (w .3 .ensures) (w .4 .left) _ (w .5 .ensures) (w .6 .left) (w .7)))
     (λ w. (search needs, cohere-own _ _ _ _ _ _ _ _ _ (at .loop .inv .1) h _ (w .0 .left) (w .1))))
     (c .if1 .came)
 
