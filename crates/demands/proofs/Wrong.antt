@@ -1,39 +1,48 @@
--- The wrong explorers break the page: what their runs come to, computed, and the sentence that it contradicts. Assumes nothing.
---     Computed, computed      what the runs come to
---     wrong                   what they break
-use Prim.Native.Nat.{ℕ, zero, suc, _+_, _-_, _*_, _≤_, _<_, max}
-use mathlib.Core.List.{List, [], _∷_, _++_, map, Perm, List·Nodup, nodup-cons, List·Mem, mem-cons-self, mem-cons-of-mem}
+-- The wrong explorers break the page: what their runs come to (WrongRuns) against the sentence in question. Assumes nothing.
+--     at-most .. last-of-one              of lists
+--     misoffered, unwatched, disagrees    of a tick that asks for a slot
+--     two-active, pointed-back            of records
+--     wrong                               what is broken
+use Prim.Native.Nat.{ℕ, zero, suc, _≤_, _<_, max}
+use mathlib.Core.List.{List, [], _∷_, List·Nodup, nodup-cons, List·Mem, mem-cons-self, mem-cons-of-mem}
 use mathlib.Core.Bool.{Bool, true, false, cond}
 use mathlib.Core.Path.{_≡_, refl, sym, ap, subst, _∙_}
+use mathlib.Core.Logic.{inl, inr}
 use native.Mathlib.Omega.{arith}
-use lib.ListN.{length, getD, length-map, length-append}
-use Rattle.rules.specs.Cell as Cell
+use lib.Dec.{ltb}
+use lib.ListN.{length, getD, take, length-map, length-append}
+use borrow.Author.Tests.{ltb-true}
 use Rattle.rules.specs.Event as Event
+use Rattle.rules.specs.Event.{Matched, offers, equal, Question, whichThread, whichSlot, whichBit, Move, moves, asks, stops, ends, Entry}
 use Rattle.rules.specs.Explored as Explored
-use Rattle.rules.specs.Explored.{Settings, Report, isRefusal, settingsFine, noted, verdictNumber}
-use Rattle.rules.specs.Explorer as Runs
-use Rattle.rules.specs.Explorer.{Tick, goes, over, faulted, exhausted, spent, stopped}
-use Rattle.rules.specs.Machine as Machine
+use Rattle.rules.specs.Explored.{Settings, programOf, limitsOf}
+use Rattle.rules.specs.Explorer.{Limits, Walk, Tick, goes, over, faulted}
+use Rattle.rules.specs.Machine.{Program, machine, next, active, activeOp}
 use Rattle.rules.specs.Path as Path
-use Rattle.rules.specs.Path.{Choice}
-use Rattle.rules.specs.Seen as Seen
+use Rattle.rules.specs.Path.{Branch, schedule, load, spurious, noBranch, Choice, choiceOf}
+use Rattle.rules.specs.State as State
 use Rattle.rules.specs.State.{State}
-use Rattle.rules.specs.Table as Table
-use Rattle.rules.specs.Table.{judged, good, badHeader, badRow}
-use Rattle.rules.specs.Vector as Vector
-use Rattle.rules.specs.Worked as Worked
 use Rattle.rules.specs.Worked.{oneLoad, storeAndLoad}
-use Rattle.ledger.specs.Wrong.{walkedBy, runFromBy, runBy, steppedFirst, uncounted, droppingStep, inventing}
-use Rattle.ledger.specs.History.{Every, Course, executed, ticksFrom, courseOf, coursesFrom, courses}
-use Rattle.ledger.specs.Tree.{Parted, noExecution}
+use Rattle.ledger.specs.Wrong.{droppingStep, inventing}
+use Rattle.ledger.specs.History.{Every, Course, end, executed}
+use Rattle.ledger.specs.Tree.{Parted}
 use Rattle.ledger.specs.Turning as turning
-use Rattle.ledger.specs.Turning.{Each, Name, running, turningPoint, threadsFrom, alternatives, openNames, newlyPending, markedAlternatives, openedNames, joinedOver}
-use Rattle.ledger.proofs.Lists.{perm-length, every-at}
-use Rattle.offers.specs.Offered.{Among}
-use Rattle.demands.specs.Demands.{Explorer, right, LastIs, theAnswers, it, report, run, executions, openedChoices, turnedChoices, openChoices}
-use Rattle.demands.specs.Exchanged.{ticksFromBy, courseBy, coursesFromBy, coursesBy, runningBy}
+use Rattle.ledger.specs.Turning.{Each, Name}
+use Rattle.ledger.proofs.Lists.{perm-length, every-at, every-map}
+use Rattle.ledger.specs.Replay as replay
+use Rattle.kept.specs.Held.{HoldsAt}
+use Rattle.kept.specs.Rules.{RecordRules, RuledIn}
+use Rattle.standing.specs.Standing as standing
+use Rattle.bounds.specs.Bounds.{Over}
+use Rattle.bounds.specs.HeldOver.{RangeIn}
+use Rattle.offers.specs.Chosen as chosen
+use Rattle.offers.specs.Chosen.{Reading, Offers, Offering, left}
+use Rattle.offers.specs.Seen.{Taken, here, on, Lasting, Watched, Seeing}
+use Rattle.offers.proofs.Chosen.{all-offers}
+use Rattle.demands.specs.Demands.{Explorer, right, LastIs, theAnswers, it, openedChoices, turnedChoices, openChoices}
 use Rattle.demands.specs.Wrong as Wrong
-use Rattle.demands.specs.Wrong.{settings, p3, pathFor, traceFor, noSuchRow, parting, noCourse}
+use Rattle.demands.specs.Wrong.{settings, p3, storeThenLoad, twoLoads, yieldAndLoad, loadThenBit, parting, noCourse, nothing}
+use Rattle.demands.proofs.WrongRuns.{isOver, faultIn, isGood, valuesIn, statesIn, prevIn, cellIn, slotsIn, matchIn, questionIn, stateIn, entriesIn, exploringIn, isSlot, asksSlot, madeBy, courseAt, Lists, walkAt, knownBy, sees, There, Misoffers, computed}
 
 -- Lists
 
@@ -75,161 +84,28 @@ last-of-one [] t h l = absurd (omega arith)
 last-of-one (c ∷ []) t h l = l
 last-of-one (c ∷ d ∷ cs) t h l = absurd (omega arith)
 
-abbrev isOver : Tick State → ℕ
-isOver (goes w) = 0
-isOver (over w) = 1
-isOver (faulted f s w) = 0
+slot-asked : (m : Move State) → asksSlot m ≡ 1 → m ≡ asks (stateIn m) (entriesIn m) (exploringIn m) (whichSlot (matchIn (questionIn m)))
+slot-asked (moves s es) h = absurd (omega (arith, h))
+slot-asked (asks s es exploring (whichThread points initial standings)) h = absurd (omega (arith, h))
+slot-asked (asks s es exploring (whichSlot m)) h = refl
+slot-asked (asks s es exploring whichBit) h = absurd (omega (arith, h))
+slot-asked (stops s f) h = absurd (omega (arith, h))
+slot-asked (ends s) h = absurd (omega (arith, h))
 
-abbrev isGood : Table.Verdict → ℕ
-isGood good = 1
-isGood badHeader = 0
-isGood (badRow t k) = 0
+slot-question : (m : Move State) → asksSlot m ≡ 1 → isSlot (questionIn m) ≡ 1
+slot-question (moves s es) h = absurd (omega (arith, h))
+slot-question (asks s es exploring q) h = h
+slot-question (stops s f) h = absurd (omega (arith, h))
+slot-question (ends s) h = absurd (omega (arith, h))
 
--- What is looked at
-
-abbrev reportFor : Explorer → List ℕ → Settings → Report
-reportFor x table s = report x table s (pathFor s) (traceFor s)
-
--- what the report counts
-record Counts (x : Explorer) (table : List ℕ) (s : Settings) (a b o l : ℕ) : Type 0 where
-  answer : reportFor x table s .answer ≡ a
-  begun : reportFor x table s .begun ≡ b
-  opened : reportFor x table s .opened ≡ o
-  left : reportFor x table s .stillOpen ≡ l
-
--- how many executions there are, also in the history, and how many choices by name: opened, turned to, open
-record Lists (x : Explorer) (table : List ℕ) (s : Settings) (e h o t l : ℕ) : Type 0 where
-  executed : length (executions x table s [] []) ≡ e
-  told : length (run x table s [] [] .history) ≡ h
-  opened : length (openedChoices x table s [] []) ≡ o
-  turned : length (turnedChoices x table s [] []) ≡ t
-  left : length (openChoices x table s [] []) ≡ l
-
-record Computed : Type 0 where
-  no-answer : reportFor Wrong.oneTick oneLoad (settings 3 1 1) .answer ≡ 20
-  not-fine : settingsFine (settings 3 1 0) ≡ false
-  fine : settingsFine (settings 3 1 1) ≡ true
-  three-first : report Wrong.pathFirst oneLoad (settings 3 1 0) [] [] .answer ≡ 3
-  four-first : report Wrong.traceFirst oneLoad (settings 3 1 1) [] [] .answer ≡ 4
-  five-first : report Wrong.tableFirst [] (settings 3 1 1) (pathFor (settings 3 1 1)) [] .answer ≡ 5
-  not-good : judged [] ≡ badHeader
-  taken : reportFor Wrong.anyTable [] (settings 3 1 1) .answer ≡ 0
-  header-five : reportFor Wrong.firstRow [] (settings 3 1 1) .answer ≡ 5
-  header-thread : reportFor Wrong.firstRow [] (settings 3 1 1) .thread ≡ 0
-  bad-row : judged noSuchRow ≡ badRow 0 0
-  row-five : reportFor Wrong.nextRow noSuchRow (settings 3 1 1) .answer ≡ 5
-  row-row : reportFor Wrong.nextRow noSuchRow (settings 3 1 1) .row ≡ 1
-  cleared : isRefusal (report Wrong.clearing oneLoad (settings 3 1 0) (1 ∷ []) [] .answer) ≡ true
-  cleared-path : getD (it Wrong.clearing oneLoad (settings 3 1 0) (1 ∷ []) [] .path) 0 0 ≡ 0
-  over-ran : isRefusal (reportFor Wrong.leavingOver oneLoad (settings 3 2 1) .answer) ≡ false
-  left-over : getD (it Wrong.leavingOver oneLoad (settings 3 2 1) (pathFor (settings 3 2 1)) (traceFor (settings 3 2 1)) .trace) 16 0 ≡ 90
-  zero-past : getD (noted (length (traceFor (settings 3 2 1))) (run Wrong.leavingOver oneLoad (settings 3 2 1) [] [] .walk .trace)) 16 0 ≡ 0
-  twice : Counts Wrong.twice storeAndLoad (p3 10) 0 5 6 0
-  uncounted-all : Counts (parting uncounted) storeAndLoad (p3 10) 0 5 2 0
-  uncounted-one : Counts (parting uncounted) storeAndLoad (p3 1) 1 1 1 2
-  fault-begun : Counts Wrong.faultsNotBegun oneLoad (settings 2 1 1) 11 0 0 0
-  fault-listed : Lists Wrong.faultsNotBegun oneLoad (settings 2 1 1) 1 1 0 0 0
-  twice-one : Counts Wrong.twice storeAndLoad (p3 1) 1 1 3 2
-  twice-listed : Lists Wrong.twice storeAndLoad (p3 1) 1 1 2 0 2
-  none-open : Counts Wrong.noneOpen storeAndLoad (p3 1) 1 1 2 0
-  some-listed : Lists Wrong.noneOpen storeAndLoad (p3 1) 1 1 2 0 2
-  untold-listed : Lists Wrong.untold oneLoad (settings 3 1 1) 1 0 0 0 0
-  anew-listed : Lists Wrong.anew storeAndLoad (p3 2) 2 2 4 1 2
-  anew-same : getD (run Wrong.anew storeAndLoad (p3 2) [] [] .history) 0 noExecution .choices ≡ getD (run Wrong.anew storeAndLoad (p3 2) [] [] .history) 1 noExecution .choices
-  anew-point : length (turningPoint (getD (executions Wrong.anew storeAndLoad (p3 2) [] []) 1 noCourse)) ≡ 0
-  anew-turned : turnedChoices Wrong.anew storeAndLoad (p3 3) [] [] ≡ [] ∷ [] ∷ []
-  dropped-listed : Lists (parting droppingStep) storeAndLoad (p3 10) 4 4 4 3 0
-  forgetful-listed : Lists Wrong.forgetful storeAndLoad (p3 6) 6 6 6 5 1
-  forgetful-first : getD (openedChoices Wrong.forgetful storeAndLoad (p3 6) [] []) 2 [] ≡ running 1 ∷ running 0 ∷ []
-  forgetful-again : getD (openedChoices Wrong.forgetful storeAndLoad (p3 6) [] []) 5 [] ≡ running 1 ∷ running 0 ∷ []
-  early : Counts Wrong.early storeAndLoad (p3 10) 0 1 2 2
-  early-verdict : run Wrong.early storeAndLoad (p3 10) [] [] .verdict ≡ exhausted
-  untaken : Counts Wrong.neverTaking storeAndLoad (p3 10) 0 2 2 0
-  untaken-listed : Lists Wrong.neverTaking storeAndLoad (p3 10) 2 2 2 1 0
-  spent-last : reportFor Wrong.spentAtLast oneLoad (settings 3 1 1) .answer ≡ 1
-  exhausted-last : verdictNumber (run Wrong.spentAtLast oneLoad (settings 3 1 1) [] [] .verdict) ≡ 0
-  overlooked : run Wrong.overlooking oneLoad (settings 2 1 1) [] [] .verdict ≡ exhausted
-  overlooked-listed : length (executions Wrong.overlooking oneLoad (settings 2 1 1) [] []) ≡ 1
-  overlooked-last : isOver (getD (executions Wrong.overlooking oneLoad (settings 2 1 1) [] []) 0 noCourse .outcome) ≡ 0
-  unspent : Counts Wrong.unspent storeAndLoad (p3 2) 1 1 2 2
-  unspent-verdict : run Wrong.unspent storeAndLoad (p3 2) [] [] .verdict ≡ spent
-  invented : run (parting inventing) storeAndLoad (p3 1) [] [] .verdict ≡ stopped Event.deadlock Event.noSite
-  invented-listed : length (executions (parting inventing) storeAndLoad (p3 1) [] []) ≡ 1
-  invented-last : isOver (getD (executions (parting inventing) storeAndLoad (p3 1) [] []) 0 noCourse .outcome) ≡ 1
-
-computed : Computed
-unfolding Cell.loadSynced Cell.storeSynced Cell.fateFrom Cell.loadFate Cell.rmwFate Cell.matchedFrom Cell.matchedLoad
-    Cell.matchedRmw Cell.loadRace Cell.storeRace Cell.loadTracked Cell.storeTracked Cell.coherentFrom Cell.coherent
-    Cell.touchDone Cell.storeOrderFrom Cell.storeOrder Cell.storeDone Cell.sighted Cell.loadDone Event.little Event.entryBytes
-    Event.slotsFrom Explored.summary Explored.refused Explored.verdictSite Explored.reported Explored.entriesBytes
-    Explored.noted Explored.stopOf Explored.ran Explored.settingsFine Explored.explored Runs.allMarked Runs.seedOf Runs.pushed
-    Runs.allBelow Runs.reply Runs.tick Runs.walked Runs.execution Runs.after Runs.runFrom Runs.run Machine.forThreads
-    Machine.blank Machine.cellsMade Machine.threadsStarted Machine.start Machine.conflict Machine.fewestFrom Machine.initial
-    Machine.standing Machine.schedules Machine.accessMade Machine.allAwake Machine.switched Machine.allOver Machine.scheduled
-    Machine.stores Machine.joins Machine.someCanRun Machine.actsAs Machine.begins Machine.threadEnded Machine.nextAt
-    Machine.next Machine.maskOf Machine.readFrom Machine.bitTaken Machine.answered Path.encoded Path.encodedAll Path.written
-    Path.firstIn Path.activeOf Path.toggled Path.preemptionsWith Path.lastSchedule Path.threadAdded Path.loadAdded
-    Path.spuriousAdded Path.marked Path.madePending Path.takesMarks Path.scheduleMarked Path.scheduleAt Path.exploringBelow
-    Path.schedulesBelow Path.switchIn Path.markedBefore Path.backtracked Path.pendings Path.openAt Path.openIn Path.turned
-    Path.turnedBranch Path.stepped Path.choiceOf Seen.seenThrough Seen.seen Seen.seenBeforeYield Seen.touched Seen.touchedAt
-    Table.u16At Table.u32At Table.u64At Table.countsOf Table.countsFine Table.total Table.headerFine Table.firstRows
-    Table.startValue Table.rowFrom Table.rowAt Table.changeDecoded Table.rowDecoded Table.opAt Table.firstNot Table.firstBad
-    Table.rowsJudged Table.judged Vector.atMost Vector.equal Vector.less Vector.joined Vector.ahead Vector.raised
-    Worked.rowsAsBytes Worked.threadsAsBytes Worked.valuesAsBytes Worked.table walkedBy runFromBy runBy steppedFirst
-    ticksFromBy courseBy coursesFromBy coursesBy runningBy ticksFrom courseOf coursesFrom courses threadsFrom alternatives
-    openNames newlyPending markedAlternatives openedNames joinedOver
-computed = record {
-  no-answer = refl;
-  not-fine = refl;
-  fine = refl;
-  three-first = refl;
-  four-first = refl;
-  five-first = refl;
-  not-good = refl;
-  taken = refl;
-  header-five = refl;
-  header-thread = refl;
-  bad-row = refl;
-  row-five = refl;
-  row-row = refl;
-  cleared = refl;
-  cleared-path = refl;
-  over-ran = refl;
-  left-over = refl;
-  zero-past = refl;
-  twice = record { answer = refl; begun = refl; opened = refl; left = refl };
-  uncounted-all = record { answer = refl; begun = refl; opened = refl; left = refl };
-  uncounted-one = record { answer = refl; begun = refl; opened = refl; left = refl };
-  fault-begun = record { answer = refl; begun = refl; opened = refl; left = refl };
-  fault-listed = record { executed = refl; told = refl; opened = refl; turned = refl; left = refl };
-  twice-one = record { answer = refl; begun = refl; opened = refl; left = refl };
-  twice-listed = record { executed = refl; told = refl; opened = refl; turned = refl; left = refl };
-  none-open = record { answer = refl; begun = refl; opened = refl; left = refl };
-  some-listed = record { executed = refl; told = refl; opened = refl; turned = refl; left = refl };
-  untold-listed = record { executed = refl; told = refl; opened = refl; turned = refl; left = refl };
-  anew-listed = record { executed = refl; told = refl; opened = refl; turned = refl; left = refl };
-  anew-same = refl;
-  anew-point = refl;
-  anew-turned = refl;
-  dropped-listed = record { executed = refl; told = refl; opened = refl; turned = refl; left = refl };
-  forgetful-listed = record { executed = refl; told = refl; opened = refl; turned = refl; left = refl };
-  forgetful-first = refl;
-  forgetful-again = refl;
-  early = record { answer = refl; begun = refl; opened = refl; left = refl };
-  early-verdict = refl;
-  untaken = record { answer = refl; begun = refl; opened = refl; left = refl };
-  untaken-listed = record { executed = refl; told = refl; opened = refl; turned = refl; left = refl };
-  spent-last = refl;
-  exhausted-last = refl;
-  overlooked = refl;
-  overlooked-listed = refl;
-  overlooked-last = refl;
-  unspent = record { answer = refl; begun = refl; opened = refl; left = refl };
-  unspent-verdict = refl;
-  invented = refl;
-  invented-listed = refl;
-  invented-last = refl;
-}
+-- a record that does not have as many values as are offered
+misoffered : (p : Program) (limits : Limits) (w : Walk State) (s : State) (es : List Entry) (x : Bool) (m : Matched) (a b : ℕ)
+    → next p (w .state) .move ≡ asks s es x (whichSlot m) → w .pos < left p limits w .pos
+    → length (valuesIn (getD (left p limits w .ledger .path) (w .pos) noBranch)) ≡ a → length (slotsIn m) ≡ b → (a ≡ b → ⊥)
+    → Offering p limits w → ⊥
+misoffered p limits w s es x m a b e k f g differ h =
+    let c = h s es x m e .chosen k in
+    differ (sym f ∙ ap (λ (z : Branch). length (valuesIn z)) (c .at-branch) ∙ ap length (c .all) ∙ ap (λ (z : Matched). length (slotsIn z)) (sym (c .is)) ∙ g)
 
 pub wrong-answers : Wrong.WrongAnswers
 unfolding Explored.refused
@@ -258,7 +134,7 @@ wrong-balances =
       not-opened = λ h. omega (arith, h .opened, c .twice-one .opened, c .twice-listed .opened);
       not-left = λ h. omega (arith, h .left, c .none-open .left, c .some-listed .left);
       not-told = λ h.
-          let z = ap length (h .told .history) ∙ length-map (executions Wrong.untold oneLoad (settings 3 1 1) [] []) executed in
+          let z = ap length (h .told .history) ∙ length-map (madeBy Wrong.untold oneLoad (settings 3 1 1)) executed in
           omega (arith, z, c .untold-listed .executed, c .untold-listed .told);
     }
 
@@ -268,11 +144,11 @@ wrong-turns =
     record {
       apart = λ h. never-part _ _ (c .anew-same) (h 0 1 (omega arith) (omega (arith, c .anew-listed .told)));
       nowhere = λ h.
-          let z = each-at turning.Turns (executions Wrong.anew storeAndLoad (p3 2) [] []) 0 noCourse (omega (arith, c .anew-listed .executed)) (h .turns) in
+          let z = each-at turning.Turns (madeBy Wrong.anew storeAndLoad (p3 2)) 0 noCourse (omega (arith, c .anew-listed .executed)) (h .turns) in
           omega (arith, z .point, c .anew-point);
       same = λ h. repeats {A = Name} ([] ∷ [] ∷ []) 0 1 [] (omega arith) (omega arith) refl (subst List·Nodup (c .anew-turned) (h .different));
       dropped = λ h.
-          let z = perm-length (h .together) ∙ length-append (turnedChoices (parting droppingStep) storeAndLoad (p3 10) [] []) (openChoices (parting droppingStep) storeAndLoad (p3 10) [] []) in
+          let z = perm-length (h .together) ∙ length-append (turnedChoices (parting droppingStep) storeAndLoad (p3 2) [] []) (openChoices (parting droppingStep) storeAndLoad (p3 2) [] []) in
           omega (arith, z, c .dropped-listed .opened, c .dropped-listed .turned, c .dropped-listed .left);
       again = λ h.
           repeats (openedChoices Wrong.forgetful storeAndLoad (p3 6) [] []) 2 5 [] (omega arith) (omega (arith, c .forgetful-listed .opened))
@@ -289,10 +165,192 @@ wrong-stops =
       said = λ h. omega (arith, h .says, c .spent-last, c .exhausted-last);
       some-open = λ h. omega (arith, h .exhausted (c .early-verdict) .1, c .early .left);
       overlooked = λ h.
-          let z = ap isOver (last-of-one (executions Wrong.overlooking oneLoad (settings 2 1 1) [] []) _ (c .overlooked-listed) (h .exhausted (c .overlooked) .0)) in
+          let z = ap isOver (last-of-one (madeBy Wrong.overlooking oneLoad (settings 2 1 1)) _ (c .overlooked-listed) (h .exhausted (c .overlooked) .0)) in
           omega (arith, z, c .overlooked-last);
       unspent = λ h. omega (arith, h .spent (c .unspent-verdict) .2, c .unspent .begun);
       invented = λ h.
-          let z = ap isOver (last-of-one (executions (parting inventing) storeAndLoad (p3 1) [] []) _ (c .invented-listed) (h .fault _ _ (c .invented))) in
+          let z = ap isOver (last-of-one (madeBy (parting inventing) storeAndLoad (p3 1)) _ (c .invented-listed) (h .fault _ _ (c .invented))) in
           omega (arith, z, c .invented-last);
     }
+
+-- At a tick of an execution that has one
+
+there : {A B : Type 0} (xs : List A) (ys : A → List B) (a : A) (b : B) (P : B → Type 0) (i k : ℕ)
+    → ltb i (length xs) ≡ true → ltb k (length (ys (getD xs i a))) ≡ true → Every (λ x. Every P (ys x)) xs → P (getD (ys (getD xs i a)) k b)
+there xs ys a b P i k h l e =
+    every-at P (ys (getD xs i a)) k b (ltb-true k _ l) (every-at (λ x. Every P (ys x)) xs i a (ltb-true i _ h) e)
+
+module _ (x : Explorer) (table : List ℕ) (s : Settings) (i k : ℕ) (h : There x table s i k) where
+  at-tick : (P : Walk State → Type 0) → Every (λ c. Every P (c .ticks)) (madeBy x table s) → P (walkAt x table s i k)
+  at-tick P e = there (madeBy x table s) (λ c. c .ticks) noCourse nothing P i k (h .made) (h .ticked) e
+
+  breaks-offers : (a b : ℕ) → (a ≡ b → ⊥) → Misoffers x table s i k a b → Offering (programOf table s) (limitsOf s) (walkAt x table s i k) → ⊥
+  breaks-offers a b differ m e =
+      let w = walkAt x table s i k in
+      let move = next (programOf table s) (w .state) .move in
+      misoffered (programOf table s) (limitsOf s) w (stateIn move) (entriesIn move) (exploringIn move) (matchIn (questionIn move)) a b
+      (slot-asked move (m .asked)) (ltb-true _ _ (m .passed)) (m .values) (m .slots) differ e
+
+-- what a thread sees it sees at the next tick too, where the slot was not taken
+lasting-next : (ws : List (Walk State)) (k t c i : ℕ) → suc k < length ws → t < State.threads → c < State.cells
+    → (Taken c i (getD ws k nothing .state) (getD ws (suc k) nothing .state) → ⊥) → Lasting ws
+    → sees (getD ws k nothing) t c i ≡ true → sees (getD ws (suc k) nothing) t c i ≡ true
+lasting-next [] k t c i h a b f l e = absurd (omega arith)
+lasting-next (w ∷ []) k t c i h a b f l e = absurd (omega arith)
+lasting-next (w ∷ v ∷ ws) zero t c i h a b f l e = l .0 t c i a b e v (on f here)
+lasting-next (w ∷ v ∷ ws) (suc k) t c i h a b f l e = lasting-next (v ∷ ws) k t c i (omega arith) a b f (l .1) e
+
+true-false : {b : Bool} → b ≡ true → b ≡ false → ⊥
+true-false {b} e f = let z : _≡_ {A = ℕ} 1 0 = ap (λ (x : Bool). cond x 1 0) (sym e ∙ f) in omega arith
+
+-- the cell that is read is that of the row
+read-cell : (p : Program) (s : State) (m : Matched) (offered : List Bool) (c opcode : ℕ) → Reading p s m offered c opcode → c ≡ cellIn (activeOp p s)
+read-cell p s m offered c opcode (chosen.aLoad e f g) = sym (ap cellIn e)
+read-cell p s m offered c opcode (chosen.anRmw e f g) = sym (ap cellIn e)
+
+-- the slot that is read is the choice of the record
+abbrev slotIn : Choice → ℕ
+slotIn (Path.runs w) = 0
+slotIn (Path.reads v) = v
+slotIn (Path.says b) = 0
+
+not-seen : (w : Walk State) (t c i t′ c′ i′ : ℕ) → t ≡ t′ → c ≡ c′ → i ≡ i′ → sees w t′ c′ i′ ≡ false → sees w t c i ≡ true → ⊥
+not-seen w t c i t′ c′ i′ e f g h k = true-false k (cc (e, f, g, h))
+
+unwatched : (p : Program) (limits : Limits) (w v : Walk State) (t c i : ℕ)
+    → asksSlot (next p (w .state) .move) ≡ 1 → w .pos < left p limits w .pos
+    → choiceOf (getD (left p limits w .ledger .path) (w .pos) noBranch) ≡ Path.reads i
+    → active (stateIn (next p (w .state) .move)) ≡ t → cellIn (activeOp p (stateIn (next p (w .state) .move))) ≡ c
+    → sees v t c i ≡ false → Offering p limits w → Watched p limits w v → ⊥
+unfolding choiceOf
+unwatched p limits w v t c i a k e f g h o r =
+    let move = next p (w .state) .move in
+    let asked = slot-asked move a in
+    let it = o (stateIn move) (entriesIn move) (exploringIn move) (matchIn (questionIn move)) asked .chosen k in
+    not-seen v (active (stateIn move)) (it .cell) (getD (it .by .values) (it .by .pos) 0) t c i f
+    (read-cell p (stateIn move) (matchIn (questionIn move)) (it .offered) (it .cell) (it .opcode) (it .reading) ∙ g)
+    (ap (λ (b : Branch). slotIn (choiceOf b)) (sym (it .at-branch)) ∙ ap slotIn e)
+    h (r .read (stateIn move) (entriesIn move) (exploringIn move) (matchIn (questionIn move)) asked it)
+
+pub wrong-offers : Wrong.WrongOffers
+unfolding Offers
+wrong-offers =
+    let c = computed in
+    let p = programOf storeAndLoad (p3 2) in
+    let limits = limitsOf (p3 2) in
+    record {
+      shortened = λ h.
+          breaks-offers Wrong.shortening storeAndLoad (p3 2) 1 4 (c .shortened-there) 1 2 (λ e. omega (arith, e)) (c .shortened)
+          (at-tick Wrong.shortening storeAndLoad (p3 2) 1 4 (c .shortened-there) (Offering p limits) (h .offers));
+      too-few = λ h.
+          breaks-offers Wrong.tooFew loadThenBit (settings 6 3 2) 1 4 (c .few-there) 1 2 (λ e. omega (arith, e)) (c .few)
+          (at-tick Wrong.tooFew loadThenBit (settings 6 3 2) 1 4 (c .few-there) (Offering (programOf loadThenBit (settings 6 3 2)) (limitsOf (settings 6 3 2))) (h .offers));
+      too-many = λ h.
+          breaks-offers Wrong.tooMany storeThenLoad (settings 4 2 2) 1 3 (c .many-there) 2 1 (λ e. omega (arith, e)) (c .many)
+          (at-tick Wrong.tooMany storeThenLoad (settings 4 2 2) 1 3 (c .many-there) (Offering (programOf storeThenLoad (settings 4 2 2)) (limitsOf (settings 4 2 2))) (h .offers));
+      wiped = λ h.
+          let s = settings 3 1 1 in
+          let e = every-at (Seeing (programOf oneLoad s) (limitsOf s)) (madeBy Wrong.wiping oneLoad s) 0 noCourse (ltb-true _ _ (c .wiped-there .made)) (h .seen) in
+          true-false
+          (lasting-next (courseAt Wrong.wiping oneLoad s 0 .ticks) 1 0 0 0 (ltb-true _ _ (c .wiped-there .ticked)) (omega arith) (omega arith)
+          (λ taken. omega (arith, taken .0, c .wiped-slot)) (e .lasting) (c .wiped-seen))
+          (c .wiped-unseen);
+      unseen =
+          unwatched p limits Wrong.beforeLoad (Wrong.tickOf Wrong.unseeing storeAndLoad (p3 2) Wrong.beforeLoad) 1 0 1 (c .ticks-asked) (ltb-true _ _ (c .ticks-passed)) (c .ticks-branch)
+          (c .ticks-thread) (c .ticks-cell) (c .ticks-unseen)
+          (at-tick right storeAndLoad (p3 2) 1 4 (c .ticks-there) (Offering p limits) (all-offers p limits 2));
+    }
+
+-- Records
+
+-- two threads that are Active
+two-active : (before : List Branch) (b : Branch) → getD (statesIn b) 0 0 ≡ Path.active → getD (statesIn b) 1 0 ≡ Path.active → RecordRules before b → ⊥
+two-active before (schedule r) e f h = omega (arith, h .one-active 0 1 e f)
+two-active before (load l) e f h = omega (arith, e)
+two-active before (spurious u) e f h = omega (arith, e)
+
+-- a record before the first
+pointed-back : (before : List Branch) (b : Branch) → length before ≡ 0 → prevIn b ≡ 0 → RecordRules before b → ⊥
+pointed-back before (schedule r) e f h = elim (h .prev) [ inl none ↦ omega (arith, none .0, f) | inr newest ↦ omega (arith, newest .within, e) ]
+pointed-back before (load l) e f h = omega (arith, f)
+pointed-back before (spurious u) e f h = omega (arith, f)
+
+-- one with other values than are offered
+disagreed : (x : Bool) (b : Branch) (q : Question) → isSlot q ≡ 1 → (length (valuesIn b) ≡ length (slotsIn (matchIn q)) → ⊥) → replay.Agrees x b q → ⊥
+disagreed x b (whichThread points initial standings) e f h = omega (arith, e)
+disagreed x (schedule r) (whichSlot m) e f h = h
+disagreed x (load l) (whichSlot m) e f h = f (ap length (h .3 ) ∙ ap (λ (z : Matched). length (slotsIn z)) (sym (h .2)))
+disagreed x (spurious u) (whichSlot m) e f h = h
+disagreed x b whichBit e f h = omega (arith, e)
+
+disagrees : (p : Program) (limits : Limits) (w : Walk State) (a b : ℕ) → (a ≡ b → ⊥) → asksSlot (next p (w .state) .move) ≡ 1
+    → w .pos < left p limits w .pos → length (valuesIn (getD (left p limits w .ledger .path) (w .pos) noBranch)) ≡ a
+    → length (slotsIn (matchIn (questionIn (next p (w .state) .move)))) ≡ b → replay.Answered (machine p) limits w → ⊥
+unfolding replay.Answered
+disagrees p limits w a b differ e k f g h =
+    let it = h k in
+    let q : it .3 ≡ questionIn (next p (w .state) .move) = ap questionIn (sym (it .4)) in
+    disagreed (it .2) (getD (left p limits w .ledger .path) (w .pos) noBranch) (it .3)
+    (ap isSlot q ∙ slot-question (next p (w .state) .move) e)
+    (λ same. differ (sym f ∙ same ∙ ap (λ (y : Question). length (slotsIn (matchIn y))) q ∙ g)) (it .5)
+
+impossible-as : (t : Tick State) → faultIn t ≡ Event.impossible → ((site : Event.Site) (w : Walk State) → t ≡ faulted Event.impossible site w → ⊥) → ⊥
+impossible-as (goes w) e h = let z = ap Event.faultNumber e in omega (arith, z)
+impossible-as (over w) e h = let z = ap Event.faultNumber e in omega (arith, z)
+impossible-as (faulted f s w) e h = h s w (ap (λ (g : Event.Fault). faulted g s w) e)
+
+
+pub wrong-ticks : Wrong.WrongTicks
+wrong-ticks =
+    let c = computed in
+    record {
+      impossible = λ h.
+          impossible-as (courseAt Wrong.oneTick oneLoad (settings 3 1 1) 0 .outcome) (c .no-tick)
+          (every-at (λ (d : Course State). (site : Event.Site) (w : Walk State) → d .outcome ≡ faulted Event.impossible site w → ⊥)
+          (madeBy Wrong.oneTick oneLoad (settings 3 1 1)) 0 noCourse (omega (arith, c .no-ticks)) (h .possible));
+      rows = λ h.
+          let p = programOf twoLoads (settings 5 1 1) in
+          let z = at-tick Wrong.oneRowMore twoLoads (settings 5 1 1) 0 3 (c .rows-there) (HoldsAt (machine p) (standing.Holds p)) (h .stands) in
+          omega (arith, z .limited, c .rows-begun);
+      asleep = λ h.
+          let p = programOf yieldAndLoad (settings 5 2 1) in
+          let z = at-tick Wrong.forgettingOne yieldAndLoad (settings 5 2 1) 0 2 (c .asleep-there) (HoldsAt (machine p) (standing.Holds p)) (h .stands) in
+          z .awake 0 (omega arith) (λ e. omega (arith, e, c .asleep-active)) (c .asleep);
+      refused = λ h.
+          let p = programOf twoLoads (settings 5 1 1) in
+          let z = every-at (λ (d : Course State). HoldsAt (machine p) (standing.Holds p) (end d)) (madeBy Wrong.countingRefused twoLoads (settings 5 1 1)) 0 noCourse (omega (arith, c .refused-made)) (h .stood) in
+          omega (arith, z .limited, c .refused-begun);
+      raised = λ h.
+          let p = programOf oneLoad (settings 3 1 1) in
+          let cs = madeBy Wrong.raising oneLoad (settings 3 1 1) in
+          let z = at-tick Wrong.raising oneLoad (settings 3 1 1) 0 2 (c .raised-there) (HoldsAt (machine p) (Over p)) (every-map (RangeIn p) (λ (d : Course State). Every (HoldsAt (machine p) (Over p)) (d .ticks)) cs (λ d r. r .by-rows) (h .ranges)) in
+          let v = z .vectors .parts (State.causality 0) (omega arith) 0 (omega arith) in
+          omega (arith, v, c .raised-version, c .raised-rows);
+      two-active = λ h.
+          let M = machine (programOf storeAndLoad (p3 3)) in
+          let z = every-at (RuledIn M 5) (madeBy Wrong.bothActive storeAndLoad (p3 3)) 2 noCourse (omega (arith, c .active-made)) (h .records) in
+          two-active (take 0 (knownBy Wrong.bothActive storeAndLoad (p3 3) 2)) (getD (knownBy Wrong.bothActive storeAndLoad (p3 3) 2) 0 noBranch)
+          (c .active-first) (c .active-second) (z .at-start .records 0 (omega (arith, c .active-known)));
+      pointed = λ h.
+          let M = machine (programOf storeAndLoad (p3 2)) in
+          let z = every-at (RuledIn M 5) (madeBy Wrong.selfPointing storeAndLoad (p3 2)) 1 noCourse (omega (arith, c .pointed-made)) (h .records) in
+          pointed-back (take 0 (knownBy Wrong.selfPointing storeAndLoad (p3 2) 1)) (getD (knownBy Wrong.selfPointing storeAndLoad (p3 2) 1) 0 noBranch)
+          refl (c .pointed-first) (z .at-start .records 0 (omega (arith, c .pointed-known)));
+      disagreeing = λ h.
+          let p = programOf storeAndLoad (p3 2) in
+          let cs = madeBy Wrong.shortening storeAndLoad (p3 2) in
+          let w = walkAt Wrong.shortening storeAndLoad (p3 2) 1 4 in
+          let z = at-tick Wrong.shortening storeAndLoad (p3 2) 1 4 (c .shortened-there) (replay.Answered (machine p) (limitsOf (p3 2)))
+                  (every-map (replay.Follows (machine p) (limitsOf (p3 2))) (λ (d : Course State). Every (replay.Answered (machine p) (limitsOf (p3 2))) (d .ticks)) cs (λ d r. r .answered) (h .follows)) in
+          disagrees p (limitsOf (p3 2)) w 1 2 (λ e. omega (arith, e)) (c .shortened .asked) (ltb-true _ _ (c .shortened .passed)) (c .shortened .values) (c .shortened .slots) z;
+    }
+
+pub wrong : Wrong.Wrong
+wrong = record {
+  answers = wrong-answers;
+  balances = wrong-balances;
+  turns = wrong-turns;
+  offers = wrong-offers;
+  stops = wrong-stops;
+  ticks = wrong-ticks;
+}

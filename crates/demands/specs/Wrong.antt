@@ -26,11 +26,10 @@ use Rattle.rules.specs.Explored.{Settings, Explored, Report, explored, refused,
 use Rattle.rules.specs.Worked as Worked
 use Rattle.rules.specs.Worked.{row, table, oneLoad, store, storeAndLoad}
 use Rattle.ledger.specs.History.{Course, leftBy}
-use Rattle.ledger.specs.Wrong.{Parts, steppingBy, droppingStep, uncounted, inventing}
-use Rattle.ledger.specs.Turning.{Each}
+use Rattle.ledger.specs.Wrong.{Parts, steppingBy, tickBy, droppingStep, uncounted, inventing}
 use Rattle.offers.specs.Seen.{Watched}
 use Rattle.demands.specs.Demands.{Explorer, right, Answered, Balances, Apart, Turns, Offered, Stops, Sound}
-use Rattle.demands.specs.Exchanged.{Pieces, own, explorerBy}
+use Rattle.demands.specs.Exchanged.{Pieces, own, machineBy, explorerBy}
 
 -- Inputs
 
@@ -131,13 +130,16 @@ byAnswer chosen read (runThread whom at) = chosen
 byAnswer chosen read (readSlot slot offered) = read
 byAnswer chosen read (takeBit bit) = same
 
-abbrev pub answeredBy : (State → State → State) → (State → State → State) → Explorer
-answeredBy chosen read = explorerBy (record {
+abbrev pub effects : (State → State → State) → (State → State → State) → Pieces
+effects chosen read = record {
   next = own .next;
   answered = λ p st a. moved (byAnswer (chosen st) (read st) a) same same (answered p st a);
   limits = own .limits;
   parts = own .parts;
-})
+}
+
+abbrev pub answeredBy : (State → State → State) → (State → State → State) → Explorer
+answeredBy chosen read = explorerBy (effects chosen read)
 
 -- the records of a path, with other threads' states
 abbrev pub restatedBranch : (ℕ → ℕ) → Branch → Branch
@@ -259,10 +261,10 @@ abbrev pub noneOpen : Explorer
 noneOpen = reporting (λ s r. withOpen 0 r)
 
 pub record WrongBalances : Type 0 where
-  -- [equation] 5 executions, 4 choices opened, of which two by marks: 6 are counted
-  pub counted-twice : Broken Balances twice storeAndLoad (p3 10)
-  -- [equation] and those opened by marks are not counted: 2
-  pub not-counted : Broken Balances (parting uncounted) storeAndLoad (p3 10)
+  -- [equation] two executions have opened two choices, one of them by a mark, and one is open: three are counted
+  pub counted-twice : Broken Balances twice storeAndLoad (p3 2)
+  -- [equation] and here one, since what marks open is not counted
+  pub not-counted : Broken Balances (parting uncounted) storeAndLoad (p3 2)
   -- [within] after one execution one is counted, and two are open
   pub not-within : Broken Balances (parting uncounted) storeAndLoad (p3 1)
   -- [begun] the only execution finds the path full
@@ -303,13 +305,13 @@ pub record WrongTurns : Type 0 where
   -- [different] the second and the third have no turning point but the same
   pub same : Broken Turns anew storeAndLoad (p3 3)
   -- [together] a record is dropped with something open: the load's second value is neither turned to nor open
-  pub dropped : Broken Turns (parting droppingStep) storeAndLoad (p3 10)
+  pub dropped : Broken Turns (parting droppingStep) storeAndLoad (p3 2)
   -- [once] the storing thread is opened again where it was turned to before
   pub again : Broken Turns forgetful storeAndLoad (p3 6)
   -- [exhausted] 0 is answered, and two are open
-  pub left-open : Broken Turns early storeAndLoad (p3 10)
+  pub left-open : Broken Turns early storeAndLoad (p3 2)
   -- [exhausted] 0 is answered, nothing is open, and what was marked was no turning point
-  pub never-taken : Broken Turns neverTaking storeAndLoad (p3 10)
+  pub never-taken : Broken Turns neverTaking storeAndLoad (p3 2)
 
 -- What is offered
 
@@ -345,8 +347,8 @@ withSights marks st = withBoth st (st .clocks) marks
 abbrev pub wiping : Explorer
 wiping = answeredBy (λ before. same) (λ before st. withSights (replicate cells (replicate history (unseens threads))) st)
 
-abbrev pub unseeing : Explorer
-unseeing = answeredBy (λ before. same) (λ before st. withSights (before .marks) st)
+abbrev pub unseeing : Pieces
+unseeing = effects (λ before. same) (λ before st. withSights (before .marks) st)
 
 -- what stands where there is no execution, and no walk
 abbrev pub nothing : Walk State
@@ -360,6 +362,13 @@ nothing = record {
 abbrev pub noCourse : Course State
 noCourse = record { known = []; ticks = []; outcome = over nothing }
 
+-- the walk from which the loading thread loads, in the second execution of the right run; and the one that a tick leaves
+abbrev pub beforeLoad : Walk State
+beforeLoad = getD (getD (right .executions storeAndLoad (p3 2)) 1 noCourse .ticks) 4 nothing
+
+abbrev pub tickOf : Pieces → List ℕ → Settings → Walk State → Walk State
+tickOf y table s w = leftBy (tickBy (machineBy y (programOf table s)) (y .limits s) (y .parts) w)
+
 pub record WrongOffers : Type 0 where
   -- [offers] the second execution reads slot 1 from a record that says that it alone is offered
   pub shortened : Broken Offered shortening storeAndLoad (p3 2)
@@ -369,9 +378,8 @@ pub record WrongOffers : Type 0 where
   pub too-many : Broken Offered tooMany storeThenLoad (settings 4 2 2)
   -- [seen] the thread has seen the cell's start value, and then has not
   pub wiped : Broken Offered wiping oneLoad (settings 3 1 1)
-  -- from tick to tick: the loading thread reads slot 1, and has not seen it
-  pub unseen :
-      Each (Watched (programOf storeAndLoad (p3 2)) (limitsOf (p3 2))) (getD (unseeing .executions storeAndLoad (p3 2)) 1 noCourse .ticks) → ⊥
+  -- from a tick to the next, on which [seen] rests: the loading thread reads slot 1, and then has not seen it
+  pub unseen : Watched (programOf storeAndLoad (p3 2)) (limitsOf (p3 2)) beforeLoad (tickOf unseeing storeAndLoad (p3 2) beforeLoad) → ⊥
 
 -- Why it stopped
 
@@ -405,7 +413,7 @@ pub record WrongStops : Type 0 where
   -- [says] the verdict is that nothing is open
   pub said : Broken Stops spentAtLast oneLoad (settings 3 1 1)
   -- [exhausted] something is open
-  pub some-open : Broken Stops early storeAndLoad (p3 10)
+  pub some-open : Broken Stops early storeAndLoad (p3 2)
   -- [exhausted] the only execution found the path full
   pub overlooked : Broken Stops overlooking oneLoad (settings 2 1 1)
   -- [spent] one of two executions has begun
