@@ -1,26 +1,27 @@
 -- Demand 1: which of document 01's answers is given, and what is left. Assumes nothing.
 --     Case, whichCase     the checks of `explored`, one after another, and what it then is
 --     not-refusal         a verdict is no refusal
+--     true-false          nothing is both
 --     answered            demand 1
-use Prim.Native.Nat.{ℕ, _+_, _*_, _≤_, _<_}
-use mathlib.Core.List.{List, []}
+use Prim.Native.Nat.{ℕ, _*_, _≤_}
+use mathlib.Core.List.{List}
 use mathlib.Core.Bool.{Bool, true, false, cond}
 use mathlib.Core.Path.{_≡_, refl, sym, ap, _∙_}
 use mathlib.Core.Logic.{_≢_}
 use native.Mathlib.Omega.{arith}
-use lib.Dec.{leb, eqb}
-use lib.ListN.{length, getD}
-use borrow.Author.Tests.{eqb-true, eqb-false, le-leb, lt-leb, leb-true}
+use lib.Dec.{eqb}
+use lib.ListN.{length}
+use borrow.Author.Tests.{eqb-true, eqb-false, le-leb, lt-leb}
 use Rattle.rules.specs.Path.{written, recordBytes}
 use Rattle.rules.specs.Table as Table
 use Rattle.rules.specs.Table.{judged, good, badHeader, badRow}
 use Rattle.rules.specs.Event as Event
-use Rattle.rules.specs.Event.{Fault, Site}
+use Rattle.rules.specs.Event.{Site}
 use Rattle.rules.specs.Explorer.{Verdict, exhausted, spent, stopped}
-use Rattle.rules.specs.Explored.{Settings, Explored, explored, refused, ran, reported, isRefusal, settingsFine, stopOf, noted, verdictNumber}
+use Rattle.rules.specs.Explored.{Settings, Explored, refused, ran, reported, isRefusal, settingsFine, stopOf, noted, verdictNumber}
 use Rattle.rules.proofs.ExploredLaws.{explored-2, explored-3, explored-4, explored-5-header, explored-5-row, explored-ran}
 use Rattle.offers.specs.Offered.{Among}
-use Rattle.demands.specs.Demands.{right, Answered, Exactly, inRange, pathFits, traceFits, it, report, run, theAnswers}
+use Rattle.demands.specs.Demands.{right, Answered, inRange, pathFits, traceFits, it, report, run, theAnswers}
 
 -- A verdict's number
 
@@ -73,7 +74,7 @@ place good = (0, 0)
 place badHeader = (0, 0)
 place (badRow t k) = (t, k)
 
-true-false : {b : Bool} → b ≡ true → b ≡ false → ⊥
+pub true-false : {b : Bool} → b ≡ true → b ≡ false → ⊥
 true-false {b} e f = let z : _≡_ {A = ℕ} 1 0 = ap (λ (x : Bool). cond x 1 0) (sym e ∙ f) in omega arith
 
 another : {j k l : Table.Verdict} → j ≡ k → j ≡ l → (sort k ≡ sort l → ⊥) → ⊥
@@ -236,6 +237,10 @@ module _ (table : List ℕ) (s : Settings) (path trace : List ℕ) where
       let r : Ran = record { range = a; path-long = b; trace-long = c; accepted = d; is = e } in
       rw (ran-number e) (among-answers (run right table s path trace .verdict) (h r))
 
+  reported-by : whole ≡ ran (length path) (length trace) (stopOf table s) → report right table s path trace ≡ reported (run right table s path trace)
+  unfolding ran
+  reported-by e = ap (λ (x : Explored). x .report) e
+
   left-by : whole ≡ ran (length path) (length trace) (stopOf table s)
       → (whole .path ≡ written (length path) (run right table s path trace .walk .ledger .path)) × (whole .trace ≡ noted (length trace) (run right table s path trace .walk .trace))
   unfolding ran
@@ -253,5 +258,6 @@ module _ (table : List ℕ) (s : Settings) (path trace : List ℕ) where
         header = λ h. five-only whichCase h .header;
         row = λ h. five-only whichCase h .row;
         leaves = refuses whichCase;
+        reports = λ h. reported-by (has-run h .is);
         ran = λ h. left-by (has-run h .is);
       }

@@ -1,14 +1,13 @@
 -- Demand 3, and all of it, by citing. Assumes nothing.
 --     demanded      the page
-use Prim.Native.Nat.{ℕ, _+_, _-_, _*_, _≤_, _<_}
-use mathlib.Core.List.{List, [], _∷_, map, Perm}
-use mathlib.Core.Bool.{Bool, true, false, and-eq-true-iff}
+use Prim.Native.Nat.{ℕ, _≤_}
+use mathlib.Core.List.{List, [], _∷_, Perm}
+use mathlib.Core.Bool.{and-eq-true-iff}
 use mathlib.Core.Path.{_≡_, refl, sym, ap, subst, _∙_}
 use native.Mathlib.Omega.{arith}
-use lib.ListN.{length, getD, length-map}
+use lib.ListN.{length, length-map}
 use borrow.Author.Tests.{leb-true}
 use Rattle.rules.specs.Path.{openIn}
-use Rattle.rules.specs.Table.{judged, good}
 use Rattle.rules.specs.Event as Event
 use Rattle.rules.specs.Event.{Machine, Fault, Site, impossible}
 use Rattle.rules.specs.State.{State}
@@ -18,7 +17,7 @@ use Rattle.rules.specs.Explorer.{Limits, Ledger, Walk, Tick, over, faulted, Sto
 use Rattle.rules.specs.Explored.{Settings, Explored, ran, reported, settingsFine, stopOf, programOf, limitsOf, verdictNumber}
 use Rattle.ledger.specs.History as history
 use Rattle.rules.proofs.MeasureAccepted.{good-header}
-use Rattle.ledger.specs.History.{end, Every, Course, courses, courseOf, Made, Told, Real, executed}
+use Rattle.ledger.specs.History.{end, Every, Course, courseOf, Made, Told, Real, executed}
 use Rattle.ledger.specs.Balance.{Balance, Balanced, Begun}
 use Rattle.ledger.specs.Tree.{Tree}
 use Rattle.ledger.specs.Turning as turning
@@ -47,7 +46,7 @@ use Rattle.offers.proofs.Chosen.{all-offers}
 use Rattle.offers.proofs.Seen.{all-seen}
 use Rattle.offers.proofs.Offered.{some-offered, some-offered-rmw}
 use Rattle.demands.specs.Demands as Demands
-use Rattle.demands.specs.Demands.{right, it, report, run, theMachine, executions, openedChoices, turnedChoices, openChoices, Balances, Apart, Turns, LastIs}
+use Rattle.demands.specs.Demands.{right, report, run, theMachine, executions, openedChoices, turnedChoices, openChoices, Balances, Apart, Turns, LastIs}
 use Rattle.demands.proofs.Answered.{Ran, has-run, ran-number, answered}
 
 only-exhausted : (v : Verdict) → verdictNumber v ≡ 0 → v ≡ exhausted
@@ -177,12 +176,15 @@ module _ (table : List ℕ) (s : Settings) (path trace : List ℕ) (r : Ran tabl
   stops =
       record {
         says = ran-number table s path trace (r .is);
-        exhausted = λ e.
-            (last-as (over (whole .walk)) (stops-exhausted (programOf table s) (limitsOf s) (s .executions) (whole .walk) (whole .verdict) (last-so .0) e (last-so .2)),
-            open-is ∙ balance .none-left e .0);
-        spent = λ e.
-            (last-as (over (whole .walk)) (stops-spent (programOf table s) (limitsOf s) (s .executions) (whole .walk) (whole .verdict) (last-so .0) e (last-so .2)),
-            omega (arith, open-is, balance .some-left e .0), begun-is ∙ balance .some-left e .1);
+        exhausted = λ e. (
+          last-as (over (whole .walk)) (stops-exhausted (programOf table s) (limitsOf s) (s .executions) (whole .walk) (whole .verdict) (last-so .0) e (last-so .2)),
+          open-is ∙ balance .none-left e .0,
+        );
+        spent = λ e. (
+          last-as (over (whole .walk)) (stops-spent (programOf table s) (limitsOf s) (s .executions) (whole .walk) (whole .verdict) (last-so .0) e (last-so .2)),
+          omega (arith, open-is, balance .some-left e .0),
+          begun-is ∙ balance .some-left e .1,
+        );
         fault = λ f site e.
             last-as (faulted f site (whole .walk))
             (stops-fault (programOf table s) (limitsOf s) (s .executions) (whole .walk) (whole .verdict) (last-so .0) f site e (last-so .2));

@@ -5,26 +5,27 @@
 --     wrong                               what is broken
 use Prim.Native.Nat.{ℕ, zero, suc, _≤_, _<_, max}
 use mathlib.Core.List.{List, [], _∷_, List·Nodup, nodup-cons, List·Mem, mem-cons-self, mem-cons-of-mem}
-use mathlib.Core.Bool.{Bool, true, false, cond}
+use mathlib.Core.Bool.{Bool, true, false}
 use mathlib.Core.Path.{_≡_, refl, sym, ap, subst, _∙_}
-use mathlib.Core.Logic.{inl, inr}
+use mathlib.Core.Logic.{_≢_, inl, inr}
 use native.Mathlib.Omega.{arith}
 use lib.Dec.{ltb}
 use lib.ListN.{length, getD, take, length-map, length-append}
 use borrow.Author.Tests.{ltb-true}
 use Rattle.rules.specs.Event as Event
-use Rattle.rules.specs.Event.{Matched, offers, equal, Question, whichThread, whichSlot, whichBit, Move, moves, asks, stops, ends, Entry}
+use Rattle.rules.specs.Event.{Matched, offers, Question, whichThread, whichSlot, whichBit, Move, moves, asks, stops, ends, Entry}
 use Rattle.rules.specs.Explored as Explored
 use Rattle.rules.specs.Explored.{Settings, programOf, limitsOf}
-use Rattle.rules.specs.Explorer.{Limits, Walk, Tick, goes, over, faulted}
+use Rattle.rules.specs.Explorer.{Limits, Ledger, empty, Verdict, Walk, Tick, goes, over, faulted}
 use Rattle.rules.specs.Machine.{Program, machine, next, active, activeOp}
 use Rattle.rules.specs.Path as Path
 use Rattle.rules.specs.Path.{Branch, schedule, load, spurious, noBranch, Choice, choiceOf}
+use Rattle.rules.specs.Table.{judged, good}
 use Rattle.rules.specs.State as State
 use Rattle.rules.specs.State.{State}
 use Rattle.rules.specs.Worked.{oneLoad, storeAndLoad}
 use Rattle.ledger.specs.Wrong.{droppingStep, inventing}
-use Rattle.ledger.specs.History.{Every, Course, end, executed}
+use Rattle.ledger.specs.History.{Every, Course, courseOf, Made, end, executed}
 use Rattle.ledger.specs.Tree.{Parted}
 use Rattle.ledger.specs.Turning as turning
 use Rattle.ledger.specs.Turning.{Each, Name}
@@ -34,15 +35,17 @@ use Rattle.kept.specs.Held.{HoldsAt}
 use Rattle.kept.specs.Rules.{RecordRules, RuledIn}
 use Rattle.standing.specs.Standing as standing
 use Rattle.bounds.specs.Bounds.{Over}
-use Rattle.bounds.specs.HeldOver.{RangeIn}
+use Rattle.bounds.specs.Range.{RangeIn}
 use Rattle.offers.specs.Chosen as chosen
-use Rattle.offers.specs.Chosen.{Reading, Offers, Offering, left}
+use Rattle.offers.specs.Chosen.{Reading, Offers, Offering, OfferingCourse, left}
 use Rattle.offers.specs.Seen.{Taken, here, on, Lasting, Watched, Seeing}
 use Rattle.offers.proofs.Chosen.{all-offers}
-use Rattle.demands.specs.Demands.{Explorer, right, LastIs, theAnswers, it, openedChoices, turnedChoices, openChoices}
+use Rattle.demands.specs.Demands.{Explorer, right, LastIs, theAnswers, openedChoices, turnedChoices, openChoices}
 use Rattle.demands.specs.Wrong as Wrong
-use Rattle.demands.specs.Wrong.{settings, p3, storeThenLoad, twoLoads, yieldAndLoad, loadThenBit, parting, noCourse, nothing}
-use Rattle.demands.proofs.WrongRuns.{isOver, faultIn, isGood, valuesIn, statesIn, prevIn, cellIn, slotsIn, matchIn, questionIn, stateIn, entriesIn, exploringIn, isSlot, asksSlot, madeBy, courseAt, Lists, walkAt, knownBy, sees, There, Misoffers, computed}
+use Rattle.demands.specs.Wrong.{settings, p3, aBit, storeThenLoad, twoLoads, yieldAndLoad, loadThenBit, parting, noCourse, nothing}
+use Rattle.demands.proofs.Answered.{true-false}
+use Rattle.demands.proofs.WrongRuns.{isOver, faultIn, isGood, valuesIn, statesIn, prevIn, cellIn, slotsIn, matchIn, questionIn, stateIn, entriesIn, exploringIn}
+use Rattle.demands.proofs.WrongRuns.{isSlot, asksSlot, maskIn, madeBy, courseAt, walkAt, knownBy, sees, There, Misoffers, computed}
 
 -- Lists
 
@@ -68,7 +71,8 @@ repeats {A} (x ∷ xs) zero (suc j) d h k e n =
     nodup-cons .0 n .0 (subst (λ (a : A). List·Mem a xs) (sym e) (mem-at xs j d (omega arith)))
 repeats (x ∷ xs) (suc i) (suc j) d h k e n = repeats xs i j d (omega arith) (omega arith) e (nodup-cons .0 n .1)
 
-each-at : {A : Type 0} (R : A → A → Type 0) (xs : List A) (k : ℕ) (d : A) → suc k < length xs → Each R xs → R (getD xs k d) (getD xs (suc k) d)
+each-at : {A : Type 0} (R : A → A → Type 0) (xs : List A) (k : ℕ) (d : A)
+    → suc k < length xs → Each R xs → R (getD xs k d) (getD xs (suc k) d)
 each-at R [] k d h e = absurd (omega arith)
 each-at R (x ∷ []) k d h e = absurd (omega arith)
 each-at R (x ∷ y ∷ xs) zero d h e = e .0
@@ -83,6 +87,8 @@ last-of-one : (cs : List (Course State)) (t : Tick State) → length cs ≡ 1 �
 last-of-one [] t h l = absurd (omega arith)
 last-of-one (c ∷ []) t h l = l
 last-of-one (c ∷ d ∷ cs) t h l = absurd (omega arith)
+
+-- Moves that ask for a slot
 
 slot-asked : (m : Move State) → asksSlot m ≡ 1 → m ≡ asks (stateIn m) (entriesIn m) (exploringIn m) (whichSlot (matchIn (questionIn m)))
 slot-asked (moves s es) h = absurd (omega (arith, h))
@@ -104,8 +110,15 @@ misoffered : (p : Program) (limits : Limits) (w : Walk State) (s : State) (es : 
     → length (valuesIn (getD (left p limits w .ledger .path) (w .pos) noBranch)) ≡ a → length (slotsIn m) ≡ b → (a ≡ b → ⊥)
     → Offering p limits w → ⊥
 misoffered p limits w s es x m a b e k f g differ h =
-    let c = h s es x m e .chosen k in
-    differ (sym f ∙ ap (λ (z : Branch). length (valuesIn z)) (c .at-branch) ∙ ap length (c .all) ∙ ap (λ (z : Matched). length (slotsIn z)) (sym (c .is)) ∙ g)
+    let c = h .at-slot s es x m e .chosen k in
+    differ
+    (sym f
+    ∙ ap (λ (z : Branch). length (valuesIn z)) (c .at-branch)
+    ∙ ap length (c .all)
+    ∙ ap (λ (z : Matched). length (slotsIn z)) (sym (c .is))
+    ∙ g)
+
+-- Demand 1
 
 pub wrong-answers : Wrong.WrongAnswers
 unfolding Explored.refused
@@ -116,46 +129,57 @@ wrong-answers =
       two = λ h. omega (arith, h .two .whenever (c .not-fine), c .three-first);
       three = λ h. omega (arith, h .three .whenever (c .fine, λ e. omega (arith, e)), c .four-first);
       four = λ h. omega (arith, h .four .whenever (c .fine, refl, λ e. omega (arith, e)), c .five-first);
-      five = λ h. omega (arith, h .five .whenever (c .fine, refl, refl, λ e. let z = ap isGood (sym e ∙ c .not-good) in omega (arith, z)), c .taken);
+      five = λ h.
+          let n : judged [] ≢ good = λ e. let z = ap isGood (sym e ∙ c .not-good) in omega (arith, z) in
+          omega (arith, h .five .whenever (c .fine, refl, refl, n), c .taken);
       header = λ h. omega (arith, h .header (c .header-five) (c .not-good) .0, c .header-thread);
       row = λ h. omega (arith, h .row (c .row-five) 0 0 (c .bad-row) .1, c .row-row);
-      leaves = λ h. let z = ap (λ (x : Explored.Explored). getD (x .path) 0 0) (h .leaves (c .cleared)) in omega (arith, z, c .cleared-path);
-      ran = λ h. let z = ap (λ (xs : List ℕ). getD xs 16 0) (h .ran (c .over-ran) .1) in omega (arith, z, c .left-over, c .zero-past);
+      leaves = λ h.
+          let z = ap (λ (x : Explored.Explored). getD (x .path) 0 0) (h .leaves (c .cleared)) in
+          omega (arith, z, c .cleared-path);
+      reports = λ h. omega (arith, ap (λ (r : Explored.Report). r .row) (h .reports (c .misplaced-ran)), c .misplaced, c .placed);
+      ran = λ h.
+          let z = ap (λ (xs : List ℕ). getD xs 16 0) (h .ran (c .over-ran) .1) in
+          omega (arith, z, c .left-over, c .zero-past);
     }
+
+-- The balance, the tree, the turning points; why it stopped
 
 pub wrong-balances : Wrong.WrongBalances
 wrong-balances =
     let c = computed in
     record {
       counted-twice = λ h. omega (arith, h .equation, c .twice .begun, c .twice .opened, c .twice .left);
-      not-counted = λ h. omega (arith, h .equation, c .uncounted-all .begun, c .uncounted-all .opened, c .uncounted-all .left);
+      not-counted = λ h. omega (arith, h .equation, c .uncounted-two .begun, c .uncounted-two .opened, c .uncounted-two .left);
       not-within = λ h. omega (arith, h .within, c .uncounted-one .opened, c .uncounted-one .left);
-      not-begun = λ h. omega (arith, h .begun, c .fault-begun .begun, c .fault-listed .executed);
-      not-opened = λ h. omega (arith, h .opened, c .twice-one .opened, c .twice-listed .opened);
-      not-left = λ h. omega (arith, h .left, c .none-open .left, c .some-listed .left);
+      not-begun = λ h. omega (arith, h .begun, c .fault-begun, c .fault-made);
+      not-opened = λ h. omega (arith, h .opened, c .twice-counted, c .twice-opened);
+      not-left = λ h. omega (arith, h .left, c .none-open, c .some-open);
       not-told = λ h.
           let z = ap length (h .told .history) ∙ length-map (madeBy Wrong.untold oneLoad (settings 3 1 1)) executed in
-          omega (arith, z, c .untold-listed .executed, c .untold-listed .told);
+          omega (arith, z, c .untold-made, c .untold);
     }
 
 pub wrong-turns : Wrong.WrongTurns
 wrong-turns =
     let c = computed in
     record {
-      apart = λ h. never-part _ _ (c .anew-same) (h 0 1 (omega arith) (omega (arith, c .anew-listed .told)));
+      apart = λ h. never-part _ _ (c .anew-same) (h 0 1 (omega arith) (omega (arith, c .anew-told)));
       nowhere = λ h.
-          let z = each-at turning.Turns (madeBy Wrong.anew storeAndLoad (p3 2)) 0 noCourse (omega (arith, c .anew-listed .executed)) (h .turns) in
+          let z = each-at turning.Turns (madeBy Wrong.anew aBit (settings 2 1 2)) 0 noCourse (omega (arith, c .anew-made)) (h .turns) in
           omega (arith, z .point, c .anew-point);
-      same = λ h. repeats {A = Name} ([] ∷ [] ∷ []) 0 1 [] (omega arith) (omega arith) refl (subst List·Nodup (c .anew-turned) (h .different));
+      same = λ h.
+          repeats {A = Name} ([] ∷ [] ∷ []) 0 1 [] (omega arith) (omega arith) refl (subst List·Nodup (c .anew-turned) (h .different));
       dropped = λ h.
-          let z = perm-length (h .together) ∙ length-append (turnedChoices (parting droppingStep) storeAndLoad (p3 2) [] []) (openChoices (parting droppingStep) storeAndLoad (p3 2) [] []) in
-          omega (arith, z, c .dropped-listed .opened, c .dropped-listed .turned, c .dropped-listed .left);
+          let x = parting droppingStep in
+          let z = length-append (turnedChoices x storeAndLoad (p3 2) [] []) (openChoices x storeAndLoad (p3 2) [] []) in
+          omega (arith, perm-length (h .together), z, c .dropped-opened, c .dropped-turned, c .dropped-open);
       again = λ h.
-          repeats (openedChoices Wrong.forgetful storeAndLoad (p3 6) [] []) 2 5 [] (omega arith) (omega (arith, c .forgetful-listed .opened))
+          repeats (openedChoices Wrong.forgetful storeAndLoad (p3 6) [] []) 2 5 [] (omega arith) (omega (arith, c .forgetful-opened))
           (c .forgetful-first ∙ sym (c .forgetful-again)) (h .once);
-      left-open = λ h. omega (arith, h .exhausted (c .early .answer) .0, c .early .left);
+      left-open = λ h. omega (arith, h .exhausted (c .early) .0, c .early-open);
       never-taken = λ h.
-          omega (arith, perm-length (h .exhausted (c .untaken .answer) .1), c .untaken-listed .opened, c .untaken-listed .turned);
+          omega (arith, perm-length (h .exhausted (c .untaken) .1), c .untaken-opened, c .untaken-turned);
     }
 
 pub wrong-stops : Wrong.WrongStops
@@ -163,20 +187,23 @@ wrong-stops =
     let c = computed in
     record {
       said = λ h. omega (arith, h .says, c .spent-last, c .exhausted-last);
-      some-open = λ h. omega (arith, h .exhausted (c .early-verdict) .1, c .early .left);
+      some-open = λ h. omega (arith, h .exhausted (c .early-verdict) .1, c .early-open);
       overlooked = λ h.
-          let z = ap isOver (last-of-one (madeBy Wrong.overlooking oneLoad (settings 2 1 1)) _ (c .overlooked-listed) (h .exhausted (c .overlooked) .0)) in
-          omega (arith, z, c .overlooked-last);
-      unspent = λ h. omega (arith, h .spent (c .unspent-verdict) .2, c .unspent .begun);
+          let z = last-of-one (madeBy Wrong.overlooking oneLoad (settings 2 1 1)) _ (c .overlooked-listed) (h .exhausted (c .overlooked) .0) in
+          omega (arith, ap isOver z, c .overlooked-last);
+      unspent = λ h. omega (arith, h .spent (c .unspent-verdict) .2, c .unspent);
       invented = λ h.
-          let z = ap isOver (last-of-one (madeBy (parting inventing) storeAndLoad (p3 1)) _ (c .invented-listed) (h .fault _ _ (c .invented))) in
-          omega (arith, z, c .invented-last);
+          let z = last-of-one (madeBy (parting inventing) storeAndLoad (p3 1)) _ (c .invented-listed) (h .fault _ _ (c .invented)) in
+          omega (arith, ap isOver z, c .invented-last);
     }
 
--- At a tick of an execution that has one
+-- What is offered
+
+-- at a tick of an execution that has one
 
 there : {A B : Type 0} (xs : List A) (ys : A → List B) (a : A) (b : B) (P : B → Type 0) (i k : ℕ)
-    → ltb i (length xs) ≡ true → ltb k (length (ys (getD xs i a))) ≡ true → Every (λ x. Every P (ys x)) xs → P (getD (ys (getD xs i a)) k b)
+    → ltb i (length xs) ≡ true → ltb k (length (ys (getD xs i a))) ≡ true → Every (λ x. Every P (ys x)) xs
+    → P (getD (ys (getD xs i a)) k b)
 there xs ys a b P i k h l e =
     every-at P (ys (getD xs i a)) k b (ltb-true k _ l) (every-at (λ x. Every P (ys x)) xs i a (ltb-true i _ h) e)
 
@@ -184,12 +211,21 @@ module _ (x : Explorer) (table : List ℕ) (s : Settings) (i k : ℕ) (h : There
   at-tick : (P : Walk State → Type 0) → Every (λ c. Every P (c .ticks)) (madeBy x table s) → P (walkAt x table s i k)
   at-tick P e = there (madeBy x table s) (λ c. c .ticks) noCourse nothing P i k (h .made) (h .ticked) e
 
-  breaks-offers : (a b : ℕ) → (a ≡ b → ⊥) → Misoffers x table s i k a b → Offering (programOf table s) (limitsOf s) (walkAt x table s i k) → ⊥
+  breaks-offers : (a b : ℕ) → (a ≡ b → ⊥) → Misoffers x table s i k a b
+      → Every (OfferingCourse (programOf table s) (limitsOf s)) (madeBy x table s) → ⊥
   breaks-offers a b differ m e =
       let w = walkAt x table s i k in
       let move = next (programOf table s) (w .state) .move in
       misoffered (programOf table s) (limitsOf s) w (stateIn move) (entriesIn move) (exploringIn move) (matchIn (questionIn move)) a b
-      (slot-asked move (m .asked)) (ltb-true _ _ (m .passed)) (m .values) (m .slots) differ e
+      (slot-asked move (m .asked)) (ltb-true _ _ (m .passed)) (m .values) (m .slots) differ
+      (at-tick (Offering (programOf table s) (limitsOf s)) e)
+
+-- the first execution is the machine's
+made-first : (M : Event.Machine) (limits : Limits) (n : ℕ) (w : Walk (M .State)) (v : Verdict) (l : Ledger) (cs : List (Course (M .State))) (d : Course (M .State))
+    → 0 < length cs → Made M limits n w v l cs → getD cs 0 d ≡ courseOf M limits l
+made-first M limits n w v l [] d h m = absurd (omega arith)
+made-first M limits n w v l (c ∷ []) d h m = m .0
+made-first M limits n w v l (c ∷ e ∷ cs) d h m = m .0
 
 -- what a thread sees it sees at the next tick too, where the slot was not taken
 lasting-next : (ws : List (Walk State)) (k t c i : ℕ) → suc k < length ws → t < State.threads → c < State.cells
@@ -200,11 +236,9 @@ lasting-next (w ∷ []) k t c i h a b f l e = absurd (omega arith)
 lasting-next (w ∷ v ∷ ws) zero t c i h a b f l e = l .0 t c i a b e v (on f here)
 lasting-next (w ∷ v ∷ ws) (suc k) t c i h a b f l e = lasting-next (v ∷ ws) k t c i (omega arith) a b f (l .1) e
 
-true-false : {b : Bool} → b ≡ true → b ≡ false → ⊥
-true-false {b} e f = let z : _≡_ {A = ℕ} 1 0 = ap (λ (x : Bool). cond x 1 0) (sym e ∙ f) in omega arith
-
 -- the cell that is read is that of the row
-read-cell : (p : Program) (s : State) (m : Matched) (offered : List Bool) (c opcode : ℕ) → Reading p s m offered c opcode → c ≡ cellIn (activeOp p s)
+read-cell : (p : Program) (s : State) (m : Matched) (offered : List Bool) (c opcode : ℕ)
+    → Reading p s m offered c opcode → c ≡ cellIn (activeOp p s)
 read-cell p s m offered c opcode (chosen.aLoad e f g) = sym (ap cellIn e)
 read-cell p s m offered c opcode (chosen.anRmw e f g) = sym (ap cellIn e)
 
@@ -226,7 +260,7 @@ unfolding choiceOf
 unwatched p limits w v t c i a k e f g h o r =
     let move = next p (w .state) .move in
     let asked = slot-asked move a in
-    let it = o (stateIn move) (entriesIn move) (exploringIn move) (matchIn (questionIn move)) asked .chosen k in
+    let it = o .at-slot (stateIn move) (entriesIn move) (exploringIn move) (matchIn (questionIn move)) asked .chosen k in
     not-seen v (active (stateIn move)) (it .cell) (getD (it .by .values) (it .by .pos) 0) t c i f
     (read-cell p (stateIn move) (matchIn (questionIn move)) (it .offered) (it .cell) (it .opcode) (it .reading) ∙ g)
     (ap (λ (b : Branch). slotIn (choiceOf b)) (sym (it .at-branch)) ∙ ap slotIn e)
@@ -240,46 +274,55 @@ wrong-offers =
     let limits = limitsOf (p3 2) in
     record {
       shortened = λ h.
-          breaks-offers Wrong.shortening storeAndLoad (p3 2) 1 4 (c .shortened-there) 1 2 (λ e. omega (arith, e)) (c .shortened)
-          (at-tick Wrong.shortening storeAndLoad (p3 2) 1 4 (c .shortened-there) (Offering p limits) (h .offers));
+          breaks-offers Wrong.shortening storeAndLoad (p3 2) 1 4 (c .shortened-there) 1 2 (λ e. omega (arith, e)) (c .shortened) (h .offers);
       too-few = λ h.
-          breaks-offers Wrong.tooFew loadThenBit (settings 6 3 2) 1 4 (c .few-there) 1 2 (λ e. omega (arith, e)) (c .few)
-          (at-tick Wrong.tooFew loadThenBit (settings 6 3 2) 1 4 (c .few-there) (Offering (programOf loadThenBit (settings 6 3 2)) (limitsOf (settings 6 3 2))) (h .offers));
+          breaks-offers Wrong.tooFew loadThenBit (settings 6 3 2) 1 4 (c .few-there) 1 2 (λ e. omega (arith, e)) (c .few) (h .offers);
+      too-few-at-first = λ h.
+          let M = machine (programOf storeAndLoad (p3 1)) in
+          let stop = Wrong.tooFew .run storeAndLoad (p3 1) in
+          let z = made-first M (limitsOf (p3 1)) 1 (stop .walk) (stop .verdict) empty (madeBy Wrong.tooFew storeAndLoad (p3 1)) noCourse (omega (arith, c .few-made)) (h .told .made) in
+          omega (arith, ap (maskIn 1) z, c .few-mask, c .right-mask);
       too-many = λ h.
-          breaks-offers Wrong.tooMany storeThenLoad (settings 4 2 2) 1 3 (c .many-there) 2 1 (λ e. omega (arith, e)) (c .many)
-          (at-tick Wrong.tooMany storeThenLoad (settings 4 2 2) 1 3 (c .many-there) (Offering (programOf storeThenLoad (settings 4 2 2)) (limitsOf (settings 4 2 2))) (h .offers));
+          breaks-offers Wrong.tooMany storeThenLoad (settings 4 2 2) 1 3 (c .many-there) 2 1 (λ e. omega (arith, e)) (c .many) (h .offers);
+      blind = λ h.
+          breaks-offers Wrong.blind storeThenLoad (settings 4 2 2) 1 3 (c .blind-there) 2 1 (λ e. omega (arith, e)) (c .blind) (h .offers);
       wiped = λ h.
           let s = settings 3 1 1 in
-          let e = every-at (Seeing (programOf oneLoad s) (limitsOf s)) (madeBy Wrong.wiping oneLoad s) 0 noCourse (ltb-true _ _ (c .wiped-there .made)) (h .seen) in
+          let made = ltb-true _ _ (c .wiped-there .made) in
+          let ticked = ltb-true _ _ (c .wiped-there .ticked) in
+          let e = every-at (Seeing (programOf oneLoad s) (limitsOf s)) (madeBy Wrong.wiping oneLoad s) 0 noCourse made (h .seen) in
           true-false
-          (lasting-next (courseAt Wrong.wiping oneLoad s 0 .ticks) 1 0 0 0 (ltb-true _ _ (c .wiped-there .ticked)) (omega arith) (omega arith)
+          (lasting-next (courseAt Wrong.wiping oneLoad s 0 .ticks) 1 0 0 0 ticked (omega arith) (omega arith)
           (λ taken. omega (arith, taken .0, c .wiped-slot)) (e .lasting) (c .wiped-seen))
           (c .wiped-unseen);
       unseen =
-          unwatched p limits Wrong.beforeLoad (Wrong.tickOf Wrong.unseeing storeAndLoad (p3 2) Wrong.beforeLoad) 1 0 1 (c .ticks-asked) (ltb-true _ _ (c .ticks-passed)) (c .ticks-branch)
-          (c .ticks-thread) (c .ticks-cell) (c .ticks-unseen)
+          unwatched p limits Wrong.beforeLoad (Wrong.tickOf Wrong.unseeing storeAndLoad (p3 2) Wrong.beforeLoad) 1 0 1
+          (c .ticks-asked) (ltb-true _ _ (c .ticks-passed)) (c .ticks-branch) (c .ticks-thread) (c .ticks-cell) (c .ticks-unseen)
           (at-tick right storeAndLoad (p3 2) 1 4 (c .ticks-there) (Offering p limits) (all-offers p limits 2));
     }
 
--- Records
+-- What holds at every tick
 
 -- two threads that are Active
-two-active : (before : List Branch) (b : Branch) → getD (statesIn b) 0 0 ≡ Path.active → getD (statesIn b) 1 0 ≡ Path.active → RecordRules before b → ⊥
+two-active : (before : List Branch) (b : Branch) → getD (statesIn b) 0 0 ≡ Path.active → getD (statesIn b) 1 0 ≡ Path.active
+    → RecordRules before b → ⊥
 two-active before (schedule r) e f h = omega (arith, h .one-active 0 1 e f)
 two-active before (load l) e f h = omega (arith, e)
 two-active before (spurious u) e f h = omega (arith, e)
 
 -- a record before the first
 pointed-back : (before : List Branch) (b : Branch) → length before ≡ 0 → prevIn b ≡ 0 → RecordRules before b → ⊥
-pointed-back before (schedule r) e f h = elim (h .prev) [ inl none ↦ omega (arith, none .0, f) | inr newest ↦ omega (arith, newest .within, e) ]
+pointed-back before (schedule r) e f h =
+    elim (h .prev) [ inl none ↦ omega (arith, none .0, f) | inr newest ↦ omega (arith, newest .within, e) ]
 pointed-back before (load l) e f h = omega (arith, f)
 pointed-back before (spurious u) e f h = omega (arith, f)
 
 -- one with other values than are offered
-disagreed : (x : Bool) (b : Branch) (q : Question) → isSlot q ≡ 1 → (length (valuesIn b) ≡ length (slotsIn (matchIn q)) → ⊥) → replay.Agrees x b q → ⊥
+disagreed : (x : Bool) (b : Branch) (q : Question) → isSlot q ≡ 1 → (length (valuesIn b) ≡ length (slotsIn (matchIn q)) → ⊥)
+    → replay.Agrees x b q → ⊥
 disagreed x b (whichThread points initial standings) e f h = omega (arith, e)
 disagreed x (schedule r) (whichSlot m) e f h = h
-disagreed x (load l) (whichSlot m) e f h = f (ap length (h .3 ) ∙ ap (λ (z : Matched). length (slotsIn z)) (sym (h .2)))
+disagreed x (load l) (whichSlot m) e f h = f (ap length (h .3) ∙ ap (λ (z : Matched). length (slotsIn z)) (sym (h .2)))
 disagreed x (spurious u) (whichSlot m) e f h = h
 disagreed x b whichBit e f h = omega (arith, e)
 
@@ -294,11 +337,19 @@ disagrees p limits w a b differ e k f g h =
     (ap isSlot q ∙ slot-question (next p (w .state) .move) e)
     (λ same. differ (sym f ∙ same ∙ ap (λ (y : Question). length (slotsIn (matchIn y))) q ∙ g)) (it .5)
 
-impossible-as : (t : Tick State) → faultIn t ≡ Event.impossible → ((site : Event.Site) (w : Walk State) → t ≡ faulted Event.impossible site w → ⊥) → ⊥
+abbrev Possible : Tick State → Type 0
+Possible t = (site : Event.Site) (w : Walk State) → t ≡ faulted Event.impossible site w → ⊥
+
+impossible-as : (t : Tick State) → faultIn t ≡ Event.impossible → Possible t → ⊥
 impossible-as (goes w) e h = let z = ap Event.faultNumber e in omega (arith, z)
 impossible-as (over w) e h = let z = ap Event.faultNumber e in omega (arith, z)
 impossible-as (faulted f s w) e h = h s w (ap (λ (g : Event.Fault). faulted g s w) e)
 
+abbrev Standing : List ℕ → Settings → Walk State → Type 0
+Standing table s = HoldsAt (machine (programOf table s)) (standing.Holds (programOf table s))
+
+abbrev Stood : List ℕ → Settings → Walk State → Type 0
+Stood table s = HoldsAt (machine (programOf table s)) (standing.Over (programOf table s))
 
 pub wrong-ticks : Wrong.WrongTicks
 wrong-ticks =
@@ -306,43 +357,52 @@ wrong-ticks =
     record {
       impossible = λ h.
           impossible-as (courseAt Wrong.oneTick oneLoad (settings 3 1 1) 0 .outcome) (c .no-tick)
-          (every-at (λ (d : Course State). (site : Event.Site) (w : Walk State) → d .outcome ≡ faulted Event.impossible site w → ⊥)
-          (madeBy Wrong.oneTick oneLoad (settings 3 1 1)) 0 noCourse (omega (arith, c .no-ticks)) (h .possible));
+          (every-at (λ (d : Course State). Possible (d .outcome)) (madeBy Wrong.oneTick oneLoad (settings 3 1 1)) 0 noCourse
+          (omega (arith, c .no-ticks)) (h .possible));
       rows = λ h.
-          let p = programOf twoLoads (settings 5 1 1) in
-          let z = at-tick Wrong.oneRowMore twoLoads (settings 5 1 1) 0 3 (c .rows-there) (HoldsAt (machine p) (standing.Holds p)) (h .stands) in
-          omega (arith, z .limited, c .rows-begun);
+          let z = at-tick Wrong.oneRowMore twoLoads (settings 5 1 1) 0 3 (c .rows-there) (Standing twoLoads (settings 5 1 1)) (h .stands) in
+          omega (arith, z .over .limited, c .rows-begun);
       asleep = λ h.
-          let p = programOf yieldAndLoad (settings 5 2 1) in
-          let z = at-tick Wrong.forgettingOne yieldAndLoad (settings 5 2 1) 0 2 (c .asleep-there) (HoldsAt (machine p) (standing.Holds p)) (h .stands) in
-          z .awake 0 (omega arith) (λ e. omega (arith, e, c .asleep-active)) (c .asleep);
+          let s = settings 5 2 1 in
+          let z = at-tick Wrong.forgettingOne yieldAndLoad s 0 2 (c .asleep-there) (Standing yieldAndLoad s) (h .stands) in
+          z .over .awake 0 (omega arith) (λ e. omega (arith, e, c .asleep-active)) (c .asleep);
       refused = λ h.
-          let p = programOf twoLoads (settings 5 1 1) in
-          let z = every-at (λ (d : Course State). HoldsAt (machine p) (standing.Holds p) (end d)) (madeBy Wrong.countingRefused twoLoads (settings 5 1 1)) 0 noCourse (omega (arith, c .refused-made)) (h .stood) in
+          let s = settings 5 1 1 in
+          let z =
+          every-at (λ (d : Course State). Stood twoLoads s (end d)) (madeBy Wrong.countingRefused twoLoads s) 0 noCourse
+          (omega (arith, c .refused-made)) (h .stood) in
           omega (arith, z .limited, c .refused-begun);
       raised = λ h.
           let p = programOf oneLoad (settings 3 1 1) in
-          let cs = madeBy Wrong.raising oneLoad (settings 3 1 1) in
-          let z = at-tick Wrong.raising oneLoad (settings 3 1 1) 0 2 (c .raised-there) (HoldsAt (machine p) (Over p)) (every-map (RangeIn p) (λ (d : Course State). Every (HoldsAt (machine p) (Over p)) (d .ticks)) cs (λ d r. r .by-rows) (h .ranges)) in
+          let P = HoldsAt (machine p) (Over p) in
+          let z =
+          at-tick Wrong.raising oneLoad (settings 3 1 1) 0 2 (c .raised-there) P
+          (every-map (RangeIn p) (λ (d : Course State). Every P (d .ticks)) (madeBy Wrong.raising oneLoad (settings 3 1 1))
+          (λ d r. r .by-rows) (h .ranges)) in
           let v = z .vectors .parts (State.causality 0) (omega arith) 0 (omega arith) in
           omega (arith, v, c .raised-version, c .raised-rows);
       two-active = λ h.
           let M = machine (programOf storeAndLoad (p3 3)) in
+          let known = knownBy Wrong.bothActive storeAndLoad (p3 3) 2 in
           let z = every-at (RuledIn M 5) (madeBy Wrong.bothActive storeAndLoad (p3 3)) 2 noCourse (omega (arith, c .active-made)) (h .records) in
-          two-active (take 0 (knownBy Wrong.bothActive storeAndLoad (p3 3) 2)) (getD (knownBy Wrong.bothActive storeAndLoad (p3 3) 2) 0 noBranch)
-          (c .active-first) (c .active-second) (z .at-start .records 0 (omega (arith, c .active-known)));
+          two-active (take 0 known) (getD known 0 noBranch) (c .active-first) (c .active-second)
+          (z .at-start .records 0 (omega (arith, c .active-known)));
       pointed = λ h.
           let M = machine (programOf storeAndLoad (p3 2)) in
-          let z = every-at (RuledIn M 5) (madeBy Wrong.selfPointing storeAndLoad (p3 2)) 1 noCourse (omega (arith, c .pointed-made)) (h .records) in
-          pointed-back (take 0 (knownBy Wrong.selfPointing storeAndLoad (p3 2) 1)) (getD (knownBy Wrong.selfPointing storeAndLoad (p3 2) 1) 0 noBranch)
-          refl (c .pointed-first) (z .at-start .records 0 (omega (arith, c .pointed-known)));
+          let known = knownBy Wrong.pointing storeAndLoad (p3 2) 1 in
+          let z = every-at (RuledIn M 5) (madeBy Wrong.pointing storeAndLoad (p3 2)) 1 noCourse (omega (arith, c .pointed-made)) (h .records) in
+          pointed-back (take 0 known) (getD known 0 noBranch) refl (c .pointed-first)
+          (z .at-start .records 0 (omega (arith, c .pointed-known)));
       disagreeing = λ h.
           let p = programOf storeAndLoad (p3 2) in
-          let cs = madeBy Wrong.shortening storeAndLoad (p3 2) in
-          let w = walkAt Wrong.shortening storeAndLoad (p3 2) 1 4 in
-          let z = at-tick Wrong.shortening storeAndLoad (p3 2) 1 4 (c .shortened-there) (replay.Answered (machine p) (limitsOf (p3 2)))
-                  (every-map (replay.Follows (machine p) (limitsOf (p3 2))) (λ (d : Course State). Every (replay.Answered (machine p) (limitsOf (p3 2))) (d .ticks)) cs (λ d r. r .answered) (h .follows)) in
-          disagrees p (limitsOf (p3 2)) w 1 2 (λ e. omega (arith, e)) (c .shortened .asked) (ltb-true _ _ (c .shortened .passed)) (c .shortened .values) (c .shortened .slots) z;
+          let limits = limitsOf (p3 2) in
+          let P = replay.Answered (machine p) limits in
+          let m = c .shortened in
+          disagrees p limits (walkAt Wrong.shortening storeAndLoad (p3 2) 1 4) 1 2 (λ e. omega (arith, e))
+          (m .asked) (ltb-true _ _ (m .passed)) (m .values) (m .slots)
+          (at-tick Wrong.shortening storeAndLoad (p3 2) 1 4 (c .shortened-there) P
+          (every-map (replay.Follows (machine p) limits) (λ (d : Course State). Every P (d .ticks)) (madeBy Wrong.shortening storeAndLoad (p3 2))
+          (λ d r. r .answered) (h .follows)));
     }
 
 pub wrong : Wrong.Wrong

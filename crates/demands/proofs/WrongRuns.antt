@@ -3,7 +3,7 @@
 --     reportFor .. sees        what is looked at: reports, executions, ticks
 --     Computed, computed       what they come to
 use Prim.Native.Nat.{ℕ}
-use mathlib.Core.List.{List, [], _∷_}
+use mathlib.Core.List.{List, [], _∷_, map}
 use mathlib.Core.Bool.{Bool, true, false}
 use mathlib.Core.Path.{_≡_, refl}
 use lib.Dec.{ltb}
@@ -13,11 +13,11 @@ use Rattle.rules.specs.Cell.{seenBy, slotOf}
 use Rattle.rules.specs.Event as Event
 use Rattle.rules.specs.Event.{Matched, offers, equal, slotsOf, Question, whichThread, whichSlot, whichBit, Move, moves, asks, stops, ends, Entry}
 use Rattle.rules.specs.Explored as Explored
-use Rattle.rules.specs.Explored.{Settings, Report, isRefusal, settingsFine, noted, verdictNumber, programOf, limitsOf}
+use Rattle.rules.specs.Explored.{Settings, Report, reported, isRefusal, settingsFine, noted, verdictNumber, programOf, limitsOf}
 use Rattle.rules.specs.Explorer as Runs
-use Rattle.rules.specs.Explorer.{Stop, Walk, Tick, goes, over, faulted, exhausted, spent, stopped}
+use Rattle.rules.specs.Explorer.{Stop, empty, Walk, Tick, goes, over, faulted, exhausted, spent, stopped}
 use Rattle.rules.specs.Machine as Machine
-use Rattle.rules.specs.Machine.{next, active, activeOp}
+use Rattle.rules.specs.Machine.{machine, next, active, activeOp}
 use Rattle.rules.specs.Path as Path
 use Rattle.rules.specs.Path.{Branch, schedule, load, spurious, noBranch, Choice, choiceOf}
 use Rattle.rules.specs.Seen as Seen
@@ -29,14 +29,14 @@ use Rattle.rules.specs.Vector as Vector
 use Rattle.rules.specs.Worked as Worked
 use Rattle.rules.specs.Worked.{oneLoad, storeAndLoad}
 use Rattle.ledger.specs.Wrong.{walkedBy, runFromBy, runBy, steppedFirst, uncounted, droppingStep, inventing}
-use Rattle.ledger.specs.History.{Course, end, executed, ticksFrom, courseOf, coursesFrom, courses}
+use Rattle.ledger.specs.History.{Course, end, ticksFrom, courseOf, coursesFrom, courses}
 use Rattle.ledger.specs.Tree.{noExecution}
 use Rattle.ledger.specs.Turning.{running, turningPoint, threadsFrom, alternatives, openNames, newlyPending, markedAlternatives, openedNames, joinedOver}
 use Rattle.offers.specs.Chosen.{left}
-use Rattle.demands.specs.Demands.{Explorer, right, it, report, run, executions, openedChoices, turnedChoices, openChoices}
+use Rattle.demands.specs.Demands.{Explorer, right, it, report, openedChoices, turnedChoices, openChoices}
 use Rattle.demands.specs.Exchanged.{ticksFromBy, courseBy, coursesFromBy, coursesBy, runningBy}
 use Rattle.demands.specs.Wrong as Wrong
-use Rattle.demands.specs.Wrong.{settings, p3, pathFor, traceFor, noSuchRow, storeThenLoad, twoLoads, yieldAndLoad, loadThenBit, parting, noCourse, nothing}
+use Rattle.demands.specs.Wrong.{settings, p3, pathFor, traceFor, noSuchRow, aBit, storeThenLoad, twoLoads, yieldAndLoad, loadThenBit, parting, noCourse, nothing}
 
 -- What is read off
 
@@ -149,20 +149,15 @@ courseAt x table s i = getD (madeBy x table s) i noCourse
 abbrev pub choicesIn : Explorer → List ℕ → Settings → ℕ → List Choice
 choicesIn x table s i = getD (stopBy x table s .history) i noExecution .choices
 
+-- the mask of an execution's trace entry
+abbrev pub maskIn : ℕ → Course State → ℕ
+maskIn k c = getD (map (λ (e : Entry). e .mask) (end c .trace)) k 0
+
 -- what the report counts
-pub record Counts (x : Explorer) (table : List ℕ) (s : Settings) (a b o l : ℕ) : Type 0 where
-  pub answer : reportFor x table s .answer ≡ a
+pub record Counts (x : Explorer) (table : List ℕ) (s : Settings) (b o l : ℕ) : Type 0 where
   pub begun : reportFor x table s .begun ≡ b
   pub opened : reportFor x table s .opened ≡ o
   pub left : reportFor x table s .stillOpen ≡ l
-
--- how many executions there are, also in the history, and how many choices by name: opened, turned to, open
-pub record Lists (x : Explorer) (table : List ℕ) (s : Settings) (e h o t l : ℕ) : Type 0 where
-  pub executed : length (madeBy x table s) ≡ e
-  pub told : length (stopBy x table s .history) ≡ h
-  pub opened : length (openedChoices x table s [] []) ≡ o
-  pub turned : length (turnedChoices x table s [] []) ≡ t
-  pub left : length (openChoices x table s [] []) ≡ l
 
 -- tick k of execution i
 abbrev pub walkAt : Explorer → List ℕ → Settings → ℕ → ℕ → Walk State
@@ -214,40 +209,49 @@ pub record Computed : Type 0 where
   pub row-row : reportFor Wrong.nextRow noSuchRow (settings 3 1 1) .row ≡ 1
   pub cleared : isRefusal (report Wrong.clearing oneLoad (settings 3 1 0) (1 ∷ []) [] .answer) ≡ true
   pub cleared-path : getD (it Wrong.clearing oneLoad (settings 3 1 0) (1 ∷ []) [] .path) 0 0 ≡ 0
+  pub misplaced-ran : isRefusal (reportFor Wrong.misplacing oneLoad (settings 1 1 1) .answer) ≡ false
+  pub misplaced : reportFor Wrong.misplacing oneLoad (settings 1 1 1) .row ≡ 1
+  pub placed : reported (stopBy Wrong.misplacing oneLoad (settings 1 1 1)) .row ≡ 0
   pub over-ran : isRefusal (reportFor Wrong.leavingOver oneLoad (settings 3 2 1) .answer) ≡ false
   pub left-over : getD (leftFor Wrong.leavingOver oneLoad (settings 3 2 1) .trace) 16 0 ≡ 90
   pub zero-past : getD (noted 32 (stopBy Wrong.leavingOver oneLoad (settings 3 2 1) .walk .trace)) 16 0 ≡ 0
   -- The balance
-  pub twice : Counts Wrong.twice storeAndLoad (p3 2) 1 2 3 1
-  pub uncounted-all : Counts (parting uncounted) storeAndLoad (p3 2) 1 2 1 1
-  pub uncounted-one : Counts (parting uncounted) storeAndLoad (p3 1) 1 1 1 2
-  pub fault-begun : Counts Wrong.faultsNotBegun oneLoad (settings 2 1 1) 11 0 0 0
-  pub fault-listed : Lists Wrong.faultsNotBegun oneLoad (settings 2 1 1) 1 1 0 0 0
-  pub twice-one : Counts Wrong.twice storeAndLoad (p3 1) 1 1 3 2
-  pub twice-listed : Lists Wrong.twice storeAndLoad (p3 1) 1 1 2 0 2
-  pub none-open : Counts Wrong.noneOpen storeAndLoad (p3 1) 1 1 2 0
-  pub some-listed : Lists Wrong.noneOpen storeAndLoad (p3 1) 1 1 2 0 2
-  pub untold-listed : Lists Wrong.untold oneLoad (settings 3 1 1) 1 0 0 0 0
+  pub twice : Counts Wrong.twice storeAndLoad (p3 2) 2 3 1
+  pub uncounted-two : Counts (parting uncounted) storeAndLoad (p3 2) 2 1 1
+  pub uncounted-one : Counts (parting uncounted) storeAndLoad (p3 1) 1 1 2
+  pub fault-begun : reportFor Wrong.faultsNotBegun oneLoad (settings 2 1 1) .begun ≡ 0
+  pub fault-made : length (madeBy Wrong.faultsNotBegun oneLoad (settings 2 1 1)) ≡ 1
+  pub twice-counted : reportFor Wrong.twice storeAndLoad (p3 1) .opened ≡ 3
+  pub twice-opened : length (openedChoices Wrong.twice storeAndLoad (p3 1) [] []) ≡ 2
+  pub none-open : reportFor Wrong.noneOpen storeAndLoad (p3 1) .stillOpen ≡ 0
+  pub some-open : length (openChoices Wrong.noneOpen storeAndLoad (p3 1) [] []) ≡ 2
+  pub untold-made : length (madeBy Wrong.untold oneLoad (settings 3 1 1)) ≡ 1
+  pub untold : length (stopBy Wrong.untold oneLoad (settings 3 1 1) .history) ≡ 0
   -- The tree and the turning points
-  pub anew-listed : Lists Wrong.anew storeAndLoad (p3 2) 2 2 4 1 2
-  pub anew-same : choicesIn Wrong.anew storeAndLoad (p3 2) 0 ≡ choicesIn Wrong.anew storeAndLoad (p3 2) 1
-  pub anew-point : length (turningPoint (courseAt Wrong.anew storeAndLoad (p3 2) 1)) ≡ 0
-  pub anew-turned : turnedChoices Wrong.anew storeAndLoad (p3 3) [] [] ≡ [] ∷ [] ∷ []
-  pub dropped-listed : Lists (parting droppingStep) storeAndLoad (p3 2) 2 2 3 1 1
-  pub forgetful-listed : Lists Wrong.forgetful storeAndLoad (p3 6) 6 6 6 5 1
+  pub anew-made : length (madeBy Wrong.anew aBit (settings 2 1 2)) ≡ 2
+  pub anew-told : length (stopBy Wrong.anew aBit (settings 2 1 2) .history) ≡ 2
+  pub anew-same : choicesIn Wrong.anew aBit (settings 2 1 2) 0 ≡ choicesIn Wrong.anew aBit (settings 2 1 2) 1
+  pub anew-point : length (turningPoint (courseAt Wrong.anew aBit (settings 2 1 2) 1)) ≡ 0
+  pub anew-turned : turnedChoices Wrong.anew aBit (settings 2 1 3) [] [] ≡ [] ∷ [] ∷ []
+  pub dropped-opened : length (openedChoices (parting droppingStep) storeAndLoad (p3 2) [] []) ≡ 3
+  pub dropped-turned : length (turnedChoices (parting droppingStep) storeAndLoad (p3 2) [] []) ≡ 1
+  pub dropped-open : length (openChoices (parting droppingStep) storeAndLoad (p3 2) [] []) ≡ 1
+  pub forgetful-opened : length (openedChoices Wrong.forgetful storeAndLoad (p3 6) [] []) ≡ 6
   pub forgetful-first : getD (openedChoices Wrong.forgetful storeAndLoad (p3 6) [] []) 2 [] ≡ running 1 ∷ running 0 ∷ []
   pub forgetful-again : getD (openedChoices Wrong.forgetful storeAndLoad (p3 6) [] []) 5 [] ≡ running 1 ∷ running 0 ∷ []
-  pub early : Counts Wrong.early storeAndLoad (p3 2) 0 1 2 2
+  pub early : reportFor Wrong.early storeAndLoad (p3 2) .answer ≡ 0
+  pub early-open : reportFor Wrong.early storeAndLoad (p3 2) .stillOpen ≡ 2
   pub early-verdict : stopBy Wrong.early storeAndLoad (p3 2) .verdict ≡ exhausted
-  pub untaken : Counts Wrong.neverTaking storeAndLoad (p3 2) 0 2 2 0
-  pub untaken-listed : Lists Wrong.neverTaking storeAndLoad (p3 2) 2 2 2 1 0
+  pub untaken : reportFor Wrong.neverTaking storeAndLoad (p3 2) .answer ≡ 0
+  pub untaken-opened : length (openedChoices Wrong.neverTaking storeAndLoad (p3 2) [] []) ≡ 2
+  pub untaken-turned : length (turnedChoices Wrong.neverTaking storeAndLoad (p3 2) [] []) ≡ 1
   -- Why it stopped
   pub spent-last : reportFor Wrong.spentAtLast oneLoad (settings 3 1 1) .answer ≡ 1
   pub exhausted-last : verdictNumber (stopBy Wrong.spentAtLast oneLoad (settings 3 1 1) .verdict) ≡ 0
   pub overlooked : stopBy Wrong.overlooking oneLoad (settings 2 1 1) .verdict ≡ exhausted
   pub overlooked-listed : length (madeBy Wrong.overlooking oneLoad (settings 2 1 1)) ≡ 1
   pub overlooked-last : isOver (courseAt Wrong.overlooking oneLoad (settings 2 1 1) 0 .outcome) ≡ 0
-  pub unspent : Counts Wrong.unspent storeAndLoad (p3 2) 1 1 2 2
+  pub unspent : reportFor Wrong.unspent storeAndLoad (p3 2) .begun ≡ 1
   pub unspent-verdict : stopBy Wrong.unspent storeAndLoad (p3 2) .verdict ≡ spent
   pub invented : stopBy (parting inventing) storeAndLoad (p3 1) .verdict ≡ stopped Event.deadlock Event.noSite
   pub invented-listed : length (madeBy (parting inventing) storeAndLoad (p3 1)) ≡ 1
@@ -257,8 +261,13 @@ pub record Computed : Type 0 where
   pub shortened : Misoffers Wrong.shortening storeAndLoad (p3 2) 1 4 1 2
   pub few-there : There Wrong.tooFew loadThenBit (settings 6 3 2) 1 4
   pub few : Misoffers Wrong.tooFew loadThenBit (settings 6 3 2) 1 4 1 2
+  pub few-made : length (madeBy Wrong.tooFew storeAndLoad (p3 1)) ≡ 1
+  pub few-mask : maskIn 1 (courseAt Wrong.tooFew storeAndLoad (p3 1) 0) ≡ 1
+  pub right-mask : maskIn 1 (courseOf (machine (programOf storeAndLoad (p3 1))) (limitsOf (p3 1)) empty) ≡ 3
   pub many-there : There Wrong.tooMany storeThenLoad (settings 4 2 2) 1 3
   pub many : Misoffers Wrong.tooMany storeThenLoad (settings 4 2 2) 1 3 2 1
+  pub blind-there : There Wrong.blind storeThenLoad (settings 4 2 2) 1 3
+  pub blind : Misoffers Wrong.blind storeThenLoad (settings 4 2 2) 1 3 2 1
   pub wiped-there : There Wrong.wiping oneLoad (settings 3 1 1) 0 2
   pub wiped-seen : sees (walkAt Wrong.wiping oneLoad (settings 3 1 1) 0 1) 0 0 0 ≡ true
   pub wiped-unseen : sees (walkAt Wrong.wiping oneLoad (settings 3 1 1) 0 2) 0 0 0 ≡ false
@@ -287,9 +296,9 @@ pub record Computed : Type 0 where
   pub active-known : length (knownBy Wrong.bothActive storeAndLoad (p3 3) 2) ≡ 1
   pub active-first : getD (statesIn (getD (knownBy Wrong.bothActive storeAndLoad (p3 3) 2) 0 noBranch)) 0 0 ≡ 4
   pub active-second : getD (statesIn (getD (knownBy Wrong.bothActive storeAndLoad (p3 3) 2) 0 noBranch)) 1 0 ≡ 4
-  pub pointed-made : length (madeBy Wrong.selfPointing storeAndLoad (p3 2)) ≡ 2
-  pub pointed-known : length (knownBy Wrong.selfPointing storeAndLoad (p3 2) 1) ≡ 4
-  pub pointed-first : prevIn (getD (knownBy Wrong.selfPointing storeAndLoad (p3 2) 1) 0 noBranch) ≡ 0
+  pub pointed-made : length (madeBy Wrong.pointing storeAndLoad (p3 2)) ≡ 2
+  pub pointed-known : length (knownBy Wrong.pointing storeAndLoad (p3 2) 1) ≡ 4
+  pub pointed-first : prevIn (getD (knownBy Wrong.pointing storeAndLoad (p3 2) 1) 0 noBranch) ≡ 0
 
 pub computed : Computed
 unfolding Cell.loadSynced Cell.storeSynced Cell.fateFrom Cell.loadFate Cell.rmwFate Cell.matchedFrom Cell.matchedLoad
@@ -328,37 +337,46 @@ computed = record {
   row-row = refl;
   cleared = refl;
   cleared-path = refl;
+  misplaced-ran = refl;
+  misplaced = refl;
+  placed = refl;
   over-ran = refl;
   left-over = refl;
   zero-past = refl;
-  twice = record { answer = refl; begun = refl; opened = refl; left = refl };
-  uncounted-all = record { answer = refl; begun = refl; opened = refl; left = refl };
-  uncounted-one = record { answer = refl; begun = refl; opened = refl; left = refl };
-  fault-begun = record { answer = refl; begun = refl; opened = refl; left = refl };
-  fault-listed = record { executed = refl; told = refl; opened = refl; turned = refl; left = refl };
-  twice-one = record { answer = refl; begun = refl; opened = refl; left = refl };
-  twice-listed = record { executed = refl; told = refl; opened = refl; turned = refl; left = refl };
-  none-open = record { answer = refl; begun = refl; opened = refl; left = refl };
-  some-listed = record { executed = refl; told = refl; opened = refl; turned = refl; left = refl };
-  untold-listed = record { executed = refl; told = refl; opened = refl; turned = refl; left = refl };
-  anew-listed = record { executed = refl; told = refl; opened = refl; turned = refl; left = refl };
+  twice = record { begun = refl; opened = refl; left = refl };
+  uncounted-two = record { begun = refl; opened = refl; left = refl };
+  uncounted-one = record { begun = refl; opened = refl; left = refl };
+  fault-begun = refl;
+  fault-made = refl;
+  twice-counted = refl;
+  twice-opened = refl;
+  none-open = refl;
+  some-open = refl;
+  untold-made = refl;
+  untold = refl;
+  anew-made = refl;
+  anew-told = refl;
   anew-same = refl;
   anew-point = refl;
   anew-turned = refl;
-  dropped-listed = record { executed = refl; told = refl; opened = refl; turned = refl; left = refl };
-  forgetful-listed = record { executed = refl; told = refl; opened = refl; turned = refl; left = refl };
+  dropped-opened = refl;
+  dropped-turned = refl;
+  dropped-open = refl;
+  forgetful-opened = refl;
   forgetful-first = refl;
   forgetful-again = refl;
-  early = record { answer = refl; begun = refl; opened = refl; left = refl };
+  early = refl;
+  early-open = refl;
   early-verdict = refl;
-  untaken = record { answer = refl; begun = refl; opened = refl; left = refl };
-  untaken-listed = record { executed = refl; told = refl; opened = refl; turned = refl; left = refl };
+  untaken = refl;
+  untaken-opened = refl;
+  untaken-turned = refl;
   spent-last = refl;
   exhausted-last = refl;
   overlooked = refl;
   overlooked-listed = refl;
   overlooked-last = refl;
-  unspent = record { answer = refl; begun = refl; opened = refl; left = refl };
+  unspent = refl;
   unspent-verdict = refl;
   invented = refl;
   invented-listed = refl;
@@ -367,8 +385,13 @@ computed = record {
   shortened = record { asked = refl; passed = refl; values = refl; slots = refl };
   few-there = record { made = refl; ticked = refl };
   few = record { asked = refl; passed = refl; values = refl; slots = refl };
+  few-made = refl;
+  few-mask = refl;
+  right-mask = refl;
   many-there = record { made = refl; ticked = refl };
   many = record { asked = refl; passed = refl; values = refl; slots = refl };
+  blind-there = record { made = refl; ticked = refl };
+  blind = record { asked = refl; passed = refl; values = refl; slots = refl };
   wiped-there = record { made = refl; ticked = refl };
   wiped-seen = refl;
   wiped-unseen = refl;

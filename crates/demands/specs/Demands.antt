@@ -1,33 +1,33 @@
--- The demands, sentence by sentence, of the definition's `explored`, which is what `explore` returns and leaves in the buffers, for
--- all bytes, settings and buffers. What is looked at is named first, so that the same sentences can be said of an explorer that is
--- wrong (Wrong); what is demanded is demanded of the right one. Assumes nothing.
---     Explorer, right      what the page looks at, and the definition's own
---     Answered       demand 1: one of document 01's answers, refusals exactly when, and what is left
+-- The demands, sentence by sentence, of the definition's `explored`, which is what `explore` returns and leaves in the buffers,
+-- for all bytes, settings and buffers. What is looked at is named first, so that the same sentences can be said of an explorer
+-- that is wrong (Wrong); they are demanded of the right one. Assumes nothing.
+--     Explorer, right             what is looked at, and the definition's own
+--     Answered                    demand 1: one of document 01's answers, refusals exactly when, and what is left
 --     Balances, Apart, Turns      demand 3: the ledger, the tree, the turning points
---     Offered        demand 3: what loads and RMWs are offered
---     Stops          why a run stopped
---     Sound          what holds at every tick: nothing impossible, everything in range
---     Demands        all of it
+--     Offered                     demand 3: what loads and RMWs are offered
+--     Stops                       why a run stopped
+--     Sound                       what holds at every tick: nothing impossible, everything in range
+--     Demands                     all of it
 use Prim.Native.Nat.{ℕ, _+_, _-_, _*_, _≤_, _<_}
 use mathlib.Core.List.{List, [], _∷_, _++_, map, Perm, List·Nodup}
-use mathlib.Core.Bool.{Bool, true, false}
+use mathlib.Core.Bool.{true, false}
 use mathlib.Core.Path.{_≡_}
 use mathlib.Core.Logic.{_≢_}
 use lib.ListN.{length, getD}
-use Rattle.rules.specs.Path.{Branch, openIn, written, recordBytes}
+use Rattle.rules.specs.Path.{written, recordBytes}
 use Rattle.rules.specs.Table.{judged, good, badHeader, badRow}
 use Rattle.rules.specs.Event.{Machine, Fault, Site, impossible}
-use Rattle.rules.specs.State.{State, number, begun}
-use Rattle.rules.specs.Machine.{Program, machine}
-use Rattle.rules.specs.Explorer.{Limits, Walk, Tick, over, faulted, Stop, exhausted, spent, stopped}
-use Rattle.rules.specs.Explored.{Settings, Explored, Report, explored, refused, isRefusal, settingsFine, stopOf, programOf, limitsOf, noted, verdictNumber}
+use Rattle.rules.specs.State.{State}
+use Rattle.rules.specs.Machine.{machine}
+use Rattle.rules.specs.Explorer.{Walk, Tick, over, faulted, Stop, exhausted, spent, stopped}
+use Rattle.rules.specs.Explored.{Settings, Explored, Report, explored, refused, reported, isRefusal, settingsFine, stopOf, programOf, limitsOf, noted, verdictNumber}
 use Rattle.ledger.specs.History.{Every, Course, courses, end, Told}
 use Rattle.ledger.specs.Tree.{Parted, noExecution}
 use Rattle.ledger.specs.Turning as turning
 use Rattle.ledger.specs.Turning.{Each, Name, joinedOver, turningPoint, others, openNames}
 use Rattle.ledger.specs.Replay as replay
 use Rattle.kept.specs.Held.{HoldsAt}
-use Rattle.kept.specs.Rules.{PathRules, RuledIn}
+use Rattle.kept.specs.Rules.{RuledIn}
 use Rattle.standing.specs.Standing as standing
 use Rattle.bounds.specs.Range.{RangeIn}
 use Rattle.offers.specs.Offered.{Among}
@@ -117,7 +117,9 @@ module _ (x : Explorer) (table : List ℕ) (s : Settings) (path trace : List ℕ
     pub row : report .answer ≡ 5 → (t k : ℕ) → judged table ≡ badRow t k → (report .thread ≡ t) × (report .row ≡ k)
     -- "and what it leaves in the buffers is fixed": as they are, with zero counts and summaries
     pub leaves : isRefusal (report .answer) ≡ true → it ≡ refused (report .answer) (report .thread) (report .row) path trace
-    -- else there was a run: the records of its path and the entries of its last execution, and zeros past them
+    -- else there was a run: the report is that of its stop
+    pub reports : isRefusal (report .answer) ≡ false → report ≡ reported run
+    -- and the buffers hold the records of its path and the entries of its last execution, and zeros past them
     pub ran :
         isRefusal (report .answer) ≡ false
         → (it .path ≡ written (length path) (run .walk .ledger .path)) × (it .trace ≡ noted (length trace) (run .walk .trace))
@@ -133,7 +135,7 @@ module _ (x : Explorer) (table : List ℕ) (s : Settings) (path trace : List ℕ
     pub begun : report .begun ≡ length executions
     pub opened : report .opened ≡ length openedChoices
     pub left : report .stillOpen ≡ length openChoices
-    -- the executions are those that the machine makes one after another, each from the path that follows, and the history is theirs
+    -- the executions are those that the machine makes one after another, each from the next path, and the history is theirs
     pub told : Told theMachine (limitsOf s) (s .executions) executions run
 
   -- "Any two executions made equal choices up to some branch, which both reach, then different ones."

@@ -79,3 +79,4 @@ pub record Same : Type 0 where
   pub explored : (table : List ℕ) (s : Settings) (path trace : List ℕ) →
       explorerBy own .explored table s path trace ≡ right .explored table s path trace
   pub run : (table : List ℕ) (s : Settings) → explorerBy own .run table s ≡ right .run table s
+  pub executions : (table : List ℕ) (s : Settings) → explorerBy own .executions table s ≡ right .executions table s

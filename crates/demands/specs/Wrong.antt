@@ -1,6 +1,6 @@
 -- Wrong explorers, and the sentence of the page that each breaks: the right one, or the explorer over its parts (Exchanged), with
--- one part exchanged, on a table so small that the checker computes its run. Each statement says that the sentences of that name
--- do not hold of it; the one that does not stands in brackets. Assumes nothing.
+-- one part exchanged, on a table so small that the checker computes its run. Each statement says that the sentences of one name on
+-- the page do not all hold of it; the one that does not, by which alone it is proved, stands in brackets. Assumes nothing.
 --     Broken                                       the sentences do not hold, for a table and settings
 --     answering, reporting, refusing               an explorer that returns or leaves something else
 --     parting, following, stepping                 one with other marks, or other steps after an execution
@@ -9,10 +9,9 @@
 use Prim.Native.Nat.{ℕ, _+_, _-_, _*_}
 use mathlib.Core.List.{List, [], _∷_, _++_, map}
 use mathlib.Core.Bool.{Bool, true, false, cond}
-use mathlib.Core.Path.{_≡_}
 use lib.Dec.{eqb}
 use lib.ListN.{length, getD, replicate, drop}
-use Rattle.rules.specs.Path.{Branch, schedule, load, spurious, Bound, unbounded, recordBytes, skip, pending, active, visited, withStates, stepped}
+use Rattle.rules.specs.Path.{Branch, schedule, load, spurious, unbounded, recordBytes, skip, pending, active, visited, withStates, stepped}
 use Rattle.rules.specs.Table.{judged, good, badHeader, badRow}
 use Rattle.rules.specs.Seen.{unseens}
 use Rattle.rules.specs.Event as Event
@@ -21,7 +20,7 @@ use Rattle.rules.specs.State as State
 use Rattle.rules.specs.State.{State, Marks, number, withNumber, activeThread, threads, cells, history}
 use Rattle.rules.specs.Machine.{Program, next, answered, withNumbers, rowBegun, versionRaised}
 use Rattle.rules.specs.Cell.{withBoth}
-use Rattle.rules.specs.Explorer.{Limits, Ledger, Walk, Tick, goes, over, faulted, withLedger, Execution, Stop, stop, exhausted, spent, stopped, After, stopsHere, goesOn, after, firstMarked}
+use Rattle.rules.specs.Explorer.{Limits, Walk, Tick, goes, over, faulted, withLedger, Execution, stop, exhausted, After, stopsHere, goesOn, after, firstMarked}
 use Rattle.rules.specs.Explored.{Settings, Explored, Report, explored, refused, ran, isRefusal, stopOf, programOf, limitsOf, entriesBytes}
 use Rattle.rules.specs.Worked as Worked
 use Rattle.rules.specs.Worked.{row, table, oneLoad, store, storeAndLoad}
@@ -66,6 +65,10 @@ twoLoads = table (7 ∷ []) ((Worked.load 0 ∷ Worked.load 0 ∷ []) ∷ [])
 abbrev pub yieldAndLoad : List ℕ
 yieldAndLoad = table (7 ∷ []) ((row 7 0 0 0 0 0 ∷ []) ∷ (Worked.load 0 ∷ []) ∷ [])
 
+-- one thread that has a bit to choose: two executions
+abbrev pub aBit : List ℕ
+aBit = table (7 ∷ []) ((row 16 0 0 0 0 0 ∷ []) ∷ [])
+
 -- P3, and the loading thread then has a bit to choose
 abbrev pub loadThenBit : List ℕ
 loadThenBit = table (0 ∷ []) ((store 1 ∷ []) ∷ (Worked.load 0 ∷ row 16 0 0 0 0 0 ∷ []) ∷ [])
@@ -82,6 +85,21 @@ answering f = record {
 
 abbrev pub reporting : (Settings → Report → Report) → Explorer
 reporting f = answering (λ it table s path trace. record { report = f s (it .report); path = it .path; trace = it .trace })
+
+-- with this answer, so many open, and this row at fault
+abbrev pub saying : ℕ → ℕ → ℕ → Report → Report
+saying answer left at r = record {
+  answer = answer;
+  begun = r .begun;
+  opened = r .opened;
+  stillOpen = left;
+  rows = r .rows;
+  thread = r .thread;
+  row = at;
+  kind = r .kind;
+  other = r .other;
+  threads = r .threads;
+}
 
 -- for a table that is refused
 abbrev pub refusing : (Explored → List ℕ → Settings → List ℕ → List ℕ → Explored) → Explorer
@@ -121,8 +139,11 @@ offering f (whichThread points initial standings) = whichThread points initial s
 offering f (whichSlot m) = whichSlot (f m)
 offering f whichBit = whichBit
 
-abbrev pub rescanning : (Matched → Matched) → Explorer
-rescanning f = doing (λ p st. record { site = next p st .site; move = moved same (offering f) same (next p st .move) })
+abbrev pub rescanning : (Program → State → Matched → Matched) → Explorer
+rescanning f = doing (λ p st. record {
+  site = next p st .site;
+  move = moved same (offering (f p st)) same (next p st .move);
+})
 
 -- the state after a thread was chosen, and after a slot was, as functions of the one before and of the definition's
 abbrev pub byAnswer : (State → State) → (State → State) → Answer → State → State
@@ -158,10 +179,12 @@ restated x y = map (restatedBranch (instead y x))
 
 -- the path buffer is judged before the settings; the trace buffer before the path buffer; the table before all
 abbrev pub pathFirst : Explorer
-pathFirst = answering (λ it table s path trace. cond (eqb (length path) (recordBytes * s .branches)) it (refused 3 255 255 path trace))
+pathFirst =
+    answering (λ it table s path trace. cond (eqb (length path) (recordBytes * s .branches)) it (refused 3 255 255 path trace))
 
 abbrev pub traceFirst : Explorer
-traceFirst = answering (λ it table s path trace. cond (eqb (length trace) (recordBytes * s .operations)) it (refused 4 255 255 path trace))
+traceFirst =
+    answering (λ it table s path trace. cond (eqb (length trace) (recordBytes * s .operations)) it (refused 4 255 255 path trace))
 
 abbrev pub tableFirst : Explorer
 tableFirst = answering (λ it table s path trace. elim (judged table) [
@@ -180,7 +203,7 @@ firstRow = refusing (λ it table s path trace. refused 5 0 0 path trace)
 abbrev pub nextRow : Explorer
 nextRow = refusing (λ it table s path trace. refused 5 (it .report .thread) (it .report .row + 1) path trace)
 
--- the path buffer is cleared before anything is judged
+-- the path buffer is cleared before anything is judged, and a run writes it anew
 abbrev pub clearing : Explorer
 clearing = answering (λ it table s path trace.
     cond (isRefusal (it .report .answer)) (record { report = it .report; path = replicate (length path) 0; trace = it .trace }) it)
@@ -190,6 +213,10 @@ abbrev pub leavingOver : Explorer
 leavingOver = answering (λ it table s path trace.
     let entries = entriesBytes (stopOf table s .walk .trace) in
     record { report = it .report; path = it .path; trace = entries ++ drop (length entries) trace })
+
+-- the row at fault is the next one
+abbrev pub misplacing : Explorer
+misplacing = reporting (λ s r. saying (r .answer) (r .stillOpen) (r .row + 1) r)
 
 -- an execution may take one tick
 abbrev pub oneTick : Explorer
@@ -212,6 +239,8 @@ pub record WrongAnswers : Type 0 where
   pub row : Broken Answered nextRow noSuchRow (settings 3 1 1)
   -- [leaves] no execution is allowed, and the path buffer is not as it was
   pub leaves : Answered clearing oneLoad (settings 3 1 0) (1 ∷ []) [] → ⊥
+  -- [reports] the path is full for the only row, and the next one is named
+  pub reports : Broken Answered misplacing oneLoad (settings 1 1 1)
   -- [ran] one entry, and room for two
   pub ran : Broken Answered leavingOver oneLoad (settings 3 2 1)
 
@@ -243,22 +272,8 @@ untold = following (λ last past t. elim (after last past t) [
 ])
 
 -- nothing is said to be open
-abbrev pub withOpen : ℕ → Report → Report
-withOpen n r = record {
-  answer = r .answer;
-  begun = r .begun;
-  opened = r .opened;
-  stillOpen = n;
-  rows = r .rows;
-  thread = r .thread;
-  row = r .row;
-  kind = r .kind;
-  other = r .other;
-  threads = r .threads;
-}
-
 abbrev pub noneOpen : Explorer
-noneOpen = reporting (λ s r. withOpen 0 r)
+noneOpen = reporting (λ s r. saying (r .answer) 0 (r .row) r)
 
 pub record WrongBalances : Type 0 where
   -- [equation] two executions have opened two choices, one of them by a mark, and one is open: three are counted
@@ -292,18 +307,25 @@ early = following (λ last past t. stopsHere (stop exhausted (leftBy t) past))
 
 -- it marks, and never takes what it has marked: Pending is then Visited
 abbrev pub untaken : Walk State → Walk State
-untaken w = withLedger w (record { path = restated visited pending (w .ledger .path); opened = w .ledger .opened; begun = w .ledger .begun })
+untaken w =
+    let l = w .ledger in
+    withLedger w (record { path = restated visited pending (l .path); opened = l .opened; begun = l .begun })
+
+abbrev pub untakenBy : Tick State → Tick State
+untakenBy (goes w) = goes (untaken w)
+untakenBy (over w) = over (untaken w)
+untakenBy (faulted f site w) = faulted f site (untaken w)
 
 abbrev pub neverTaking : Explorer
-neverTaking = following (λ last past t. after last past (elim t [ goes w ↦ goes (untaken w) | over w ↦ over (untaken w) | faulted f s w ↦ faulted f s (untaken w) ]))
+neverTaking = following (λ last past t. after last past (untakenBy t))
 
 pub record WrongTurns : Type 0 where
   -- the second execution is the first again
-  pub apart : Broken Apart anew storeAndLoad (p3 2)
+  pub apart : Broken Apart anew aBit (settings 2 1 2)
   -- [turns] it turns nowhere
-  pub nowhere : Broken Turns anew storeAndLoad (p3 2)
+  pub nowhere : Broken Turns anew aBit (settings 2 1 2)
   -- [different] the second and the third have no turning point but the same
-  pub same : Broken Turns anew storeAndLoad (p3 3)
+  pub same : Broken Turns anew aBit (settings 2 1 3)
   -- [together] a record is dropped with something open: the load's second value is neither turned to nor open
   pub dropped : Broken Turns (parting droppingStep) storeAndLoad (p3 2)
   -- [once] the storing thread is opened again where it was turned to before
@@ -324,7 +346,9 @@ shortened (spurious u) = spurious u
 abbrev pub shortening : Explorer
 shortening = stepping (λ bs. map shortened (stepped bs))
 
--- a scan that offers the first only, of those that it should; and one that drops none
+-- Wrong scans: the page judges a record by the definition's scan, so that one shows where its record answers again
+
+-- the first only is offered, of those that should be
 abbrev pub firstOnly : List Bool → List Bool
 firstOnly [] = []
 firstOnly (true ∷ more) = true ∷ map (λ (b : Bool). false) more
@@ -335,20 +359,39 @@ scanned f (offers slots) = offers (f slots)
 scanned f equal = equal
 
 abbrev pub tooFew : Explorer
-tooFew = rescanning (scanned firstOnly)
+tooFew = rescanning (λ p st. scanned firstOnly)
 
+-- every live store is offered
 abbrev pub tooMany : Explorer
-tooMany = rescanning (scanned (map (λ (b : Bool). true)))
+tooMany = rescanning (λ p st. scanned (map (λ (b : Bool). true)))
 
--- a load wipes all marks of first sight; and one leaves them as they were
+-- nothing counts as seen: what is offered is what would be in the state without marks of first sight
 abbrev pub withSights : Marks → State → State
 withSights marks st = withBoth st (st .clocks) marks
 
+abbrev pub noSights : Marks
+noSights = replicate cells (replicate history (unseens threads))
+
+abbrev pub matchOf : Question → Matched → Matched
+matchOf (whichThread points initial standings) m = m
+matchOf (whichSlot n) m = n
+matchOf whichBit m = m
+
+abbrev pub offeredIn : Move State → Matched → Matched
+offeredIn (moves s es) m = m
+offeredIn (asks s es exploring q) m = matchOf q m
+offeredIn (stops s fault) m = m
+offeredIn (ends s) m = m
+
+abbrev pub blind : Explorer
+blind = rescanning (λ p st. offeredIn (next p (withSights noSights st) .move))
+
+-- a load wipes all marks of first sight; and one leaves them as they were
 abbrev pub wiping : Explorer
-wiping = answeredBy (λ before. same) (λ before st. withSights (replicate cells (replicate history (unseens threads))) st)
+wiping = answeredBy (λ before. same) (λ before. withSights noSights)
 
 abbrev pub unseeing : Pieces
-unseeing = effects (λ before. same) (λ before st. withSights (before .marks) st)
+unseeing = effects (λ before. same) (λ before. withSights (before .marks))
 
 -- what stands where there is no execution, and no walk
 abbrev pub nothing : Walk State
@@ -374,32 +417,23 @@ pub record WrongOffers : Type 0 where
   pub shortened : Broken Offered shortening storeAndLoad (p3 2)
   -- [offers] slot 1 is not offered, to which no store is greater: the second execution passes the record of the first
   pub too-few : Broken Offered tooFew loadThenBit (settings 6 3 2)
+  -- [told] and in the first execution, where the record is new, the entry of the load says so
+  pub too-few-at-first : Broken Balances tooFew storeAndLoad (p3 1)
   -- [offers] slot 0 is offered to the thread that has itself stored slot 1
   pub too-many : Broken Offered tooMany storeThenLoad (settings 4 2 2)
+  -- [offers] and so it is where nothing counts as seen
+  pub blind : Broken Offered blind storeThenLoad (settings 4 2 2)
   -- [seen] the thread has seen the cell's start value, and then has not
   pub wiped : Broken Offered wiping oneLoad (settings 3 1 1)
   -- from a tick to the next, on which [seen] rests: the loading thread reads slot 1, and then has not seen it
-  pub unseen : Watched (programOf storeAndLoad (p3 2)) (limitsOf (p3 2)) beforeLoad (tickOf unseeing storeAndLoad (p3 2) beforeLoad) → ⊥
+  pub unseen :
+      Watched (programOf storeAndLoad (p3 2)) (limitsOf (p3 2)) beforeLoad (tickOf unseeing storeAndLoad (p3 2) beforeLoad) → ⊥
 
 -- Why it stopped
 
-abbrev pub withAnswer : ℕ → Report → Report
-withAnswer n r = record {
-  answer = n;
-  begun = r .begun;
-  opened = r .opened;
-  stillOpen = r .stillOpen;
-  rows = r .rows;
-  thread = r .thread;
-  row = r .row;
-  kind = r .kind;
-  other = r .other;
-  threads = r .threads;
-}
-
 -- 1 is answered at the Nth execution, whether something is open or not
 abbrev pub spentAtLast : Explorer
-spentAtLast = reporting (λ s r. cond (eqb (r .begun) (s .executions)) (withAnswer 1 r) r)
+spentAtLast = reporting (λ s r. cond (eqb (r .begun) (s .executions)) (saying 1 (r .stillOpen) (r .row) r) r)
 
 -- every execution is taken for the last that is allowed
 abbrev pub unspent : Explorer
@@ -435,7 +469,10 @@ forgettingOne = answeredBy
 
 -- the row that is refused is counted
 abbrev pub countingRefused : Explorer
-countingRefused = doing (λ p st. record { site = next p st .site; move = moved same same (λ left. rowBegun left (number (left .numbers) activeThread)) (next p st .move) })
+countingRefused = doing (λ p st. record {
+  site = next p st .site;
+  move = moved same same (λ left. rowBegun left (number (left .numbers) activeThread)) (next p st .move);
+})
 
 -- the chosen thread's version is raised
 abbrev pub raising : Explorer
@@ -445,14 +482,15 @@ raising = answeredBy (λ before st. versionRaised st (number (st .numbers) activ
 abbrev pub bothActive : Explorer
 bothActive = stepping (λ bs. restated active visited (stepped bs))
 
--- every schedule of the next path says that the first is before it
-abbrev pub pointingAt : ℕ → Branch → Branch
-pointingAt k (schedule s) = schedule (record { exploring = s .exploring; states = s .states; preemptions = s .preemptions; initial = s .initial; prev = k })
-pointingAt k (load l) = load l
-pointingAt k (spurious u) = spurious u
+-- every schedule of the next path says that the first is before it, the first too
+abbrev pub afterFirst : Branch → Branch
+afterFirst (schedule s) =
+    schedule (record { exploring = s .exploring; states = s .states; preemptions = s .preemptions; initial = s .initial; prev = 0 })
+afterFirst (load l) = load l
+afterFirst (spurious u) = spurious u
 
-abbrev pub selfPointing : Explorer
-selfPointing = stepping (λ bs. map (pointingAt 0) (stepped bs))
+abbrev pub pointing : Explorer
+pointing = stepping (λ bs. map afterFirst (stepped bs))
 
 pub record WrongTicks : Type 0 where
   -- [possible] no tick is left
@@ -468,7 +506,7 @@ pub record WrongTicks : Type 0 where
   -- [records] two threads are Active in the first record of the third execution
   pub two-active : Broken Sound bothActive storeAndLoad (p3 3)
   -- [records] the first record has one before it
-  pub pointed : Broken Sound selfPointing storeAndLoad (p3 2)
+  pub pointed : Broken Sound pointing storeAndLoad (p3 2)
   -- [follows] the record does not agree with what is asked
   pub disagreeing : Broken Sound shortening storeAndLoad (p3 2)
 
