@@ -3,7 +3,7 @@
 --     states-now, states-again     what is read after states were put; a second time
 --     states-same                  the states that stand there already
 --     schedule-states, -put        the states of a schedule's record
---     first-..                     the walk down that looks for a state
+--     first-..                     the walk up that looks for a state
 --     count-..                     the walk up that counts those that are Pending
 use Prim.Native.Nat.{ℕ, zero, suc, _+_, _*_, _-_, _/_, _%_, _≤_, _<_}
 use mathlib.Core.List.{List, [], _∷_, _++_, append-assoc}
@@ -122,7 +122,7 @@ module _ (s : Schedule) (l : length (s .states) ≡ 5) where
       ap (λ (x : List ℕ). 1 ∷ flag (s .exploring) ∷ (t ++ x))
       (drop-at (s .states) (s .preemptions ∷ s .initial ∷ s .prev % 256 ∷ s .prev / 256 ∷ replicate 5 0) 5 l)
 
--- The walk down: what was found from place i on, 5 for none
+-- The walk up that looks for a state: what is found from place i on, 5 for none
 
 abbrev from : ℕ → Whom → ℕ
 from i nobody = 5
@@ -136,45 +136,43 @@ from-zero : (w : Whom) → from 0 w ≡ orFive w
 from-zero nobody = refl
 from-zero (thread t) = omega arith
 
-module _ (states : List ℕ) (x n : ℕ) (l : length states ≡ 5) (h : 0 < n) (k : n ≤ 5) where
-  from-here : getD states (n - 1) 0 ≡ x → n - 1 ≡ from (n - 1) (firstIn x (drop (n - 1) states))
+module _ (states : List ℕ) (x n : ℕ) (l : length states ≡ 5) (k : n < 5) where
+  from-here : getD states n 0 ≡ x → n ≡ from n (firstIn x (drop n states))
   unfolding firstIn
   from-here e =
-      let b : n - 1 < length states = omega arith in
-      rw (drop-cons states (n - 1) 0 b, eq-eqb (getD states (n - 1) 0) x e) (omega arith)
+      let b : n < length states = omega arith in
+      rw (drop-cons states n 0 b, eq-eqb (getD states n 0) x e) (omega arith)
 
-  from-on : getD states (n - 1) 0 ≢ x → from n (firstIn x (drop n states)) ≡ from (n - 1) (firstIn x (drop (n - 1) states))
+  from-on : getD states n 0 ≢ x → from (n + 1) (firstIn x (drop (n + 1) states)) ≡ from n (firstIn x (drop n states))
   unfolding firstIn
   from-on e =
-      let b : n - 1 < length states = omega arith in
-      let s : suc (n - 1) ≡ n = omega arith in
+      let b : n < length states = omega arith in
+      let s : suc n ≡ n + 1 = omega arith in
       sym
-      (rw (drop-cons states (n - 1) 0 b, ne-eqb (getD states (n - 1) 0) x e)
-      (sym (from-next (n - 1) (firstIn x (drop (suc (n - 1)) states))) ∙ ap (λ (m : ℕ). from m (firstIn x (drop m states))) s))
+      (rw (drop-cons states n 0 b, ne-eqb (getD states n 0) x e)
+      (sym (from-next n (firstIn x (drop (suc n) states))) ∙ ap (λ (m : ℕ). from m (firstIn x (drop m states))) s))
 
-from-none : (states : List ℕ) (x : ℕ) → length states ≡ 5 → 5 ≡ from 5 (firstIn x (drop 5 states))
+from-none : (states : List ℕ) (x n : ℕ) → length states ≡ 5 → 5 ≤ n → 5 ≡ from n (firstIn x (drop n states))
 unfolding firstIn
-from-none states x l = let e : drop 5 states ≡ [] = drop-of-length-le states {i = 5} (omega arith) in rw e
+from-none states x n l h = let e : drop n states ≡ [] = drop-of-length-le states {i = n} (omega arith) in rw e
 
 abbrev pub found : List ℕ → ℕ → ℕ → ℕ → ℕ
 found bytes at x n = from n (firstIn x (drop n (statesAt bytes at)))
 
 -- the same in the record at a position: f is the byte that was read
 module _ (bytes : List ℕ) (at x : ℕ) (fits : 16 * at + 16 ≤ length bytes) where
-  pub first-none : 5 ≡ found bytes at x 5
-  first-none = from-none (statesAt bytes at) x (length-statesAt bytes at fits)
+  pub first-start : found bytes at x 0 ≡ orFive (firstIn x (statesAt bytes at))
+  first-start = from-zero (firstIn x (statesAt bytes at))
 
-  module _ (n f : ℕ) (h : 0 < n) (k : n ≤ 5) (r : f ≡ fieldOf bytes at (2 + (n - 1))) where
-    pub first-here : f ≡ x → n - 1 ≡ found bytes at x (n - 1)
-    first-here e = from-here (statesAt bytes at) x n (length-statesAt bytes at fits) h k (sym (state-at bytes at fits (n - 1) (omega arith)) ∙ sym r ∙ e)
+  module _ (n f : ℕ) (k : n < 5) (r : f ≡ fieldOf bytes at (2 + n)) where
+    pub first-here : f ≡ x → n ≡ found bytes at x n
+    first-here e = from-here (statesAt bytes at) x n (length-statesAt bytes at fits) k (sym (state-at bytes at fits n k) ∙ sym r ∙ e)
 
-    pub first-on : f ≢ x → found bytes at x n ≡ found bytes at x (n - 1)
-    first-on e =
-        from-on (statesAt bytes at) x n (length-statesAt bytes at fits) h k (λ q. e (r ∙ state-at bytes at fits (n - 1) (omega arith) ∙ q))
+    pub first-on : f ≢ x → found bytes at x (n + 1) ≡ found bytes at x n
+    first-on e = from-on (statesAt bytes at) x n (length-statesAt bytes at fits) k (λ q. e (r ∙ state-at bytes at fits n k ∙ q))
 
-  pub first-all : (n : ℕ) → n ≤ 0 → found bytes at x n ≡ orFive (firstIn x (statesAt bytes at))
-  first-all zero h = from-zero (firstIn x (statesAt bytes at))
-  first-all (suc n) h = absurd (omega arith)
+  pub first-none : (n : ℕ) → 5 ≤ n → 5 ≡ found bytes at x n
+  first-none n h = from-none (statesAt bytes at) x n (length-statesAt bytes at fits) h
 
 -- The walk up that counts: what is still to be counted from place i on
 

@@ -21,21 +21,19 @@ pub enum Found {
     Nowhere,
 }
 
-// The lowest thread in a state, or MAX_THREADS where there is none. It goes down through all, since a walk up that ends at
-// the first would be a branch that differs from record to record.
+// The lowest thread in a state, or MAX_THREADS where there is none.
 pub fn first_in(path: &[u8], at: usize, state: u8) -> usize
     requires { ⌜ 16 * at + 16 ≤ length (now path) ⌝ }
     ensures { λ r. ⌜ First (statesAt (now (path .entry)) at) state r ⌝ }
 {
-    let mut found = MAX_THREADS;
-    let mut thread = MAX_THREADS;
-    while 0 < thread {
-        thread -= 1;
+    let mut thread = 0;
+    while thread < MAX_THREADS {
         if field(path, at, fields::THREADS + thread) == state {
-            found = thread;
+            return thread;
         }
+        thread += 1;
     }
-    found
+    MAX_THREADS
 }
 
 // The thread that is Active, or MAX_THREADS.
