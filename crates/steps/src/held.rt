@@ -33,6 +33,17 @@ pub fn start(table: &[u8]) -> Held {
     held
 }
 
+// What is held after the first `n` steps.
+pub fn after(table: &[u8], trace: &[u8], n: usize) -> Held {
+    let mut held = start(table);
+    let mut i = 0;
+    while i < n {
+        take(&mut held, table, trace, i);
+        i += 1;
+    }
+    held
+}
+
 // The step that wrote what a slot of a cell holds, counted from 1; 0 for the start value.
 pub fn writer(held: &Held, cell: usize, slot: u8) -> u64 {
     let s = wide8(slot);

@@ -1,5 +1,7 @@
 // Whether an execution ends in a loop.
 
+const YIELD: u8 = 7;
+
 // Over how many steps the last ones repeat those before them, three times at least; 0 where they do not, or where a loop
 // would have more than 32.
 pub fn period(trace: &[u8], n: usize) -> usize {
@@ -26,6 +28,20 @@ fn repeats(trace: &[u8], n: usize, p: usize) -> bool {
         i += 1;
     }
     true
+}
+
+// Whether one of the last `p` steps is a yield.
+pub fn yields(trace: &[u8], n: usize, p: usize) -> bool {
+    let mut k = 0;
+    while k < p {
+        if k < n {
+            if crate::opcode(trace, n - 1 - k) == YIELD {
+                return true;
+            }
+        }
+        k += 1;
+    }
+    false
 }
 
 // Whether two steps are of the same thread and row.
