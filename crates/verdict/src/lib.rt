@@ -5,17 +5,15 @@ use decode::Op;
 use explorer::Settings;
 use report::Report;
 
-mod cover;
 mod limit;
 mod race;
-mod search;
 
 // Prints the verdict.
 pub fn print(table: &[u8], settings: Settings, report: Report, trace: &[u8]) {
     let answer = report.answer;
     let number = report::number(answer);
     match number {
-        0 => cover::print(table, settings, report.begun),
+        0 => coverage::print(table, settings, report.begun),
         1 | 11 | 12 | 17 => limit::print(number, settings, report, trace),
         2 | 3 | 4 | 5 => refused(number, table, report.thread, report.row),
         14 => race::print(

@@ -1,10 +1,11 @@
 // Answer 0: nothing failed, and what that covers.
-use crate::search;
-use crate::search::Place;
 use explorer::Settings;
 use layout::MAX_ATOMIC_HISTORY;
 use line::Line;
 use path::Bound;
+use search::Place;
+
+mod search;
 
 // Stores that a cell keeps beside its start value.
 const KEPT: u64 = MAX_ATOMIC_HISTORY as u64 - 1;

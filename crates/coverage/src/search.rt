@@ -52,7 +52,7 @@ pub fn stores(table: &[u8], cell: u64) -> u64 {
     let mut sum = 0;
     let mut thread = 0;
     while thread < 5 {
-        sum += stores_in(table, thread, cell);
+        sum = sum % 256 + stores_in(table, thread, cell) % 256;
         thread += 1;
     }
     sum
@@ -64,12 +64,18 @@ fn stores_in(table: &[u8], thread: u8, cell: u64) -> u64 {
     let mut sum = 0;
     let mut row = 0;
     while row < count {
-        if may_store(table, thread, row, cell) {
-            sum += 1;
-        }
+        sum = counted(sum, may_store(table, thread, row, cell));
         row += 1;
     }
-    sum % 256
+    sum
+}
+
+// One more, where it counts. No thread has as many as 256.
+fn counted(sum: u64, counts: bool) -> u64 {
+    if counts {
+        return sum % 256 + 1;
+    }
+    sum
 }
 
 // Whether a row may store to this cell.

@@ -1,7 +1,7 @@
 use Prim.Native.Nat.{_≤_, _-_}
 use borrow.Author.Needs.{needs}
-use Rattle.tell.proofs.print.widest.Statement.{statement}
-use Rattle.tell.proofs.print.widest.Tie as tie
+use Rattle.listing.proofs.widest.Statement.{statement}
+use Rattle.listing.proofs.widest.Tie as tie
 
 abbrev Inv-loop : tie.InvT-loop
 Inv-loop table trace n most₀ i₀ most i = i ≤ n
