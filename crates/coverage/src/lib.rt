@@ -18,6 +18,7 @@ pub fn print(table: &[u8], settings: Settings, begun: u64) {
     } else {
         off(begun, search::first_switch(table, true));
     }
+    bounded(bound);
     old_stores(table);
 }
 
@@ -52,7 +53,7 @@ fn off(begun: u64, on: Place) {
         return;
     };
     line::say(
-        b"covered: what is varied once `explore_state` (first at thread #, row #) has switched exploring on; nothing else",
+        b"covered: what is varied while exploring is on, by `explore_state` (first at thread #, row #); nothing else",
         thread as u64,
         row as u64,
         0,
@@ -63,7 +64,6 @@ fn off(begun: u64, on: Place) {
 fn explored(begun: u64, bound: Bound, switched: Place) {
     let Place::At { thread, row } = switched else {
         exhausted(begun, bound);
-        orders(bound);
         return;
     };
     first_line(
@@ -71,19 +71,21 @@ fn explored(begun: u64, bound: Bound, switched: Place) {
         0,
         begun,
     );
-    orders(bound);
     line::say(
-        b"not covered: exploring goes off at thread #, row #; while it is off, no other order and no other load is tried",
+        b"covered: what is varied while exploring is on; it goes off at thread #, row #, and then nothing else is tried",
         thread as u64,
         row as u64,
         0,
     );
 }
 
-// The first line where exploring was on throughout.
+// Exploring was on throughout.
 fn exhausted(begun: u64, bound: Bound) {
     let Bound::AtMost(most) = bound else {
         first_line(b"answer 0: exhausted after ", 0, begun);
+        line::write(
+            b"covered: every order of the threads that can matter, and every store that a load may read (docs/COVERAGE.md)",
+        );
         return;
     };
     first_line(
@@ -93,24 +95,21 @@ fn exhausted(begun: u64, bound: Bound) {
     );
 }
 
-// Which orders and loads were tried. A branch with as many preemptions as the bound allows tries no other thread.
-fn orders(bound: Bound) {
+// What a bound leaves. A branch with as many preemptions as the bound allows tries no other thread.
+fn bounded(bound: Bound) {
     let Bound::AtMost(most) = bound else {
-        line::write(
-            b"covered: every order of the threads that can make a difference, and every store that a load may read (docs/COVERAGE.md)",
-        );
         return;
     };
     if most == 0 {
         line::write(
-            b"covered: one order of the threads, and every store that a load may read in it; no other order was tried",
+            b"covered: loads alone (--bound 0): every store that each may read, in one order of the threads; no other order",
         );
         return;
     }
     line::say(
-        b"covered: orders of the threads with at most # preemptions, though not all of them, and every store that a load may read",
+        b"covered: orders in which threads that could go on are made to wait at most # times (--bound #), perhaps not all",
         most as u64,
-        0,
+        most as u64,
         0,
     );
 }
@@ -122,7 +121,7 @@ fn old_stores(table: &[u8]) {
         let stores = search::stores(table, cell);
         if KEPT < stores {
             line::say(
-                b"not covered: # rows store to cell #, which keeps # stores and its start value: a failure that needs an older one",
+                b"not covered: # rows store to cell #, which keeps # of them and its start value: a failure by an older one",
                 stores,
                 cell,
                 KEPT,

@@ -33,7 +33,7 @@ fn put_object(line: &mut Line, at: usize, opcode: u8, object: u64, room: Room) -
         0 | 1 | 2 | 3 | 5 | 6 => line::fill(
             line,
             at,
-            b"cell # is none: the table has # from 0 on",
+            b"cell # is none: they count from 0, and the table has #",
             object,
             room.cells as u64,
             0,
@@ -41,7 +41,7 @@ fn put_object(line: &mut Line, at: usize, opcode: u8, object: u64, room: Room) -
         8 => line::fill(
             line,
             at,
-            b"thread # is none: the table has # from 0 on",
+            b"thread # is none: they count from 0, and the table has #",
             object,
             room.threads as u64,
             0,
@@ -138,7 +138,7 @@ fn put_target(line: &mut Line, at: usize, opcode: u8, target: u64, count: u64) -
         9 | 10 | 11 => line::fill(
             line,
             at,
-            b"jump target # is none: the thread has rows up to its end, which is #",
+            b"jump target # is none: it may be up to #, the thread's end",
             target,
             count,
             0,

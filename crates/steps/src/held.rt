@@ -85,12 +85,16 @@ pub fn next_row(held: &Held, thread: u8) -> u64 {
 // What step `i` changes.
 pub fn take(held: &mut Held, table: &[u8], trace: &[u8], i: usize) {
     let thread = crate::thread(trace, i);
-    let value = crate::value(trace, i);
-    let step = i as u64 % 65536 + 1;
     let Decoded::Row(op) = crate::operation(table, trace, i) else {
         return;
     };
     go_on(held, thread, crate::row(trace, i), op);
+    let step = i as u64 % 65536 + 1;
+    act(held, thread, op, crate::value(trace, i), step);
+}
+
+// What a row of this thread does, with the value of its trace entry.
+fn act(held: &mut Held, thread: u8, op: Op, value: u64, step: u64) {
     match op {
         Op::Load { register, .. } => set(held, thread, register, value),
         Op::Store { cell, .. } => stored(held, cell, value, step),

@@ -32,7 +32,11 @@ pub fn print_report(table: &[u8], settings: Settings, report: Report, trace: &[u
 
 // Writes what the columns mean whose names do not say it.
 fn legend() {
-    line::write(b"slot: where a cell keeps a store; it keeps the last seven, the start value at first in slot 0");
-    line::write(b"offered: the slots that a load may read from; where there are more than one, each is tried");
-    line::write(b"version: how many loads, stores, changes, fences and joins a thread has done, and 1 (thread 0: 2)");
+    line::write(
+        b"slot: where its cell keeps a store; a cell keeps seven, and its start value is the first, in slot 0",
+    );
+    line::write(b"offered: the slots that a load may read; where there are several, each is tried");
+    line::write(
+        b"version: a thread's loads, stores, changes, fences and joins so far, counted from 1 (thread 0: from 2)",
+    );
 }

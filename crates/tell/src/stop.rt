@@ -13,9 +13,23 @@ pub fn place(table: &[u8], thread: u64, number: u64, is_limit: bool) {
     let mut line = [0u8; 256];
     let mut to = 0;
     if is_limit {
-        to = line::fill(&mut line, 0, b"stopped: thread #, row #: ", thread, number, 0);
+        to = line::fill(
+            &mut line,
+            0,
+            b"stopped: thread #, row #: ",
+            thread,
+            number,
+            0,
+        );
     } else {
-        to = line::fill(&mut line, 0, b"failed: thread #, row #: ", thread, number, 0);
+        to = line::fill(
+            &mut line,
+            0,
+            b"failed: thread #, row #: ",
+            thread,
+            number,
+            0,
+        );
     }
     let t = (thread % 256) as u8;
     let n = (number % 256) as u8;

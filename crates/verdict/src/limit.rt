@@ -16,19 +16,19 @@ pub fn print(number: u64, settings: Settings, report: Report, trace: &[u8]) {
 fn reached(number: u64, settings: Settings, thread: u64, row: u64) {
     match number {
         1 => line::say(
-            b"answer 1: no verdict: the budget of # executions is spent, and choices are open",
+            b"answer 1: no verdict: the budget of executions, #, is spent, and choices are open",
             settings.executions,
             0,
             0,
         ),
         11 => line::say(
-            b"answer 11: no verdict: an execution needs more than # branches, at thread #, row #",
+            b"answer 11: no verdict: an execution needs more branches than the limit, #, at thread #, row #",
             settings.branches,
             thread,
             row,
         ),
         12 => line::say(
-            b"answer 12: no verdict: an execution needs more than # rows, at thread #, row #",
+            b"answer 12: no verdict: an execution needs more rows than the limit, #, at thread #, row #",
             settings.operations,
             thread,
             row,
@@ -45,7 +45,7 @@ fn reached(number: u64, settings: Settings, thread: u64, row: u64) {
 // What to do about it.
 fn to_do(number: u64, settings: Settings) {
     match number {
-        1 => raise(b"--executions", settings.executions, MAX_EXECUTIONS),
+        1 => spent(settings.executions),
         11 => raise(b"--branches", settings.branches, MAX_BRANCHES),
         12 => raise(b"--operations", settings.operations, MAX_OPERATIONS),
         _ => line::write(
@@ -54,13 +54,28 @@ fn to_do(number: u64, settings: Settings) {
     }
 }
 
+// The budget can be raised, or fewer orders tried.
+fn spent(executions: u64) {
+    raise(b"--executions", executions, MAX_EXECUTIONS);
+    line::write(
+        b"to do: or try fewer orders, by --bound; the verdict then says what that left out",
+    );
+}
+
 // Which setting to raise, if it is not at its most.
 fn raise(name: &[u8], now: u64, most: u64) {
     let mut line = [0u8; 256];
     if now < most {
         let to = line::put(&mut line, 0, b"to do: raise ");
         let to = line::put(&mut line, to, name);
-        let to = line::fill(&mut line, to, b", which is # and may be up to #", now, most, 0);
+        let to = line::fill(
+            &mut line,
+            to,
+            b", which is # and may be up to #",
+            now,
+            most,
+            0,
+        );
         line::end(&mut line, to);
         return;
     }
@@ -79,7 +94,7 @@ fn spin(trace: &[u8]) {
     }
     if steps::loops::yields(trace, n, p) {
         line::say(
-            b"hint: the last steps go through the same # rows again and again, a yield among them: threads that wait for each other?",
+            b"hint: the last steps repeat the same # rows, a yield among them: do threads wait for each other?",
             p as u64,
             0,
             0,
@@ -87,7 +102,7 @@ fn spin(trace: &[u8]) {
         return;
     }
     line::say(
-        b"hint: the last steps go through the same # rows again and again: a loop that waits? `yield` in it lets the others run",
+        b"hint: the last steps repeat the same # rows: a loop that waits? `yield` in it lets the others run",
         p as u64,
         0,
         0,
