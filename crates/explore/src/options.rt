@@ -25,16 +25,18 @@ pub struct Options {
     pub executions: u64,
     pub bound: Bound,
     pub exploring: bool,
+    pub whole: bool,
 }
 
-// The options after a word, or a refusal that has been named on standard error.
+// The options after a word, or the wish to be told the usage, or a refusal that has been named on standard error.
 pub enum Asked {
     For(Options),
+    Usage,
     Refused,
 }
 
 impl Options {
-    // Nothing is asked: the largest limits, no bound, exploring.
+    // Nothing is asked: the largest limits, no bound, exploring, long executions shortened.
     pub fn new() -> Self {
         Options {
             table: 0,
@@ -44,6 +46,7 @@ impl Options {
             executions: MAX_EXECUTIONS,
             bound: Bound::Unbounded,
             exploring: true,
+            whole: false,
         }
     }
 
@@ -66,8 +69,9 @@ pub fn read() -> Asked {
     let mut options = Options::new();
     let mut i = 1;
     while i < count {
-        let Asked::For(more) = read_word(options, i) else {
-            return Asked::Refused;
+        let asked = read_word(options, i);
+        let Asked::For(more) = asked else {
+            return asked;
         };
         options = more;
         i += 1;
@@ -82,7 +86,7 @@ fn complete(options: Options) -> Asked {
         return no_number(awaited);
     };
     if options.table == 0 {
-        return refuse(b"TABLE is missing");
+        return refuse(b"TABLE is missing", b"");
     }
     Asked::For(options)
 }
@@ -92,7 +96,7 @@ fn read_word(options: Options, place: usize) -> Asked {
     let mut word = io::buffer();
     let length = os::arg(place, &mut word);
     if os::errno() != 0 {
-        return refuse(b"an argument is too long");
+        return refuse(b"an argument is too long", b"");
     }
     take(options, place, &word[..length])
 }
@@ -100,8 +104,20 @@ fn read_word(options: Options, place: usize) -> Asked {
 // Takes a word: the number that is awaited, or a free word.
 fn take(options: Options, place: usize, word: &[u8]) -> Asked {
     let awaited = options.awaited;
+    let Awaited::Nothing = awaited else {
+        return take_number(options, word);
+    };
+    if is_option(word) {
+        return take_option(options, word);
+    }
+    take_table(options, place, word)
+}
+
+// The number of the option that awaits one.
+fn take_number(options: Options, word: &[u8]) -> Asked {
+    let awaited = options.awaited;
     match awaited {
-        Awaited::Nothing => take_free(options, place, word),
+        Awaited::Nothing => refuse(b"only an option that takes a number has a `=`", b""),
         Awaited::Branches => take_branches(options, word),
         Awaited::Operations => take_operations(options, word),
         Awaited::Executions => take_executions(options, word),
@@ -109,17 +125,51 @@ fn take(options: Options, place: usize, word: &[u8]) -> Asked {
     }
 }
 
-// A word that is no option's number: an option, or the table's name.
-fn take_free(mut options: Options, place: usize, word: &[u8]) -> Asked {
-    if !is_option(word) {
-        if options.table != 0 {
-            return refuse(b"more than one TABLE");
+// The table's name.
+fn take_table(mut options: Options, place: usize, word: &[u8]) -> Asked {
+    if options.table != 0 {
+        return refuse(b"more than one TABLE: ", word);
+    }
+    options.table = place;
+    Asked::For(options)
+}
+
+// An option, which may have its number behind a `=`.
+fn take_option(options: Options, word: &[u8]) -> Asked {
+    let end = equals(word);
+    if word.len() <= end {
+        return named(options, word);
+    }
+    let asked = named(options, &word[0..end]);
+    let Asked::For(next) = asked else {
+        return asked;
+    };
+    take_number(next, &word[end + 1..])
+}
+
+// Where a word has its first `=`, or its length.
+fn equals(word: &[u8]) -> usize {
+    let mut i = 0;
+    while i < word.len() {
+        if word[i] == b'=' {
+            return i;
         }
-        options.table = place;
-        return Asked::For(options);
+        i += 1;
+    }
+    i
+}
+
+// The option of this name.
+fn named(mut options: Options, word: &[u8]) -> Asked {
+    if same(word, b"--help") || same(word, b"-h") {
+        return Asked::Usage;
     }
     if same(word, b"--not-exploring") {
         options.exploring = false;
+        return Asked::For(options);
+    }
+    if same(word, b"--all-rows") {
+        options.whole = true;
         return Asked::For(options);
     }
     if same(word, b"--branches") {
@@ -134,7 +184,7 @@ fn take_free(mut options: Options, place: usize, word: &[u8]) -> Asked {
     if same(word, b"--bound") {
         return Asked::For(awaiting(options, Awaited::Bound));
     }
-    unknown(word)
+    refuse(b"unknown option ", word)
 }
 
 // The options as they are, with this number awaited next.
@@ -153,6 +203,7 @@ fn with_bound(options: Options, bound: Bound, awaited: Awaited) -> Options {
         executions: options.executions,
         bound,
         exploring: options.exploring,
+        whole: options.whole,
     }
 }
 
@@ -195,12 +246,12 @@ fn take_bound(options: Options, word: &[u8]) -> Asked {
     Asked::For(with_bound(options, bound, Awaited::Nothing))
 }
 
-// Whether a word begins with two dashes.
+// Whether a word begins with a dash.
 fn is_option(word: &[u8]) -> bool {
-    if word.len() < 2 {
+    if word.len() == 0 {
         return false;
     }
-    word[0] == b'-' && word[1] == b'-'
+    word[0] == b'-'
 }
 
 // Whether two texts are the same.
@@ -218,17 +269,10 @@ pub fn same(a: &[u8], b: &[u8]) -> bool {
     true
 }
 
-// Names what is wrong, in one line on standard error.
-fn refuse(what: &[u8]) -> Asked {
+// Names what is wrong, in one line on standard error, with the word that it is about.
+fn refuse(what: &[u8], word: &[u8]) -> Asked {
     io::write_all(STDERR_FILENO, b"explore: ");
     io::write_all(STDERR_FILENO, what);
-    io::write_all(STDERR_FILENO, b"\n");
-    Asked::Refused
-}
-
-// Names an option that there is not.
-fn unknown(word: &[u8]) -> Asked {
-    io::write_all(STDERR_FILENO, b"explore: unknown option ");
     io::write_all(STDERR_FILENO, word);
     io::write_all(STDERR_FILENO, b"\n");
     Asked::Refused
@@ -237,10 +281,10 @@ fn unknown(word: &[u8]) -> Asked {
 // An option's number is missing, no number, or out of range.
 fn no_number(awaited: Awaited) -> Asked {
     match awaited {
-        Awaited::Branches => refuse(b"--branches takes a number from 1 to 1024"),
-        Awaited::Operations => refuse(b"--operations takes a number from 1 to 4096"),
-        Awaited::Executions => refuse(b"--executions takes a number from 1 to 65535"),
-        Awaited::Bound => refuse(b"--bound takes a number from 0 to 255"),
+        Awaited::Branches => refuse(b"--branches takes a number from 1 to 1024", b""),
+        Awaited::Operations => refuse(b"--operations takes a number from 1 to 4096", b""),
+        Awaited::Executions => refuse(b"--executions takes a number from 1 to 65535", b""),
+        Awaited::Bound => refuse(b"--bound takes a number from 0 to 255", b""),
         Awaited::Nothing => Asked::Refused,
     }
 }

@@ -34,6 +34,35 @@ pub fn put_with(line: &mut Line, at: usize, text: &[u8], n: u64) -> usize {
     put_number(line, to, n)
 }
 
+// Puts a text in which each `#` stands for a number: for the three in turn.
+pub fn fill(line: &mut Line, at: usize, text: &[u8], a: u64, b: u64, c: u64) -> usize {
+    let mut to = at;
+    let mut now = a;
+    let mut next = b;
+    let mut i = 0;
+    while i < text.len() {
+        to = put_byte(line, to, text[i], now);
+        if text[i] == b'#' {
+            now = next;
+            next = c;
+        }
+        i += 1;
+    }
+    to
+}
+
+// Puts a byte, or the number where the byte stands for one.
+fn put_byte(line: &mut Line, at: usize, byte: u8, n: u64) -> usize {
+    if byte == b'#' {
+        return put_number(line, at, n);
+    }
+    if WIDTH <= at {
+        return at;
+    }
+    line[at] = byte;
+    at + 1
+}
+
 // Puts spaces up to a column.
 pub fn pad(line: &mut Line, at: usize, column: usize) -> usize {
     let mut to = at;
@@ -65,6 +94,13 @@ pub fn end(line: &mut Line, at: usize) {
     if to <= text.len() {
         io::write_all(STDOUT_FILENO, &text[0..to]);
     }
+}
+
+// Writes a line that is one text, with its numbers filled in.
+pub fn say(text: &[u8], a: u64, b: u64, c: u64) {
+    let mut line = [0u8; 256];
+    let to = fill(&mut line, 0, text, a, b, c);
+    end(&mut line, to);
 }
 
 // Writes a line that is one text.

@@ -1,30 +1,42 @@
-// What a run answered, as text on standard output: what happened, the counts, the threads' summaries and the last execution.
+// What a run answered, as text on standard output: the verdict, the counts, the threads' summaries and the last execution.
 use explorer::Settings;
 use report::Report;
 
-mod answer;
-mod print;
+mod stop;
+mod summary;
 
-// Prints all of a report; where nothing began, only what is wrong.
-pub fn print_report(table: &[u8], settings: Settings, report: Report, trace: &[u8]) {
+// Prints all of a report; where nothing began, only what is wrong. The execution of a run that a limit ended is shortened,
+// unless it is wanted whole.
+pub fn print_report(table: &[u8], settings: Settings, report: Report, trace: &[u8], whole: bool) {
     let answer = report.answer;
     let number = report::number(answer);
-    answer::print(
-        number,
-        report::race_kind(answer),
-        report::other_thread(answer),
-        report,
-        settings,
-    );
+    let threads = report.threads;
+    let is_limit = verdict::is_limit(number);
+    verdict::print(table, settings, report, trace);
     if report.begun == 0 {
         return;
     }
     line::write(b"");
-    print::counts(report);
+    summary::counts(report);
     line::write(b"");
-    let threads = report.threads;
-    print::threads(threads);
+    summary::threads(threads);
     line::write(b"");
-    print::execution(table, trace);
-    print::failed(table, report.thread, report.row);
+    listing::print(table, trace, whole || !is_limit);
+    stop::place(table, report.thread, report.row, is_limit);
+    if number == 10 {
+        stop::waiting(table, trace, threads);
+    }
+    line::write(b"");
+    legend();
+}
+
+// Writes what the columns mean whose names do not say it.
+fn legend() {
+    line::write(
+        b"slot: where its cell keeps a store; a cell keeps seven, and its start value is the first, in slot 0",
+    );
+    line::write(b"offered: the slots that a load may read; where there are several, each is tried");
+    line::write(
+        b"version: a thread's loads, stores, changes, fences and joins so far, counted from 1 (thread 0: from 2)",
+    );
 }

@@ -50,7 +50,7 @@ fn put_control(line: &mut Line, at: usize, op: Op) -> usize {
     match op {
         Op::Yield => line::put(line, at, b"yield"),
         Op::Join { thread } => line::put_with(line, at, b"join thread ", thread as u64),
-        Op::Jump { target } => put_jump(line, at, target),
+        Op::Jump { target } => line::put_with(line, at, b"jump to row ", target as u64),
         Op::JumpIf {
             register,
             a,
@@ -77,8 +77,8 @@ fn put_load(line: &mut Line, at: usize, cell: usize, order: u8, register: usize)
 }
 
 fn put_store(line: &mut Line, at: usize, cell: usize, order: u8, value: u64) -> usize {
-    let to = line::put_with(line, at, b"store ", value);
-    put_to(line, to, cell, order)
+    let to = line::fill(line, at, b"store # to cell #", value, cell as u64, 0);
+    put_comma_order(line, to, order)
 }
 
 fn put_store_register(
@@ -88,13 +88,14 @@ fn put_store_register(
     order: u8,
     register: usize,
 ) -> usize {
-    let to = line::put_with(line, at, b"store r", register as u64);
-    put_to(line, to, cell, order)
-}
-
-// The cell that a store goes to, and its order.
-fn put_to(line: &mut Line, at: usize, cell: usize, order: u8) -> usize {
-    let to = line::put_with(line, at, b" to cell ", cell as u64);
+    let to = line::fill(
+        line,
+        at,
+        b"store r# to cell #",
+        register as u64,
+        cell as u64,
+        0,
+    );
     put_comma_order(line, to, order)
 }
 
@@ -142,25 +143,30 @@ fn put_with_mut(line: &mut Line, at: usize, cell: usize, change: Change, registe
     put_into(line, to, register)
 }
 
-fn put_jump(line: &mut Line, at: usize, target: u16) -> usize {
-    line::put_with(line, at, b"jump to row ", target as u64)
-}
-
 fn put_jump_if(line: &mut Line, at: usize, register: usize, a: u64, target: u16) -> usize {
-    let to = put_jump(line, at, target);
-    let to = line::put_with(line, to, b" if r", register as u64);
-    line::put_with(line, to, b" = ", a)
+    line::fill(
+        line,
+        at,
+        b"jump to row # if r# = #",
+        target as u64,
+        register as u64,
+        a,
+    )
 }
 
 fn put_jump_unless(line: &mut Line, at: usize, register: usize, a: u64, target: u16) -> usize {
-    let to = put_jump(line, at, target);
-    let to = line::put_with(line, to, b" if r", register as u64);
-    line::put_with(line, to, b" is not ", a)
+    line::fill(
+        line,
+        at,
+        b"jump to row # if r# is not #",
+        target as u64,
+        register as u64,
+        a,
+    )
 }
 
 fn put_check(line: &mut Line, at: usize, register: usize, a: u64) -> usize {
-    let to = line::put_with(line, at, b"check r", register as u64);
-    line::put_with(line, to, b" = ", a)
+    line::fill(line, at, b"check r# = #", register as u64, a, 0)
 }
 
 fn put_spurious(line: &mut Line, at: usize, register: usize) -> usize {
@@ -204,13 +210,7 @@ fn put_change(line: &mut Line, at: usize, change: Change) -> usize {
         Change::Min(a) => line::put_with(line, at, b"unsigned min ", a),
         Change::SignedMax(a) => line::put_with(line, at, b"signed max ", a),
         Change::SignedMin(a) => line::put_with(line, at, b"signed min ", a),
-        Change::Compare(a, b) => put_compare(line, at, a, b),
+        Change::Compare(a, b) => line::fill(line, at, b"compare #, write #", a, b, 0),
         Change::Decrement => line::put(line, at, b"decrement unless zero"),
     }
-}
-
-// The change that compares, with what it compares and what it writes.
-fn put_compare(line: &mut Line, at: usize, expected: u64, new: u64) -> usize {
-    let to = line::put_with(line, at, b"compare ", expected);
-    line::put_with(line, to, b", write ", new)
 }

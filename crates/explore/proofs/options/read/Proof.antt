@@ -21,11 +21,8 @@ loop-holds c = search needs
 read-word-requires : tie.Need-read-word-requires Inv-loop μ-loop
 read-word-requires c κs = search needs
 
-enum-known-more : tie.Need-enum-known-more Inv-loop μ-loop
-enum-known-more c = search needs
-
-enum-told : tie.Need-enum-told Inv-loop μ-loop
-enum-told c = search needs
+enum-known-asked : tie.Need-enum-known-asked Inv-loop μ-loop
+enum-known-asked c = search needs
 
 returns : tie.Need-returns Inv-loop μ-loop
 returns c = search needs
@@ -55,8 +52,7 @@ read-spec =
     new-requires
     loop-holds
     read-word-requires
-    enum-known-more
-    enum-told
+    enum-known-asked
     returns
     add-i
     loop-less

@@ -1,29 +1,25 @@
 use Prim.Native.Nat.{_≤_, _-_}
-use lib.ListN.{length}
 use borrow.Author.Needs.{needs}
-use Rattle.tell.proofs.print.entries.Statement.{statement}
-use Rattle.tell.proofs.print.entries.Tie as tie
+use Rattle.steps.proofs.loops.period.Statement.{statement}
+use Rattle.steps.proofs.loops.period.Tie as tie
 
 abbrev Inv-loop : tie.InvT-loop
-Inv-loop trace i₀ i = i ≤ length trace
+Inv-loop trace n p₀ p = p ≤ 33
 
 abbrev μ-loop : tie.MeasureT-loop
-μ-loop trace i₀ i = length trace - i
+μ-loop trace n p₀ p = 33 - p
 
 loop-holds : tie.Need-loop-holds Inv-loop μ-loop
 loop-holds c = search needs
 
-byte-requires : tie.Need-byte-requires Inv-loop μ-loop
-byte-requires c κs = search needs
-
-byte-requires-2 : tie.Need-byte-requires-2 Inv-loop μ-loop
-byte-requires-2 c κs = search needs
+repeats-requires : tie.Need-repeats-requires Inv-loop μ-loop
+repeats-requires c κs = search needs
 
 returns : tie.Need-returns Inv-loop μ-loop
 returns c = search needs
 
-add-i : tie.Need-add-i Inv-loop μ-loop
-add-i c = search needs
+add-p : tie.Need-add-p Inv-loop μ-loop
+add-p c = search needs
 
 loop-less : tie.Need-loop-less Inv-loop μ-loop
 loop-less c = search needs
@@ -34,17 +30,16 @@ loop-again c = search needs
 returns-2 : tie.Need-returns-2 Inv-loop μ-loop
 returns-2 c = search needs
 
-pub entries-spec : {M : Type 1} → statement M
-entries-spec =
+pub period-spec : {M : Type 1} → statement M
+period-spec =
     tie.close
     (tie.spec
     Inv-loop
     μ-loop
     loop-holds
-    byte-requires
-    byte-requires-2
+    repeats-requires
     returns
-    add-i
+    add-p
     loop-less
     loop-again
     returns-2)

@@ -1,7 +1,7 @@
 use Prim.Native.Nat.{_≤_, _-_}
 use borrow.Author.Needs.{needs}
-use Rattle.tell.proofs.print.threads.Statement.{statement}
-use Rattle.tell.proofs.print.threads.Tie as tie
+use Rattle.tell.proofs.summary.threads.Statement.{statement}
+use Rattle.tell.proofs.summary.threads.Tie as tie
 
 abbrev Inv-loop : tie.InvT-loop
 Inv-loop threads t₀ t = t ≤ 5

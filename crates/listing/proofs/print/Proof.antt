@@ -1,16 +1,16 @@
 use Prim.Native.Nat.{_≤_, _-_}
 use borrow.Author.Needs.{needs}
-use Rattle.tell.proofs.print.execution.Statement.{statement}
-use Rattle.tell.proofs.print.execution.Tie as tie
+use Rattle.listing.proofs.print.Statement.{statement}
+use Rattle.listing.proofs.print.Tie as tie
 
 abbrev Inv-loop : tie.InvT-loop
-Inv-loop table trace n width i₀ i = i ≤ n
+Inv-loop table trace whole n width held₀ i₀ held i = i ≤ n
 
 abbrev μ-loop : tie.MeasureT-loop
-μ-loop table trace n width i₀ i = n - i
+μ-loop table trace whole n width held₀ i₀ held i = n - i
 
-entries-requires : tie.Need-entries-requires Inv-loop μ-loop
-entries-requires c κs = search needs
+count-requires : tie.Need-count-requires Inv-loop μ-loop
+count-requires c κs = search needs
 
 slice-aggregate-write : tie.Need-slice-aggregate-write Inv-loop μ-loop
 slice-aggregate-write c = search needs
@@ -33,11 +33,17 @@ widest-requires c κs = search needs
 header-requires : tie.Need-header-requires Inv-loop μ-loop
 header-requires c κs = search needs
 
+start-requires : tie.Need-start-requires Inv-loop μ-loop
+start-requires c κs = search needs
+
 loop-holds : tie.Need-loop-holds Inv-loop μ-loop
 loop-holds c = search needs
 
-entry-requires : tie.Need-entry-requires Inv-loop μ-loop
-entry-requires c κs = search needs
+step-requires : tie.Need-step-requires Inv-loop μ-loop
+step-requires c κs = search needs
+
+take-requires : tie.Need-take-requires Inv-loop μ-loop
+take-requires c κs = search needs
 
 add-i : tie.Need-add-i Inv-loop μ-loop
 add-i c = search needs
@@ -51,13 +57,13 @@ loop-again c = search needs
 returns-2 : tie.Need-returns-2 Inv-loop μ-loop
 returns-2 c = search needs
 
-pub execution-spec : {M : Type 1} → statement M
-execution-spec =
+pub print-spec : {M : Type 1} → statement M
+print-spec =
     tie.close
     (tie.spec
     Inv-loop
     μ-loop
-    entries-requires
+    count-requires
     slice-aggregate-write
     write-requires
     returns
@@ -65,8 +71,10 @@ execution-spec =
     write-requires-2
     widest-requires
     header-requires
+    start-requires
     loop-holds
-    entry-requires
+    step-requires
+    take-requires
     add-i
     loop-less
     loop-again

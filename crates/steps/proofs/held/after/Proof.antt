@@ -1,19 +1,22 @@
 use Prim.Native.Nat.{_≤_, _-_}
 use borrow.Author.Needs.{needs}
-use Rattle.tell.proofs.print.widest.Statement.{statement}
-use Rattle.tell.proofs.print.widest.Tie as tie
+use Rattle.steps.proofs.held.after.Statement.{statement}
+use Rattle.steps.proofs.held.after.Tie as tie
 
 abbrev Inv-loop : tie.InvT-loop
-Inv-loop table trace n most₀ i₀ most i = i ≤ n
+Inv-loop table trace n held₀ i₀ held i = i ≤ n
 
 abbrev μ-loop : tie.MeasureT-loop
-μ-loop table trace n most₀ i₀ most i = n - i
+μ-loop table trace n held₀ i₀ held i = n - i
+
+start-requires : tie.Need-start-requires Inv-loop μ-loop
+start-requires c κs = search needs
 
 loop-holds : tie.Need-loop-holds Inv-loop μ-loop
 loop-holds c = search needs
 
-operation-width-requires : tie.Need-operation-width-requires Inv-loop μ-loop
-operation-width-requires c κs = search needs
+take-requires : tie.Need-take-requires Inv-loop μ-loop
+take-requires c κs = search needs
 
 add-i : tie.Need-add-i Inv-loop μ-loop
 add-i c = search needs
@@ -27,14 +30,15 @@ loop-again c = search needs
 returns : tie.Need-returns Inv-loop μ-loop
 returns c = search needs
 
-pub widest-spec : {M : Type 1} → statement M
-widest-spec =
+pub after-spec : {M : Type 1} → statement M
+after-spec =
     tie.close
     (tie.spec
     Inv-loop
     μ-loop
+    start-requires
     loop-holds
-    operation-width-requires
+    take-requires
     add-i
     loop-less
     loop-again

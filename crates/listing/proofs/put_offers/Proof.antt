@@ -1,7 +1,7 @@
 use Prim.Native.Nat.{_≤_, _-_}
 use borrow.Author.Needs.{needs}
-use Rattle.tell.proofs.print.put_offers.Statement.{statement}
-use Rattle.tell.proofs.print.put_offers.Tie as tie
+use Rattle.listing.proofs.put_offers.Statement.{statement}
+use Rattle.listing.proofs.put_offers.Tie as tie
 
 abbrev Inv-loop : tie.InvT-loop
 Inv-loop line₀ at mask to₀ rest₀ slot₀ line to rest slot = slot ≤ 7

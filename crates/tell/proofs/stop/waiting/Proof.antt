@@ -1,0 +1,57 @@
+use Prim.Native.Nat.{_≤_, _-_}
+use borrow.Author.Needs.{needs}
+use Rattle.tell.proofs.stop.waiting.Statement.{statement}
+use Rattle.tell.proofs.stop.waiting.Tie as tie
+
+abbrev Inv-loop : tie.InvT-loop
+Inv-loop table trace threads held t₀ t = t ≤ 5
+
+abbrev μ-loop : tie.MeasureT-loop
+μ-loop table trace threads held t₀ t = 5 - t
+
+count-requires : tie.Need-count-requires Inv-loop μ-loop
+count-requires c κs = search needs
+
+after-requires : tie.Need-after-requires Inv-loop μ-loop
+after-requires c κs = search needs
+
+loop-holds : tie.Need-loop-holds Inv-loop μ-loop
+loop-holds c = search needs
+
+mul-record : tie.Need-mul-record Inv-loop μ-loop
+mul-record c = search needs
+
+array-copy-out-record : tie.Need-array-copy-out-record Inv-loop μ-loop
+array-copy-out-record c = search needs
+
+waits-requires : tie.Need-waits-requires Inv-loop μ-loop
+waits-requires c κs = search needs
+
+add-t : tie.Need-add-t Inv-loop μ-loop
+add-t c = search needs
+
+loop-less : tie.Need-loop-less Inv-loop μ-loop
+loop-less c = search needs
+
+loop-again : tie.Need-loop-again Inv-loop μ-loop
+loop-again c = search needs
+
+returns : tie.Need-returns Inv-loop μ-loop
+returns c = search needs
+
+pub waiting-spec : {M : Type 1} → statement M
+waiting-spec =
+    tie.close
+    (tie.spec
+    Inv-loop
+    μ-loop
+    count-requires
+    after-requires
+    loop-holds
+    mul-record
+    array-copy-out-record
+    waits-requires
+    add-t
+    loop-less
+    loop-again
+    returns)
