@@ -7,8 +7,8 @@ use search::Place;
 
 mod search;
 
-// Stores that a cell keeps beside its start value.
-const KEPT: u64 = MAX_ATOMIC_HISTORY as u64 - 1;
+// Stores that a cell keeps, of which its start value is the first.
+const KEPT: u64 = MAX_ATOMIC_HISTORY as u64;
 
 // Says that nothing failed, within what, and what was left out.
 pub fn print(table: &[u8], settings: Settings, begun: u64) {
@@ -119,9 +119,9 @@ fn old_stores(table: &[u8]) {
     let mut cell = 0;
     while cell < 4 {
         let stores = search::stores(table, cell);
-        if KEPT < stores {
+        if KEPT <= stores {
             line::say(
-                b"not covered: # rows store to cell #, which keeps # of them and its start value: a failure by an older one",
+                b"not covered: # rows store to cell #, which keeps its # newest stores, the start value counted: a failure by an older one",
                 stores,
                 cell,
                 KEPT,

@@ -37,6 +37,6 @@ fn legend() {
     );
     line::write(b"offered: the slots that a load may read; where there are several, each is tried");
     line::write(
-        b"version: a thread's loads, stores, changes, fences and joins so far, counted from 1 (thread 0: from 2)",
+        b"version: counts a thread's atomic accesses, fences and joins, from 1 (thread 0: from 2)",
     );
 }

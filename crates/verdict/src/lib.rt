@@ -28,7 +28,7 @@ pub fn print(table: &[u8], settings: Settings, report: Report, trace: &[u8]) {
     }
 }
 
-// Whether a limit ended the run, so that nothing failed and nothing is shown.
+// Whether a limit ended the run, which is no verdict.
 pub fn is_limit(number: u64) -> bool {
     match number {
         1 | 11 | 12 | 17 => true,
