@@ -83,7 +83,7 @@ impl Execution {
         let active = self.threads.active_mut();
         active.operation = None;
         active.state = State::Terminated;
-        for thread in self.threads.iter_mut() {
+        for (_, thread) in self.threads.iter_mut() {
             if thread.state == State::Blocked(id) {
                 thread.state = State::Runnable;
             }
@@ -101,7 +101,7 @@ impl Execution {
             return if ended { Next::Ended } else { Next::Deadlock };
         };
         self.record_access(path_id);
-        self.wake_yielded();
+        self.wake_yielded(chosen);
         Next::Thread(chosen.as_usize())
     }
 
@@ -166,10 +166,11 @@ impl Execution {
         self.objects.set_last_access(operation, path_id, &version);
     }
 
-    /// (e) Every yielded thread is then runnable again, the chosen one too.
-    fn wake_yielded(&mut self) {
-        for thread in self.threads.iter_mut() {
-            if thread.is_yield() {
+    /// (e) Every yielded thread but the chosen one is then runnable again. The chosen one stays
+    /// yielded until a later choice picks another thread (request 1 of document 02).
+    fn wake_yielded(&mut self, chosen: thread::Id) {
+        for (id, thread) in self.threads.iter_mut() {
+            if id != chosen && thread.is_yield() {
                 thread.state = State::Runnable;
             }
         }

@@ -156,8 +156,12 @@ impl Set {
         self.threads[..self.present].iter().enumerate().map(named)
     }
 
-    pub(crate) fn iter_mut(&mut self) -> impl Iterator<Item = &mut Thread> + '_ {
-        self.threads[..self.present].iter_mut()
+    pub(crate) fn iter_mut(&mut self) -> impl Iterator<Item = (Id, &mut Thread)> + '_ {
+        let named = |(i, thread)| (Id(i), thread);
+        self.threads[..self.present]
+            .iter_mut()
+            .enumerate()
+            .map(named)
     }
 }
 

@@ -141,7 +141,7 @@ fn the_second_backtrack_stops_at_a_switch() {
     assert_eq!(states(3), [1, 4, 3]);
 }
 
-/// A yield alone: the first Yield becomes Active, and is runnable afterwards.
+/// A yield alone: the first Yield becomes Active.
 #[test]
 fn a_lone_yield() {
     let ran = run(&table(&[0], &[&[yields(), yields()]]), &settings(4, 4, 4));
@@ -154,6 +154,46 @@ fn a_lone_yield() {
     assert_eq!(ran.last_path(), path.concat());
     assert_eq!(ran.report.threads[0].yields, 2);
     assert_eq!(ran.report.threads[0].version, 2);
+}
+
+/// The states of the first two threads when the run stops.
+fn states(threads: &[&[Row]], settings: &Settings) -> [u64; 2] {
+    let report = run(&table(&[0], threads), settings).report;
+    [report.threads[0].state, report.threads[1].state]
+}
+
+/// Nobody else can run, so the yielder is picked, and stays yielded whatever it meets.
+#[test]
+fn a_picked_yielder_stays_yielded() {
+    let wide = settings(9, 9, 9);
+    let write = store(0, RELAXED, 1);
+    let fails = check(0, 1);
+    assert_eq!(states(&[&[yields(), fails]], &wide), [3, 0]);
+    assert_eq!(states(&[&[yields(), explore_state()]], &wide), [3, 0]);
+    assert_eq!(states(&[&[yields(), fails]], &settings(9, 1, 9)), [3, 0]);
+    // At the store's scheduling, and after it has picked the thread again.
+    assert_eq!(states(&[&[yields(), write]], &settings(1, 9, 9)), [3, 0]);
+    assert_eq!(states(&[&[yields(), write, fails]], &wide), [3, 0]);
+    // The first yield gives way to thread 1, which ends.
+    let twice = [yields(), yields(), unsync_load(0, 0)];
+    assert_eq!(states(&[&twice, &[write]], &wide), [3, 4]);
+    // A join that goes through changes nothing.
+    let through = [yields(), yields(), join(1), fails];
+    assert_eq!(states(&[&through, &[]], &wide), [3, 4]);
+}
+
+/// A yielder that gives way is runnable; one that blocks or ends is blocked or ended, and who is
+/// woken is runnable.
+#[test]
+fn a_yielder_that_is_not_picked_does_not() {
+    let wide = settings(9, 9, 9);
+    let fails = check(0, 1);
+    assert_eq!(states(&[&[yields()], &[fails]], &wide), [1, 1]);
+    assert_eq!(states(&[&[yields()], &[yields(), fails]], &wide), [4, 1]);
+    assert_eq!(states(&[&[yields(), join(0)]], &wide), [2, 0]);
+    assert_eq!(states(&[&[join(1), fails], &[yields()]], &wide), [1, 4]);
+    let next = [join(1), yields(), fails];
+    assert_eq!(states(&[&next, &[yields()]], &wide), [3, 4]);
 }
 
 /// A thread that has yielded at a branch is not explored there. Worked out by hand: in execution 9

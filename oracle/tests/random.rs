@@ -126,6 +126,14 @@ fn well_formed(ran: &Ran) {
     }
 }
 
+/// Nobody is yielded but the thread that runs: a choice wakes all others.
+fn only_the_current_one_is_yielded(ran: &Ran) {
+    let threads = ran.report.threads.iter().zip(0..);
+    for (_, thread) in threads.filter(|(summary, _)| summary.state == 3) {
+        assert_eq!(thread, ran.report.thread);
+    }
+}
+
 #[test]
 fn random_tables() {
     let mut answers = [0; 18];
@@ -137,6 +145,7 @@ fn random_tables() {
         let ran = run(&table, &settings);
         depth_first(&ran);
         well_formed(&ran);
+        only_the_current_one_is_yielded(&ran);
         answers[ran.report.answer as usize] += 1;
     }
     // The generator reaches every answer but the rare 13 and 17, and the refusals.

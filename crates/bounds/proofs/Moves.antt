@@ -4,7 +4,7 @@
 --     thread-ending, slot-ending, spurious-ending        how it goes on with an answer
 use Prim.Native.Nat.{ℕ, _+_, _≤_, _<_}
 use mathlib.Core.List.{List, []}
-use mathlib.Core.Bool.{Bool, true, false, cond, _&&_, true≢false}
+use mathlib.Core.Bool.{Bool, true, false, cond, not, _&&_, true≢false}
 use mathlib.Core.Path.{_≡_, refl, ap, _∙_}
 use mathlib.Core.Logic.{_≢_}
 use native.Mathlib.Omega.{arith}
@@ -54,11 +54,12 @@ module _ {p : Program} {t n : ℕ} {rows owing waits least : ℕ → ℕ} where
       (Machine.isIn b Machine.blocked j && eqb (number b (State.awaits j)) target)
       (λ e. state-aside j runnable b l k) (λ e. k)) n′ i a h s
 
-  awake-counted : (a : Numbers) → Counted p t n rows owing waits least a → Counted p t n rows owing waits least (Machine.allAwake a)
-  unfolding Machine.allAwake
-  awake-counted a s =
-      for-threads (Counted p t n rows owing waits least) Machine.awake threads
-      (λ j b l k. pick (Counted p t n rows owing waits least) (Machine.isIn b Machine.yielded j)
+  awake-counted : (chosen : ℕ) (a : Numbers) → Counted p t n rows owing waits least a →
+      Counted p t n rows owing waits least (Machine.othersAwake chosen a)
+  unfolding Machine.othersAwake
+  awake-counted chosen a s =
+      for-threads (Counted p t n rows owing waits least) (Machine.awake chosen) threads
+      (λ j b l k. pick (Counted p t n rows owing waits least) (Machine.isIn b Machine.yielded j && not (eqb j chosen))
       (λ e. state-aside j runnable b l k) (λ e. k)) threads 0 a (omega arith) s
 
 -- A row is to begin, or its thread to end
@@ -293,7 +294,7 @@ module _ (p : Program) (fits : Fits p) (t n : ℕ) (rows owing waits least : ℕ
         tally = activates (st .numbers) (s .tally) t below;
         links = runs-now (st .numbers) (s .links) t;
       }) in
-      let all = awake-counted (Machine.accessMade now t at .numbers) (record { tally = made .tally; links = made .links }) in
+      let all = awake-counted t (Machine.accessMade now t at .numbers) (record { tally = made .tally; links = made .links }) in
       let end : At p t n rows owing owing waits least Chosen (Machine.switched st t at) =
       record { sound = made .sound; tally = all .tally; links = all .links } in
       holds (Machine.switched st t at) end (λ u b. omega arith) (λ u b. omega arith)

@@ -308,7 +308,7 @@ unfolding Cell.loadSynced Cell.storeSynced Cell.fateFrom Cell.loadFate Cell.rmwF
     Explored.noted Explored.stopOf Explored.ran Explored.settingsFine Explored.explored Runs.allMarked Runs.seedOf Runs.pushed
     Runs.allBelow Runs.reply Runs.tick Runs.walked Runs.execution Runs.after Runs.runFrom Runs.run Machine.forThreads
     Machine.blank Machine.cellsMade Machine.threadsStarted Machine.start Machine.conflict Machine.fewestFrom Machine.initial
-    Machine.standing Machine.schedules Machine.accessMade Machine.allAwake Machine.switched Machine.allOver Machine.scheduled
+    Machine.standing Machine.schedules Machine.accessMade Machine.othersAwake Machine.switched Machine.allOver Machine.scheduled
     Machine.stores Machine.joins Machine.someCanRun Machine.actsAs Machine.begins Machine.threadEnded Machine.nextAt
     Machine.next Machine.maskOf Machine.readFrom Machine.bitTaken Machine.answered Path.encoded Path.encodedAll Path.written
     Path.firstIn Path.activeOf Path.toggled Path.preemptionsWith Path.lastSchedule Path.threadAdded Path.loadAdded

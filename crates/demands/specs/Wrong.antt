@@ -461,7 +461,7 @@ pub record WrongStops : Type 0 where
 abbrev pub oneRowMore : Explorer
 oneRowMore = doing (λ p st. next (record { table = p .table; operations = p .operations + 1; exploring = p .exploring }) st)
 
--- "Every yielded thread is then runnable again.": but not thread 0
+-- "every yielded thread other than the one just chosen becomes runnable": but not thread 0
 abbrev pub forgettingOne : Explorer
 forgettingOne = answeredBy
     (λ before st. withNumbers st (withNumber (st .numbers) (State.state 0) (number (before .numbers) (State.state 0))))

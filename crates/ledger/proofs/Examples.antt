@@ -61,7 +61,7 @@ unfolding Cell.loadSynced Cell.storeSynced Cell.fateFrom Cell.loadFate Cell.matc
     Explorer.seedOf Explorer.pushed Explorer.allBelow Explorer.reply Explorer.tick Explorer.walked Explorer.execution
     Explorer.after Explorer.runFrom Explorer.run Machine.forThreads Machine.blank Machine.cellsMade
     Machine.threadsStarted Machine.start Machine.conflict Machine.fewestFrom Machine.initial Machine.standing
-    Machine.schedules Machine.accessMade Machine.allAwake Machine.switched Machine.allOver Machine.scheduled
+    Machine.schedules Machine.accessMade Machine.othersAwake Machine.switched Machine.allOver Machine.scheduled
     Machine.stores Machine.actsAs Machine.begins Machine.threadEnded Machine.nextAt Machine.next Machine.maskOf
     Machine.readFrom Machine.answered Path.firstIn Path.activeOf Path.toggled Path.preemptionsWith Path.lastSchedule
     Path.threadAdded Path.loadAdded Path.marked Path.madePending Path.takesMarks Path.scheduleMarked Path.scheduleAt

@@ -4,7 +4,7 @@
 --     AfterOf, load-read, rmw-read               what is read with a slot is seen
 use Prim.Native.Nat.{ℕ, _≤_, _<_}
 use mathlib.Core.List.{List}
-use mathlib.Core.Bool.{Bool, true, false, cond, true≢false}
+use mathlib.Core.Bool.{Bool, true, false, cond, not, _&&_, true≢false}
 use mathlib.Core.Path.{_≡_, refl}
 use mathlib.Core.Logic.{inl, inr}
 use native.Mathlib.Omega.{arith}
@@ -78,13 +78,13 @@ module _ (n : ℕ) where
       (λ e. calm-trans (calm-clocks n n st (grown .clocks) (schedule-grows n (st .clocks) t parts h))
       (recorded-calm grown (Machine.operationOf st t) (Machine.cellOf st t) at parts (operates st t e)))
 
-  awake-counts : (t : ℕ) (a : Numbers) → t < 5 → SameCounts a (Machine.awake t a)
-  awake-counts t a h =
-      pick (SameCounts a) (Machine.isIn a Machine.yielded t)
+  awake-counts : (chosen t : ℕ) (a : Numbers) → t < 5 → SameCounts a (Machine.awake chosen t a)
+  awake-counts chosen t a h =
+      pick (SameCounts a) (Machine.isIn a Machine.yielded t && not (eqb t chosen))
       (λ e. counts-then a a (none-counted a) (State.state t) Machine.runnable (omega arith)) (λ e. none-counted a)
 
   switched-calm : (st : State) (t at : ℕ) → t < threads → Calm n n st (Machine.switched st t at)
-  unfolding Machine.switched Machine.allAwake
+  unfolding Machine.switched Machine.othersAwake
   switched-calm st t at h =
       let a = st .numbers in
       let now = Machine.withNumbers st (withNumber a activeThread t) in
@@ -92,8 +92,8 @@ module _ (n : ℕ) where
       calm-trans
       (calm-rest n st (st .values) (withNumber a activeThread t) (counts-then a a (none-counted a) activeThread t (omega arith)))
       (calm-trans (made-calm now t at h)
-      (calm-rest n made (made .values) (Machine.allAwake (made .numbers))
-      (counts-threads Machine.awake awake-counts 5 0 (made .numbers) (omega arith))))
+      (calm-rest n made (made .values) (Machine.othersAwake t (made .numbers))
+      (counts-threads (Machine.awake t) (awake-counts t) 5 0 (made .numbers) (omega arith))))
 
 -- by whatever thread
 pub thread-steps : (p : Program) (t n : ℕ) (st : State) → SoundState n st → (whom : Whom) (at : ℕ) →

@@ -1,22 +1,23 @@
 -- The measure where a scheduling wakes the threads that have yielded, and where a thread's end frees the joins on it.
 -- Assumes nothing.
 use Prim.Native.Nat.{ℕ, zero, suc, _+_, _-_, _≤_, _<_}
-use mathlib.Core.Bool.{Bool, true, false, cond, _&&_}
+use mathlib.Core.Bool.{Bool, true, false, cond, not, _&&_}
 use mathlib.Core.Path.{_≡_, refl, ap, sym, _∙_}
-use mathlib.Core.Logic.{_≢_, _⊎_, inl, inr}
+use mathlib.Core.Logic.{_≢_, inl, inr}
 use native.Mathlib.Omega.{arith}
 use native.Mathlib.Decide.{ℕ-discrete}
 use lib.Dec.{eqb}
-use borrow.Author.Tests.{eqb-true, eqb-false}
+use borrow.Author.Tests.{eqb-true, eqb-false, not-true}
 use Rattle.rules.specs.State as State
 use Rattle.rules.specs.State.{Numbers, number, withNumber, threads, phase, awaits}
 use Rattle.rules.specs.Machine.{forThreads, awake, freed, isIn, runnable, blocked, yielded, ended, toBegin}
-use Rattle.rules.specs.Measure.{ticksLeft, ticksLeftOf}
-use Rattle.rules.proofs.Measure.{Is, toState, otherState}
-use Rattle.rules.proofs.MeasureRows.{pick, both-left}
+use Rattle.rules.specs.Measure.{ticksLeft, ticksLeftOf, CanAct}
+use Rattle.rules.proofs.NumberLaws.{for-threads}
+use Rattle.rules.proofs.Measure.{Is, otherState}
+use Rattle.rules.proofs.MeasureRows.{pick, both-left, both-right}
 
 -- a thread that has yielded has as many ticks left as a runnable one
-pub yielded-same : (row : ℕ) → ticksLeft yielded row ≡ ticksLeft runnable row
+yielded-same : (row : ℕ) → ticksLeft yielded row ≡ ticksLeft runnable row
 unfolding ticksLeft
 yielded-same row = refl
 
@@ -29,44 +30,24 @@ blocked-less row = by (eqb row toBegin)
     by true = omega arith
     by false = omega arith
 
--- a thread in this state is runnable once the threads from i on are awake
-abbrev pub Wakes : ℕ → ℕ → ℕ → Type 0
-Wakes t s i = (s ≡ runnable) ⊎ ((s ≡ yielded) × (i ≤ t))
-
-wakes-on : {t s i : ℕ} → i ≢ t → Wakes t s i → Wakes t s (i + 1)
-wakes-on d (inl f) = inl f
-wakes-on d (inr f) = inr (f .0, omega (arith, f .1))
+-- a thread that can act has as many ticks left as a runnable one
+pub acts-same : {s : ℕ} (row : ℕ) → CanAct s → ticksLeft s row ≡ ticksLeft runnable row
+acts-same row (inl e) = ap (λ (x : ℕ). ticksLeft x row) e
+acts-same row (inr e) = ap (λ (x : ℕ). ticksLeft x row) e ∙ yielded-same row
 
 module _ {t ph b : ℕ} (below : t < threads) where
-  awake-own : {s m : ℕ} {a : Numbers} → Is t s ph b m a → Wakes t s t → Is t runnable ph b m (awake t a)
-  awake-own {s} {m} {a} is w =
-      pick (Is t runnable ph b m) (isIn a yielded t) (λ e. toState below is runnable) (λ e. still e w)
-    where
-      still : isIn a yielded t ≡ false → Wakes t s t → Is t runnable ph b m a
-      still e (inl f) = rw f at is
-      still e (inr f) = absurd (eqb-false _ _ e (is .stands ∙ f .0))
-
-  awake-other : {s m : ℕ} {a : Numbers} (i : ℕ) → i < threads → i ≢ t → Is t s ph b m a → Is t s ph b m (awake i a)
-  awake-other {s} {m} {a} i h d is =
-      pick (Is t s ph b m) (isIn a yielded i)
-      (λ e. otherState below is i runnable m h d
-      (ap (λ (x : ℕ). m + x) (ap (λ (x : ℕ). ticksLeft x (number a (phase i))) (eqb-true _ _ e) ∙ yielded-same (number a (phase i)))))
+  -- another thread is woken; the chosen one, t, is left as it is
+  awake-one : {s m : ℕ} (i : ℕ) (a : Numbers) → i < threads → Is t s ph b m a → Is t s ph b m (awake t i a)
+  awake-one {s} {m} i a h is =
+      pick (Is t s ph b m) (isIn a yielded i && not (eqb i t))
+      (λ e. otherState below is i runnable m h (eqb-false i t (not-true (eqb i t) (both-right (isIn a yielded i) _ e)))
+      (ap (λ (x : ℕ). m + x)
+      (ap (λ (x : ℕ). ticksLeft x (number a (phase i))) (eqb-true _ _ (both-left _ _ e)) ∙ yielded-same (number a (phase i)))))
       (λ e. is)
 
-  -- "(e) Every yielded thread is then runnable again.": the n threads from i on
-  pub awake-all : {s m : ℕ} (n i : ℕ) (a : Numbers) → i + n ≡ threads → Is t s ph b m a → Wakes t s i →
-      Is t runnable ph b m (forThreads awake n i a)
-  unfolding forThreads
-  awake-all zero i a e is (inl f) = rw f at is
-  awake-all zero i a e is (inr f) = absurd (omega (arith, f .1))
-  awake-all {s} {m} (suc n) i a e is w =
-      elim (ℕ-discrete i t) [
-        | yes q ↦ awake-all n (i + 1) (awake i a) (omega arith) (own q) (inl refl)
-        | no d ↦ awake-all n (i + 1) (awake i a) (omega arith) (awake-other i (omega arith) d is) (wakes-on d w)
-      ]
-    where
-      own : i ≡ t → Is t runnable ph b m (awake i a)
-      own q = rw q (awake-own is (rw q at w))
+  -- "every yielded thread other than the one just chosen becomes runnable"
+  pub awake-all : {s m : ℕ} (a : Numbers) → Is t s ph b m a → Is t s ph b m (forThreads (awake t) threads 0 a)
+  awake-all {s} {m} a is = for-threads (Is t s ph b m) (awake t) threads (λ i a h is. awake-one i a h is) threads 0 a (omega arith) is
 
   -- a thread that is freed has at most one tick more; the thread that has ended is not freed
   freed-one : {m : ℕ} {a : Numbers} (i : ℕ) → i < threads → Is t ended ph b m a →

@@ -157,7 +157,7 @@ module _ (p : Program) (some : 1 ≤ threadsOf (p .table)) (few : threadsOf (p .
       record {
         whole = record { long = u .long; onCell = λ t h. omega (arith, u .nothing (operatesOn t) (omega arith)) };
         below = omega arith;
-        runs = ap (λ (t : ℕ). number (start p .numbers) (State.state t)) first ∙ u .started 0 (omega arith) some;
+        runs = inl (ap (λ (t : ℕ). number (start p .numbers) (State.state t)) first ∙ u .started 0 (omega arith) some);
       }
 
   -- "12 a row is to begin with L begun", and five ends: one less than the ticks that an execution is given

@@ -18,9 +18,10 @@ use Rattle.rules.specs.State as State
 use Rattle.rules.specs.State.{State, number, withNumber, threads, cells, phase, begun, nextRow, yields, lastYield, operation, awaits, count, isSeqCst, exploring, skipping, storeAt}
 use Rattle.rules.specs.Cell.{version, storeDone, slotOf, Access, raced, read, Race, noRace, raceOf, loadDone, rmwDone, unsyncLoadDone, mutDone, storeRace, storeTracked, withClocks}
 use Rattle.rules.specs.Machine
-use Rattle.rules.specs.Machine.{Program, pendingOf, active, runnable, blocked, yielded, ended, toBegin, toAct, completed}
-use Rattle.rules.specs.Measure.{ticksLeft, ticksLeftOf, measure, Whole, Ready}
+use Rattle.rules.specs.Machine.{Program, pendingOf, active, blocked, yielded, ended, toBegin, toAct, completed}
+use Rattle.rules.specs.Measure.{ticksLeft, ticksLeftOf, measure, Whole, CanAct, Ready}
 use Rattle.rules.proofs.Measure.{Is, aside, toState, toPhase, seen, otherWork, has-part}
+use Rattle.rules.proofs.MeasureLoops.{acts-same}
 use Rattle.rules.proofs.MeasureRows.{pick, OnCell, RowOnCell}
 use Rattle.rules.proofs.AccessLaws.{Leaves, isRead, load-leaves, rmw-leaves, unsync-leaves, mut-leaves}
 
@@ -54,49 +55,45 @@ pub measure-part : (p : Program) (st : State) (t : ℕ) → t < threads → Whol
 unfolding measure
 measure-part p st t below whole = omega (arith, has-part (st .numbers) t below whole)
 
-pub ready-is : {t ph b m : ℕ} (st : State) → t < threads → Is t runnable ph b m (st .numbers) → Ready st
-ready-is st below is = record {
-  whole = is .whole;
-  below = rw (is .runs) below;
-  runs = ap (λ (x : ℕ). number (st .numbers) (State.state x)) (is .runs) ∙ is .stands;
-}
+pub ready-is : {t s ph b m : ℕ} (st : State) → t < threads → CanAct s → Is t s ph b m (st .numbers) → Ready st
+ready-is st below can is = record { whole = is .whole; below = rw (is .runs) below; runs = rw (is .runs, is .stands) can }
 
 -- the ticks that are left where a row is to begin, and where it is to act
-pub at-begin : (ticksLeft runnable toBegin ≡ 5) × (ticksLeft ended toBegin ≡ 0) × (ticksLeft yielded toBegin ≡ 5)
-    × (ticksLeft runnable toAct ≡ 7)
+pub at-begin : {s : ℕ} → CanAct s →
+    (ticksLeft s toBegin ≡ 5) × (ticksLeft ended toBegin ≡ 0) × (ticksLeft yielded toBegin ≡ 5) × (ticksLeft s toAct ≡ 7)
 unfolding ticksLeft
-at-begin = (refl, refl, refl, refl)
+at-begin can = (acts-same toBegin can, refl, refl, acts-same toAct can)
 
-pub at-act : (row : ℕ) → eqb row toBegin ≡ false → (ticksLeft runnable row ≡ 7) × (ticksLeft blocked row ≡ 6)
+pub at-act : {s : ℕ} → CanAct s → (row : ℕ) → eqb row toBegin ≡ false → (ticksLeft s row ≡ 7) × (ticksLeft blocked row ≡ 6)
 unfolding ticksLeft
-at-act row e = rw e (refl, refl)
+at-act can row e = (acts-same row can ∙ rw e refl, rw e refl)
 
 -- the active thread, where its row is to act
 module _ (p : Program) (n : ℕ) (st : State) (h : Acting p n st) where
-  pub acting-is : Is (active st) runnable (number (st .numbers) (phase (active st))) (number (st .numbers) begun)
-      (otherWork (st .numbers) (active st)) (st .numbers)
-  acting-is = seen (st .numbers) (active st) (h .ready .below) (h .ready .whole) refl (h .ready .runs) refl
+  pub acting-is : Is (active st) (number (st .numbers) (State.state (active st))) (number (st .numbers) (phase (active st)))
+      (number (st .numbers) begun) (otherWork (st .numbers) (active st)) (st .numbers)
+  acting-is = seen (st .numbers) (active st) (h .ready .below) (h .ready .whole) refl refl refl
 
   pub acting-most : 3 * (p .operations - number (st .numbers) begun) + (otherWork (st .numbers) (active st) + 7) ≤ n
-  acting-most = omega (arith, h .most, measure-is p st acting-is, at-act (number (st .numbers) (phase (active st))) (h .acts))
+  acting-most = omega (arith, h .most, measure-is p st acting-is, at-act (h .ready .runs) (number (st .numbers) (phase (active st))) (h .acts))
 
 -- What a row that is to act does
-module _ (p : Program) (t ph b m n : ℕ) (below : t < threads) (acts : eqb ph toBegin ≡ false)
+module _ (p : Program) (t s ph b m n : ℕ) (below : t < threads) (can : CanAct s) (acts : eqb ph toBegin ≡ false)
     (most : 3 * (p .operations - b) + (m + 7) ≤ n) where
   abbrev pub At : State → Type 0
-  At st = Is t runnable ph b m (st .numbers)
+  At st = Is t s ph b m (st .numbers)
 
   -- the row is complete
   finished : (st : State) (k : ℕ) (es : List Entry) → At st → Lower p n (moves (completed st t k) es)
   finished st k es is =
       let after = toPhase below (aside below is (nextRow t) k (omega arith)) toBegin in
-      lowered (ready-is (completed st t k) below after) (omega (arith, measure-is p (completed st t k) after, at-begin))
+      lowered (ready-is (completed st t k) below can after) (omega (arith, measure-is p (completed st t k) after, at-begin can))
 
   acting : (st : State) → At st → Acting p n st
   acting st is = record {
-    ready = ready-is st below is;
+    ready = ready-is st below can is;
     acts = rw (is .runs, is .inPhase) acts;
-    most = omega (arith, measure-is p st is, at-act ph acts);
+    most = omega (arith, measure-is p st is, at-act can ph acts);
   }
 
   -- a store writes two numbers of its cell
@@ -106,11 +103,11 @@ module _ (p : Program) (t ph b m n : ℕ) (below : t < threads) (acts : eqb ph t
       let store = storeAt c (slotOf (number (st .numbers) (count c))) in
       aside below (aside below is (count c) _ (omega arith)) (isSeqCst store) _ (omega arith)
 
-  reads-lower : (x : Access) (k opcode r slot mask : ℕ) → Leaves (Is t runnable ph b m) x → Lower p n (Machine.reads x t k opcode r slot mask)
+  reads-lower : (x : Access) (k opcode r slot mask : ℕ) → Leaves (Is t s ph b m) x → Lower p n (Machine.reads x t k opcode r slot mask)
   reads-lower (raced kind other st) k opcode r slot mask h = stopping
   reads-lower (read v st) k opcode r slot mask (isRead h) = finished (Machine.withRegister st t r v) (oneMore k) _ h
 
-  leaves-lower : (x : Access) (k opcode c r : ℕ) → Leaves (Is t runnable ph b m) x → Lower p n (Machine.leavesIn x t k opcode c r)
+  leaves-lower : (x : Access) (k opcode c r : ℕ) → Leaves (Is t s ph b m) x → Lower p n (Machine.leavesIn x t k opcode c r)
   leaves-lower (raced kind other st) k opcode c r h = stopping
   leaves-lower (read v st) k opcode c r (isRead h) = finished (Machine.withRegister st t r v) (oneMore k) _ h
 
@@ -126,7 +123,7 @@ module _ (p : Program) (t ph b m n : ℕ) (below : t < threads) (acts : eqb ph t
       stores-unless (storeRace (up .clocks) t c) up (withClocks up (storeTracked (up .clocks) t c)) k opcode c o v h is
 
   -- a scheduling, where a row or a thread's state has lowered the measure
-  schedules-lower : {s x : ℕ} (st : State) (es : List Entry) → Is t s x b m (st .numbers) → ticksLeft s x < 7 →
+  schedules-lower : {s′ x : ℕ} (st : State) (es : List Entry) → Is t s′ x b m (st .numbers) → ticksLeft s′ x < 7 →
       Lower p n (Machine.schedules st es)
   unfolding Machine.schedules
   schedules-lower st es is less =
@@ -141,7 +138,7 @@ module _ (p : Program) (t ph b m n : ℕ) (below : t < threads) (acts : eqb ph t
       let y2 = aside below y1 (yields t) (oneMore (number numbers (yields t))) (omega arith) in
       let y3 = aside below y2 (operation t) Machine.noOperation (omega arith) in
       schedules-lower (completed (Machine.yieldDone st t) t k) es (toPhase below (aside below y3 (nextRow t) k (omega arith)) toBegin)
-      (omega (arith, at-begin))
+      (omega (arith, at-begin can))
 
   -- "8 join thread": the row is complete, or the thread blocks
   joins-lower : (st : State) (k opcode target : ℕ) → At st → Lower p n (Machine.joins st t k opcode target)
@@ -151,7 +148,7 @@ module _ (p : Program) (t ph b m n : ℕ) (below : t < threads) (acts : eqb ph t
       (λ e. finished (Machine.joinedWith st t target) (oneMore k) _ is)
       (λ e. schedules-lower (Machine.blockedOn st t target) []
       (aside below (aside below (toState below is blocked) (awaits t) target (omega arith)) (operation t) Machine.noOperation (omega arith))
-      (omega (arith, at-act ph acts)))
+      (omega (arith, at-act can ph acts)))
 
   -- "13 `critical`; 14 `explore_state`"
   explores-lower : (st : State) (k opcode : ℕ) (on : Bool) → At st → Lower p n (Machine.explores st t k opcode on)
@@ -168,8 +165,8 @@ module _ (p : Program) (t ph b m n : ℕ) (below : t < threads) (acts : eqb ph t
   acts-lower st k (Table.storeRegister c o r) h is = stores-lower st k 2 c o (Machine.register st t r) h is
   acts-lower st k (Table.rmw c o f change r) h is = asking (acting (Machine.versionRaised st t) is)
   acts-lower st k (Table.fence o) h is = finished (Machine.fences p st t o) (oneMore k) _ is
-  acts-lower st k (Table.unsyncLoad c r) h is = reads-lower (unsyncLoadDone st t c) k 5 r _ 0 (unsync-leaves (Is t runnable ph b m) st t c is)
-  acts-lower st k (Table.exclusive c change r) h is = leaves-lower (mutDone st t c change) k 6 c r (mut-leaves (Is t runnable ph b m) st t c change is)
+  acts-lower st k (Table.unsyncLoad c r) h is = reads-lower (unsyncLoadDone st t c) k 5 r _ 0 (unsync-leaves (Is t s ph b m) st t c is)
+  acts-lower st k (Table.exclusive c change r) h is = leaves-lower (mutDone st t c change) k 6 c r (mut-leaves (Is t s ph b m) st t c change is)
   acts-lower st k Table.yield h is = yield-lower st (oneMore k) _ is
   acts-lower st k (Table.join target) h is = joins-lower st k 8 target is
   acts-lower st k (Table.jump target) h is = finished st _ _ is
@@ -190,10 +187,10 @@ module _ (p : Program) (t ph b m n : ℕ) (below : t < threads) (acts : eqb ph t
   read-lower st k slot mask refused h is = stopping
   read-lower st k slot mask (decoded (Table.load c o r)) h is =
       pick (Lower p n) (ltb slot (number (st .numbers) (count c)))
-      (λ e. reads-lower (loadDone st t c slot o) k 0 r slot mask (load-leaves (Is t runnable ph b m) st t c slot o is)) (λ e. stopping)
+      (λ e. reads-lower (loadDone st t c slot o) k 0 r slot mask (load-leaves (Is t s ph b m) st t c slot o is)) (λ e. stopping)
   read-lower st k slot mask (decoded (Table.rmw c o f change r)) h is =
       pick (Lower p n) (ltb slot (number (st .numbers) (count c)))
-      (λ e. reads-lower (rmwDone st t c slot change o f) k 3 r slot mask (rmw-leaves (Is t runnable ph b m) cells store-at st t c slot change o f h is)) (λ e. stopping)
+      (λ e. reads-lower (rmwDone st t c slot change o f) k 3 r slot mask (rmw-leaves (Is t s ph b m) cells store-at st t c slot change o f h is)) (λ e. stopping)
   read-lower st k slot mask (decoded (Table.store c o a)) h is = stopping
   read-lower st k slot mask (decoded (Table.storeRegister c o r)) h is = stopping
   read-lower st k slot mask (decoded (Table.fence o)) h is = stopping

@@ -225,18 +225,19 @@ accessMade st t at =
     cond (eqb (operationOf st t) noOperation) st
     (accessRecorded (withClocks st (withVector (st .clocks) (scheduleOf t) parts)) (operationOf st t) (cellOf st t) at parts)
 
--- "(e) Every yielded thread is then runnable again.": where a thread was chosen [Q24]
-abbrev pub awake : ℕ → Numbers → Numbers
-awake t numbers = cond (isIn numbers yielded t) (withNumber numbers (State.state t) runnable) numbers
+-- "(e)", by request §1: "every yielded thread other than the one just chosen becomes runnable; the chosen one stays yielded until a
+-- later choice picks another thread": where a thread was chosen [Q24]
+abbrev pub awake : ℕ → ℕ → Numbers → Numbers
+awake chosen t numbers = cond (isIn numbers yielded t && not (eqb t chosen)) (withNumber numbers (State.state t) runnable) numbers
 
-unfoldable pub allAwake : Numbers → Numbers
-allAwake numbers = forThreads awake threads 0 numbers
+unfoldable pub othersAwake : ℕ → Numbers → Numbers
+othersAwake chosen numbers = forThreads (awake chosen) threads 0 numbers
 
 -- the chosen thread runs
 unfoldable pub switched : State → ℕ → ℕ → State
 switched st t at =
     let made = accessMade (withNumbers st (withNumber (st .numbers) activeThread t)) t at in
-    withNumbers made (allAwake (made .numbers))
+    withNumbers made (othersAwake t (made .numbers))
 
 -- "if every present thread has ended"
 unfoldable pub allOver : Numbers → ℕ → ℕ → Bool

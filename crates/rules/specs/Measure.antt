@@ -1,15 +1,16 @@
 -- How many ticks an execution may still take, and what every tick needs and keeps: no execution goes on for ever. Assumes
 -- nothing.
 --     measure        falls at every tick
---     Ready          what a tick begins with
+--     CanAct, Ready  what a tick begins with
 use Prim.Native.Nat.{ℕ, _+_, _-_, _*_, _<_}
 use mathlib.Core.Bool.{cond}
 use mathlib.Core.Path.{_≡_}
+use mathlib.Core.Logic.{_⊎_}
 use lib.Dec.{eqb}
 use lib.ListN.{length}
 use Rattle.rules.specs.State as State
 use Rattle.rules.specs.State.{State, Numbers, number, numbersHeld, threads, cells, operatesOn, phase, begun}
-use Rattle.rules.specs.Machine.{Program, active, runnable, blocked, ended, toBegin}
+use Rattle.rules.specs.Machine.{Program, active, runnable, blocked, yielded, ended, toBegin}
 
 -- what a thread in this state, with its row to begin or to act, may still take: no tick for a row that is to begin, one for a
 -- row that is to act where the thread is blocked, else two, since it may block once; and five for its end, which may free the
@@ -34,8 +35,12 @@ pub record Whole (numbers : Numbers) : Type 0 where
   pub long : length numbers ≡ numbersHeld
   pub onCell : (t : ℕ) → t < threads → number numbers (operatesOn t) < cells
 
+-- a thread that is active is runnable, or has yielded and was chosen nevertheless
+abbrev pub CanAct : ℕ → Type 0
+CanAct standing = (standing ≡ runnable) ⊎ (standing ≡ yielded)
+
 -- and the active thread is one that can act
 pub record Ready (st : State) : Type 0 where
   pub whole : Whole (st .numbers)
   pub below : active st < threads
-  pub runs : number (st .numbers) (State.state (active st)) ≡ runnable
+  pub runs : CanAct (number (st .numbers) (State.state (active st)))

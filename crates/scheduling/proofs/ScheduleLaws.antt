@@ -22,7 +22,7 @@ use Rattle.rules.specs.Event.{Place, nowhere, branch}
 use Rattle.rules.specs.State.{State, Clocks, Marks, Values, Numbers, number, withNumber, vector, scheduleOf, operation, operatesOn, yields, activeThread, none}
 use Rattle.rules.specs.State as names
 use Rattle.rules.specs.Vector.{Whom, nobody, thread, atMost}
-use Rattle.rules.specs.Machine.{isIn, runnable, canRun, noOperation, operationOf, cellOf, dependentBranch, dependentVector, conflict, yieldsLess, fewestFrom, initial, accessMade, allAwake, switched, scheduled, allOver, someCanRun}
+use Rattle.rules.specs.Machine.{isIn, runnable, canRun, noOperation, operationOf, cellOf, dependentBranch, dependentVector, conflict, yieldsLess, fewestFrom, initial, accessMade, othersAwake, switched, scheduled, allOver, someCanRun}
 use Rattle.layout.specs.Tables.{state}
 use Rattle.track.specs.LastAccess.{grown, accessed}
 use Rattle.thread.proofs.ThreadLaws.{one-left, none-left}
@@ -180,7 +180,7 @@ pub left-as : (clocks made : Clocks) (marks : Marks) (values : Values) (numbers 
 left-as clocks made marks values numbers there e f = rw (e, f)
 
 pub switched-as : (clocks made : Clocks) (marks : Marks) (values : Values) (numbers there left : Numbers) (t at : ℕ) →
-    state made marks values there ≡ accessMade (state clocks marks values (withNumber numbers activeThread t)) t at → left ≡ allAwake there →
+    state made marks values there ≡ accessMade (state clocks marks values (withNumber numbers activeThread t)) t at → left ≡ othersAwake t there →
     state made marks values left ≡ switched (state clocks marks values numbers) t at
 unfolding switched
 switched-as clocks made marks values numbers there left t at e f = rw (← e, f)

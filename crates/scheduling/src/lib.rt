@@ -136,7 +136,7 @@ fn seed_of(state: u16, first: bool) -> u8
 }
 
 // Rules (d) and (e), where a branch chooses a thread: it becomes active, its operation its cell's last access at this branch,
-// and every yielded thread is runnable again. A thread that cannot run is chosen by no branch of a run.
+// and every other yielded thread is runnable again. A thread that cannot run is chosen by no branch of a run.
 pub fn switch(clocks: &mut Clocks, numbers: &mut Numbers, chosen: usize, branch: u16) -> Event
     ensures { λ r. ⌜ ((marks : rules.Marks) (values : rules.Values) (t k opcode : ℕ) (m : events.Matched) → moveOf r t k opcode m (state (now (clocks .exit)) marks values (now (numbers .exit))) ≡ machine.scheduled (state (now (clocks .entry)) marks values (now (numbers .entry))) (thread chosen) branch) ⌝ }
 {
@@ -155,7 +155,7 @@ fn choose(clocks: &mut Clocks, numbers: &mut Numbers, chosen: usize, branch: u16
     if let Operation::On { action, cell } = pending_operation(numbers, chosen) {
         access::set_last_access(clocks, numbers, chosen, action, cell, branch);
     }
-    thread::reactivate(numbers);
+    thread::reactivate(numbers, chosen);
 }
 
 // Rule (d), where a branch chooses none: the execution has ended, or it is a deadlock. No branch of a run chooses none where a

@@ -5,18 +5,19 @@
 --     awake-facts, freed-facts      the loops over the threads
 --     opened, closed, holding       from what stands in a state, back to it, and to what holds between ticks
 use Prim.Native.Nat.{ℕ, zero, suc, _+_, _-_, _≤_, _<_}
-use mathlib.Core.Bool.{Bool, true, _&&_, true≢false}
+use mathlib.Core.Bool.{Bool, true, not, _&&_, true≢false}
 use mathlib.Core.Path.{_≡_, refl, sym, _∙_}
-use mathlib.Core.Logic.{_≢_}
+use mathlib.Core.Logic.{_≢_, inl, inr}
 use native.Mathlib.Omega.{arith}
 use native.Mathlib.Decide.{ℕ-discrete}
 use lib.Dec.{eqb}
 use lib.ListN.{length}
-use borrow.Author.Tests.{eqb-true, eqb-false, eq-eqb}
+use borrow.Author.Tests.{eqb-true, eq-eqb, ne-eqb}
 use Rattle.rules.specs.Table.{threadsOf, cellsOf}
 use Rattle.rules.specs.State as State
 use Rattle.rules.specs.State.{State, Numbers, Number, number, withNumber, numberAt, numbersHeld, threads, cells, nextRow, rowsOf, phase, count, begun, awaits}
 use Rattle.rules.specs.Machine.{Program, forThreads, awake, freed, isIn, absent, runnable, blocked, yielded, ended, active}
+use Rattle.rules.specs.Measure.{CanAct}
 use Rattle.rules.proofs.StateLaws.{number-same, number-other, number-kept}
 use Rattle.rules.proofs.NumberLaws.{five-one, five-has, five-same, after, for-threads}
 use Rattle.rules.proofs.Measure.{Is}
@@ -26,7 +27,7 @@ use Rattle.standing.specs.Standing.{Thread, ThreadIn, Over, Holds, under
 -- One thread's numbers
 
 -- a thread that is there is made runnable
-pub runs-again : (p : Program) (i s k ph w : ℕ) → s ≢ absent → Thread p i s k ph w → Thread p i runnable k ph w
+runs-again : (p : Program) (i s k ph w : ℕ) → s ≢ absent → Thread p i s k ph w → Thread p i runnable k ph w
 runs-again p i s k ph w d h = record {
   present = λ l. omega arith;
   missing = λ l. absurd (d (h .missing l));
@@ -36,6 +37,11 @@ runs-again p i s k ph w d h = record {
   over = λ e. absurd (omega arith);
   waits = λ e. absurd (omega arith);
 }
+
+-- one that can act is there, has not ended and is not blocked
+pub acts-so : {s : ℕ} → CanAct s → (runnable ≤ s) × (s ≤ ended) × (s ≢ ended) × (s ≢ blocked)
+acts-so (inl e) = omega arith
+acts-so (inr e) = omega arith
 
 -- one that is not blocked waits for none, or for any
 pub waits-none : (p : Program) (i s k ph w v : ℕ) → s ≢ blocked → Thread p i s k ph w → Thread p i s k ph v
@@ -230,16 +236,16 @@ module _ (p : Program) (held : cellsOf (p .table) ≤ cells) (few : threadsOf (p
       counted = f .counted;
     }
 
-  -- "(e) Every yielded thread is then runnable again."
-  awake-one : {k q r i : ℕ} (a : Numbers) → i < threads → Facts p t k q r i a → Facts p t k q r (i + 1) (awake i a)
+  -- "every yielded thread other than the one just chosen becomes runnable": that one is t
+  awake-one : {k q r i : ℕ} (a : Numbers) → i < threads → Facts p t k q r i a → Facts p t k q r (i + 1) (awake t i a)
   awake-one {k} {q} {r} {i} a h f =
-      pick (Facts p t k q r (i + 1)) (isIn a yielded i)
+      pick (Facts p t k q r (i + 1)) (isIn a yielded i && not (eqb i t))
       (λ e.
-      let x : number a (State.state i) ≡ yielded = eqb-true _ _ e in
+      let x : number a (State.state i) ≡ yielded = eqb-true _ _ (both-left _ _ e) in
       let y : number (withNumber a (State.state i) runnable) (State.state i) ≡ runnable =
       number-same a (State.state i) runnable (omega (arith, f .long)) in
       one-awake (again f i h (λ d. omega arith)) (λ d. omega arith))
-      (λ e. one-awake f (λ d. eqb-false _ _ e))
+      (λ e. one-awake f (λ d y. true≢false (sym (rw (eq-eqb _ _ y, ne-eqb i t d) refl) ∙ e)))
 
   -- "until the target's end makes it runnable"
   freed-one : {k q r u : ℕ} (i : ℕ) (a : Numbers) → i < threads → Facts p t k q r u a → Facts p t k q r u (freed t i a)
@@ -247,10 +253,10 @@ module _ (p : Program) (held : cellsOf (p .table) ≤ cells) (few : threadsOf (p
       pick (Facts p t k q r u) (isIn a blocked i && eqb (number a (awaits i)) t)
       (λ e. let x : number a (State.state i) ≡ blocked = eqb-true _ _ (both-left _ _ e) in again f i h (λ d. omega arith)) (λ e. f)
 
-  pub awake-facts : {k q r : ℕ} (n i : ℕ) (a : Numbers) → i + n ≡ threads → Facts p t k q r i a → Facts p t k q r threads (forThreads awake n i a)
+  pub awake-facts : {k q r : ℕ} (n i : ℕ) (a : Numbers) → i + n ≡ threads → Facts p t k q r i a → Facts p t k q r threads (forThreads (awake t) n i a)
   unfolding forThreads
   awake-facts {k} {q} {r} zero i a e f = let same : i ≡ threads = omega arith in rw same at f
-  awake-facts (suc n) i a e f = awake-facts n (i + 1) (awake i a) (omega arith) (awake-one a (omega arith) f)
+  awake-facts (suc n) i a e f = awake-facts n (i + 1) (awake t i a) (omega arith) (awake-one a (omega arith) f)
 
   pub freed-facts : {k q r u : ℕ} (a : Numbers) → Facts p t k q r u a → Facts p t k q r u (forThreads (freed t) threads 0 a)
   freed-facts {k} {q} {r} {u} a f =
@@ -299,11 +305,11 @@ module _ (p : Program) (held : cellsOf (p .table) ≤ cells) (few : threadsOf (p
       }
 
   -- and to what holds between ticks, where it runs, whomever it once waited for
-  pub holding : {k ph b m q r w : ℕ} (st : State) (n : ℕ) → t < threadsOf (p .table) → Is t runnable ph b m (st .numbers) →
-      Facts p t k q r threads (st .numbers) → Thread p t runnable k ph w →
-      (n + (q + ph) ≡ b) × (r ≡ b) × (b ≤ p .operations) → Holds p st n
-  holding {w = w} st n within is f own sums = record {
-    over = closed st n within is f (waits-none p t runnable _ _ w _ (omega arith) own) (λ g. absurd (omega arith))
-        (λ i h g o. omega arith) sums;
-    ready = rw (is .runs) (is .stands);
-  }
+  pub holding : {s k ph b m q r w : ℕ} (st : State) (n : ℕ) → t < threadsOf (p .table) → CanAct s → Is t s ph b m (st .numbers) →
+      Facts p t k q r threads (st .numbers) → Thread p t s k ph w → (n + (q + ph) ≡ b) × (r ≡ b) × (b ≤ p .operations) → Holds p st n
+  holding {s} {w = w} st n within can is f own sums =
+      let so = acts-so can in
+      record {
+        over = closed st n within is f (waits-none p t s _ _ w _ (so .3) own) (λ g. absurd (so .3 g)) (λ i h g o. so .2) sums;
+        ready = rw (is .runs, is .stands) can;
+      }

@@ -6,7 +6,6 @@ use Prim.Native.Nat.{ℕ, zero, suc, _+_, _-_, _≤_, _<_}
 use mathlib.Core.List.{List, [], map}
 use mathlib.Core.Bool.{Bool, true, false, cond, _&&_, _||_, true≢false}
 use mathlib.Core.Path.{_≡_, refl, ap, sym, _∙_}
-use mathlib.Core.Logic.{_≢_, inl, inr}
 use native.Mathlib.Omega.{arith}
 use native.Mathlib.Decide.{ℕ-discrete, decLt}
 use lib.Dec.{ltb}
@@ -19,16 +18,15 @@ use Rattle.rules.specs.Event.{Standing, cannotRun, other, moves}
 use Rattle.rules.specs.State as State
 use Rattle.rules.specs.State.{State, Numbers, number, withNumber, threads, cells, operatesOn, phase, activeThread, accessBranch, nonLoadBranch}
 use Rattle.rules.specs.Machine as Machine
-use Rattle.rules.specs.Machine.{Program, isIn, someCanRun, fewestFrom, yieldsLess, everyThread, absent, runnable, yielded}
+use Rattle.rules.specs.Machine.{Program, isIn, someCanRun, fewestFrom, yieldsLess, everyThread, absent, runnable, yielded, noOperation}
 use Rattle.rules.proofs.NumberLaws.{five-has}
 use Rattle.rules.proofs.Measure.{toActive}
-use Rattle.rules.proofs.MeasureLoops.{Wakes}
 use Rattle.rules.proofs.MeasureRows.{pick, both-left, both-right}
 use Rattle.rules.proofs.AccessLaws.{access-kept}
-use Rattle.rules.proofs.MeasureTicks.{switched-is, can-wake}
+use Rattle.rules.proofs.MeasureTicks.{switched-is, can-act}
 use Rattle.kept.specs.Kept.{FittingThread, Scheduling}
 use Rattle.standing.specs.Standing.{Over, Schedules}
-use Rattle.standing.proofs.Facts.{Facts, keep, awake-facts, opened, holding, runs-again}
+use Rattle.standing.proofs.Facts.{acts-so, Facts, keep, awake-facts, opened, holding}
 use Rattle.standing.proofs.Steps.{After, going, ending, stops-at}
 
 -- What a scheduling says of the threads
@@ -178,16 +176,11 @@ module _ (p : Program) where
 
 -- How a scheduling goes on
 
--- a thread that is woken was there
-wakes-there : {t s i : ℕ} → Wakes t s i → s ≢ absent
-wakes-there (inl e) d = omega arith
-wakes-there (inr e) d = omega (arith, e .0)
-
--- what stands of the others where the chosen thread's access is recorded, and all are awake
+-- what stands of the others where the chosen thread's access is recorded, and the others are awake
 module _ (p : Program) (held : cellsOf (p .table) ≤ cells) (few : threadsOf (p .table) ≤ threads) (t : ℕ) (below : t < threads) where
   switched-facts : {k q r : ℕ} (st : State) (at : ℕ) → number (withNumber (st .numbers) activeThread t) (operatesOn t) < cells →
       Facts p t k q r 0 (withNumber (st .numbers) activeThread t) → Facts p t k q r threads (Machine.switched st t at .numbers)
-  unfolding Machine.switched Machine.allAwake
+  unfolding Machine.switched Machine.othersAwake
   switched-facts st at h facts =
       let now = Machine.withNumbers st (withNumber (st .numbers) activeThread t) in
       awake-facts p held few t below 5 0 (Machine.accessMade now t at .numbers) (omega arith)
@@ -200,18 +193,18 @@ module _ (p : Program) (held : cellsOf (p .table) ≤ cells) (few : threadsOf (p
 
     runs-after : (at : ℕ) → Machine.canRun a t ≡ true → After p n (moves (Machine.switched st t at) [])
     runs-after at e =
-        let wakes = can-wake a t e in
+        let can = can-act a t e in
         let own = over .each t below in
         let within : t < threadsOf (p .table) =
         elim (decLt t (threadsOf (p .table))) [
           | yes h ↦ h
-          | no d ↦ absurd (wakes-there wakes (own .missing (omega arith)))
+          | no d ↦ absurd (omega (arith, acts-so can, own .missing (omega arith)))
         ] in
         let now = toActive a t below (over .whole) in
         let facts = keep p held few t below (opened p held few t below st n 0 (λ d. absurd (d refl)) over) activeThread t (omega arith) in
         going
-        (holding p held few t below (Machine.switched st t at) (n + 0) within (switched-is below st at now wakes)
-        (switched-facts st at (now .whole .onCell t below) facts) (runs-again p t _ _ _ _ (wakes-there wakes) own)
+        (holding p held few t below (Machine.switched st t at) (n + 0) within can (switched-is below st at now)
+        (switched-facts st at (now .whole .onCell t below) facts) own
         (omega (arith, over .entries, over .limited, five-has (λ (i : ℕ). number a (phase i)) t below)))
 
 module _ (p : Program) (held : cellsOf (p .table) ≤ cells) (few : threadsOf (p .table) ≤ threads) (st : State) (n : ℕ)

@@ -9,10 +9,11 @@ use native.Mathlib.Omega.{arith}
 use Rattle.rules.specs.Table as Table
 use Rattle.rules.specs.Table.{Op, decoded, threadsOf, cellsOf, judged, good}
 use Rattle.rules.specs.Event.{Matched, readSlot, takeBit}
+use Rattle.rules.specs.State as State
 use Rattle.rules.specs.State.{State, Numbers, number, marksOf, threads, cells, phase, begun, nextRow, awaits, count}
 use Rattle.rules.specs.Cell.{matchedLoad, matchedRmw, liveIn}
 use Rattle.rules.specs.Machine as Machine
-use Rattle.rules.specs.Machine.{Program, active, activeOp, rowCount, runnable, toAct}
+use Rattle.rules.specs.Machine.{Program, active, activeOp, rowCount, toAct}
 use Rattle.rules.proofs.NumberLaws.{five-has}
 use Rattle.rules.proofs.SlotLaws.{Long, matched-long, offered-long, live-most}
 use Rattle.rules.proofs.MeasureRows.{Names}
@@ -53,6 +54,9 @@ module _ (p : Program) (held : cellsOf (p .table) ≤ cells) (few : threadsOf (p
   abbrev t : ℕ
   t = active st
 
+  abbrev s : ℕ
+  s = number a (State.state t)
+
   abbrev k : ℕ
   k = number a (nextRow t)
 
@@ -71,8 +75,8 @@ module _ (p : Program) (held : cellsOf (p .table) ≤ cells) (few : threadsOf (p
   below : t < threads
   below = omega (arith, stands .runs)
 
-  own : Thread p t runnable k toAct w
-  own = rw (acts, holds .ready) at (stands .each t below)
+  own : Thread p t s k toAct w
+  own = rw acts at (stands .each t below)
 
   -- what its row names is there
   names : (op : Op) → activeOp p st ≡ decoded op → Names (threadsOf (p .table)) (cellsOf (p .table)) (rowCount p t) op
@@ -95,9 +99,9 @@ module _ (p : Program) (held : cellsOf (p .table) ≤ cells) (few : threadsOf (p
   sum : n + (q + toAct) ≡ b
   sum = omega (arith, stands .entries, five-has (λ (i : ℕ). number a (phase i)) t below)
 
-  on : On p held few t k w b (otherWork a t) q n (stands .runs) own sum (stands .limited) a
+  on : On p held few t s k w b (otherWork a t) q n (stands .runs) (holds .ready) own sum (stands .limited) a
   on = record {
-    is = seen a t below (stands .whole) refl (holds .ready) acts;
+    is = seen a t below (stands .whole) refl refl acts;
     facts = opened p held few t below st n threads (λ d. refl) stands;
   }
 
@@ -105,11 +109,11 @@ module _ (p : Program) (held : cellsOf (p .table) ≤ cells) (few : threadsOf (p
       After p n (Machine.readFrom st t k slot mask (activeOp p st))
   read-after m (ofLoad c o r e f) slot mask values fit =
       rw e
-      (Steps.load-after p held few t k w b (otherWork a t) q n (stands .runs) own sum (stands .limited) st c o r slot mask
+      (Steps.load-after p held few t s k w b (otherWork a t) q n (stands .runs) (holds .ready) own sum (stands .limited) st c o r slot mask
       (slot-live a c m (rw f (load-long st t c o)) slot values fit) on)
   read-after m (ofRmw c o f change r e g) slot mask values fit =
       rw e
-      (Steps.rmw-after p held few t k w b (otherWork a t) q n (stands .runs) own sum (stands .limited) st c o f change r slot mask
+      (Steps.rmw-after p held few t s k w b (otherWork a t) q n (stands .runs) (holds .ready) own sum (stands .limited) st c o f change r slot mask
       (names _ e) (slot-live a c m (rw g (rmw-long st c)) slot values fit) on)
 
   pub slot-after : (m : Matched) → Reading p st m → (slot : ℕ) (values : List ℕ) → FittingSlot m slot values →
@@ -121,4 +125,4 @@ module _ (p : Program) (held : cellsOf (p .table) ≤ cells) (few : threadsOf (p
   unfolding Machine.answered
   bit-after r e bit =
       rw e
-      (Steps.bit-after p held few t k w b (otherWork a t) q n (stands .runs) own sum (stands .limited) st r (cond bit 1 0) on)
+      (Steps.bit-after p held few t s k w b (otherWork a t) q n (stands .runs) (holds .ready) own sum (stands .limited) st r (cond bit 1 0) on)

@@ -23,13 +23,14 @@ use Rattle.rules.specs.State.{State, Numbers, number, withNumber, threads, cell
 use Rattle.rules.specs.Cell.{version, storeDone, slotOf, Access, raced, read, Race, noRace, raceOf, loadDone, rmwDone, unsyncLoadDone, mutDone, storeRace, storeTracked, withClocks}
 use Rattle.rules.specs.Machine as Machine
 use Rattle.rules.specs.Machine.{Program, rowCount, rowOf, activeOp, runnable, blocked, yielded, ended, toBegin, toAct, completed}
+use Rattle.rules.specs.Measure.{CanAct}
 use Rattle.rules.proofs.StateLaws.{number-same, number-other}
 use Rattle.rules.proofs.NumberLaws.{after, more-some}
 use Rattle.rules.proofs.Measure.{Is, aside, toState, toPhase}
 use Rattle.rules.proofs.MeasureRows.{pick, Names}
 use Rattle.rules.proofs.AccessLaws.{Leaves, isRaced, isRead, load-leaves, rmw-leaves, unsync-leaves, mut-leaves}
 use Rattle.standing.specs.Standing.{Thread, Over, Holds, Schedules, Reading, ofLoad, ofRmw, Reads, Takes, Asked}
-use Rattle.standing.proofs.Facts.{Facts, keep, toRow, closed, holding}
+use Rattle.standing.proofs.Facts.{acts-so, Facts, keep, toRow, closed, holding}
 
 -- What is to be known of a move, with n entries in the trace before it
 
@@ -47,8 +48,8 @@ pub stops-at : {p : Program} {n : ℕ} (st : State) (f : Fault) → faultNumber 
 stops-at st f d over = stopping over (λ e. d (ap faultNumber e))
 
 -- What a row that is to act does: thread t runs at row k; b rows have begun, and of the other threads' rows q are under way
-module _ (p : Program) (held : cellsOf (p .table) ≤ cells) (few : threadsOf (p .table) ≤ threads) (t k w b m q n : ℕ)
-    (within : t < threadsOf (p .table)) (own : Thread p t runnable k toAct w) (sum : n + (q + toAct) ≡ b)
+module _ (p : Program) (held : cellsOf (p .table) ≤ cells) (few : threadsOf (p .table) ≤ threads) (t s k w b m q n : ℕ)
+    (within : t < threadsOf (p .table)) (can : CanAct s) (own : Thread p t s k toAct w) (sum : n + (q + toAct) ≡ b)
     (limited : b ≤ p .operations) where
   below : t < threads
   below = omega arith
@@ -57,7 +58,7 @@ module _ (p : Program) (held : cellsOf (p .table) ≤ cells) (few : threadsOf (p
   row = own .acts refl
 
   pub record On (a : Numbers) : Type 0 where
-    pub is : Is t runnable toAct b m a
+    pub is : Is t s toAct b m a
     pub facts : Facts p t k q b threads a
 
   abbrev pub At : State → Type 0
@@ -67,8 +68,8 @@ module _ (p : Program) (held : cellsOf (p .table) ≤ cells) (few : threadsOf (p
   next-row = omega (arith, more-some k, row)
 
   -- a thread past this row, which runs or has yielded
-  passed : (s j v : ℕ) → j ≤ rowCount p t → (runnable ≤ s) × (s ≤ ended) × (s ≢ ended) × (s ≢ blocked) → Thread p t s j toBegin v
-  passed s j v h so = record {
+  passed : (s′ j v : ℕ) → j ≤ rowCount p t → (runnable ≤ s′) × (s′ ≤ ended) × (s′ ≢ ended) × (s′ ≢ blocked) → Thread p t s′ j toBegin v
+  passed s′ j v h so = record {
     present = λ e. (so .0, so .1);
     missing = λ e. absurd (omega arith);
     phased = omega arith;
@@ -79,9 +80,9 @@ module _ (p : Program) (held : cellsOf (p .table) ≤ cells) (few : threadsOf (p
   }
 
   -- a scheduling, where the thread then stands so
-  schedules-good : {s k′ ph : ℕ} (st : State) (es : List Entry) → Is t s ph b m (st .numbers) → Facts p t k′ q b threads (st .numbers) →
-      Thread p t s k′ ph (number (st .numbers) (awaits t)) →
-      (s ≡ blocked → number (st .numbers) (State.state (number (st .numbers) (awaits t))) ≢ ended) → s ≢ ended →
+  schedules-good : {s′ k′ ph : ℕ} (st : State) (es : List Entry) → Is t s′ ph b m (st .numbers) → Facts p t k′ q b threads (st .numbers) →
+      Thread p t s′ k′ ph (number (st .numbers) (awaits t)) →
+      (s′ ≡ blocked → number (st .numbers) (State.state (number (st .numbers) (awaits t))) ≢ ended) → s′ ≢ ended →
       n + length es + (q + ph) ≡ b → Good p n (Machine.schedules st es)
   unfolding Machine.schedules
   schedules-good st es is facts thread mine goes e =
@@ -117,14 +118,14 @@ module _ (p : Program) (held : cellsOf (p .table) ≤ cells) (few : threadsOf (p
   op-is st at = rw (at .is .runs, at .facts .at) refl
 
   holds-at : (st : State) (x : ℕ) → x ≡ n → At st → Holds p st x
-  holds-at st x e at = holding p held few t below st x within (at .is) (at .facts) own (omega arith)
+  holds-at st x e at = holding p held few t below st x within can (at .is) (at .facts) own (omega arith)
 
   -- the row is complete
   finished : (st : State) (j : ℕ) (x : Entry) → j ≤ rowCount p t → At st → After p n (moves (completed st t j) (x ∷ []))
   finished st j x h at =
       let is = toPhase below (aside below (at .is) (nextRow t) j (omega arith)) toBegin in
       let facts = keep p held few t below (toRow p held few t below (at .facts) j) (phase t) toBegin (omega arith) in
-      going (holding p held few t below (completed st t j) (n + 1) within is facts (passed runnable j w h (omega arith)) (omega arith))
+      going (holding p held few t below (completed st t j) (n + 1) within can is facts (passed s j w h (acts-so can)) (omega arith))
 
   stopped : (st : State) (f : Fault) → faultNumber f ≢ 20 → At st → After p n (stops st f)
   stopped st f d at = stops-at st f d (holds-at st n refl at .over)

@@ -15,29 +15,30 @@ use Rattle.rules.specs.Event as Event
 use Rattle.rules.specs.State as State
 use Rattle.rules.specs.State.{State, Numbers, number, withNumber, threads, cells, phase, begun, rowsOf, operation, operatesOn, nextRow, awaits}
 use Rattle.rules.specs.Machine as Machine
-use Rattle.rules.specs.Machine.{Program, Pending, nothing, pends, pendingOf, active, rowOf, rowCount, forThreads, freed, runnable, ended, toBegin, toAct, noOperation}
+use Rattle.rules.specs.Machine.{Program, Pending, nothing, pends, pendingOf, active, rowOf, rowCount, forThreads, freed, ended, toBegin, toAct, noOperation}
+use Rattle.rules.specs.Measure.{CanAct}
 use Rattle.rules.proofs.NumberLaws.{five-has, more-below}
 use Rattle.rules.proofs.Measure.{Is, aside, toState, toPhase, toBegun, toCell, seen, otherWork}
 use Rattle.rules.proofs.MeasureLoops.{freed-all}
 use Rattle.rules.proofs.MeasureRows.{pick, both-left, both-right, Names, names-more, OnCell, on-cell}
 use Rattle.standing.specs.Standing.{Thread, Over, Holds, Schedules, underWay}
-use Rattle.standing.proofs.Facts.{Facts, keep, begunOne, freed-facts, freed-none, opened, closed, holding}
+use Rattle.standing.proofs.Facts.{acts-so, Facts, keep, begunOne, freed-facts, freed-none, opened, closed, holding}
 use Rattle.standing.proofs.Rows.{accepted-row}
 use Rattle.standing.proofs.Steps.{going, Good, moving, asking, stops-at, acts-good}
 
 module _ (p : Program) (held : cellsOf (p .table) ≤ cells) (few : threadsOf (p .table) ≤ threads) (limited : p .operations ≤ largest) where
   -- A row has begun: thread t runs at row k, which is to act
-  module _ (t k w b m q n : ℕ) (within : t < threadsOf (p .table)) (own : Thread p t runnable k toAct w) (sum : n + (q + toAct) ≡ b)
-      (most : b ≤ p .operations) where
-    begun-holds : (st : State) → Is t runnable toAct b m (st .numbers) → Facts p t k q b threads (st .numbers) → Holds p st (n + 0)
-    begun-holds st is facts = holding p held few t (omega arith) st (n + 0) within is facts own (omega arith)
+  module _ (t s k w b m q n : ℕ) (within : t < threadsOf (p .table)) (can : CanAct s) (own : Thread p t s k toAct w)
+      (sum : n + (q + toAct) ≡ b) (most : b ≤ p .operations) where
+    begun-holds : (st : State) → Is t s toAct b m (st .numbers) → Facts p t k q b threads (st .numbers) → Holds p st (n + 0)
+    begun-holds st is facts = holding p held few t (omega arith) st (n + 0) within can is facts own (omega arith)
 
     begun-good : (st : State) (row : Op) (pending : Pending) → rowOf p t k ≡ decoded row →
-        Names (threadsOf (p .table)) (cellsOf (p .table)) (rowCount p t) row → OnCell pending → Is t runnable toAct b m (st .numbers) →
+        Names (threadsOf (p .table)) (cellsOf (p .table)) (rowCount p t) row → OnCell pending → Is t s toAct b m (st .numbers) →
         Facts p t k q b threads (st .numbers) → Good p n (Machine.begunAs p st t k row pending)
     unfolding Machine.schedules
     begun-good st row nothing e names h is facts =
-        acts-good p held few t k w b m q n within own (omega arith) most st row e names (record { is = is; facts = facts })
+        acts-good p held few t s k w b m q n within can own (omega arith) most st row e names (record { is = is; facts = facts })
     begun-good st row (pends op c) e names h is facts =
         let below : t < threads = omega arith in
         let st′ = Machine.withOperation st t op c in
@@ -55,6 +56,9 @@ module _ (p : Program) (held : cellsOf (p .table) ≤ cells) (few : threadsOf (p
     abbrev t : ℕ
     t = active st
 
+    abbrev s : ℕ
+    s = number a (State.state t)
+
     abbrev k : ℕ
     k = number a (nextRow t)
 
@@ -70,15 +74,15 @@ module _ (p : Program) (held : cellsOf (p .table) ≤ cells) (few : threadsOf (p
     phase-in : number a (phase t) ≤ underWay a
     phase-in = five-has (λ (i : ℕ). number a (phase i)) t below
 
-    own : Thread p t runnable k (number a (phase t)) (number a (awaits t))
-    own = rw (holds .ready) at (stands .each t below)
+    own : Thread p t s k (number a (phase t)) (number a (awaits t))
+    own = stands .each t below
 
     facts : Facts p t k q (number a begun) threads a
     facts = opened p held few t below st n threads (λ d. refl) stands
 
     module _ (e : number a (phase t) ≡ toBegin) where
-      is-begin : Is t runnable toBegin (number a begun) (otherWork a t) a
-      is-begin = seen a t below (stands .whole) refl (holds .ready) e
+      is-begin : Is t s toBegin (number a begun) (otherWork a t) a
+      is-begin = seen a t below (stands .whole) refl refl e
 
       -- "12 a row is to begin with L begun"
       begins-good : (op : Op) → k < rowCount p t → rowOf p t k ≡ decoded op → Names (threadsOf (p .table)) (cellsOf (p .table)) (rowCount p t) op →
@@ -95,24 +99,24 @@ module _ (p : Program) (held : cellsOf (p .table) ≤ cells) (few : threadsOf (p
               let b = number a begun in
               let more : oneMore b ≡ b + 1 = more-below b (omega arith) in
               let numbers = withNumber a begun (oneMore b) in
-              let begun-is : Is t runnable toAct (b + 1) (otherWork a t) (Machine.rowBegun st t .numbers) =
-              subst (λ (x : ℕ). Is t runnable toAct x (otherWork a t) (Machine.rowBegun st t .numbers)) more
+              let begun-is : Is t s toAct (b + 1) (otherWork a t) (Machine.rowBegun st t .numbers) =
+              subst (λ (x : ℕ). Is t s toAct x (otherWork a t) (Machine.rowBegun st t .numbers)) more
               (toPhase below (aside below (toBegun below is-begin (oneMore b)) (rowsOf t) (oneMore (number numbers (rowsOf t))) (omega arith)) toAct) in
               let f1 = keep p held few t below facts begun (oneMore b) (omega arith) in
               let fewer : number numbers (rowsOf t) ≤ b = omega (arith, five-has (λ (i : ℕ). number numbers (rowsOf i)) t below, f1 .rows) in
               let f2 = begunOne p held few t below f1 (oneMore (number numbers (rowsOf t))) (more-below _ (omega arith)) in
               let f3 = keep p held few t below f2 (phase t) toAct (omega arith) in
-              let acts : Thread p t runnable k toAct (number a (awaits t)) =
+              let acts : Thread p t s k toAct (number a (awaits t)) =
               record {
                 present = own .present;
                 missing = own .missing;
                 phased = omega arith;
                 row = own .row;
                 acts = λ g. row;
-                over = λ g. absurd (omega arith);
-                waits = λ g. absurd (omega arith);
+                over = λ g. absurd (acts-so (holds .ready) .2 g);
+                waits = λ g. absurd (acts-so (holds .ready) .3 g);
               } in
-              begun-good t k (number a (awaits t)) (b + 1) (otherWork a t) q n (stands .runs) acts
+              begun-good t s k (number a (awaits t)) (b + 1) (otherWork a t) q n (stands .runs) (holds .ready) acts
               (omega (arith, stands .entries, phase-in)) (omega arith) (Machine.rowBegun st t) op (pendingOf op) is-row names onCell begun-is f3
 
       -- "Past its last row a thread ends"
@@ -149,8 +153,8 @@ module _ (p : Program) (held : cellsOf (p .table) ≤ cells) (few : threadsOf (p
     acts-next : (op : Op) → number a (phase t) ≡ toAct → rowOf p t k ≡ decoded op →
         Names (threadsOf (p .table)) (cellsOf (p .table)) (rowCount p t) op → Good p n (Machine.acts p st t k op)
     acts-next op e row names =
-        let is : Is t runnable toAct (number a begun) (otherWork a t) a = seen a t below (stands .whole) refl (holds .ready) e in
-        acts-good p held few t k (number a (awaits t)) (number a begun) (otherWork a t) q n (stands .runs) (rw e at own)
+        let is : Is t s toAct (number a begun) (otherWork a t) a = seen a t below (stands .whole) refl refl e in
+        acts-good p held few t s k (number a (awaits t)) (number a begun) (otherWork a t) q n (stands .runs) (holds .ready) (rw e at own)
         (omega (arith, stands .entries, phase-in)) (stands .limited) st op row names (record { is = is; facts = facts })
 
     module _ (accepted : judged (p .table) ≡ good) where

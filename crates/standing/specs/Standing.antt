@@ -22,7 +22,7 @@ use Rattle.rules.specs.State.{State, Clocks, Numbers, number, marksOf, threads,
 use Rattle.rules.specs.Cell.{matchedLoad, matchedRmw}
 use Rattle.rules.specs.Machine as Machine
 use Rattle.rules.specs.Machine.{Program, rowCount, rowOf, absent, runnable, blocked, yielded, ended, toBegin, toAct, active, activeOp, everyThread}
-use Rattle.rules.specs.Measure.{Whole}
+use Rattle.rules.specs.Measure.{Whole, CanAct}
 
 -- Wherever a run comes to
 
@@ -64,7 +64,7 @@ pub record Over (p : Program) (st : State) (n : ℕ) : Type 0 where
   -- "until the target's end makes it runnable": no thread is blocked on one that has ended
   pub blocks : (t : ℕ) → t < threads → number (st .numbers) (State.state t) ≡ blocked →
       number (st .numbers) (State.state (number (st .numbers) (awaits t))) ≢ ended
-  -- "Every yielded thread is then runnable again.": none but the active one has yielded
+  -- "every yielded thread other than the one just chosen becomes runnable": none but the active one has yielded
   pub awake : (t : ℕ) → t < threads → t ≢ active st → number (st .numbers) (State.state t) ≢ yielded
   -- "cells take a Release store of their start value": every cell has a store
   pub counted : (c : ℕ) → c < cellsOf (p .table) → 1 ≤ number (st .numbers) (count c)
@@ -74,11 +74,11 @@ pub record Over (p : Program) (st : State) (n : ℕ) : Type 0 where
   pub shared : begunBy (st .numbers) ≡ number (st .numbers) begun
   pub limited : number (st .numbers) begun ≤ p .operations
 
--- between ticks the active thread is one that can act; where a scheduling is asked for, and where an execution has stopped or ended,
--- it may be blocked, may have yielded or ended
+-- between ticks the active thread is one that can act: runnable, or yielded and chosen nevertheless; where a scheduling is asked for,
+-- and where an execution has stopped or ended, it may be blocked or have ended
 pub record Holds (p : Program) (st : State) (n : ℕ) : Type 0 where
   pub over : Over p st n
-  pub ready : number (st .numbers) (State.state (active st)) ≡ runnable
+  pub ready : CanAct (number (st .numbers) (State.state (active st)))
 
 -- Where it asks
 

@@ -2,7 +2,7 @@
 --     one-left, none-left             of n turns, k are done
 --     for-on, for-end                 what is done for the threads from one on: one of them, and none left
 --     run-none, run-some              whether a branch may choose a thread
---     awake-.., freed-..              one turn of waking the yielded, and of freeing the joins on a thread
+--     awake-.., freed-..              one turn of waking the others that have yielded, and of freeing the joins on a thread
 --     over-..                         the walk that asks whether all have ended
 --     some-..                         the walk that asks whether some can run
 use Prim.Native.Nat.{ℕ, suc, _+_, _-_, _≤_, _<_}
@@ -35,11 +35,15 @@ module _ (f : ℕ → Numbers → Numbers) (numbers : Numbers) (n t : ℕ) where
   for-end h = rw (none-left n t h)
 
 module _ (numbers : Numbers) (t : ℕ) where
-  pub awake-one : number numbers (rules.state t) ≡ yielded → withNumber numbers (rules.state t) runnable ≡ awake t numbers
-  awake-one e = rw e
+  module _ (chosen : ℕ) where
+    pub awake-one : number numbers (rules.state t) ≡ yielded → not (eqb t chosen) ≡ true → withNumber numbers (rules.state t) runnable ≡ awake chosen t numbers
+    awake-one e d = rw (e, d)
 
-  pub awake-none : number numbers (rules.state t) ≢ yielded → numbers ≡ awake t numbers
-  awake-none n = rw (ne-eqb (number numbers (rules.state t)) yielded n)
+    pub awake-chosen : number numbers (rules.state t) ≡ yielded → not (eqb t chosen) ≡ false → numbers ≡ awake chosen t numbers
+    awake-chosen e d = rw (e, d)
+
+    pub awake-none : number numbers (rules.state t) ≢ yielded → numbers ≡ awake chosen t numbers
+    awake-none n = rw (ne-eqb (number numbers (rules.state t)) yielded n)
 
   pub run-none : 5 ≤ t → false ≡ canRun numbers t
   run-none h = rw (le-ltb t 5 h)

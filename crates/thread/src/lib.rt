@@ -2,7 +2,7 @@
 ghost use mathlib.Core.Path.{_≡_};
 ghost use Prim.Native.Nat.{_<_};
 ghost use Rattle.rules.specs.Cell as cells;
-ghost use Rattle.rules.specs.Machine.{isIn, canRun, ended, completed, versionRaised, yieldDone, blockedOn, threadEnded, allAwake, allOver, someCanRun, isToBegin};
+ghost use Rattle.rules.specs.Machine.{isIn, canRun, ended, completed, versionRaised, yieldDone, blockedOn, threadEnded, othersAwake, allOver, someCanRun, isToBegin};
 ghost use Rattle.rules.specs.State as rules;
 ghost use Rattle.layout.specs.Tables.{state};
 use layout::Clocks;
@@ -132,13 +132,14 @@ pub fn end(numbers: &mut Numbers, thread: usize)
     }
 }
 
-// Rule (e): every yielded thread is runnable again.
-pub fn reactivate(numbers: &mut Numbers)
-    ensures { λ _. ⌜ now (numbers .exit) ≡ allAwake (now (numbers .entry)) ⌝ }
+// Rule (e): every yielded thread other than the one just chosen is runnable again. The chosen one stays yielded until a later
+// choice picks another thread: a loop that waits for a change does not count as one that can go on.
+pub fn reactivate(numbers: &mut Numbers, chosen: usize)
+    ensures { λ _. ⌜ now (numbers .exit) ≡ othersAwake chosen (now (numbers .entry)) ⌝ }
 {
     let mut t = 0;
     while t < MAX_THREADS {
-        if numbers[STATE + t] == YIELDED {
+        if numbers[STATE + t] == YIELDED && t != chosen {
             numbers[STATE + t] = RUNNABLE;
         }
         t += 1;

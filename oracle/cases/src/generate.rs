@@ -2,6 +2,7 @@
 
 use crate::format::Case;
 use crate::random::Random;
+use crate::recipes::Recipe;
 use crate::table::{critical, explore_state, skip_branch, Program};
 use crate::{damage, edit, recipes};
 use terms::Settings;
@@ -11,7 +12,8 @@ pub fn case(seed: u64, index: u64) -> Case {
     let r = &mut Random::new(seed, index);
     let (program, settings) = match r.below(1_500) {
         0 => (recipes::ping_pong(r), far_settings(r)),
-        _ => program_and_settings(r),
+        1..=120 => edited(r, recipes::left_alone),
+        _ => edited(r, recipes::program),
     };
     let mut case = Case {
         name: format!("g{seed}.{index}"),
@@ -31,8 +33,9 @@ pub fn case(seed: u64, index: u64) -> Case {
     case
 }
 
-fn program_and_settings(r: &mut Random) -> (Program, Settings) {
-    let mut program = recipes::program(r);
+/// A program of the recipe with a few changes, and settings for it.
+fn edited(r: &mut Random, recipe: Recipe) -> (Program, Settings) {
+    let mut program = recipe(r);
     for _ in 0..r.pick(&[0, 0, 0, 1, 1, 2, 3]) {
         edit::once(r, &mut program);
     }

@@ -35,6 +35,8 @@ pub struct Tally {
     pub races: [u64; 10],
     pub lists: u64,
     pub bounds: u64,
+    /// Runs that stop at a fault of a thread that goes on yielded, since it was picked so.
+    pub picked: u64,
     /// Rows of accepted tables.
     pub held: Rows,
     /// Rows completed in last executions.
@@ -107,6 +109,7 @@ impl Tally {
             return;
         };
         program.threads.iter().flatten().for_each(|row| self.held.take(row));
+        self.picked += u64::from(goes_on_yielded(&program, answer));
         if let Left::Bytes(trace) = &answer.trace {
             // The last entry may have lost its zeros; its first two bytes are looked at only where
             // they are there, or are zeros themselves.
@@ -122,6 +125,7 @@ impl Tally {
         self.executions += other.executions;
         self.lists += other.lists;
         self.bounds += other.bounds;
+        self.picked += other.picked;
         add_each(&mut self.answers, &other.answers);
         add_each(&mut self.races, &other.races);
         self.held.add(&other.held);
@@ -152,6 +156,7 @@ impl fmt::Display for Tally {
         for (kind, n) in self.races.iter().enumerate().skip(1) {
             writeln!(f, "race kind {kind}: {n}")?;
         }
+        writeln!(f, "faults of a picked yielder: {}", self.picked)?;
         writeln!(f, "rows: in accepted tables, completed in last executions")?;
         for (opcode, name) in OPCODES.iter().enumerate() {
             let (held, done) = (self.held.opcodes[opcode], self.done.opcodes[opcode]);
@@ -190,6 +195,18 @@ impl Tally {
         }
         Ok(())
     }
+}
+
+/// Whether the thread at fault is yielded by a yield that it has come past: the scheduling of its own
+/// yield, where it is yielded too, can only answer 11 or 17.
+fn goes_on_yielded(program: &Program, answer: &Answer) -> bool {
+    let numbers = &answer.numbers;
+    let (thread, row) = (numbers[5] as usize, numbers[6] as usize);
+    let Some(rows) = program.threads.get(thread) else {
+        return false;
+    };
+    let gives_way = rows.get(row).is_some_and(|row| row.opcode == 7);
+    numbers[9 + 4 * thread] == 3 && !(gives_way && [11, 17].contains(&numbers[0]))
 }
 
 /// Whether a row of this opcode, 0 to 4, may have this order.

@@ -168,6 +168,32 @@ fn faults_at_each_caller_of_the_scheduling() {
     assert_eq!((last[7], last[8], last[2]), (255, 1, 4));
 }
 
+/// The states of threads 0 and 1 where a yielder was picked, or gave way.
+#[test]
+fn a_picked_yielder_stays_yielded() {
+    let expected = [
+        ("picked-check", [3, 0]),
+        ("picked-store", [3, 0]),
+        ("picked-load", [3, 0]),
+        ("picked-row", [3, 0]),
+        ("picked-race", [3, 4]),
+        ("picked-flag", [3, 0]),
+        ("picked-through", [3, 4]),
+        ("picked-blocked", [2, 0]),
+        ("picked-freed", [1, 4]),
+        ("picked-next", [3, 4]),
+        ("picked-two", [1, 4]),
+        ("picked-away", [4, 1]),
+    ];
+    for (name, states) in expected {
+        let numbers = answered(name).numbers;
+        assert_eq!([numbers[9], numbers[13]], states, "{name}");
+    }
+    let all = all();
+    let named = all.iter().filter(|hand| hand.case.name.starts_with("picked-"));
+    assert_eq!(named.count(), expected.len());
+}
+
 #[test]
 fn oracle_and_plain_agree() {
     for hand in all() {

@@ -114,12 +114,18 @@ impl<'a> Execution<'a> {
         };
         self.current = chosen;
         self.record_access(branch);
+        self.wake_yielded();
+        Ok(true)
+    }
+
+    /// A yielded thread that is chosen stays yielded until another one is chosen.
+    fn wake_yielded(&mut self) {
+        let chosen = self.current;
         for thread in &mut self.threads {
-            if thread.run == Run::Yielded {
+            if thread.run == Run::Yielded && thread.id != chosen {
                 thread.run = Run::Runnable;
             }
         }
-        Ok(true)
     }
 
     /// Where a pending access is not ordered after the last one it depends on, the other order has

@@ -65,6 +65,23 @@ fn no_place_for_a_thread_that_stops() {
 }
 
 #[test]
+fn a_yielder_that_is_picked_stays_yielded() {
+    let states = |threads: &[&[Row]]| {
+        let report = run(&table(&[0], threads), &settings()).report;
+        [report.threads[0].state, report.threads[1].state]
+    };
+    let (again, fails) = (yield_now(), check(0, 1));
+    assert_eq!(states(&[&[again, fails]]), [3, 0]);
+    assert_eq!(states(&[&[again, store(0, RELAXED, 1), fails]]), [3, 0]);
+    // The first yield gives way to thread 1, which ends.
+    assert_eq!(states(&[&[again, again, join(1), fails], &[]]), [3, 4]);
+    // One that gave way is runnable, and so is who waited for one that has ended.
+    assert_eq!(states(&[&[again], &[fails]]), [1, 1]);
+    assert_eq!(states(&[&[join(1), fails], &[again]]), [1, 4]);
+    assert_eq!(states(&[&[again, join(0)]]), [2, 0]);
+}
+
+#[test]
 fn no_more_rows_may_begin() {
     let limited = |operations| Settings {
         operations,

@@ -10,6 +10,7 @@ pub(super) fn all() -> Vec<Hand> {
     all.extend(joins());
     all.extend(yielding());
     all.extend(waiting());
+    all.extend(picked());
     all.extend(values());
     all.extend(plain_rows());
     all.extend(changes());
@@ -182,6 +183,50 @@ fn waiting() -> Vec<Hand> {
             .shows("what was first seen after the yield may be read again"),
         hand("yield-old", 15, one(&again).thread(&set))
             .shows("an old value is read after a yield only where no newer store is there yet"),
+    ]
+}
+
+/// A yielder that nobody else can run for is picked and stays yielded; one that gives way does not.
+fn picked() -> Vec<Hand> {
+    let one = |rows: &[Row]| Program::new(&[0]).thread(rows);
+    let (write, read) = (store(0, RELAXED, 1), unsync_load(0, 0));
+    let away = one(&[yields(), write]).thread(&[yields(), check(0, 1)]);
+    let through = [yields(), yields(), join(1), check(0, 1)];
+    let freed = one(&[join(1), check(0, 1)]).thread(&[yields(), write]);
+    let next = one(&[join(1), yields(), check(0, 1)]).thread(&[yields()]);
+    let two = one(&[yields(), join(1), check(0, 1)]).thread(&[yields(), yields(), write]);
+    vec![
+        hand("picked-check", 15, one(&[yields(), check(0, 1)]))
+            .shows("a yielder that is picked goes on yielded: state 3 where its check fails")
+            .list(5),
+        hand("picked-store", 11, one(&[yields(), write]))
+            .shows("it is yielded at its next scheduling")
+            .limits(1, 9, 9),
+        hand("picked-load", 11, one(&[yields(), load(0, RELAXED, 0)]))
+            .shows("it is yielded after that scheduling, which picks it again")
+            .limits(2, 9, 9),
+        hand("picked-row", 12, one(&[yields(), fence(SEQ_CST)]))
+            .shows("it is yielded where a row cannot begin")
+            .limits(9, 1, 9),
+        hand("picked-race", 14, one(&[yields(), yields(), read]).thread(&[write]))
+            .shows("the first yield gives way, the second is picked: race kind 3, state 3"),
+        hand("picked-flag", 16, one(&[yields(), explore_state()]))
+            .shows("it is yielded where it may not start to explore"),
+        hand("picked-through", 15, one(&through).thread(&[]))
+            .shows("a join that goes through leaves it yielded"),
+        hand("picked-blocked", 10, one(&[yields(), join(0)]))
+            .shows("a join that blocks makes it blocked: nobody is left")
+            .list(5),
+        hand("picked-freed", 15, freed)
+            .shows("it ends: who waited for it is runnable, not yielded"),
+        hand("picked-next", 15, next)
+            .shows("it ends, the next one yields and is picked in its turn")
+            .list(5),
+        hand("picked-two", 15, two)
+            .shows("one waits for the other, which is picked at its second yield and ends"),
+        hand("picked-away", 15, away)
+            .shows("of two that yield in turn, each is runnable once the other was chosen")
+            .list(5),
     ]
 }
 

@@ -12,9 +12,9 @@ use crate::draw::*;
 use crate::random::Random;
 use crate::table::*;
 
-pub use waiting::ping_pong;
+pub use waiting::{left_alone, ping_pong};
 
-type Recipe = fn(&mut Random) -> Program;
+pub type Recipe = fn(&mut Random) -> Program;
 
 /// A recipe stands here as often as its weight.
 const RECIPES: [Recipe; 37] = [

@@ -49,6 +49,66 @@ pub(super) fn spin_wait(r: &mut Random) -> Program {
     }
 }
 
+/// A thread that yields where nobody else can run any more, since the others have ended or wait for
+/// it: it is picked all the same, and goes on yielded until it ends, blocks or meets a fault.
+pub fn left_alone(r: &mut Random) -> Program {
+    let threads = r.between(1, 4);
+    let yielder = r.below(threads);
+    let mut program = Program::new(&[0, 0, 0]);
+    for thread in 0..threads {
+        let rows = match thread == yielder {
+            true => spins(r, threads as u8),
+            false => leaves(r, yielder as u8),
+        };
+        program = program.thread(&rows);
+    }
+    program
+}
+
+/// Waits for a flag, tries a number of times, or just yields; then goes on, if it comes to that.
+fn spins(r: &mut Random, threads: u8) -> Vec<Row> {
+    let mut rows = match r.below(5) {
+        0..=1 => vec![load(0, load_order(r), 0), jump_if(0, 1, 4), yields(), jump(0)],
+        2..=3 => {
+            let turn = rmw(2, rmw_order(r), ADD, 0, 1);
+            vec![turn, jump_if(0, r.between(1, 4), 4), yields(), jump(0)]
+        }
+        _ => vec![yields(); r.between(1, 3) as usize],
+    };
+    for _ in 0..r.pick(&[0, 1, 1, 2, 3]) {
+        rows.push(match r.below(10) {
+            0 => unsync_load(1, 1),
+            1 => any_exclusive(r, 1),
+            2 => load(1, load_order(r), 1),
+            3 => any_rmw(r, 0),
+            4 => store(0, store_order(r), 1),
+            5..=6 => check(r.below(2) as u8, r.below(3)),
+            7 => join(r.below(threads.into()) as u8),
+            8 => r.pick(&[critical(), explore_state(), spurious(1), fence(SEQ_CST)]),
+            _ => yields(),
+        });
+    }
+    rows
+}
+
+/// Raises the flag or does not, and ends or waits for the yielder.
+fn leaves(r: &mut Random, yielder: u8) -> Vec<Row> {
+    let mut rows = match r.below(5) {
+        0 => vec![store(0, store_order(r), 1)],
+        1 => vec![store(1, store_order(r), 1)],
+        2 => vec![any_exclusive(r, 1)],
+        3 => vec![load(2, load_order(r), 0)],
+        _ => Vec::new(),
+    };
+    if r.chance(1, 2) {
+        rows.push(join(yielder));
+        if r.chance(1, 2) {
+            rows.push(r.pick(&[store(2, RELAXED, 9), load(2, ACQUIRE, 1), yields(), check(0, 0)]));
+        }
+    }
+    rows
+}
+
 /// Joins in a chain, in a ring, on oneself, on one that yields last.
 pub(super) fn joins(r: &mut Random) -> Program {
     let threads = r.between(1, 5);
