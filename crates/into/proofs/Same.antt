@@ -31,6 +31,9 @@ same-list (x ∷ xs) (y ∷ ys) e = cc (same-record x y (ap first e), same-list 
 pub one-into : OneInto
 unfolding OneInto
 one-into table s path trace list r q leftPath leftTrace otherPath otherTrace leftList otherList h k =
-    let e = h ∙ sym k in
-    (ap (λ (x : rules.ExploredInto). x .explored .report) e, ap (λ (x : rules.ExploredInto). x .explored .path) e,
-    ap (λ (x : rules.ExploredInto). x .explored .trace) e, same-list leftList otherList (ap (λ (x : rules.ExploredInto). x .list) e))
+    let e = h ∙ sym k in (
+      ap (λ (x : rules.ExploredInto). x .explored .report) e,
+      ap (λ (x : rules.ExploredInto). x .explored .path) e,
+      ap (λ (x : rules.ExploredInto). x .explored .trace) e,
+      same-list leftList otherList (ap (λ (x : rules.ExploredInto). x .list) e),
+    )

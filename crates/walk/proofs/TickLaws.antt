@@ -199,7 +199,7 @@ module _ (c : Cursor) (h : Here) (ev : Event) (shape : List ℕ) (limits : Limit
             let is : moveAt ev h left ≡ nextAt p first (h .site .thread) (h .site .row) = does p (needs .operations) (needs .cells) (needs .rows) (rooms .is-row) in
             let there : AtRow first h = subst (λ (st : State). AtRow st h) (s .is-state) (needs .there) in
             let kept : AskKeeps (h .site .thread) first (moveAt ev h left) =
-                subst (λ (m : Move State). AskKeeps (h .site .thread) first m) (sym is) (next-keeps (h .site .thread) below first p (h .site .row)) in
+            subst (λ (m : Move State). AskKeeps (h .site .thread) first m) (sym is) (next-keeps (h .site .thread) below first p (h .site .row)) in
             subst (λ (y : Tick State). Comes (r .outcome) (r .cursor) exit y)
             (taken-state p L (siteOf (h .site)) w left (moveAt ev h left)
             ∙ ap (explorer.taken (machine p) L (siteOf (h .site)) w) (is ∙ ap (λ (st : State). nextAt p st (h .site .thread) (h .site .row)) (sym (s .is-state))))

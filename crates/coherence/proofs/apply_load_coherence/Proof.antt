@@ -98,9 +98,9 @@ loop-again c =
     (λ w. (
       search needs,
       ⊎-elim
-      (λ v. cohere-seen _ _ _ _ _ _ _ _ _ (at .loop .inv .1) h _ (w .0 .taken) _ (w .1 .ensures) _ (w .3 .ensures) (v .taken) (w .7 ∙ w .6 .ensures))
-      (λ v. cohere-before _ _ _ _ _ _ _ _ _ (at .loop .inv .1) h _ (w .0 .taken) _ (w .1 .ensures) _ (w .3 .ensures) (v .0 .left) _ (v .1 .ensures) (v .2 .taken) (w .7 ∙ w .6 .ensures))
-      (w .4 .came),
+          (λ v. cohere-seen _ _ _ _ _ _ _ _ _ (at .loop .inv .1) h _ (w .0 .taken) _ (w .1 .ensures) _ (w .3 .ensures) (v .taken) (w .7 ∙ w .6 .ensures))
+          (λ v. cohere-before _ _ _ _ _ _ _ _ _ (at .loop .inv .1) h _ (w .0 .taken) _ (w .1 .ensures) _ (w .3 .ensures) (v .0 .left) _ (v .1 .ensures) (v .2 .taken) (w .7 ∙ w .6 .ensures))
+          (w .4 .came),
     ))
     (⊎-elim
     (λ w. (search needs, cohere-unknown _ _ _ _ _ _ _ _ _ (at .loop .inv .1) h _ (w .0 .taken) _ (w .1 .ensures) _ (w .3 .ensures) (w .4 .left) _ (w .5 .ensures) (w .6 .left) (w .7)))
