@@ -1,8 +1,14 @@
 // The steps that access a cell, as a race speaks of them.
+ghost use mathlib.Core.Path.{_≡_};
+ghost use Rattle.rules.specs.Change.{applied};
+ghost use Rattle.change.specs.Changes.{changeMeant};
+ghost use Rattle.decode.specs.Ops.{opOf};
+ghost use Rattle.steps.specs.Access.{cellIn, isSuccess, storesAfter, accesses, isAccess, lastAccess};
 use change::Change;
 use change::Changed;
 use decode::Decoded;
 use decode::Op;
+use decode::opcode;
 
 // How a step accesses a cell. A change that fails only loads.
 pub enum Kind {
@@ -12,39 +18,58 @@ pub enum Kind {
     Exclusive,
 }
 
+// The opcodes that access a cell.
+const LOAD: u8 = 0;
+
+const RMW: u8 = 3;
+
+const UNSYNC_LOAD: u8 = 5;
+
+const WITH_MUT: u8 = 6;
+
 // The last of the first `n` steps in which a thread so accesses a cell, counted from 1; 0 for none.
-pub fn last(table: &[u8], trace: &[u8], n: usize, thread: u64, cell: u64, kind: Kind) -> u64 {
+pub fn last(table: &[u8], trace: &[u8], n: usize, thread: u64, cell: u64, kind: Kind) -> u64
+    ensures { λ r. ⌜ r ≡ lastAccess (now (table .entry)) (now (trace .entry)) n thread cell kind ⌝ }
+{
     let mut i = n;
     while 0 < i {
-        i -= 1;
-        if is_access(table, trace, i, thread, cell, kind) {
-            return i as u64 % 65536 + 1;
+        if is_access(table, trace, i - 1, thread, cell, kind) {
+            return i as u64;
         }
+        i -= 1;
     }
     0
 }
 
 // Whether step `i` is such an access.
-fn is_access(table: &[u8], trace: &[u8], i: usize, thread: u64, cell: u64, kind: Kind) -> bool {
-    if crate::thread(trace, i) as u64 != thread {
-        return false;
-    }
+fn is_access(table: &[u8], trace: &[u8], i: usize, thread: u64, cell: u64, kind: Kind) -> bool
+    ensures { λ r. ⌜ r ≡ isAccess (now (table .entry)) (now (trace .entry)) thread cell kind i ⌝ }
+{
     let Decoded::Row(op) = crate::operation(table, trace, i) else {
         return false;
     };
-    if cell_of(op) != cell {
-        return false;
-    }
+    (crate::thread(trace, i) as u64 == thread)
+        & (cell_of(op) == cell)
+        & is_of(kind, op, crate::value(trace, i))
+}
+
+// Whether a row so accesses its cell, where it has read this value.
+fn is_of(kind: Kind, op: Op, read: u64) -> bool
+    ensures { λ r. ⌜ r ≡ accesses kind read (opOf op) ⌝ }
+{
+    let number = opcode(op);
     match kind {
-        Kind::Load => loads(op),
-        Kind::UnsyncLoad => loads_alone(op),
-        Kind::Store => stores(op, crate::value(trace, i)),
-        Kind::Exclusive => is_exclusive(op),
+        Kind::Load => (number == LOAD) | (number == RMW),
+        Kind::UnsyncLoad => number == UNSYNC_LOAD,
+        Kind::Store => stores(op, read),
+        Kind::Exclusive => number == WITH_MUT,
     }
 }
 
 // The cell that a row names, or 255.
-pub fn cell_of(op: Op) -> u64 {
+pub fn cell_of(op: Op) -> u64
+    ensures { λ r. ⌜ r ≡ cellIn (opOf op) ⌝ }
+{
     match op {
         Op::Load { cell, .. } => cell as u64,
         Op::Store { cell, .. } => cell as u64,
@@ -56,30 +81,10 @@ pub fn cell_of(op: Op) -> u64 {
     }
 }
 
-fn loads(op: Op) -> bool {
-    match op {
-        Op::Load { .. } => true,
-        Op::Rmw { .. } => true,
-        _ => false,
-    }
-}
-
-fn loads_alone(op: Op) -> bool {
-    match op {
-        Op::UnsyncLoad { .. } => true,
-        _ => false,
-    }
-}
-
-fn is_exclusive(op: Op) -> bool {
-    match op {
-        Op::WithMut { .. } => true,
-        _ => false,
-    }
-}
-
-// Whether a row stores, where a change has read this value.
-fn stores(op: Op, read: u64) -> bool {
+// Whether a row stores, where it has read this value.
+fn stores(op: Op, read: u64) -> bool
+    ensures { λ r. ⌜ r ≡ storesAfter read (opOf op) ⌝ }
+{
     match op {
         Op::Store { .. } => true,
         Op::StoreRegister { .. } => true,
@@ -89,7 +94,9 @@ fn stores(op: Op, read: u64) -> bool {
 }
 
 // Whether a change of this value succeeds.
-pub fn succeeds(change: Change, read: u64) -> bool {
+fn succeeds(change: Change, read: u64) -> bool
+    ensures { λ r. ⌜ r ≡ isSuccess (applied (changeMeant change) read) ⌝ }
+{
     if let Changed::Success(_) = change::apply(change, read) {
         true
     } else {

@@ -1,15 +1,23 @@
 // What the cells and the registers hold after some of the steps: a cell's newest value, how many stores it had and which step
 // wrote each of its seven slots; a thread's registers and its next row.
+ghost use mathlib.Core.Path.{_≡_};
+ghost use mathlib.Core.Bool.{cond};
+ghost use Rattle.change.specs.Changes.{changeMeant};
+ghost use Rattle.decode.specs.Ops.{opOf};
+ghost use Rattle.rules.specs.Vector.{oneMore};
+ghost use Rattle.steps.specs.Holds as holds;
 use change::Change;
 use change::Changed;
 use decode::Decoded;
 use decode::Op;
+use layout::MAX_ATOMIC_HISTORY;
+use layout::MAX_CELLS;
+use layout::MAX_THREADS;
+use layout::REGISTERS;
 use layout::wide8;
 
 // All of it in one table: 28 writers, 4 counts, 4 values, 20 registers, 5 rows.
 pub type Held = [u64; 61];
-
-const SLOTS: usize = 7;
 
 const COUNT: usize = 28;
 
@@ -19,22 +27,22 @@ const REGISTER: usize = 36;
 
 const NEXT: usize = 56;
 
-// Before the first step: each cell has its start value, in slot 0, which no step wrote.
-pub fn start(table: &[u8]) -> Held {
+// Before the first step: each cell has had a store of its start value, which no step wrote.
+pub fn start(table: &[u8]) -> Held
+    ensures { λ r. ⌜ r ≡ holds.heldAtStart (now (table .entry)) ⌝ }
+{
     let mut held = [0; 61];
-    held[COUNT] = 1;
-    held[COUNT + 1] = 1;
-    held[COUNT + 2] = 1;
-    held[COUNT + 3] = 1;
-    held[NEWEST] = table::start_value(table, 0);
-    held[NEWEST + 1] = table::start_value(table, 1);
-    held[NEWEST + 2] = table::start_value(table, 2);
-    held[NEWEST + 3] = table::start_value(table, 3);
+    store(&mut held, 0, table::start_value(table, 0), 0);
+    store(&mut held, 1, table::start_value(table, 1), 0);
+    store(&mut held, 2, table::start_value(table, 2), 0);
+    store(&mut held, 3, table::start_value(table, 3), 0);
     held
 }
 
 // What is held after the first `n` steps.
-pub fn after(table: &[u8], trace: &[u8], n: usize) -> Held {
+pub fn after(table: &[u8], trace: &[u8], n: usize) -> Held
+    ensures { λ r. ⌜ r ≡ holds.heldAfter (now (table .entry)) (now (trace .entry)) n ⌝ }
+{
     let mut held = start(table);
     let mut i = 0;
     while i < n {
@@ -45,157 +53,200 @@ pub fn after(table: &[u8], trace: &[u8], n: usize) -> Held {
 }
 
 // The step that wrote what a slot of a cell holds, counted from 1; 0 for the start value.
-pub fn writer(held: &Held, cell: usize, slot: u8) -> u64 {
+pub fn writer(held: &Held, cell: usize, slot: u8) -> u64
+    ensures { λ r. ⌜ r ≡ holds.held (now (held .entry)) (holds.writer cell slot) ⌝ }
+{
     let s = wide8(slot);
-    if cell < 4 {
-        if s < SLOTS {
-            return held[SLOTS * cell + s];
+    if cell < MAX_CELLS {
+        if s < MAX_ATOMIC_HISTORY {
+            return held[MAX_ATOMIC_HISTORY * cell + s];
         }
     }
     0
 }
 
 // The newest value of a cell.
-pub fn newest(held: &Held, cell: usize) -> u64 {
-    if cell < 4 {
+pub fn newest(held: &Held, cell: usize) -> u64
+    ensures { λ r. ⌜ r ≡ holds.held (now (held .entry)) (holds.newest cell) ⌝ }
+{
+    if cell < MAX_CELLS {
         return held[NEWEST + cell];
     }
     0
 }
 
-pub fn register(held: &Held, thread: u8, register: usize) -> u64 {
+pub fn register(held: &Held, thread: u8, register: usize) -> u64
+    ensures { λ r. ⌜ r ≡ holds.held (now (held .entry)) (holds.register thread register) ⌝ }
+{
     let t = wide8(thread);
-    if t < 5 {
-        if register < 4 {
-            return held[REGISTER + 4 * t + register];
+    if t < MAX_THREADS {
+        if register < REGISTERS {
+            return held[REGISTER + (REGISTERS * t + register)];
         }
     }
     0
 }
 
 // The row that a thread is at, where it has not ended.
-pub fn next_row(held: &Held, thread: u8) -> u64 {
+pub fn next_row(held: &Held, thread: u8) -> u64
+    ensures { λ r. ⌜ r ≡ holds.held (now (held .entry)) (holds.nextRow thread) ⌝ }
+{
     let t = wide8(thread);
-    if t < 5 {
+    if t < MAX_THREADS {
         return held[NEXT + t];
     }
     0
 }
 
 // What step `i` changes.
-pub fn take(held: &mut Held, table: &[u8], trace: &[u8], i: usize) {
-    let thread = crate::thread(trace, i);
+pub fn take(held: &mut Held, table: &[u8], trace: &[u8], i: usize)
+    ensures { λ _. ⌜ now (held .exit) ≡ holds.taken (now (table .entry)) (now (trace .entry)) i (now (held .entry)) ⌝ }
+{
     let Decoded::Row(op) = crate::operation(table, trace, i) else {
         return;
     };
-    go_on(held, thread, crate::row(trace, i), op);
-    let step = i as u64 % 65536 + 1;
-    act(held, thread, op, crate::value(trace, i), step);
+    let thread = crate::thread(trace, i);
+    let next = next_of(held, thread, crate::row(trace, i), op);
+    go_on(held, thread, next);
+    act(held, thread, crate::value(trace, i), i as u64 + 1, op);
+}
+
+// The row that a thread goes on with.
+fn next_of(held: &Held, thread: u8, row: u8, op: Op) -> u64
+    ensures { λ r. ⌜ r ≡ holds.nextOf (now (held .entry)) thread row (opOf op) ⌝ }
+{
+    let next = row as u64 + 1;
+    match op {
+        Op::Jump { target } => target as u64,
+        Op::JumpIf {
+            register: r,
+            a,
+            target,
+        } => after_jump(register(held, thread, r) == a, target as u64, next),
+        Op::JumpUnless {
+            register: r,
+            a,
+            target,
+        } => after_jump(register(held, thread, r) == a, next, target as u64),
+        _ => next,
+    }
+}
+
+// Which of two rows comes next, by a test.
+fn after_jump(equal: bool, then: u64, other: u64) -> u64
+    ensures { λ r. ⌜ r ≡ cond equal then other ⌝ }
+{
+    if equal {
+        return then;
+    }
+    other
+}
+
+fn go_on(held: &mut Held, thread: u8, next: u64)
+    ensures { λ _. ⌜ now (held .exit) ≡ holds.withHeld (now (held .entry)) (holds.nextRow thread) next ⌝ }
+{
+    let t = wide8(thread);
+    if t < MAX_THREADS {
+        held[NEXT + t] = next;
+    }
 }
 
 // What a row of this thread does, with the value of its trace entry.
-fn act(held: &mut Held, thread: u8, op: Op, value: u64, step: u64) {
+fn act(held: &mut Held, thread: u8, value: u64, step: u64, op: Op)
+    ensures { λ _. ⌜ now (held .exit) ≡ holds.acted (now (held .entry)) thread value step (opOf op) ⌝ }
+{
     match op {
-        Op::Load { register, .. } => set(held, thread, register, value),
-        Op::Store { cell, .. } => stored(held, cell, value, step),
-        Op::StoreRegister { cell, .. } => stored(held, cell, value, step),
+        Op::Load { register, .. } => put(held, thread, register, value),
+        Op::Store { cell, .. } => store(held, cell, value, step),
+        Op::StoreRegister { cell, .. } => store(held, cell, value, step),
         Op::Rmw {
             cell,
             change,
             register,
             ..
-        } => {
-            set(held, thread, register, value);
-            changed(held, cell, change, value, step);
-        }
-        Op::UnsyncLoad { register, .. } => set(held, thread, register, value),
+        } => rmw(held, thread, register, cell, change, value, step),
+        Op::UnsyncLoad { register, .. } => put(held, thread, register, value),
         Op::WithMut {
             cell,
             change,
             register,
-        } => {
-            let before = newest(held, cell);
-            set(held, thread, register, before);
-            changed_in_place(held, cell, change, before, step);
-        }
-        Op::Spurious { register } => set(held, thread, register, value),
+        } => with_mut(held, thread, register, cell, change, step),
+        Op::Spurious { register } => put(held, thread, register, value),
         _ => {}
     }
 }
 
 // Puts a value in a register.
-fn set(held: &mut Held, thread: u8, register: usize, value: u64) {
+fn put(held: &mut Held, thread: u8, register: usize, value: u64)
+    ensures { λ _. ⌜ now (held .exit) ≡ holds.withHeld (now (held .entry)) (holds.register thread register) value ⌝ }
+{
     let t = wide8(thread);
-    if t < 5 {
-        if register < 4 {
-            held[REGISTER + 4 * t + register] = value;
+    if t < MAX_THREADS {
+        if register < REGISTERS {
+            held[REGISTER + (REGISTERS * t + register)] = value;
         }
     }
 }
 
 // A store takes the cell's next slot.
-fn stored(held: &mut Held, cell: usize, value: u64, step: u64) {
-    if 4 <= cell {
-        return;
+fn store(held: &mut Held, cell: usize, value: u64, step: u64)
+    ensures { λ _. ⌜ now (held .exit) ≡ holds.stored (now (held .entry)) cell value step ⌝ }
+{
+    if cell < MAX_CELLS {
+        let count = held[COUNT + cell];
+        let slot = (count % 7) as usize;
+        held[MAX_ATOMIC_HISTORY * cell + slot] = step;
+        held[COUNT + cell] = one_more(count);
+        held[NEWEST + cell] = value;
     }
-    let count = held[COUNT + cell];
-    let slot = (count % 7) as usize;
-    if slot < SLOTS {
-        held[SLOTS * cell + slot] = step;
-    }
-    held[COUNT + cell] = count % 65536 + 1;
-    held[NEWEST + cell] = value;
 }
 
-// A change that succeeds is a store.
-fn changed(held: &mut Held, cell: usize, change: Change, read: u64, step: u64) {
+// A count stays where it is largest.
+fn one_more(count: u64) -> u64
+    ensures { λ r. ⌜ r ≡ oneMore count ⌝ }
+{
+    if count < 65535 {
+        return count + 1;
+    }
+    count
+}
+
+// The value read goes into the register; a change that succeeds is a store.
+fn rmw(
+    held: &mut Held,
+    thread: u8,
+    register: usize,
+    cell: usize,
+    change: Change,
+    read: u64,
+    step: u64,
+)
+    ensures { λ _. ⌜ now (held .exit) ≡ holds.rmwDone (now (held .entry)) thread register cell (changeMeant change) read step ⌝ }
+{
+    put(held, thread, register, read);
     if let Changed::Success(value) = change::apply(change, read) {
-        stored(held, cell, value, step);
+        store(held, cell, value, step);
     }
 }
 
-// An exclusive change that succeeds writes over the newest store.
-fn changed_in_place(held: &mut Held, cell: usize, change: Change, before: u64, step: u64) {
-    let Changed::Success(value) = change::apply(change, before) else {
-        return;
-    };
-    if 4 <= cell {
-        return;
-    }
-    let slot = ((held[COUNT + cell] % 7 + 6) % 7) as usize;
-    if slot < SLOTS {
-        held[SLOTS * cell + slot] = step;
-    }
-    held[NEWEST + cell] = value;
-}
-
-// The row that a thread goes on with.
-fn go_on(held: &mut Held, thread: u8, row: u8, op: Op) {
-    let t = wide8(thread);
-    if 5 <= t {
-        return;
-    }
-    let next = row as u64 + 1;
-    match op {
-        Op::Jump { target } => held[NEXT + t] = target as u64,
-        Op::JumpIf {
-            register: r,
-            a,
-            target,
-        } => held[NEXT + t] = after_jump(register(held, thread, r) == a, target, next),
-        Op::JumpUnless {
-            register: r,
-            a,
-            target,
-        } => held[NEXT + t] = after_jump(register(held, thread, r) != a, target, next),
-        _ => held[NEXT + t] = next,
+// The same for an exclusive change, which reads the newest store and, if it succeeds, writes over it.
+fn with_mut(held: &mut Held, thread: u8, register: usize, cell: usize, change: Change, step: u64)
+    ensures { λ _. ⌜ now (held .exit) ≡ holds.exclusiveDone (now (held .entry)) thread register cell (changeMeant change) step ⌝ }
+{
+    let before = newest(held, cell);
+    put(held, thread, register, before);
+    if let Changed::Success(value) = change::apply(change, before) {
+        write_over(held, cell, value, step);
     }
 }
 
-// Where a jump leads that is taken or not.
-fn after_jump(taken: bool, target: u16, next: u64) -> u64 {
-    if taken {
-        return target as u64;
+// Writes over the newest store of a cell.
+fn write_over(held: &mut Held, cell: usize, value: u64, step: u64)
+    ensures { λ _. ⌜ now (held .exit) ≡ holds.writtenOver (now (held .entry)) cell value step ⌝ }
+{
+    if cell < MAX_CELLS {
+        let slot = ((held[COUNT + cell] % 7 + 6) % 7) as usize;
+        held[MAX_ATOMIC_HISTORY * cell + slot] = step;
+        held[NEWEST + cell] = value;
     }
-    next
 }

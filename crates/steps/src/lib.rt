@@ -1,5 +1,10 @@
 // The steps of the last execution, read back from its trace: how many there are, what each did, and from which of them the
-// machine's cells and registers have what they hold.
+// machine's cells and registers have what they hold. Each promise is an equation with a definition in specs/, for any bytes.
+ghost use mathlib.Core.Path.{_≡_};
+ghost use Prim.Native.Nat.{_<_};
+ghost use Rattle.rules.specs.Machine.{rowCount};
+ghost use Rattle.decode.specs.Ops.{decodedOf};
+ghost use Rattle.steps.specs.Entries.{byteAt, entryAt, isEntry, entries, program, rowSays, operationAt};
 use decode::Decoded;
 use layout::MAX_THREADS;
 use layout::short8;
@@ -26,11 +31,13 @@ const MASK: usize = 4;
 
 const VALUE: usize = 8;
 
-// How many entries the trace has. Past the last one it is zero, and no entry has opcode 0 with nothing offered.
-pub fn count(trace: &[u8]) -> usize {
+// How many entries the trace has.
+pub fn count(trace: &[u8]) -> usize
+    ensures { λ r. ⌜ r ≡ entries (now (trace .entry)) ⌝ }
+{
     let mut i = 0;
     while i < trace.len() / ENTRY {
-        if opcode(trace, i) == 0 && mask(trace, i) == 0 {
+        if !is_entry(trace, i) {
             return i;
         }
         i += 1;
@@ -38,28 +45,47 @@ pub fn count(trace: &[u8]) -> usize {
     i
 }
 
+// Past the last entry the trace is zero, and no entry has opcode 0 with nothing offered.
+fn is_entry(trace: &[u8], i: usize) -> bool
+    ensures { λ r. ⌜ r ≡ isEntry (entryAt (now (trace .entry)) i) ⌝ }
+{
+    (opcode(trace, i) != 0) | (mask(trace, i) != 0)
+}
+
 // What entry `i` says.
-pub fn thread(trace: &[u8], i: usize) -> u8 {
+pub fn thread(trace: &[u8], i: usize) -> u8
+    ensures { λ r. ⌜ r ≡ entryAt (now (trace .entry)) i .thread ⌝ }
+{
     byte(trace, i, THREAD)
 }
 
-pub fn row(trace: &[u8], i: usize) -> u8 {
+pub fn row(trace: &[u8], i: usize) -> u8
+    ensures { λ r. ⌜ r ≡ entryAt (now (trace .entry)) i .row ⌝ }
+{
     byte(trace, i, ROW)
 }
 
-pub fn opcode(trace: &[u8], i: usize) -> u8 {
+fn opcode(trace: &[u8], i: usize) -> u8
+    ensures { λ r. ⌜ r ≡ entryAt (now (trace .entry)) i .opcode ⌝ }
+{
     byte(trace, i, OPCODE)
 }
 
-pub fn slot(trace: &[u8], i: usize) -> u8 {
+pub fn slot(trace: &[u8], i: usize) -> u8
+    ensures { λ r. ⌜ r ≡ entryAt (now (trace .entry)) i .slot ⌝ }
+{
     byte(trace, i, SLOT)
 }
 
-pub fn mask(trace: &[u8], i: usize) -> u8 {
+pub fn mask(trace: &[u8], i: usize) -> u8
+    ensures { λ r. ⌜ r ≡ entryAt (now (trace .entry)) i .mask ⌝ }
+{
     byte(trace, i, MASK)
 }
 
-pub fn value(trace: &[u8], i: usize) -> u64 {
+pub fn value(trace: &[u8], i: usize) -> u64
+    ensures { λ r. ⌜ r ≡ entryAt (now (trace .entry)) i .value ⌝ }
+{
     if i < trace.len() / ENTRY {
         return little::u64_at(trace, ENTRY * i + VALUE);
     }
@@ -67,22 +93,30 @@ pub fn value(trace: &[u8], i: usize) -> u64 {
 }
 
 // A byte of entry `i`; 0 where there is none.
-fn byte(trace: &[u8], i: usize, place: usize) -> u8 {
+fn byte(trace: &[u8], i: usize, place: usize) -> u8
+    requires { ⌜ place < 16 ⌝ }
+    ensures { λ r. ⌜ r ≡ byteAt (now (trace .entry)) i place ⌝ }
+{
     if i < trace.len() / ENTRY {
-        if place < ENTRY {
-            return trace[ENTRY * i + place];
-        }
+        return trace[ENTRY * i + place];
     }
     0
 }
 
-// What the row of entry `i` does.
-pub fn operation(table: &[u8], trace: &[u8], i: usize) -> Decoded {
-    row_of(table, thread(trace, i), row(trace, i))
+// What the row of entry `i` does; refused where there is no such entry.
+pub fn operation(table: &[u8], trace: &[u8], i: usize) -> Decoded
+    ensures { λ r. ⌜ decodedOf r ≡ operationAt (now (table .entry)) (now (trace .entry)) i ⌝ }
+{
+    if i < trace.len() / ENTRY {
+        return row_of(table, thread(trace, i), row(trace, i));
+    }
+    Decoded::Refused
 }
 
 // What the row of a thread does, by its number there; refused for a thread that no table has.
-pub fn row_of(table: &[u8], thread: u8, number: u8) -> Decoded {
+pub fn row_of(table: &[u8], thread: u8, number: u8) -> Decoded
+    ensures { λ r. ⌜ decodedOf r ≡ rowSays (now (table .entry)) thread number ⌝ }
+{
     let t = wide8(thread);
     if MAX_THREADS <= t {
         return Decoded::Refused;
@@ -92,11 +126,14 @@ pub fn row_of(table: &[u8], thread: u8, number: u8) -> Decoded {
 }
 
 // How many rows a thread has.
-pub fn row_count(table: &[u8], thread: u8) -> u8 {
+pub fn row_count(table: &[u8], thread: u8) -> u8
+    ensures { λ r. ⌜ r ≡ rowCount (program (now (table .entry))) thread ⌝ }
+{
     let t = wide8(thread);
-    if MAX_THREADS <= t {
-        return 0;
+    if t < MAX_THREADS {
+        if COUNTS + t < table.len() {
+            return table[COUNTS + t];
+        }
     }
-    let shape = table::shape(table);
-    (shape[COUNTS + t] % 256) as u8
+    0
 }

@@ -1,12 +1,20 @@
 // Whether an execution ends in a loop.
+ghost use mathlib.Core.Path.{_≡_};
+ghost use Prim.Native.Nat.{_-_};
+ghost use Rattle.steps.specs.Loops.{sameRow, repeatsIn, periodOf, isYield, yieldsIn};
 
 const YIELD: u8 = 7;
 
-// Over how many steps the last ones repeat those before them, three times at least; 0 where they do not, or where a loop
-// would have more than 32.
-pub fn period(trace: &[u8], n: usize) -> usize {
+// The longest loop that is looked for.
+const LONGEST: usize = 32;
+
+// Over how many steps the last of the first `n` repeat those before them, three times at least; 0 where they do not, or where a
+// loop would have more than 32.
+pub fn period(trace: &[u8], n: usize) -> usize
+    ensures { λ r. ⌜ r ≡ periodOf (now (trace .entry)) n ⌝ }
+{
     let mut p = 1;
-    while p <= 32 {
+    while p <= LONGEST {
         if repeats(trace, n, p) {
             return p;
         }
@@ -16,7 +24,9 @@ pub fn period(trace: &[u8], n: usize) -> usize {
 }
 
 // Whether the last steps are three times the same `p` rows.
-fn repeats(trace: &[u8], n: usize, p: usize) -> bool {
+fn repeats(trace: &[u8], n: usize, p: usize) -> bool
+    ensures { λ r. ⌜ r ≡ repeatsIn (now (trace .entry)) n p ⌝ }
+{
     if n / 3 < p {
         return false;
     }
@@ -31,21 +41,39 @@ fn repeats(trace: &[u8], n: usize, p: usize) -> bool {
 }
 
 // Whether one of the last `p` steps is a yield.
-pub fn yields(trace: &[u8], n: usize, p: usize) -> bool {
-    let mut k = 0;
-    while k < p {
-        if k < n {
-            if crate::opcode(trace, n - 1 - k) == YIELD {
-                return true;
-            }
+pub fn yields(trace: &[u8], n: usize, p: usize) -> bool
+    ensures { λ r. ⌜ r ≡ yieldsIn (now (trace .entry)) n p ⌝ }
+{
+    let mut i = from_end(n, p);
+    while i < n {
+        if is_yield(trace, i) {
+            return true;
         }
-        k += 1;
+        i += 1;
     }
     false
 }
 
+// The first of the last `p` of `n`.
+fn from_end(n: usize, p: usize) -> usize
+    ensures { λ r. ⌜ r ≡ n - p ⌝ }
+{
+    if p < n {
+        return n - p;
+    }
+    0
+}
+
+fn is_yield(trace: &[u8], i: usize) -> bool
+    ensures { λ r. ⌜ r ≡ isYield (now (trace .entry)) i ⌝ }
+{
+    crate::opcode(trace, i) == YIELD
+}
+
 // Whether two steps are of the same thread and row.
-fn same_row(trace: &[u8], i: usize, j: usize) -> bool {
+fn same_row(trace: &[u8], i: usize, j: usize) -> bool
+    ensures { λ r. ⌜ r ≡ sameRow (now (trace .entry)) i j ⌝ }
+{
     (crate::thread(trace, i) == crate::thread(trace, j))
         & (crate::row(trace, i) == crate::row(trace, j))
 }

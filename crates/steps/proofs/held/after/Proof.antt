@@ -1,10 +1,13 @@
 use Prim.Native.Nat.{_≤_, _-_}
+use mathlib.Core.Path.{_≡_}
+use Rattle.steps.specs.Holds.{heldAfter}
+use Rattle.steps.proofs.HoldLaws.{after-on, after-all}
 use borrow.Author.Needs.{needs}
 use Rattle.steps.proofs.held.after.Statement.{statement}
 use Rattle.steps.proofs.held.after.Tie as tie
 
 abbrev Inv-loop : tie.InvT-loop
-Inv-loop table trace n held₀ i₀ held i = i ≤ n
+Inv-loop table trace n held₀ i₀ held i = (i ≤ n) × (held ≡ heldAfter table trace i)
 
 abbrev μ-loop : tie.MeasureT-loop
 μ-loop table trace n held₀ i₀ held i = n - i
@@ -13,7 +16,8 @@ start-requires : tie.Need-start-requires Inv-loop μ-loop
 start-requires c κs = search needs
 
 loop-holds : tie.Need-loop-holds Inv-loop μ-loop
-loop-holds c = search needs
+unfolding heldAfter
+loop-holds c = (search needs, c .start .ensures)
 
 take-requires : tie.Need-take-requires Inv-loop μ-loop
 take-requires c κs = search needs
@@ -25,10 +29,10 @@ loop-less : tie.Need-loop-less Inv-loop μ-loop
 loop-less c = search needs
 
 loop-again : tie.Need-loop-again Inv-loop μ-loop
-loop-again c = search needs
+loop-again c = (search needs, after-on _ _ _ _ (c .before .before .before .loop .inv .1) (c .take .ensures))
 
 returns : tie.Need-returns Inv-loop μ-loop
-returns c = search needs
+returns c = let at = c .before in after-all _ _ _ _ (at .loop .inv .1) (at .loop .inv .0) (c .loop-test .left)
 
 pub after-spec : {M : Type 1} → statement M
 after-spec =

@@ -1,40 +1,46 @@
-use Prim.Native.Nat.{_≤_, _-_}
+use Prim.Native.Nat.{_-_}
+use mathlib.Core.Path.{_≡_, sym, _∙_}
+use Rattle.steps.specs.Loops.{isYield, yieldsIn}
+use Rattle.steps.proofs.LoopLaws.{yieldsLeft, yields-from, first-on, first-found, first-none}
 use borrow.Author.Needs.{needs}
 use Rattle.steps.proofs.loops.yields.Statement.{statement}
 use Rattle.steps.proofs.loops.yields.Tie as tie
 
 abbrev Inv-loop : tie.InvT-loop
-Inv-loop trace n p k₀ k = k ≤ p
+Inv-loop trace n p i₀ i = yieldsLeft trace n i ≡ yieldsIn trace n p
 
 abbrev μ-loop : tie.MeasureT-loop
-μ-loop trace n p k₀ k = p - k
+μ-loop trace n p i₀ i = n - i
+
+from-end-requires : tie.Need-from-end-requires Inv-loop μ-loop
+from-end-requires c κs = search needs
 
 loop-holds : tie.Need-loop-holds Inv-loop μ-loop
-loop-holds c = search needs
+loop-holds c = yields-from _ _ _ (c .from-end .ensures)
 
-sub-opcode : tie.Need-sub-opcode Inv-loop μ-loop
-sub-opcode c = search needs
-
-sub-opcode-2 : tie.Need-sub-opcode-2 Inv-loop μ-loop
-sub-opcode-2 c = search needs
-
-opcode-requires : tie.Need-opcode-requires Inv-loop μ-loop
-opcode-requires c κs = search needs
+is-yield-requires : tie.Need-is-yield-requires Inv-loop μ-loop
+is-yield-requires c κs = search needs
 
 returns : tie.Need-returns Inv-loop μ-loop
-returns c = search needs
+returns c =
+    let turn = c .before .before in
+    let at = turn .before in
+    sym (first-found (isYield _) _ _ _ _ (turn .loop-test .taken) (sym (c .before .is-yield .ensures) ∙ c .if1 .taken)) ∙ at .loop .inv
 
-add-k : tie.Need-add-k Inv-loop μ-loop
-add-k c = search needs
+add-i : tie.Need-add-i Inv-loop μ-loop
+add-i c = search needs
 
 loop-less : tie.Need-loop-less Inv-loop μ-loop
 loop-less c = search needs
 
 loop-again : tie.Need-loop-again Inv-loop μ-loop
-loop-again c = search needs
+loop-again c =
+    let turn = c .before .before in
+    let at = turn .before in
+    first-on (isYield _) _ _ _ _ (turn .loop-test .taken) (sym (c .before .is-yield .ensures) ∙ c .if1 .left) ∙ at .loop .inv
 
 returns-2 : tie.Need-returns-2 Inv-loop μ-loop
-returns-2 c = search needs
+returns-2 c = sym (first-none (isYield _) _ _ _ _ (c .loop-test .left)) ∙ c .before .loop .inv
 
 pub yields-spec : {M : Type 1} → statement M
 yields-spec =
@@ -42,12 +48,11 @@ yields-spec =
     (tie.spec
     Inv-loop
     μ-loop
+    from-end-requires
     loop-holds
-    sub-opcode
-    sub-opcode-2
-    opcode-requires
+    is-yield-requires
     returns
-    add-k
+    add-i
     loop-less
     loop-again
     returns-2)

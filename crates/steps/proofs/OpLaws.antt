@@ -1,0 +1,130 @@
+-- The laws of a row that was taken apart, and of the arm of a match that takes all other rows together. Assumes nothing.
+--     op-as, says, refuses, changed-as      what is said of a row or a change, from what it was found to be
+--     no-cell, no-store, no-jump, no-act    the rows that name no cell, that never store, that do not jump, that change nothing
+use Prim.Native.Nat.{ℕ, _+_}
+use mathlib.Core.Bool.{false}
+use mathlib.Core.List.{List, [], _∷_}
+use mathlib.Core.Path.{_≡_, refl, ap, sym, _∙_}
+use types.Run.{OneOf, miss}
+use denote.Enum.Declared.{tagOf}
+use Rattle.rules.specs.Change as changes
+use Rattle.rules.specs.Table as rules
+use Rattle.change.specs.declared.Changed.{Changed}
+use Rattle.change.specs.Changes.{changedOf}
+use Rattle.decode.proofs.Op.{the-type}
+use Rattle.decode.specs.declared.Op.{Op}
+use Rattle.decode.specs.declared.Op.the-variants as code
+use Rattle.decode.specs.declared.Decoded.{Decoded}
+use Rattle.decode.specs.declared.Decoded.the-variants.{Refused, Row as Says}
+use Rattle.decode.specs.Ops.{opOf, decodedOf}
+use Rattle.steps.specs.Access.{cellIn, storesAfter}
+use Rattle.steps.specs.Holds.{nextOf, acted}
+
+pub op-as : {A : Type 0} (f : rules.Op → A) {op m : Op} {x : A} → op ≡ m → x ≡ f (opOf m) → x ≡ f (opOf op)
+op-as f e h = h ∙ sym (ap (λ (p : Op). f (opOf p)) e)
+
+module _ {d : Decoded} {x : rules.Decoded rules.Op} (is : decodedOf d ≡ x) where
+  pub says : {op : Op} → d ≡ Says op → x ≡ rules.decoded (opOf op)
+  says e = sym is ∙ ap decodedOf e
+
+  pub refuses : d ≡ Refused → x ≡ rules.refused
+  refuses e = sym is ∙ ap decodedOf e
+
+pub changed-as : {A : Type 0} (f : changes.Changed → A) {r m : Changed} {x : changes.Changed} → changedOf r ≡ x → r ≡ m → f (changedOf m) ≡ f x
+changed-as f is e = ap f (sym (ap changedOf e) ∙ is)
+
+-- the places among the variants of the rows that name no cell
+abbrev elsewhere : List ℕ
+elsewhere = 4 ∷ 7 ∷ 8 ∷ 9 ∷ 10 ∷ 11 ∷ 12 ∷ 13 ∷ 14 ∷ 15 ∷ 16 ∷ []
+
+pub no-cell : (op : Op) → OneOf elsewhere (tagOf the-type op) → 255 ≡ cellIn (opOf op)
+no-cell (code.Load order cell register) k = absurd (miss elsewhere 0 tt k)
+no-cell (code.Store order cell value) k = absurd (miss elsewhere 1 tt k)
+no-cell (code.StoreRegister order cell register) k = absurd (miss elsewhere 2 tt k)
+no-cell (code.Rmw order cell register change failure) k = absurd (miss elsewhere 3 tt k)
+no-cell (code.Fence order) k = refl
+no-cell (code.UnsyncLoad cell register) k = absurd (miss elsewhere 5 tt k)
+no-cell (code.WithMut cell register change) k = absurd (miss elsewhere 6 tt k)
+no-cell code.Yield k = refl
+no-cell (code.Join thread) k = refl
+no-cell (code.Jump target) k = refl
+no-cell (code.JumpIf target register a) k = refl
+no-cell (code.JumpUnless target register a) k = refl
+no-cell (code.Check register a) k = refl
+no-cell code.Critical k = refl
+no-cell code.ExploreState k = refl
+no-cell code.SkipBranch k = refl
+no-cell (code.Spurious register) k = refl
+
+-- and of those that never store
+abbrev reading : List ℕ
+reading = 0 ∷ 4 ∷ 5 ∷ 6 ∷ 7 ∷ 8 ∷ 9 ∷ 10 ∷ 11 ∷ 12 ∷ 13 ∷ 14 ∷ 15 ∷ 16 ∷ []
+
+pub no-store : (op : Op) (v : ℕ) → OneOf reading (tagOf the-type op) → false ≡ storesAfter v (opOf op)
+no-store (code.Load order cell register) v k = refl
+no-store (code.Store order cell value) v k = absurd (miss reading 1 tt k)
+no-store (code.StoreRegister order cell register) v k = absurd (miss reading 2 tt k)
+no-store (code.Rmw order cell register change failure) v k = absurd (miss reading 3 tt k)
+no-store (code.Fence order) v k = refl
+no-store (code.UnsyncLoad cell register) v k = refl
+no-store (code.WithMut cell register change) v k = refl
+no-store code.Yield v k = refl
+no-store (code.Join thread) v k = refl
+no-store (code.Jump target) v k = refl
+no-store (code.JumpIf target register a) v k = refl
+no-store (code.JumpUnless target register a) v k = refl
+no-store (code.Check register a) v k = refl
+no-store code.Critical v k = refl
+no-store code.ExploreState v k = refl
+no-store code.SkipBranch v k = refl
+no-store (code.Spurious register) v k = refl
+
+-- of those that do not jump
+abbrev straight : List ℕ
+straight = 0 ∷ 1 ∷ 2 ∷ 3 ∷ 4 ∷ 5 ∷ 6 ∷ 7 ∷ 8 ∷ 12 ∷ 13 ∷ 14 ∷ 15 ∷ 16 ∷ []
+
+module _ (h : List ℕ) (t k : ℕ) where
+  pub no-jump : (op : Op) → OneOf straight (tagOf the-type op) → k + 1 ≡ nextOf h t k (opOf op)
+  unfolding nextOf
+  no-jump (code.Load order cell register) p = refl
+  no-jump (code.Store order cell value) p = refl
+  no-jump (code.StoreRegister order cell register) p = refl
+  no-jump (code.Rmw order cell register change failure) p = refl
+  no-jump (code.Fence order) p = refl
+  no-jump (code.UnsyncLoad cell register) p = refl
+  no-jump (code.WithMut cell register change) p = refl
+  no-jump code.Yield p = refl
+  no-jump (code.Join thread) p = refl
+  no-jump (code.Jump target) p = absurd (miss straight 9 tt p)
+  no-jump (code.JumpIf target register a) p = absurd (miss straight 10 tt p)
+  no-jump (code.JumpUnless target register a) p = absurd (miss straight 11 tt p)
+  no-jump (code.Check register a) p = refl
+  no-jump code.Critical p = refl
+  no-jump code.ExploreState p = refl
+  no-jump code.SkipBranch p = refl
+  no-jump (code.Spurious register) p = refl
+
+-- of those that change nothing that is held
+abbrev idle : List ℕ
+idle = 4 ∷ 7 ∷ 8 ∷ 9 ∷ 10 ∷ 11 ∷ 12 ∷ 13 ∷ 14 ∷ 15 ∷ []
+
+module _ (h : List ℕ) (t v step : ℕ) where
+  pub no-act : (op : Op) → OneOf idle (tagOf the-type op) → h ≡ acted h t v step (opOf op)
+  unfolding acted
+  no-act (code.Load order cell register) k = absurd (miss idle 0 tt k)
+  no-act (code.Store order cell value) k = absurd (miss idle 1 tt k)
+  no-act (code.StoreRegister order cell register) k = absurd (miss idle 2 tt k)
+  no-act (code.Rmw order cell register change failure) k = absurd (miss idle 3 tt k)
+  no-act (code.Fence order) k = refl
+  no-act (code.UnsyncLoad cell register) k = absurd (miss idle 5 tt k)
+  no-act (code.WithMut cell register change) k = absurd (miss idle 6 tt k)
+  no-act code.Yield k = refl
+  no-act (code.Join thread) k = refl
+  no-act (code.Jump target) k = refl
+  no-act (code.JumpIf target register a) k = refl
+  no-act (code.JumpUnless target register a) k = refl
+  no-act (code.Check register a) k = refl
+  no-act code.Critical k = refl
+  no-act code.ExploreState k = refl
+  no-act code.SkipBranch k = refl
+  no-act (code.Spurious register) k = absurd (miss idle 16 tt k)

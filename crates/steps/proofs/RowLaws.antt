@@ -1,0 +1,104 @@
+-- The laws of a thread's rows, for any bytes: how many it has, and what one does. Assumes nothing.
+--     count-at, count-past, count-none      a row count in the header, past the bytes, past the threads
+--     row-said, row-none                    a row by the table's shape
+use Prim.Native.Nat.{ℕ, _+_, _≤_, _<_}
+use mathlib.Core.List.{List, [], _∷_, _++_}
+use mathlib.Core.Bool.{Bool, true, false, cond, _&&_}
+use mathlib.Core.Path.{_≡_, refl, ap, sym, _∙_}
+use native.Mathlib.Omega.{arith}
+use native.Mathlib.Decide.{decLt}
+use lib.Dec.{leb, ltb}
+use lib.ListN.{length, getD, replicate, take, drop, length-take, List·getD-append, List·getD-eq-default}
+use lib.Seq.{getD-append-add, getD-take, getD-drop}
+use borrow.Author.Tests.{lt-ltb, le-ltb, le-leb, lt-leb}
+use Rattle.rules.specs.Machine.{rowOf, rowCount}
+use Rattle.rules.specs.Table.{Op, Decoded, refused, headerBytes, rowBytes, maxThreads, sizeOf, threadsOf, cellsOf, countsOf, firstRows, shapeOf, noRow, rowAt, rowDecoded, opAt}
+use Rattle.decode.specs.declared.Decoded as code
+use Rattle.decode.specs.Ops.{decodedOf}
+use Rattle.table.proofs.Header.{counts-length}
+use Rattle.table.specs.Answers.{OpAt}
+use Rattle.steps.specs.Entries.{program, rowSays}
+
+module _ (t : List ℕ) {i thread : ℕ} (same : i ≡ thread) where
+  counted : thread < maxThreads → getD t (2 + i) 0 ≡ rowCount (program t) thread
+  unfolding countsOf
+  counted h = rw (getD-take, getD-drop, same)
+
+  pub count-at : i < maxThreads → getD t (2 + i) 0 ≡ rowCount (program t) thread
+  count-at h = counted (omega arith)
+
+  pub count-past : i < maxThreads → length t ≤ 2 + i → 0 ≡ rowCount (program t) thread
+  count-past h l = sym (List·getD-eq-default t 0 l) ∙ counted (omega arith)
+
+  pub count-none : maxThreads ≤ i → 0 ≡ rowCount (program t) thread
+  unfolding countsOf
+  count-none h =
+      let few : length (take maxThreads (drop 2 t)) ≤ thread = omega (arith, length-take maxThreads (drop 2 t)) in
+      sym (List·getD-eq-default (take maxThreads (drop 2 t)) 0 few)
+
+-- a table that is too short for a header holds no row
+and-false : (b : Bool) → b && false ≡ false
+and-false true = refl
+and-false false = refl
+
+cond-same : (b : Bool) (d : Decoded Op) → cond b d d ≡ d
+cond-same true d = refl
+cond-same false d = refl
+
+module _ (t : List ℕ) (short : length t < headerBytes) (threads cells count index : ℕ) where
+  no-row : rowAt t cells index ≡ noRow
+  unfolding rowAt
+  no-row =
+      let e : leb (sizeOf cells index + rowBytes) (length t) ≡ false = lt-leb (sizeOf cells index + rowBytes) (length t) (omega arith) in
+      rw (e, and-false)
+
+  short-refused : opAt t threads cells count index ≡ refused
+  unfolding opAt rowDecoded
+  short-refused = rw no-row (cond-same (leb threads maxThreads) refused)
+
+-- one that has a header has its numbers in its shape
+module _ (t : List ℕ) (long : headerBytes ≤ length t) where
+  abbrev shape : List ℕ
+  shape = threadsOf t ∷ cellsOf t ∷ (countsOf t ++ firstRows 0 (countsOf t))
+
+  is-shape : shapeOf t ≡ shape
+  unfolding shapeOf
+  is-shape = ap (λ (b : Bool). cond b shape (replicate 12 0)) (le-leb headerBytes (length t) long)
+
+  shape-rows : (i : ℕ) → i < maxThreads → getD (shapeOf t) (2 + i) 0 ≡ getD (countsOf t) i 0
+  shape-rows i h =
+      ap (λ (l : List ℕ). getD l (2 + i) 0) is-shape
+      ∙ getD-append-add (threadsOf t ∷ cellsOf t ∷ []) (countsOf t ++ firstRows 0 (countsOf t)) i 0
+      ∙ List·getD-append (countsOf t) (firstRows 0 (countsOf t)) 0 i (omega (arith, h, counts-length t long))
+
+  shape-first : (i : ℕ) → getD (shapeOf t) (7 + i) 0 ≡ getD (firstRows 0 (countsOf t)) i 0
+  shape-first i =
+      let e : 7 + i ≡ 2 + (length (countsOf t) + i) = omega (arith, counts-length t long) in
+      ap (λ (l : List ℕ). getD l (7 + i) 0) is-shape
+      ∙ ap (λ (k : ℕ). getD shape k 0) e
+      ∙ getD-append-add (threadsOf t ∷ cellsOf t ∷ []) (countsOf t ++ firstRows 0 (countsOf t)) (length (countsOf t) + i) 0
+      ∙ getD-append-add (countsOf t) (firstRows 0 (countsOf t)) i 0
+
+  long-said : (i k : ℕ) → i < maxThreads →
+      opAt t (getD (shapeOf t) 0 0) (getD (shapeOf t) 1 0) (getD (shapeOf t) (2 + i) 0) (getD (shapeOf t) (7 + i) 0 + k) ≡ rowOf (program t) i k
+  long-said i k h =
+      rw (shape-rows i h, shape-first i, is-shape)
+
+shape-said : (t : List ℕ) (i k : ℕ) → i < maxThreads →
+    opAt t (getD (shapeOf t) 0 0) (getD (shapeOf t) 1 0) (getD (shapeOf t) (2 + i) 0) (getD (shapeOf t) (7 + i) 0 + k) ≡ rowOf (program t) i k
+shape-said t i k h = elim (decLt (length t) headerBytes) [
+  | yes l ↦ short-refused t l _ _ _ _ ∙ sym (short-refused t l _ _ _ _)
+  | no l ↦ long-said t (omega arith) i k h
+]
+
+module _ (t : List ℕ) {i k thread number : ℕ} (same : i ≡ thread) (also : k ≡ number) where
+  pub row-said : {s : List ℕ} {d : code.Decoded} → s ≡ shapeOf t → i < maxThreads →
+      OpAt t (getD s 0 0) (getD s 1 0) (getD s (2 + i) 0) (getD s (7 + i) 0 + k) d → decodedOf d ≡ rowSays t thread number
+  unfolding rowSays
+  row-said e h o =
+      let l : ltb thread maxThreads ≡ true = lt-ltb thread maxThreads (omega arith) in
+      rw (l, ← same, ← also) (o .is ∙ rw e (shape-said t i k h))
+
+pub row-none : (t : List ℕ) {i thread : ℕ} (number : ℕ) → i ≡ thread → maxThreads ≤ i → refused ≡ rowSays t thread number
+unfolding rowSays
+row-none t {i} {thread} number same h = rw (le-ltb thread maxThreads (omega arith))

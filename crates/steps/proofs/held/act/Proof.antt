@@ -1,0 +1,126 @@
+use Rattle.steps.specs.Holds.{acted}
+use Rattle.steps.proofs.OpLaws.{op-as, no-act}
+use borrow.Author.Needs.{needs}
+use Rattle.steps.proofs.held.act.Statement.{statement}
+use Rattle.steps.proofs.held.act.Tie as tie
+
+enum-known-op : tie.Need-enum-known-op
+enum-known-op c = search needs
+
+put-requires : tie.Need-put-requires
+put-requires c κs = search needs
+
+enum-known-op-2 : tie.Need-enum-known-op-2
+enum-known-op-2 c = search needs
+
+store-requires : tie.Need-store-requires
+store-requires c κs = search needs
+
+enum-known-op-3 : tie.Need-enum-known-op-3
+enum-known-op-3 c = search needs
+
+store-requires-2 : tie.Need-store-requires-2
+store-requires-2 c κs = search needs
+
+enum-known-op-4 : tie.Need-enum-known-op-4
+enum-known-op-4 c = search needs
+
+rmw-requires : tie.Need-rmw-requires
+rmw-requires c κs = search needs
+
+enum-known-op-5 : tie.Need-enum-known-op-5
+enum-known-op-5 c = search needs
+
+put-requires-2 : tie.Need-put-requires-2
+put-requires-2 c κs = search needs
+
+enum-known-op-6 : tie.Need-enum-known-op-6
+enum-known-op-6 c = search needs
+
+with-mut-requires : tie.Need-with-mut-requires
+with-mut-requires c κs = search needs
+
+enum-known-op-7 : tie.Need-enum-known-op-7
+enum-known-op-7 c = search needs
+
+put-requires-3 : tie.Need-put-requires-3
+put-requires-3 c κs = search needs
+
+returns : tie.Need-returns
+unfolding acted
+returns c =
+    let op = c .before .before .before in
+    let g = op .before .before .args in
+    op-as (acted (g .held .now) (g .thread) (g .value) (g .step)) (op .op .given .1) (c .put .ensures)
+
+returns-2 : tie.Need-returns-2
+unfolding acted
+returns-2 c =
+    let op = c .before .before .before in
+    let g = op .before .before .args in
+    op-as (acted (g .held .now) (g .thread) (g .value) (g .step)) (op .op2 .given .1) (c .store .ensures)
+
+returns-3 : tie.Need-returns-3
+unfolding acted
+returns-3 c =
+    let op = c .before .before .before in
+    let g = op .before .before .args in
+    op-as (acted (g .held .now) (g .thread) (g .value) (g .step)) (op .op3 .given .1) (c .store2 .ensures)
+
+returns-4 : tie.Need-returns-4
+unfolding acted
+returns-4 c =
+    let op = c .before .before .before in
+    let g = op .before .before .args in
+    op-as (acted (g .held .now) (g .thread) (g .value) (g .step)) (op .op4 .given .1) (c .rmw .ensures)
+
+returns-5 : tie.Need-returns-5
+unfolding acted
+returns-5 c =
+    let op = c .before .before .before in
+    let g = op .before .before .args in
+    op-as (acted (g .held .now) (g .thread) (g .value) (g .step)) (op .op5 .given .1) (c .put2 .ensures)
+
+returns-6 : tie.Need-returns-6
+unfolding acted
+returns-6 c =
+    let op = c .before .before .before in
+    let g = op .before .before .args in
+    op-as (acted (g .held .now) (g .thread) (g .value) (g .step)) (op .op6 .given .1) (c .with-mut .ensures)
+
+returns-7 : tie.Need-returns-7
+unfolding acted
+returns-7 c =
+    let op = c .before .before .before in
+    let g = op .before .before .args in
+    op-as (acted (g .held .now) (g .thread) (g .value) (g .step)) (op .op7 .given .1) (c .put3 .ensures)
+
+returns-8 : tie.Need-returns-8
+returns-8 c = let g = c .before .args in no-act (g .held .now) (g .thread) (g .value) (g .step) (g .op) (c .match .keys8)
+
+pub act-spec : {M : Type 1} → statement M
+act-spec =
+    tie.close
+    (tie.spec
+    enum-known-op
+    put-requires
+    enum-known-op-2
+    store-requires
+    enum-known-op-3
+    store-requires-2
+    enum-known-op-4
+    rmw-requires
+    enum-known-op-5
+    put-requires-2
+    enum-known-op-6
+    with-mut-requires
+    enum-known-op-7
+    put-requires-3
+    returns
+    returns-2
+    returns-3
+    returns-4
+    returns-5
+    returns-6
+    returns-7
+    returns-8)

@@ -1,0 +1,135 @@
+-- What the cells and the registers hold after some of the steps: a table of 61 numbers, and a name for each. Assumes nothing.
+--     held, withHeld     what a place holds, and a number put there
+--     heldAtStart        before the first step
+--     taken              what a step changes
+--     heldAfter          after the first n steps
+use Prim.Native.Nat.{ℕ, zero, suc, _+_}
+use mathlib.Core.List.{List}
+use mathlib.Core.Bool.{Bool, cond, _&&_}
+use lib.Dec.{ltb, eqb}
+use lib.ListN.{getD, set, replicate}
+use Rattle.rules.specs.Cell.{slotOf}
+use Rattle.rules.specs.Cell as cell
+use Rattle.rules.specs.Change.{Change, Changed, success, failure, applied}
+use Rattle.rules.specs.Event.{Entry}
+use Rattle.rules.specs.State.{storeAt, registerAt, threads, cells, history}
+use Rattle.rules.specs.Table.{Op, Decoded, refused, decoded, startValue, registers, load, store, storeRegister, rmw, fence, unsyncLoad, exclusive, yield, join, jump, jumpIf, jumpUnless, check, critical, exploreState, skipBranch, spurious}
+use Rattle.rules.specs.Vector.{oneMore}
+use Rattle.steps.specs.Entries.{entryAt, operationAt}
+
+-- of a cell: the step that wrote what a slot holds, counted from 1, or 0; how many stores it had; its newest value. Of a thread:
+-- a register; the row that it is at
+pub data Place : Type 0 where
+  writer : (cell slot : ℕ) → Place
+  count : (cell : ℕ) → Place
+  newest : (cell : ℕ) → Place
+  register : (thread r : ℕ) → Place
+  nextRow : (thread : ℕ) → Place
+
+abbrev pub isPlace : Place → Bool
+isPlace (writer c s) = ltb c cells && ltb s history
+isPlace (count c) = ltb c cells
+isPlace (newest c) = ltb c cells
+isPlace (register t r) = ltb t threads && ltb r registers
+isPlace (nextRow t) = ltb t threads
+
+abbrev pub placeOf : Place → ℕ
+placeOf (writer c s) = storeAt c s
+placeOf (count c) = 28 + c
+placeOf (newest c) = 32 + c
+placeOf (register t r) = 36 + registerAt t r
+placeOf (nextRow t) = 56 + t
+
+-- what a place holds; 0 where there is no such place, and there nothing is put
+unfoldable pub held : List ℕ → Place → ℕ
+held h p = cond (isPlace p) (getD h (placeOf p) 0) 0
+
+unfoldable pub withHeld : List ℕ → Place → ℕ → List ℕ
+withHeld h p v = cond (isPlace p) (set h (placeOf p) v) h
+
+-- "Slot is cnt mod 7": a store takes the next slot
+unfoldable pub stored : List ℕ → ℕ → ℕ → ℕ → List ℕ
+stored h c v step =
+    withHeld
+    (withHeld (withHeld h (writer c (slotOf (held h (count c)))) step) (count c) (oneMore (held h (count c))))
+    (newest c) v
+
+unfoldable pub writtenOver : List ℕ → ℕ → ℕ → ℕ → List ℕ
+writtenOver h c v step = withHeld (withHeld h (writer c (cell.newest (held h (count c)))) step) (newest c) v
+
+-- what a change leaves: an RMW that succeeds is a store, an exclusive one writes over the newest
+abbrev pub rmwLeft : List ℕ → ℕ → ℕ → Changed → List ℕ
+rmwLeft h c step (success v) = stored h c v step
+rmwLeft h c step failure = h
+
+abbrev pub exclusiveLeft : List ℕ → ℕ → ℕ → Changed → List ℕ
+exclusiveLeft h c step (success v) = writtenOver h c v step
+exclusiveLeft h c step failure = h
+
+-- "Opcodes 0, 3, 5, 6 put the value read in the register, also on failure.": an exclusive change reads the newest
+unfoldable pub rmwDone : List ℕ → ℕ → ℕ → ℕ → Change → ℕ → ℕ → List ℕ
+rmwDone h t r c change v step = rmwLeft (withHeld h (register t r) v) c step (applied change v)
+
+unfoldable pub exclusiveDone : List ℕ → ℕ → ℕ → ℕ → Change → ℕ → List ℕ
+exclusiveDone h t r c change step =
+    exclusiveLeft (withHeld h (register t r) (held h (newest c))) c step (applied change (held h (newest c)))
+
+-- "cells take a Release store of their start value": no step writes it
+abbrev pub cellMade : List ℕ → ℕ → List ℕ → List ℕ
+cellMade table c h = stored h c (startValue table c) 0
+
+unfoldable pub heldAtStart : List ℕ → List ℕ
+heldAtStart table = cellMade table 3 (cellMade table 2 (cellMade table 1 (cellMade table 0 (replicate 61 0))))
+
+-- by its opcode, what a row of thread t changes, with the value of its entry: "read (opcodes 0, 3, 5, 16), stored (1, 2)"
+unfoldable pub acted : List ℕ → ℕ → ℕ → ℕ → Op → List ℕ
+acted h t v step (load c o r) = withHeld h (register t r) v
+acted h t v step (store c o a) = stored h c v step
+acted h t v step (storeRegister c o r) = stored h c v step
+acted h t v step (rmw c o f change r) = rmwDone h t r c change v step
+acted h t v step (fence o) = h
+acted h t v step (unsyncLoad c r) = withHeld h (register t r) v
+acted h t v step (exclusive c change r) = exclusiveDone h t r c change step
+acted h t v step yield = h
+acted h t v step (join thread) = h
+acted h t v step (jump target) = h
+acted h t v step (jumpIf r a target) = h
+acted h t v step (jumpUnless r a target) = h
+acted h t v step (check r a) = h
+acted h t v step critical = h
+acted h t v step exploreState = h
+acted h t v step skipBranch = h
+acted h t v step (spurious r) = withHeld h (register t r) v
+
+-- the row that a thread goes on with
+unfoldable pub nextOf : List ℕ → ℕ → ℕ → Op → ℕ
+nextOf h t k (load c o r) = k + 1
+nextOf h t k (store c o a) = k + 1
+nextOf h t k (storeRegister c o r) = k + 1
+nextOf h t k (rmw c o f change r) = k + 1
+nextOf h t k (fence o) = k + 1
+nextOf h t k (unsyncLoad c r) = k + 1
+nextOf h t k (exclusive c change r) = k + 1
+nextOf h t k yield = k + 1
+nextOf h t k (join thread) = k + 1
+nextOf h t k (jump target) = target
+nextOf h t k (jumpIf r a target) = cond (eqb (held h (register t r)) a) target (k + 1)
+nextOf h t k (jumpUnless r a target) = cond (eqb (held h (register t r)) a) (k + 1) target
+nextOf h t k (check r a) = k + 1
+nextOf h t k critical = k + 1
+nextOf h t k exploreState = k + 1
+nextOf h t k skipBranch = k + 1
+nextOf h t k (spurious r) = k + 1
+
+-- what a step changes that does this, by its entry
+abbrev pub takenAs : List ℕ → ℕ → Entry → Decoded Op → List ℕ
+takenAs h i e refused = h
+takenAs h i e (decoded op) =
+    acted (withHeld h (nextRow (e .thread)) (nextOf h (e .thread) (e .row) op)) (e .thread) (e .value) (i + 1) op
+
+unfoldable pub taken : List ℕ → List ℕ → ℕ → List ℕ → List ℕ
+taken table trace i h = takenAs h i (entryAt trace i) (operationAt table trace i)
+
+unfoldable pub heldAfter : List ℕ → List ℕ → ℕ → List ℕ
+heldAfter table trace zero = heldAtStart table
+heldAfter table trace (suc n) = taken table trace n (heldAfter table trace n)
