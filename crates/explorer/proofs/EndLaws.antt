@@ -29,9 +29,9 @@ use Rattle.report.specs.Answers.{reportOf}
 use Rattle.report.specs.declared.Answer.{Answer}
 use Rattle.report.specs.declared.Report.{Report}
 use Rattle.report.proofs.AnswerLaws.{ran-reported}
-use Rattle.walk.specs.Walks.{Lent, Stands, Comes}
-use Rattle.walk.specs.declared.Cursor.{Cursor}
-use Rattle.walk.specs.declared.Ticked.{Ticked}
+use Rattle.meeting.specs.Stands.{Lent, Stands, Comes}
+use Rattle.meeting.specs.declared.Cursor.{Cursor}
+use Rattle.meeting.specs.declared.Ticked.{Ticked}
 use Rattle.explorer.specs.Explores.{Ready, settingsOf, exploredOf}
 use Rattle.explorer.specs.Runs.{mostOpened, Greater, Shaped, Knows, Executes, judgedAs, Continues, Judges, Running, Finished, Empty, Ran, machineOf, limitsOf}
 use Rattle.explorer.specs.declared.Settings.{Settings}

@@ -18,10 +18,11 @@ use Rattle.layout.specs.Tables.{state}
 use Rattle.path.specs.Bounds.{boundOf}
 use Rattle.path.specs.declared.Bound.{Bound}
 use Rattle.trace.proofs.FrontLaws.{front-none}
-use Rattle.walk.specs.Walks.{Lent, lent, Stands, Comes, Runs, Gone}
-use Rattle.walk.specs.declared.Cursor.{Cursor}
+use Rattle.meeting.specs.Stands.{Lent, lent, Stands, Comes}
+use Rattle.meeting.specs.declared.Cursor.{Cursor}
+use Rattle.meeting.specs.declared.Ticked.{Ticked}
+use Rattle.walk.specs.Walks.{Runs, Gone}
 use Rattle.walk.specs.declared.Limits.{Limits}
-use Rattle.walk.specs.declared.Ticked.{Ticked}
 use Rattle.explorer.specs.Explores.{Ready, settingsOf}
 use Rattle.explorer.specs.Runs.{mostOpened, Afresh, Limited, Shaped, Started, Knows, Walks, Executes, programOf, limitsOf, machineOf}
 use Rattle.explorer.specs.declared.Settings.{Settings}

@@ -35,12 +35,12 @@ use Rattle.report.specs.declared.Answer.{Answer}
 use Rattle.report.specs.declared.Answer.the-variants as answer
 use Rattle.report.specs.declared.Report.{Report}
 use Rattle.report.proofs.AnswerLaws.{ran-reported}
-use Rattle.walk.specs.Walks.{Lent, lent, Stands, Comes}
-use Rattle.walk.specs.declared.Cursor.{Cursor}
-use Rattle.walk.specs.declared.Outcome.{Outcome}
-use Rattle.walk.specs.declared.Outcome.the-variants as code
-use Rattle.walk.specs.declared.Ticked.{Ticked}
-use Rattle.walk.proofs.Outcome.{the-type as outcomes}
+use Rattle.meeting.specs.Stands.{Lent, lent, Stands, Comes}
+use Rattle.meeting.specs.declared.Cursor.{Cursor}
+use Rattle.meeting.specs.declared.Outcome.{Outcome}
+use Rattle.meeting.specs.declared.Outcome.the-variants as code
+use Rattle.meeting.specs.declared.Ticked.{Ticked}
+use Rattle.meeting.proofs.Outcome.{the-type as outcomes}
 use Rattle.explorer.specs.Explores.{Ready, settingsOf, exploredOf}
 use Rattle.explorer.specs.Runs.{mostOpened, Greater, Shaped, Knows, Executes, judgedAs, Judges, Coming, Running, Finished, Empty, Ran, machineOf, limitsOf}
 use Rattle.explorer.specs.declared.Settings.{Settings}

@@ -14,9 +14,10 @@ use borrow.Author.Tests.{eqb-false, ltb-true, ltb-false}
 use Rattle.trace.specs.Entries.{Cleared}
 use Rattle.event.specs.declared.Fault.{Fault}
 use Rattle.event.specs.declared.Site.{Site}
-use Rattle.walk.specs.Walks.{Gone, Stopped}
-use Rattle.walk.specs.declared.Cursor.{Cursor}
-use Rattle.walk.specs.declared.Ticked.{Ticked}
+use Rattle.meeting.specs.Stands.{Stopped}
+use Rattle.meeting.specs.declared.Cursor.{Cursor}
+use Rattle.meeting.specs.declared.Ticked.{Ticked}
+use Rattle.walk.specs.Walks.{Gone}
 use Rattle.explorer.specs.Runs.{Greater, Continues, Empty}
 use Rattle.explorer.specs.declared.run.Verdict.{Verdict}
 use Rattle.explorer.specs.declared.run.Verdict.the-variants as verdict

@@ -16,15 +16,16 @@ use Rattle.rules.specs.Explorer.{Walk, Tick, goes, over, faulted}
 use Rattle.rules.specs.Explored.{ticksOf}
 use Rattle.event.specs.declared.Fault.the-variants as fault
 use Rattle.event.specs.declared.Site.{Site}
-use Rattle.walk.specs.Walks.{Lent, Placed, Stands, Comes, Runs, Gone, Stopped, Ticks, siteOf}
+use Rattle.meeting.specs.Stands.{Lent, Stands, Comes, Stopped, siteOf}
+use Rattle.meeting.specs.declared.Cursor.{Cursor}
+use Rattle.meeting.specs.declared.Outcome.{Outcome}
+use Rattle.meeting.specs.declared.Outcome.the-variants as code
+use Rattle.meeting.specs.declared.Ticked.{Ticked}
+use Rattle.meeting.proofs.Outcome.{the-type as outcomes}
+use Rattle.meeting.proofs.ComesLaws.{same-stands, comes-stops}
+use Rattle.walk.specs.Walks.{Placed, Runs, Gone, Ticks}
 use Rattle.walk.specs.Parts.{thenOn}
-use Rattle.walk.specs.declared.Cursor.{Cursor}
 use Rattle.walk.specs.declared.Limits.{Limits}
-use Rattle.walk.specs.declared.Outcome.{Outcome}
-use Rattle.walk.specs.declared.Outcome.the-variants as code
-use Rattle.walk.specs.declared.Ticked.{Ticked}
-use Rattle.walk.proofs.Outcome.{the-type as outcomes}
-use Rattle.walk.proofs.ComesLaws.{same-stands, comes-stops}
 use Rattle.walk.proofs.MeetLaws.{stays-then, went-on}
 use Rattle.explorer.specs.Runs.{mostOpened, Underway, Ticking, Walks}
 use Rattle.explorer.proofs.RunLaws.{gone-more, stopped-gone}

@@ -34,12 +34,13 @@ use Rattle.report.specs.Answers.{reportOf, ranReport}
 use Rattle.report.specs.declared.Answer.{Answer}
 use Rattle.report.specs.declared.Answer.the-variants as answer
 use Rattle.report.specs.declared.Report.{Report}
-use Rattle.walk.specs.Walks.{Lent, Stands, Comes, Runs, Gone}
-use Rattle.walk.specs.declared.Cursor.{Cursor}
+use Rattle.meeting.specs.Stands.{Lent, Stands, Comes}
+use Rattle.meeting.specs.declared.Cursor.{Cursor}
+use Rattle.meeting.specs.declared.Outcome.{Outcome}
+use Rattle.meeting.specs.declared.Outcome.the-variants as outcome
+use Rattle.meeting.specs.declared.Ticked.{Ticked}
+use Rattle.walk.specs.Walks.{Runs, Gone}
 use Rattle.walk.specs.declared.Limits.{Limits}
-use Rattle.walk.specs.declared.Outcome.{Outcome}
-use Rattle.walk.specs.declared.Outcome.the-variants as outcome
-use Rattle.walk.specs.declared.Ticked.{Ticked}
 use Rattle.explorer.specs.Explores.{Ready, settingsOf, exploredOf}
 use Rattle.explorer.specs.declared.Settings.{Settings}
 use Rattle.explorer.specs.declared.run.Verdict.{Verdict}

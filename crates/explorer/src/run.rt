@@ -2,7 +2,8 @@
 ghost use mathlib.Core.Path.{_≡_};
 ghost use Prim.Native.Nat.{_+_, _*_, _^_, _<_, _≤_};
 ghost use lib.ListN.{length, getD};
-ghost use Rattle.walk.specs.Walks.{Placed, lent};
+ghost use Rattle.meeting.specs.Stands.{lent};
+ghost use Rattle.walk.specs.Walks.{Placed};
 ghost use Rattle.explorer.specs.Explores.{Ready};
 ghost use Rattle.explorer.specs.Runs.{mostOpened, Fuel, Afresh, Greater, Limited, Walks, Started, Executes, Judges, Finished, Empty, Ran};
 use crate::Settings;

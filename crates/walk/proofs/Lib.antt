@@ -1,8 +1,4 @@
-pub mod BranchLaws
-pub mod ComesLaws
-pub mod MarkedLaws
 pub mod MeetLaws
-pub mod ReplyLaws
 pub mod ShapeLaws
 pub mod TakeLaws
 pub mod TickLaws

@@ -1,17 +1,20 @@
 -- A question meets the path, and the machine goes on with the answer. Assumes nothing.
 --     stays-then            where a part has stopped or ended, nothing comes next
 --     went-on               where it goes on, with which walk
+--     met-reached           the meeting in its two parts
 --     answered-is           what the machine does with an answer
 --     meet-stays, meet-unexpected, meet-answered      the meeting
-use Prim.Native.Nat.{ℕ, _+_, _*_, _≤_, _<_}
-use mathlib.Core.List.{List, [], _∷_}
+use Prim.Native.Nat.{ℕ, _<_}
+use mathlib.Core.List.{List, [], _∷_, _++_}
 use mathlib.Core.Bool.{Bool, true, false, cond, _&&_}
 use mathlib.Core.Path.{_≡_, refl, ap, sym, subst, _∙_}
 use native.Mathlib.Omega.{arith}
 use types.Run.{OneOf, miss}
 use denote.Enum.Declared.{tagOf}
-use lib.Dec.{ltb}
+use borrow.Author.Tests.{eqb-true}
+use lib.Dec.{ltb, eqb}
 use lib.ListN.{length, getD}
+use lib.Seq.{getD-append-seam}
 use Rattle.rules.specs.Event as rules
 use Rattle.rules.specs.Vector.{nobody, thread}
 use Rattle.rules.specs.State.{State, Clocks, Marks as MarkTable, Values, Numbers}
@@ -20,30 +23,33 @@ use Rattle.rules.specs.Path as paths
 use Rattle.rules.specs.Path.{Branch, noBranch}
 use Rattle.rules.specs.Machine.{Program, machine, scheduled, readFrom, bitTaken, maskOf, active, activeRow, rowOf, answered, isExploring}
 use Rattle.rules.specs.Explorer as explorer
-use Rattle.rules.specs.Explorer.{Walk, Tick, goes, over, faulted, says, unexpected}
+use Rattle.rules.specs.Explorer.{Walk, Tick, goes, over, faulted, pushes, faults, says, unexpected}
 use Rattle.layout.specs.Tables.{state}
 use Rattle.decode.specs.Ops.{decodedOf}
 use Rattle.execution.specs.Answers.{Answers}
-use Rattle.event.specs.Moves.{faultOf}
 use Rattle.event.specs.declared.Choice.{Choice}
 use Rattle.event.specs.declared.Choice.the-variants as choice
 use Rattle.event.specs.declared.Event.{Event}
 use Rattle.event.specs.declared.Fault.the-variants as fault
 use Rattle.event.specs.declared.Question.{Question}
 use Rattle.event.specs.declared.Question.the-variants as question
-use Rattle.walk.proofs.Outcome.{the-type as outcomes}
-use Rattle.walk.specs.Walks.{Lent, lent, Placed, Stands, Comes, Met, Gone, Same, Stopped, Passed, Kept, siteOf}
-use Rattle.walk.specs.Parts.{questionOf, askedAt, moveAt, concludedAt, thenOn, thenReplied, reachedAt, FitsSlot, FitsNobody, Fits, AnswersBy, RepliesBy, AtRow, AsksAt, Wrote, Lands, Reaches, Holding, Rooms, Goes, meetsAt, metAt}
-use Rattle.walk.specs.declared.Cursor.{Cursor}
-use Rattle.walk.specs.declared.Here.{Here}
-use Rattle.walk.specs.declared.Outcome.{Outcome}
-use Rattle.walk.specs.declared.Outcome.the-variants as code
-use Rattle.walk.specs.declared.Reply.{Reply}
-use Rattle.walk.specs.declared.Reply.the-variants as answer
-use Rattle.walk.specs.declared.Ticked.{Ticked}
-use Rattle.walk.proofs.WalkLaws.{met-ahead, meet-stops, meet-on}
-use Rattle.walk.proofs.ComesLaws.{same-stands, comes-stops, wrote-none}
-use Rattle.walk.proofs.BranchLaws.{met-reached}
+use Rattle.meeting.specs.Stands.{Lent, lent, Stands, Comes, Stopped, siteOf}
+use Rattle.meeting.specs.Branches.{questionOf, askedAt, branched, reached, reachedAt, Fits, AnswersBy, RepliesBy, Reaches, Holding}
+use Rattle.meeting.specs.Entries.{moveAt, concludedAt, Lands}
+use Rattle.meeting.specs.declared.Cursor.{Cursor}
+use Rattle.meeting.specs.declared.Here.{Here}
+use Rattle.meeting.specs.declared.Outcome.{Outcome}
+use Rattle.meeting.specs.declared.Outcome.the-variants as code
+use Rattle.meeting.specs.declared.Reply.{Reply}
+use Rattle.meeting.specs.declared.Reply.the-variants as answer
+use Rattle.meeting.specs.declared.Ticked.{Ticked}
+use Rattle.meeting.proofs.Outcome.{the-type as outcomes}
+use Rattle.meeting.proofs.ComesLaws.{same-stands, comes-stops}
+use Rattle.meeting.proofs.MetLaws.{met-ahead}
+use Rattle.walk.specs.Walks.{Placed, Passed}
+use Rattle.walk.specs.Parts.{thenOn, thenReplied, AtRow, AsksAt, Rooms, Goes, meetsAt, metAt}
+use Rattle.walk.proofs.WalkLaws.{meet-stops, meet-on}
+use Rattle.meeting.proofs.ComesLaws.{wrote-none}
 
 module _ (f : Walk State → Tick State) (c : Cursor) (x : Lent) where
   pub stays-then : (o : Outcome) → OneOf (1 ∷ 2 ∷ []) (tagOf outcomes o) → (t : Tick State) → Comes o c x t → Comes o c x (thenOn f t)
@@ -67,6 +73,24 @@ went-by x c (faulted g s w) h = absurd h
 
 pub went-on : {x : Lent} {c : Cursor} (o : Outcome) (t : Tick State) → o ≡ code.Goes → Comes o c x t → WentOn x c t
 went-on {x} {c} o t e h = went-by x c t (subst (λ (y : Outcome). Comes y c x t) e h)
+
+-- The meeting in its two parts
+
+module _ (p : Program) (L : explorer.Limits) (site : rules.Site) (w : Walk State) (q : rules.Question) where
+  branch-replied : (a : explorer.Pushed) → w .pos ≡ length (w .ledger .path) → explorer.newBranch (machine p) L site w q a ≡ thenReplied p L site q (branched site w a)
+  branch-replied (pushes b) e =
+      ap (λ (x : Branch). explorer.replied (machine p) L site (explorer.withLedger w (explorer.withBranch (w .ledger) b)) (explorer.reply (w .pos) x q))
+      (sym (ap (λ (k : ℕ). getD (w .ledger .path ++ (b ∷ [])) k noBranch) e ∙ getD-append-seam (w .ledger .path) b [] noBranch))
+  branch-replied (faults f) e = refl
+
+  by-flag : (b : Bool) → eqb (w .pos) (length (w .ledger .path)) ≡ b → (a : explorer.Pushed)
+      → cond b (explorer.newBranch (machine p) L site w q a) (explorer.replied (machine p) L site w (explorer.reply (w .pos) (getD (w .ledger .path) (w .pos) noBranch) q))
+      ≡ thenReplied p L site q (cond b (branched site w a) (goes w))
+  by-flag true e a = branch-replied a (eqb-true (w .pos) (length (w .ledger .path)) e)
+  by-flag false e a = refl
+
+  pub met-reached : (exploring : Bool) → explorer.met (machine p) L site w exploring q ≡ thenReplied p L site q (reached L site w exploring q)
+  met-reached exploring = by-flag (eqb (w .pos) (length (w .ledger .path))) refl (explorer.pushed (L .branches) (w .ledger .path) exploring q)
 
 -- The answer
 

@@ -2,7 +2,7 @@
 --     take-concludes        it asks nothing
 --     take-stays            the entry of a yield has no room
 --     take-meets            it asks: marks, then the path
-use Prim.Native.Nat.{ℕ, _+_, _*_, _≤_, _<_}
+use Prim.Native.Nat.{ℕ, _+_}
 use mathlib.Core.List.{List, [], _∷_}
 use mathlib.Core.Bool.{Bool, true, false, cond}
 use mathlib.Core.Path.{_≡_, refl, ap, sym, subst, _∙_}
@@ -10,13 +10,13 @@ use native.Mathlib.Omega.{arith}
 use types.Run.{OneOf, miss}
 use denote.Enum.Declared.{tagOf}
 use lib.Dec.{leb}
-use lib.ListN.{length, getD}
+use lib.ListN.{length}
 use Rattle.rules.specs.Event as rules
 use Rattle.rules.specs.State.{State, Clocks, Marks as MarkTable, Values, Numbers}
 use Rattle.rules.specs.Path as paths
 use Rattle.rules.specs.Machine.{Program, machine, schedules, isExploring}
 use Rattle.rules.specs.Explorer as explorer
-use Rattle.rules.specs.Explorer.{Walk, Tick, goes, over, faulted}
+use Rattle.rules.specs.Explorer.{Walk, Tick, goes, faulted}
 use Rattle.path.specs.Bounds.{boundOf}
 use Rattle.path.specs.declared.Bound.{Bound}
 use Rattle.event.proofs.Event.{the-type as happened}
@@ -24,13 +24,16 @@ use Rattle.event.specs.declared.Event.{Event}
 use Rattle.event.specs.declared.Event.the-variants as event
 use Rattle.event.specs.declared.Question.{Question}
 use Rattle.event.specs.declared.Question.the-variants as question
-use Rattle.walk.proofs.Outcome.{the-type as outcomes}
-use Rattle.walk.specs.Walks.{Lent, lent, Placed, Stands, Comes, Gone, Kept, siteOf}
-use Rattle.walk.specs.Parts.{askedAt, moveAt, completedBy, completedAt, concludedAt, thenOn, AsksAt, Wrote, Lands, Marks, Holding, Rooms, Goes, meetsAt, metAt, takesAt, takenAt, TakesAt}
-use Rattle.walk.specs.declared.Cursor.{Cursor}
-use Rattle.walk.specs.declared.Here.{Here}
-use Rattle.walk.specs.declared.Outcome.the-variants as code
-use Rattle.walk.specs.declared.Ticked.{Ticked}
+use Rattle.meeting.specs.Stands.{Lent, lent, Stands, Comes, siteOf}
+use Rattle.meeting.specs.Branches.{askedAt, Marks}
+use Rattle.meeting.specs.Entries.{Kept, completedBy, completedAt, concludedAt, Lands}
+use Rattle.meeting.specs.declared.Cursor.{Cursor}
+use Rattle.meeting.specs.declared.Here.{Here}
+use Rattle.meeting.specs.declared.Outcome.the-variants as code
+use Rattle.meeting.specs.declared.Ticked.{Ticked}
+use Rattle.meeting.proofs.Outcome.{the-type as outcomes}
+use Rattle.walk.specs.Walks.{Placed, Gone}
+use Rattle.walk.specs.Parts.{thenOn, AsksAt, Rooms, Goes, meetsAt, metAt, takesAt, takenAt}
 use Rattle.walk.proofs.WalkLaws.{take-on}
 use Rattle.walk.proofs.MeetLaws.{stays-then, went-on}
 

@@ -3,7 +3,7 @@
 --     tick-takes       what the thread does next is taken
 use Prim.Native.Nat.{ℕ, _+_, _<_}
 use mathlib.Core.List.{List, []}
-use mathlib.Core.Bool.{Bool, true, false, cond, _&&_, not}
+use mathlib.Core.Bool.{Bool, true, false, cond, _&&_}
 use mathlib.Core.Path.{_≡_, refl, ap, sym, subst, _∙_}
 use mathlib.Core.Logic.{_≢_}
 use native.Mathlib.Omega.{arith}
@@ -28,12 +28,13 @@ use Rattle.event.specs.declared.Event.{Event}
 use Rattle.event.specs.declared.Event.the-variants as event
 use Rattle.event.specs.declared.Question.{Question}
 use Rattle.event.specs.declared.Question.the-variants as question
-use Rattle.walk.specs.Walks.{Lent, lent, Stands, Comes, siteOf}
-use Rattle.walk.specs.Parts.{moveAt, AtRow, MovesAt, Goes, Rooms, TakesAt, takesAt, takenAt, ticksAt, tickedAt}
-use Rattle.walk.specs.declared.Cursor.{Cursor}
-use Rattle.walk.specs.declared.Here.{Here}
+use Rattle.meeting.specs.Stands.{Lent, lent, Comes, siteOf}
+use Rattle.meeting.specs.Entries.{moveAt}
+use Rattle.meeting.specs.declared.Cursor.{Cursor}
+use Rattle.meeting.specs.declared.Here.{Here}
+use Rattle.meeting.specs.declared.Ticked.{Ticked}
+use Rattle.walk.specs.Parts.{AtRow, MovesAt, Goes, takesAt, takenAt, ticksAt, tickedAt}
 use Rattle.walk.specs.declared.Limits.{Limits}
-use Rattle.walk.specs.declared.Ticked.{Ticked}
 
 -- the same thread is active, and a thread is at the same row
 record Same (t : ℕ) (st s : State) : Type 0 where

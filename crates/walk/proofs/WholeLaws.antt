@@ -1,19 +1,19 @@
 -- A tick of the active thread, whole: there is none, or it stands at its row. Assumes nothing.
 --     tick-nobody      no thread is active
 --     tick-someone     the active thread's tick at its row
-use Prim.Native.Nat.{ℕ, _+_, _*_, _≤_, _<_}
+use Prim.Native.Nat.{ℕ, _+_, _≤_, _<_}
 use mathlib.Core.List.{List}
-use mathlib.Core.Bool.{Bool, true, false, cond}
+use mathlib.Core.Bool.{true, false}
 use mathlib.Core.Path.{_≡_, refl, ap, sym, subst, _∙_}
 use native.Mathlib.Omega.{arith}
 use borrow.Author.Tests.{le-ltb, lt-ltb}
 use lib.Dec.{ltb}
-use lib.ListN.{length, getD}
+use lib.ListN.{getD}
 use Rattle.rules.specs.Event as rules
 use Rattle.rules.specs.Event.{noSite}
 use Rattle.rules.specs.State.{State, Clocks, Marks as MarkTable, Values, Numbers, number, activeThread, nextRow}
-use Rattle.rules.specs.Table.{opAt, shapeOf, headerBytes, threadsOf, cellsOf, countsOf, firstRows}
-use Rattle.rules.specs.Machine.{Program, machine, active, activeRow, next, nextAt, rowOf, rowCount}
+use Rattle.rules.specs.Table.{opAt, shapeOf, threadsOf, cellsOf, countsOf, firstRows}
+use Rattle.rules.specs.Machine.{Program, machine, active, next, rowOf}
 use Rattle.rules.specs.Explorer as explorer
 use Rattle.rules.specs.Explorer.{Walk, Tick, faulted}
 use Rattle.layout.specs.Tables.{state}
@@ -21,13 +21,14 @@ use Rattle.decode.specs.Ops.{decodedOf}
 use Rattle.table.specs.Answers.{OpAt}
 use Rattle.event.specs.declared.Fault.the-variants as fault
 use Rattle.event.specs.declared.Site.{Site}
-use Rattle.walk.specs.Walks.{Lent, lent, Placed, Stands, Comes, Runs, Ticks, Stopped, siteOf}
-use Rattle.walk.specs.Parts.{Goes, Rooms, TicksAt, ticksAt, tickedAt, AtRow}
-use Rattle.walk.specs.declared.Cursor.{Cursor}
-use Rattle.walk.specs.declared.Here.{Here}
+use Rattle.meeting.specs.Stands.{Lent, lent, Stands, Comes, Stopped, siteOf}
+use Rattle.meeting.specs.declared.Cursor.{Cursor}
+use Rattle.meeting.specs.declared.Here.{Here}
+use Rattle.meeting.specs.declared.Ticked.{Ticked}
+use Rattle.meeting.proofs.ComesLaws.{comes-stops, same-stands}
+use Rattle.walk.specs.Walks.{Placed, Runs, Ticks}
+use Rattle.walk.specs.Parts.{Goes, ticksAt, tickedAt, AtRow}
 use Rattle.walk.specs.declared.Limits.{Limits}
-use Rattle.walk.specs.declared.Ticked.{Ticked}
-use Rattle.walk.proofs.ComesLaws.{comes-stops, same-stands}
 use Rattle.walk.proofs.ShapeLaws.{shape-threads, shape-cells, shape-rows, shape-first}
 
 nobody-tick : (p : Program) (L : explorer.Limits) (w : Walk State) → ltb (active (w .state)) 5 ≡ false → explorer.tick (machine p) L w ≡ faulted rules.impossible noSite w

@@ -1,6 +1,6 @@
 use Rattle.walk.proofs.MeetLaws.{meet-stays, meet-unexpected, meet-answered}
 use native.Mathlib.Omega.{arith}
-use Rattle.walk.proofs.WalkLaws.{meet-stops, meet-on, says-within}
+use Rattle.walk.proofs.WalkLaws.{says-within}
 use borrow.Author.Needs.{needs}
 use Rattle.walk.proofs.meet.Statement.{statement}
 use Rattle.walk.proofs.meet.Tie as tie

@@ -1,6 +1,5 @@
 use Rattle.walk.proofs.TakeLaws.{take-concludes, take-stays, take-meets}
 use native.Mathlib.Omega.{arith}
-use Rattle.walk.proofs.WalkLaws.{take-on}
 use borrow.Author.Needs.{needs}
 use Rattle.walk.proofs.take.Statement.{statement}
 use Rattle.walk.proofs.take.Tie as tie

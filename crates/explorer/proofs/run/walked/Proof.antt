@@ -2,7 +2,7 @@ use Prim.Native.Nat.{_≤_, _*_, _-_}
 use mathlib.Core.Path.{_≡_, refl}
 use lib.ListN.{length}
 use native.Mathlib.Omega.{arith}
-use Rattle.walk.specs.Walks.{lent}
+use Rattle.meeting.specs.Stands.{lent}
 use Rattle.explorer.specs.Runs.{Ticking}
 use Rattle.explorer.proofs.WalkedLaws.{ticking-none, ticking-more, walks-ended, walks-spent}
 use borrow.Author.Needs.{needs}

@@ -1,0 +1,3 @@
+pub mod Branches
+pub mod Entries
+pub mod Stands
