@@ -1,20 +1,38 @@
 // Rows of the table that matter to what a run covers: those that switch exploring on or off, and those that store.
+ghost use Prim.Native.Nat.{_≤_, _<_};
+ghost use mathlib.Core.Path.{_≡_};
+ghost use Rattle.decode.specs.Ops.{decodedOf};
+ghost use Rattle.coverage.specs.Covered.{firstSwitch, firstIn, stores, storesIn, oneIf, storesTo};
+ghost use Rattle.coverage.specs.Covered.{switches as switchesTo};
 use decode::Decoded;
 use decode::Op;
-use steps::access;
+use layout::MAX_THREADS;
+use layout::wide16;
+use table::COUNTS;
+use table::Shape;
+
+// Opcodes that switch exploring.
+const CRITICAL: u8 = 13;
+
+const EXPLORE_STATE: u8 = 14;
+
+const SKIP_BRANCH: u8 = 15;
 
 // A row of the table, or none.
 pub enum Place {
     Nowhere,
-    At { thread: u8, row: u8 },
+    At { thread: usize, row: usize },
 }
 
 // The first row, thread by thread, that switches exploring on, or off.
-pub fn first_switch(table: &[u8], on: bool) -> Place {
+pub fn first_switch(table: &[u8], on: bool) -> Place
+    ensures { λ r. ⌜ r ≡ firstSwitch (now (table .entry)) on ⌝ }
+{
+    let shape = table::shape(table);
     let mut thread = 0;
-    while thread < 5 {
-        let row = first_in(table, thread, on);
-        if row < steps::row_count(table, thread) {
+    while thread < MAX_THREADS {
+        let row = first_in(table, &shape, thread, on);
+        if row < wide16(shape[COUNTS + thread]) {
             return Place::At { thread, row };
         }
         thread += 1;
@@ -23,11 +41,14 @@ pub fn first_switch(table: &[u8], on: bool) -> Place {
 }
 
 // The first such row of a thread, or its row count.
-fn first_in(table: &[u8], thread: u8, on: bool) -> u8 {
-    let count = steps::row_count(table, thread);
+fn first_in(table: &[u8], shape: &Shape, thread: usize, on: bool) -> usize
+    requires { ⌜ thread < 5 ⌝ }
+    ensures { λ r. ⌜ r ≡ firstIn (now (table .entry)) (now (shape .entry)) on thread ⌝ }
+{
+    let count = wide16(shape[COUNTS + thread]);
     let mut row = 0;
     while row < count {
-        if switches(table, thread, row, on) {
+        if switches(table::row_of(table, shape, thread, row as u16), on) {
             return row;
         }
         row += 1;
@@ -36,58 +57,65 @@ fn first_in(table: &[u8], thread: u8, on: bool) -> u8 {
 }
 
 // Whether a row switches exploring on, or off.
-fn switches(table: &[u8], thread: u8, row: u8, on: bool) -> bool {
-    let Decoded::Row(op) = steps::row_of(table, thread, row) else {
+fn switches(row: Decoded, on: bool) -> bool
+    ensures { λ r. ⌜ r ≡ switchesTo on (decodedOf row) ⌝ }
+{
+    let Decoded::Row(op) = row else {
         return false;
     };
-    match op {
-        Op::ExploreState => on,
-        Op::Critical | Op::SkipBranch => !on,
-        _ => false,
+    let opcode = table::opcode(op);
+    if on {
+        return opcode == EXPLORE_STATE;
     }
+    (opcode == CRITICAL) | (opcode == SKIP_BRANCH)
 }
 
 // How many rows of all threads may store to a cell.
-pub fn stores(table: &[u8], cell: u64) -> u64 {
+pub fn stores(table: &[u8], cell: u64) -> u64
+    ensures { λ r. ⌜ r ≡ stores (now (table .entry)) cell ⌝ }
+{
+    let shape = table::shape(table);
     let mut sum = 0;
     let mut thread = 0;
-    while thread < 5 {
-        sum = sum % 256 + stores_in(table, thread, cell) % 256;
+    while thread < MAX_THREADS {
+        sum += stores_in(table, &shape, thread, cell);
         thread += 1;
     }
     sum
 }
 
 // How many rows of one thread may.
-fn stores_in(table: &[u8], thread: u8, cell: u64) -> u64 {
-    let count = steps::row_count(table, thread);
+fn stores_in(table: &[u8], shape: &Shape, thread: usize, cell: u64) -> u64
+    requires { ⌜ thread < 5 ⌝ }
+    ensures { λ r. ⌜ (r ≡ storesIn (now (table .entry)) (now (shape .entry)) cell thread) × (r ≤ 65535) ⌝ }
+{
+    let count = wide16(shape[COUNTS + thread]);
     let mut sum = 0;
     let mut row = 0;
     while row < count {
-        sum = counted(sum, may_store(table, thread, row, cell));
+        sum += may_store(table::row_of(table, shape, thread, row as u16), cell);
         row += 1;
     }
     sum
 }
 
-// One more, where it counts. No thread has as many as 256.
-fn counted(sum: u64, counts: bool) -> u64 {
-    if counts {
-        return sum % 256 + 1;
+// 1 where a row may store to this cell, else 0.
+fn may_store(row: Decoded, cell: u64) -> u64
+    ensures { λ r. ⌜ r ≡ oneIf (storesTo cell (decodedOf row)) ⌝ }
+{
+    let Decoded::Row(op) = row else {
+        return 0;
+    };
+    match op {
+        Op::Store { cell: named, .. } => one_if(named as u64 == cell),
+        Op::StoreRegister { cell: named, .. } => one_if(named as u64 == cell),
+        Op::Rmw { cell: named, .. } => one_if(named as u64 == cell),
+        _ => 0,
     }
-    sum
 }
 
-// Whether a row may store to this cell.
-fn may_store(table: &[u8], thread: u8, row: u8, cell: u64) -> bool {
-    let Decoded::Row(op) = steps::row_of(table, thread, row) else {
-        return false;
-    };
-    if access::cell_of(op) != cell {
-        return false;
-    }
-    match op {
-        Op::Store { .. } | Op::StoreRegister { .. } | Op::Rmw { .. } => true,
-        _ => false,
-    }
+fn one_if(yes: bool) -> u64
+    ensures { λ r. ⌜ r ≡ oneIf yes ⌝ }
+{
+    if yes { 1 } else { 0 }
 }

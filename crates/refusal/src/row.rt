@@ -1,12 +1,13 @@
 // What is wrong with a row. The library's own decode judges: a row that it accepts gets the fields of the bad one, one after
 // the other, and the first that it then refuses is the one that is wrong.
-use crate::why;
 use decode::Decoded;
 use decode::Row;
 use decode::row_decoded;
 use layout::MAX_THREADS;
 use layout::wide8;
 use layout::wide16;
+use reasons::Field;
+use reasons::Room;
 use table::CELLS;
 use table::COUNTS;
 use table::FIRSTS;
@@ -15,26 +16,6 @@ use table::limits::HEADER;
 use table::limits::ROW;
 use table::limits::VALUE;
 use table::little;
-
-// The fields of a row, in the order in which they are judged.
-pub enum Field {
-    Opcode,
-    Object,
-    Order,
-    Kind,
-    Failure,
-    Register,
-    Target,
-    A,
-    B,
-}
-
-// What a row may name: so many threads, cells and rows of its thread.
-pub struct Room {
-    pub threads: usize,
-    pub cells: usize,
-    pub count: usize,
-}
 
 // Says what is wrong with this row of this thread.
 pub fn print(table: &[u8], thread: u8, number: u8) {
@@ -59,7 +40,7 @@ pub fn print(table: &[u8], thread: u8, number: u8) {
         number as u64,
         0,
     );
-    let to = why::put(&mut line, to, wrong(row, room), row, room);
+    let to = reasons::put(&mut line, to, wrong(row, room), row, room);
     line::end(&mut line, to);
 }
 

@@ -1,5 +1,7 @@
 // The verdict on a run. Its first line begins with the answer's number, `answer N:`, and says what happened: exhausted, failed,
 // no verdict or refused. Behind it stands what was covered where nothing failed, or what to do where a limit ended the run.
+ghost use mathlib.Core.Path.{_≡_};
+ghost use Rattle.verdict.specs.Limits.{isLimit};
 use decode::Decoded;
 use decode::Op;
 use explorer::Settings;
@@ -29,11 +31,10 @@ pub fn print(table: &[u8], settings: Settings, report: Report, trace: &[u8]) {
 }
 
 // Whether a limit ended the run, which is no verdict.
-pub fn is_limit(number: u64) -> bool {
-    match number {
-        1 | 11 | 12 | 17 => true,
-        _ => false,
-    }
+pub fn is_limit(number: u64) -> bool
+    ensures { λ r. ⌜ r ≡ isLimit number ⌝ }
+{
+    (number == 1) | (number == 11) | (number == 12) | (number == 17)
 }
 
 // What is wrong with what was given.

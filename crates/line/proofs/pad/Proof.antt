@@ -1,19 +1,22 @@
 use Prim.Native.Nat.{_-_}
+use mathlib.Core.Path.{_≡_, refl}
 use borrow.Author.Needs.{needs}
+use Rattle.line.specs.Lines.{ended, padded}
+use Rattle.line.proofs.LineLaws.{pad-on, pad-full, pad-end}
 use Rattle.line.proofs.pad.Statement.{statement}
 use Rattle.line.proofs.pad.Tie as tie
 
 abbrev Inv-loop : tie.InvT-loop
-Inv-loop line₀ at column to₀ line to = Unit {0}
+Inv-loop line₀ at column to₀ line to = padded (ended line to) column ≡ padded (ended line₀ at) column
 
 abbrev μ-loop : tie.MeasureT-loop
 μ-loop line₀ at column to₀ line to = column - to
 
 loop-holds : tie.Need-loop-holds Inv-loop μ-loop
-loop-holds c = search needs
+loop-holds c = refl
 
 returns : tie.Need-returns Inv-loop μ-loop
-returns c = search needs
+returns c = pad-full _ _ _ _ (c .before .before .loop .inv) (c .if1 .taken)
 
 element-write-line : tie.Need-element-write-line Inv-loop μ-loop
 element-write-line c = search needs
@@ -25,10 +28,12 @@ loop-less : tie.Need-loop-less Inv-loop μ-loop
 loop-less c = search needs
 
 loop-again : tie.Need-loop-again Inv-loop μ-loop
-loop-again c = search needs
+loop-again c =
+    let turn = c .before in
+    pad-on _ _ _ _ (turn .before .loop .inv) (turn .loop-test .taken) (c .if1 .left)
 
 returns-2 : tie.Need-returns-2 Inv-loop μ-loop
-returns-2 c = search needs
+returns-2 c = pad-end _ _ _ _ (c .before .loop .inv) (c .loop-test .left)
 
 pub pad-spec : {M : Type 1} → statement M
 pad-spec =

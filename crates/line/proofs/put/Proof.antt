@@ -1,20 +1,26 @@
 use Prim.Native.Nat.{_≤_, _-_}
-use lib.ListN.{length}
+use mathlib.Core.Path.{_≡_, refl, sym, _∙_}
+use lib.ListN.{length, drop}
+use Rattle.line.specs.Lines.{ended, putText}
+use Rattle.line.proofs.LineLaws.{text-on, text-full, text-end}
 use borrow.Author.Needs.{needs}
 use Rattle.line.proofs.put.Statement.{statement}
 use Rattle.line.proofs.put.Tie as tie
 
 abbrev Inv-loop : tie.InvT-loop
-Inv-loop line₀ at text to₀ i₀ line to i = i ≤ length text
+Inv-loop line₀ at text to₀ i₀ line to i =
+    (i ≤ length text) × (putText (ended line to) (drop i text) ≡ putText (ended line₀ at) text)
 
 abbrev μ-loop : tie.MeasureT-loop
 μ-loop line₀ at text to₀ i₀ line to i = length text - i
 
 loop-holds : tie.Need-loop-holds Inv-loop μ-loop
-loop-holds c = search needs
+loop-holds c = (search needs, refl)
 
 returns : tie.Need-returns Inv-loop μ-loop
-returns c = search needs
+returns c =
+    let at = c .before .before in
+    text-full _ _ _ _ (c .before .loop-test .taken) _ (at .loop .inv .1) (c .if1 .taken)
 
 shared-slice-read-line : tie.Need-shared-slice-read-line Inv-loop μ-loop
 shared-slice-read-line c = search needs
@@ -32,10 +38,14 @@ loop-less : tie.Need-loop-less Inv-loop μ-loop
 loop-less c = search needs
 
 loop-again : tie.Need-loop-again Inv-loop μ-loop
-loop-again c = search needs
+loop-again c =
+    let turn = c .before .before in
+    (search needs, text-on _ _ _ _ (turn .loop-test .taken) _ (turn .before .loop .inv .1) (c .before .if1 .left))
 
 returns-2 : tie.Need-returns-2 Inv-loop μ-loop
-returns-2 c = search needs
+returns-2 c =
+    let at = c .before in
+    sym (text-end _ _ _ (c .loop-test .left)) ∙ at .loop .inv .1
 
 pub put-spec : {M : Type 1} → statement M
 put-spec =

@@ -1,8 +1,26 @@
-// What a field of a row may be, in words.
-use crate::row::Field;
-use crate::row::Room;
+// What is wrong with a field of a row, in words.
 use decode::Row;
 use line::Line;
+
+// The fields of a row, in the order in which they are judged.
+pub enum Field {
+    Opcode,
+    Object,
+    Order,
+    Kind,
+    Failure,
+    Register,
+    Target,
+    A,
+    B,
+}
+
+// What a row may name: so many threads, cells and rows of its thread.
+pub struct Room {
+    pub threads: usize,
+    pub cells: usize,
+    pub count: usize,
+}
 
 // Puts what is wrong with this field of this row.
 pub fn put(line: &mut Line, at: usize, field: Field, row: Row, room: Room) -> usize {
@@ -119,16 +137,24 @@ fn put_failure(line: &mut Line, at: usize, row: Row) -> usize {
 
 // The register.
 fn put_register(line: &mut Line, at: usize, opcode: u8, register: u64) -> usize {
-    match opcode {
-        0 | 2 | 3 | 5 | 6 | 10 | 11 | 12 | 16 => line::fill(
+    if has_register(opcode) {
+        return line::fill(
             line,
             at,
             b"register # is none: there are 0 to 3",
             register,
             0,
             0,
-        ),
-        _ => put_unused(line, at, b"register", register, opcode),
+        );
+    }
+    put_unused(line, at, b"register", register, opcode)
+}
+
+// Whether a row of this opcode has one.
+fn has_register(opcode: u8) -> bool {
+    match opcode {
+        0 | 2 | 3 | 5 | 6 | 10 | 11 | 12 | 16 => true,
+        _ => false,
     }
 }
 
@@ -177,25 +203,28 @@ fn put_unused(line: &mut Line, at: usize, name: &[u8], value: u64, opcode: u8) -
     line::put(line, to, b") does not use it: it must be 0")
 }
 
-// An opcode's name.
+// The name of an opcode, by its number.
 fn put_name(line: &mut Line, at: usize, opcode: u8) -> usize {
-    match opcode {
-        0 => line::put(line, at, b"load"),
-        1 => line::put(line, at, b"store"),
-        2 => line::put(line, at, b"store of a register"),
-        3 => line::put(line, at, b"change"),
-        4 => line::put(line, at, b"fence"),
-        5 => line::put(line, at, b"unsynchronised load"),
-        6 => line::put(line, at, b"exclusive change"),
-        7 => line::put(line, at, b"yield"),
-        8 => line::put(line, at, b"join"),
-        9 => line::put(line, at, b"jump"),
-        10 => line::put(line, at, b"jump if equal"),
-        11 => line::put(line, at, b"jump if not equal"),
-        12 => line::put(line, at, b"check"),
-        13 => line::put(line, at, b"critical"),
-        14 => line::put(line, at, b"explore_state"),
-        15 => line::put(line, at, b"skip_branch"),
-        _ => line::put(line, at, b"branch_spurious"),
+    put_nth(
+        line,
+        at,
+        b"load,store,store of a register,change,fence,unsynchronised load,exclusive change,yield,join,jump,jump if equal,jump if not equal,check,critical,explore_state,skip_branch,branch_spurious",
+        opcode as usize,
+    )
+}
+
+// Puts the part of a list that stands past so many commas.
+fn put_nth(line: &mut Line, at: usize, list: &[u8], n: usize) -> usize {
+    let mut to = at;
+    let mut past = 0;
+    let mut i = 0;
+    while i < list.len() {
+        if list[i] == b',' {
+            past += 1;
+        } else if past == n {
+            to = line::put(line, to, &list[i..i + 1]);
+        }
+        i += 1;
     }
+    to
 }
