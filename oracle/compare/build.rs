@@ -1,5 +1,6 @@
 //! Links the archive of crate exports: from the folder that CHJIRVOLLU_LIB names, else from where
-//! `rt staticlib exports` puts it.
+//! `rt staticlib exports` puts it. With the feature vectors also that of crate vv's comparisons, from
+//! where the script `run` puts it.
 
 use std::env;
 use std::path::PathBuf;
@@ -15,4 +16,11 @@ fn main() {
     println!("cargo::rerun-if-changed={}", archive.display());
     println!("cargo::rustc-link-search=native={}", folder.display());
     println!("cargo::rustc-link-lib=static=exports");
+    if env::var_os("CARGO_FEATURE_VECTORS").is_some() {
+        let folder =
+            PathBuf::from(env!("CARGO_MANIFEST_DIR")).join("../../target/vectors/target/staticlib");
+        println!("cargo::rerun-if-changed={}", folder.join("libvectors.a").display());
+        println!("cargo::rustc-link-search=native={}", folder.display());
+        println!("cargo::rustc-link-lib=static=vectors");
+    }
 }

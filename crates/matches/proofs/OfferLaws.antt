@@ -1,10 +1,10 @@
 -- The laws of which stores are offered, for the functions that scan a cell's stores. Assumes nothing.
---     compared-.., all-seq-cst        two stores, as they were read
+--     compared-told, all-seq-cst      two stores, as they were read
 --     fate-..                         one store more is met in the scan of a store's fate
 --     offer-..                        one store more is offered or not, and written
 use Prim.Native.Nat.{ℕ, suc, _+_, _-_, _≤_, _<_}
 use mathlib.Core.List.{List, []}
-use mathlib.Core.Bool.{Bool, true, false, cond, _&&_, _||_, true≢false}
+use mathlib.Core.Bool.{Bool, true, false, cond, _&&_, _||_}
 use mathlib.Core.Path.{_≡_, refl, ap, sym, _∙_}
 use mathlib.Core.Logic.{_≢_, _⊎_, ⊎-elim}
 use native.Mathlib.Omega.{arith}
@@ -14,58 +14,44 @@ use lib.ListN.{length, getD, set}
 use lib.Seq.{sets}
 use borrow.Author.Tests.{eq-eqb, ne-eqb}
 use Rattle.rules.specs.Vector as Vectors
-use Rattle.rules.proofs.VectorLaws.{atMost-refl, equal-true}
 use Rattle.rules.specs.Seen.{seenBeforeYield, seenSlots}
 use Rattle.rules.specs.State.{Clocks, Numbers, vector, number, storeAt, causality, order, isSeqCst, lastYield}
 use Rattle.rules.specs.Cell as rules
 use Rattle.rules.specs.Cell.{allSeqCst, fateFrom, loadFate, liveIn, matchedFrom, orderOf}
 use Rattle.rules.specs.Event as Event
 use Rattle.rules.specs.Event.{slotsFrom}
+use Rattle.vv.specs.declared.Ordering.{Ordering}
+use Rattle.vv.specs.declared.Ordering.the-variants as Orderings
+use Rattle.vv.specs.Compared as vv
 use Rattle.matches.specs.declared.Order.{Order}
 use Rattle.matches.specs.declared.Order.the-variants as Orders
 use Rattle.matches.specs.declared.Fate.{Fate}
 use Rattle.matches.specs.declared.Fate.the-variants as Fates
 use Rattle.matches.specs.Offers.{compared, fateOf, drops, Scan, slots, equalMet, offered}
-use Rattle.synchronize.proofs.SeenLaws.{flag, seenSlots-at}
+use Rattle.synchronize.proofs.SeenLaws.{seenSlots-at}
 
 -- Two stores, as they were read
 
--- vectors that are equal are at most each other
-not-equal : (a b : List ℕ) → Vectors.atMost a b ≡ false → Vectors.equal a b ≡ false
-not-equal a b e =
-    ⊎-elim
-    (λ f. let s : a ≡ b = equal-true a b f in let z : true ≡ false = sym (atMost-refl a) ∙ (ap (Vectors.atMost a) s ∙ e) in absurd (true≢false z))
-    (λ f. f)
-    (flag (Vectors.equal a b))
+-- what each answer about two vectors says of the orders
+abbrev orderFor : Ordering → Order
+orderFor Orderings.Less = Orders.Less
+orderFor Orderings.Equal = Orders.Equal
+orderFor Orderings.Neither = Orders.Other
 
-module _ (a b : List ℕ) where
-  other-of : Vectors.atMost a b ≡ false → Orders.Other ≡ compared a b
-  unfolding Vectors.less
-  other-of e = rw (not-equal a b e, e)
+order-for : (same below : Bool) →
+    orderFor (cond same Orderings.Equal (cond below Orderings.Less Orderings.Neither)) ≡ cond same Orders.Equal (cond below Orders.Less Orders.Other)
+order-for true below = refl
+order-for false true = refl
+order-for false false = refl
 
-  equal-of : Vectors.equal a b ≡ true → Orders.Equal ≡ compared a b
-  equal-of e = rw e
-
-  less-of : Vectors.atMost a b ≡ true → Vectors.equal a b ≡ false → Orders.Less ≡ compared a b
-  unfolding Vectors.less
-  less-of e f = rw (f, e)
-
-module _ (clocks : Clocks) (c i j first second : ℕ) (at : first ≡ storeAt c i) (by : second ≡ storeAt c j) where
-  -- an answer about the two orders that were read is one about those of the stores
-  of-orders : (f : List ℕ → List ℕ → Bool) (b t : Bool) → b ≡ f (vector clocks (order first)) (vector clocks (order second)) →
-      b ≡ t → f (orderOf clocks c i) (orderOf clocks c j) ≡ t
-  of-orders f b t e u = rw (← at, ← by) (sym e ∙ u)
-
-  module _ (most : Bool) (e : most ≡ Vectors.atMost (vector clocks (order first)) (vector clocks (order second))) where
-    pub compared-other : most ≡ false → Orders.Other ≡ compared (orderOf clocks c i) (orderOf clocks c j)
-    compared-other f = other-of _ _ (of-orders Vectors.atMost most false e f)
-
-    module _ (f : most ≡ true) (same : Bool) (g : same ≡ Vectors.equal (vector clocks (order first)) (vector clocks (order second))) where
-      pub compared-equal : same ≡ true → Orders.Equal ≡ compared (orderOf clocks c i) (orderOf clocks c j)
-      compared-equal h = equal-of _ _ (of-orders Vectors.equal same true g h)
-
-      pub compared-less : same ≡ false → Orders.Less ≡ compared (orderOf clocks c i) (orderOf clocks c j)
-      compared-less h = less-of _ _ (of-orders Vectors.atMost most true e f) (of-orders Vectors.equal same false g h)
+-- an answer about the two orders that were read is one about those of the stores
+pub compared-told : (clocks : Clocks) (c i j first second : ℕ) → first ≡ storeAt c i → second ≡ storeAt c j →
+    (r s : Ordering) → r ≡ vv.compared (vector clocks (order first)) (vector clocks (order second)) → r ≡ s →
+    orderFor s ≡ compared (orderOf clocks c i) (orderOf clocks c j)
+compared-told clocks c i j first second at by r s e told =
+    let a = orderOf clocks c i in
+    let b = orderOf clocks c j in
+    rw (← told, e, at, by) (order-for (Vectors.equal a b) (Vectors.less a b))
 
 pub all-seq-cst : (numbers : Numbers) (c i j o first second : ℕ) → first ≡ storeAt c i → second ≡ storeAt c j →
     eqb o 4 && eqb (number numbers (isSeqCst first)) 1 && eqb (number numbers (isSeqCst second)) 1 ≡ allSeqCst numbers c i j o

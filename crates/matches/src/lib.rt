@@ -18,6 +18,7 @@ use layout::slots::live_stores;
 use layout::store_at;
 use synchronize::first_seen::FirstSeen;
 use synchronize::first_seen::seen_slots;
+use vv::Ordering;
 use vv::VersionVec;
 
 // How many stores are offered, or that equal orders were met: answer 13. There loom asserts that no two stores of a cell have
@@ -169,13 +170,11 @@ fn compare_orders(clocks: &Clocks, cell: usize, i: usize, j: usize) -> Order
     let b = clocks[MODIFICATION_ORDER + store_at(cell, j)];
     let first = VersionVec { versions: a };
     let second = VersionVec { versions: b };
-    if !first.at_most(second) {
-        return Order::Other;
+    match first.partial_cmp(second) {
+        Ordering::Less => Order::Less,
+        Ordering::Equal => Order::Equal,
+        Ordering::Neither => Order::Other,
     }
-    if first.equal(second) {
-        return Order::Equal;
-    }
-    Order::Less
 }
 
 // Whether the load and both stores are SeqCst.

@@ -1,13 +1,14 @@
 -- Laws for loops that walk along two vectors: what is left to be asked from place i on. Over every length. Assumes nothing.
 --     left-cons, left-none     whatever is asked of two lists, of what is left of them at i
---     atMost-on, equal-on      one part more is compared, and what was found so far is kept
---     ahead-..                 a part that lets the walk go on, and one that ends it; ahead-none: no walk
+--     atMost-..                one part more is compared, and what was found so far is kept; the way out
+--     equal-.., compared-..    a part that lets the walk go on, and one that ends it
+--     ahead-..                 the same; ahead-none: no walk
 --     join-..                  the parts below i are joined, what is left is still to be
 --     raise-..                 the walk comes to the thread, is elsewhere, is past all
--- and for functions without a loop: less-.., one-more, no-more
+-- and for functions without a loop: less-told, one-more, no-more
 use Prim.Native.Nat.{ℕ, suc, _+_, _≤_, _<_, max}
 use mathlib.Core.List.{List, [], _∷_, _++_, append-nil}
-use mathlib.Core.Bool.{Bool, true, false, cond, not, _&&_, and-eq-true-iff}
+use mathlib.Core.Bool.{Bool, true, false, cond, not, _&&_, and-eq-true-iff, true≢false}
 use mathlib.Core.Path.{_≡_, refl, ap, sym, _∙_}
 use mathlib.Core.Logic.{_≢_, _⊎_, inl, inr, ⊎-elim}
 use lib.Dec.{ltb, leb, eqb}
@@ -15,8 +16,12 @@ use native.Mathlib.Omega.{arith}
 use native.Mathlib.Numerals.{add-one}
 use lib.ListN.{length, getD, set, take, drop, drop-of-length-le, length-set}
 use lib.Seq.{drop-cons, take-suc-set, drop-set-lt, set-getD, set-out, take-all, append-snoc}
-use borrow.Author.Tests.{lt-ltb, le-ltb, leb-true, ltb-true, ltb-false}
+use borrow.Author.Tests.{lt-ltb, le-ltb, le-leb, lt-leb, ne-eqb, eq-eqb, leb-true, ltb-true, ltb-false}
 use Rattle.rules.specs.Vector.{largest, atMost, equal, less, joined, oneMore, raised, ahead, next, Whom, nobody, thread}
+use Rattle.rules.proofs.VectorLaws.{atMost-refl, equal-true}
+use Rattle.vv.specs.declared.Ordering.{Ordering}
+use Rattle.vv.specs.declared.Ordering.the-variants.{Less, Equal, Neither}
+use Rattle.vv.specs.Compared.{compared}
 
 module _ {A : Type 0} (f : List ℕ → List ℕ → A) (xs ys : List ℕ) (i : ℕ) where
   pub left-cons : i < length xs → i < length ys →
@@ -39,14 +44,90 @@ module _ (xs ys : List ℕ) (i : ℕ) (h : i < length xs) (k : i < length ys) (s
   unfolding atMost
   atMost-on = rw (left-cons atMost xs ys i h k) (and-and so _ _)
 
-  pub equal-on : (so && eqb (getD xs i 0) (getD ys i 0)) && equal (drop (i + 1) xs) (drop (i + 1) ys) ≡ so && equal (drop i xs) (drop i ys)
-  unfolding equal
-  equal-on = rw (left-cons equal xs ys i h k) (and-and so _ _)
+  -- a part that is greater, this one or one before it
+  pub atMost-ends : so && leb (getD xs i 0) (getD ys i 0) ≡ false → so && atMost (drop i xs) (drop i ys) ≡ false
+  atMost-ends e = sym atMost-on ∙ ap (λ (b : Bool). b && atMost (drop (i + 1) xs) (drop (i + 1) ys)) e
 
 -- with no part left, what was found so far is the answer
 pub so-far : (so : Bool) → so && true ≡ so
 so-far true = refl
 so-far false = refl
+
+module _ (xs ys : List ℕ) (i : ℕ) (h : i < length xs) (k : i < length ys) where
+  pub equal-on : getD xs i 0 ≡ getD ys i 0 → equal (drop (i + 1) xs) (drop (i + 1) ys) ≡ equal (drop i xs) (drop i ys)
+  unfolding equal
+  equal-on e = rw (left-cons equal xs ys i h k, eq-eqb (getD xs i 0) (getD ys i 0) e)
+
+  pub equal-ends : getD xs i 0 ≢ getD ys i 0 → equal (drop i xs) (drop i ys) ≡ false
+  unfolding equal
+  equal-ends n = rw (left-cons equal xs ys i h k, ne-eqb (getD xs i 0) (getD ys i 0) n)
+
+-- how the whole compares, by whether all parts so far are the same and by how what is left compares
+abbrev pub after : Bool → Ordering → Ordering
+after true o = o
+after false Less = Less
+after false Equal = Less
+after false Neither = Neither
+
+after-neither : (so : Bool) → after so Neither ≡ Neither
+after-neither true = refl
+after-neither false = refl
+
+-- vectors that are equal are at most each other
+equal-most : (xs ys : List ℕ) → equal xs ys ≡ true → atMost xs ys ≡ true
+equal-most xs ys e = rw (← equal-true xs ys e) (atMost-refl xs)
+
+-- past a part that is less the rest need be at most alone: by the definition's two tests of the rest
+only-most : (so same most : Bool) → (same ≡ true → most ≡ true) →
+    after (so && false) (cond same Equal (cond (most && not same) Less Neither)) ≡ after so (cond (most && true) Less Neither)
+only-most true true true h = refl
+only-most false true true h = refl
+only-most so true false h = absurd (true≢false (sym (h refl)))
+only-most true false true h = refl
+only-most false false true h = refl
+only-most true false false h = refl
+only-most false false false h = refl
+
+module _ (x y : ℕ) (xs ys : List ℕ) (l : x ≤ y) (so : Bool) where
+  past-same : eqb x y ≡ true → after (so && eqb x y) (compared xs ys) ≡ after so (compared (x ∷ xs) (y ∷ ys))
+  unfolding atMost equal less
+  past-same e = rw (e, le-leb x y l, so-far so)
+
+  past-less : eqb x y ≡ false → after (so && eqb x y) (compared xs ys) ≡ after so (compared (x ∷ xs) (y ∷ ys))
+  unfolding atMost equal less
+  past-less e = rw (e, le-leb x y l) (only-most so (equal xs ys) (atMost xs ys) (equal-most xs ys))
+
+module _ (xs ys : List ℕ) (i : ℕ) (h : i < length xs) (k : i < length ys) where
+  pub compared-on : (so : Bool) → getD xs i 0 ≤ getD ys i 0 →
+      after (so && eqb (getD xs i 0) (getD ys i 0)) (compared (drop (i + 1) xs) (drop (i + 1) ys)) ≡ after so (compared (drop i xs) (drop i ys))
+  compared-on so l =
+      rw (left-cons compared xs ys i h k) (⊎-elim (past-same _ _ _ _ l so) (past-less _ _ _ _ l so) (flag (eqb (getD xs i 0) (getD ys i 0))))
+
+  pub compared-ends : (so : Bool) → getD ys i 0 < getD xs i 0 → after so (compared (drop i xs) (drop i ys)) ≡ Neither
+  unfolding atMost equal less
+  compared-ends so l =
+      rw (left-cons compared xs ys i h k, lt-leb (getD xs i 0) (getD ys i 0) l, ne-eqb (getD xs i 0) (getD ys i 0) (λ e. omega (arith, e))) (after-neither so)
+
+-- with no part left, what was found so far is the answer
+pub compared-none : (xs ys : List ℕ) (i : ℕ) → length xs ≤ i → length ys ≤ i → (so t : Bool) → so ≡ t → after t Equal ≡ after so (compared (drop i xs) (drop i ys))
+unfolding equal
+compared-none xs ys i h k so t e = rw (left-none compared xs ys i h k, e)
+
+-- which answer says less
+abbrev pub is-less : Ordering → Bool
+is-less Less = true
+is-less Equal = false
+is-less Neither = false
+
+less-of : (same most : Bool) → is-less (cond same Equal (cond (most && not same) Less Neither)) ≡ most && not same
+less-of true true = refl
+less-of true false = refl
+less-of false true = refl
+less-of false false = refl
+
+pub less-told : (xs ys : List ℕ) (r s : Ordering) → r ≡ compared xs ys → r ≡ s → is-less s ≡ less xs ys
+unfolding less
+less-told xs ys r s e told = rw (← told, e) (less-of (equal xs ys) (atMost xs ys))
 
 -- an answer about what is left at i, as one about the whole
 abbrev pub past : ℕ → Whom → Whom
@@ -99,15 +180,6 @@ module _ (xs ys : List ℕ) (i : ℕ) (h : i < length xs) (k : i < length ys) wh
 pub join-none : (xs ys : List ℕ) (i : ℕ) → length xs ≤ i → length ys ≤ i → joining xs ys i ≡ xs
 unfolding joined
 join-none xs ys i h k = rw (take-all i xs h, drop-of-length-le xs h, drop-of-length-le ys k, append-nil)
-
--- a test that was made in two parts
-pub less-not : (xs ys : List ℕ) (a : Bool) → a ≡ atMost xs ys → a ≡ false → false ≡ less xs ys
-unfolding less
-less-not xs ys a e f = rw (← e, f)
-
-pub less-unless : (xs ys : List ℕ) (a b : Bool) → a ≡ atMost xs ys → a ≡ true → b ≡ equal xs ys → not b ≡ less xs ys
-unfolding less
-less-unless xs ys a b e t f = rw (← e, t, f)
 
 pub one-more : (n : ℕ) → n < largest → n + 1 ≡ oneMore n
 one-more n h = rw (lt-ltb n largest h)

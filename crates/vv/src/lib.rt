@@ -1,11 +1,15 @@
 // Version vectors, after loom's rt/vv.rs. Each promise is an equation with the definition in rules.
 ghost use mathlib.Core.Path.{_≡_};
 ghost use Rattle.rules.specs.Vector.{atMost, equal, less, joined, ahead, oneMore, raised, zeros};
+ghost use Rattle.vv.specs.Compared.{compared};
 ghost use Rattle.vv.specs.Whom.{whom};
 use layout::MAX_THREADS;
 
 // The largest number that a part can be; a mark of this number is unseen, so no version passes it.
 pub const LARGEST: u16 = 65535;
+
+// The part after which `at_most` may end.
+const WAY_OUT: usize = 3;
 
 pub struct VersionVec {
     pub versions: [u16; MAX_THREADS],
@@ -15,6 +19,13 @@ pub struct VersionVec {
 pub enum Ahead {
     Nobody,
     Thread(u8),
+}
+
+// How a vector stands to another. Neither is greater, or greater in one part and less in another.
+pub enum Ordering {
+    Less,
+    Equal,
+    Neither,
 }
 
 // One more; the largest stays, so that a later version is never taken for an earlier one.
@@ -62,7 +73,8 @@ impl VersionVec {
         self
     }
 
-    // Whether each part is at most the other's. No part ends the walk, so that all are compared at once.
+    // Whether each part is at most the other's. The way out is after the fourth part: up to there they are compared at once,
+    // and a way out after each costs more than it saves (docs/SPEED.md).
     pub fn at_most(self, other: VersionVec) -> bool
         ensures { λ r. ⌜ r ≡ atMost (self .versions) (other .versions) ⌝ }
     {
@@ -70,32 +82,57 @@ impl VersionVec {
         let mut i = 0;
         while i < MAX_THREADS {
             all = all & (self.versions[i] <= other.versions[i]);
+            if (i == WAY_OUT) & !all {
+                return false;
+            }
             i += 1;
         }
         all
     }
 
-    // Whether all parts are equal.
+    // Whether all parts are equal. The first that is not ends the walk.
     pub fn equal(self, other: VersionVec) -> bool
         ensures { λ r. ⌜ r ≡ equal (self .versions) (other .versions) ⌝ }
     {
-        let mut all = true;
         let mut i = 0;
         while i < MAX_THREADS {
-            all = all & (self.versions[i] == other.versions[i]);
+            if self.versions[i] != other.versions[i] {
+                return false;
+            }
             i += 1;
         }
-        all
+        true
+    }
+
+    // Less, equal or neither. The first part that is greater ends the walk; loom's goes on there to tell greater from neither,
+    // which nobody asks here.
+    pub fn partial_cmp(self, other: VersionVec) -> Ordering
+        ensures { λ r. ⌜ r ≡ compared (self .versions) (other .versions) ⌝ }
+    {
+        let mut same = true;
+        let mut i = 0;
+        while i < MAX_THREADS {
+            if other.versions[i] < self.versions[i] {
+                return Ordering::Neither;
+            }
+            same = same & (self.versions[i] == other.versions[i]);
+            i += 1;
+        }
+        if same {
+            Ordering::Equal
+        } else {
+            Ordering::Less
+        }
     }
 
     // Whether each part is at most the other's and not all are equal.
     pub fn less(self, other: VersionVec) -> bool
         ensures { λ r. ⌜ r ≡ less (self .versions) (other .versions) ⌝ }
     {
-        if self.at_most(other) {
-            !self.equal(other)
-        } else {
-            false
+        match self.partial_cmp(other) {
+            Ordering::Less => true,
+            Ordering::Equal => false,
+            Ordering::Neither => false,
         }
     }
 

@@ -1,4 +1,4 @@
-//! The proved explorer behind its C entry. All that is unsafe stands here.
+//! The proved explorer behind its C entry. All that is unsafe in calling it stands here.
 
 use crate::guarded::Guarded;
 use cases::run::pattern;

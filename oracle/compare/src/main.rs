@@ -7,6 +7,8 @@ mod guarded;
 mod judge;
 mod library;
 mod speed;
+#[cfg(feature = "vectors")]
+mod vectors;
 
 use cases::command::{self, number, wrong, Outcome, Stop};
 use library::Call;
@@ -23,6 +25,7 @@ usage: compare cases SEED COUNT   compare library and oracle over COUNT generate
        compare limits             compare library and oracle over the hand-built cases
        compare speed [ROUNDS]     time library and plain explorer on the fifty programs
        compare fifty              print the fifty programs
+       compare vectors            time crate vv's comparisons alone
 exit status: 0 well, 1 differences, 2 unusable arguments, 3 a fault of an explorer in Rust
 ";
 
@@ -51,6 +54,8 @@ fn run(arguments: &[String], out: &mut impl Write) -> Outcome {
             rounds => compare_speed(rounds, out),
         },
         ["fifty"] => print_fifty(out),
+        #[cfg(feature = "vectors")]
+        ["vectors"] => compare_vectors(out),
         [] => Err(Stop::Input("no command; try 'compare help'".to_string())),
         [command, ..] => Err(Stop::Input(wrong("compare", USAGE, command))),
     }
@@ -181,6 +186,25 @@ fn print_fifty(out: &mut impl Write) -> Outcome {
     writeln!(out, "|---|---|---|---|---|---|---|---|---|")?;
     for timed in fifty::all() {
         writeln!(out, "{timed}")?;
+    }
+    Ok(true)
+}
+
+/// Nanoseconds a call, by form and by what decides.
+#[cfg(feature = "vectors")]
+fn compare_vectors(out: &mut impl Write) -> Outcome {
+    let times = match vectors::times() {
+        Ok(times) => times,
+        Err(wrong) => {
+            writeln!(out, "{wrong}: nothing timed")?;
+            return Ok(false);
+        }
+    };
+    let header = vectors::CASES.map(|case| format!(" {case:>10}"));
+    writeln!(out, "{:<20}{}", "ns a call", header.concat())?;
+    for (name, times) in times {
+        let times = times.map(|time| format!(" {time:>10.2}"));
+        writeln!(out, "{name:<20}{}", times.concat())?;
     }
     Ok(true)
 }

@@ -1,6 +1,5 @@
 use borrow.Author.Needs.{needs}
-use borrow.Author.Tests.{not-true, not-false}
-use Rattle.matches.proofs.OfferLaws.{compared-other, compared-equal, compared-less}
+use Rattle.matches.proofs.OfferLaws.{compared-told}
 use Rattle.matches.proofs.compare_orders.Statement.{statement}
 use Rattle.matches.proofs.compare_orders.Tie as tie
 
@@ -28,57 +27,35 @@ mul-b c = search needs
 element-copy-out-b : tie.Need-element-copy-out-b
 element-copy-out-b c = search needs
 
-at-most-requires : tie.Need-at-most-requires
-at-most-requires c κs = search needs
+partial-cmp-requires : tie.Need-partial-cmp-requires
+partial-cmp-requires c κs = search needs
+
+enum-told : tie.Need-enum-told
+enum-told c = search needs
+
+enum-told-2 : tie.Need-enum-told-2
+enum-told-2 c = search needs
+
+enum-told-3 : tie.Need-enum-told-3
+enum-told-3 c = search needs
 
 returns : tie.Need-returns
 returns c =
-    let call = c .before in
+    let call = c .before .before in
     let at2 = call .before .before in
-    compared-other (at2 .before .before .before .args .clocks .now) _ _ _ _ _ (at2 .before .before .store-at .ensures) (at2 .store-at2 .ensures) _ (call .at-most .ensures) (not-true _ (c .if1 .taken))
-
-equal-requires : tie.Need-equal-requires
-equal-requires c κs = search needs
+    compared-told (at2 .before .before .before .args .clocks .now) _ _ _ _ _ (at2 .before .before .store-at .ensures) (at2 .store-at2 .ensures) _ _ (call .partial-cmp .ensures) (c .enum-told .given .1)
 
 returns-2 : tie.Need-returns-2
 returns-2 c =
-    let call = c .before .before .before in
+    let call = c .before .before in
     let at2 = call .before .before in
-    compared-equal
-    (at2 .before .before .before .args .clocks .now)
-    _
-    _
-    _
-    _
-    _
-    (at2 .before .before .store-at .ensures)
-    (at2 .store-at2 .ensures)
-    _
-    (call .at-most .ensures)
-    (not-false _ (c .before .before .if1 .left))
-    _
-    (c .before .equal .ensures)
-    (c .if2 .taken)
+    compared-told (at2 .before .before .before .args .clocks .now) _ _ _ _ _ (at2 .before .before .store-at .ensures) (at2 .store-at2 .ensures) _ _ (call .partial-cmp .ensures) (c .enum-told2 .given .1)
 
 returns-3 : tie.Need-returns-3
 returns-3 c =
-    let call = c .before .before .before in
+    let call = c .before .before in
     let at2 = call .before .before in
-    compared-less
-    (at2 .before .before .before .args .clocks .now)
-    _
-    _
-    _
-    _
-    _
-    (at2 .before .before .store-at .ensures)
-    (at2 .store-at2 .ensures)
-    _
-    (call .at-most .ensures)
-    (not-false _ (c .before .before .if1 .left))
-    _
-    (c .before .equal .ensures)
-    (c .if2 .left)
+    compared-told (at2 .before .before .before .args .clocks .now) _ _ _ _ _ (at2 .before .before .store-at .ensures) (at2 .store-at2 .ensures) _ _ (call .partial-cmp .ensures) (c .enum-told3 .given .1)
 
 pub compare-orders-spec : {M : Type 1} → statement M
 compare-orders-spec =
@@ -92,8 +69,10 @@ compare-orders-spec =
     add-b
     mul-b
     element-copy-out-b
-    at-most-requires
+    partial-cmp-requires
+    enum-told
+    enum-told-2
+    enum-told-3
     returns
-    equal-requires
     returns-2
     returns-3)

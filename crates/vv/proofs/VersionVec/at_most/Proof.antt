@@ -1,11 +1,13 @@
 use borrow.Author.Needs.{needs}
+use borrow.Author.Tests.{not-true}
 use native.Mathlib.Omega.{arith}
 use Prim.Native.Nat.{_≤_, _-_}
-use mathlib.Core.Bool.{Bool, _&&_}
+use mathlib.Core.Bool.{Bool, _&&_, and-eq-true-iff}
 use mathlib.Core.Path.{_≡_, refl, sym, ap, _∙_}
+use lib.Dec.{eqb}
 use lib.ListN.{length, drop}
 use Rattle.rules.specs.Vector.{atMost}
-use Rattle.vv.proofs.Walks.{left-none, atMost-on, so-far}
+use Rattle.vv.proofs.Walks.{left-none, atMost-on, atMost-ends, so-far}
 use Rattle.vv.proofs.VersionVec.at_most.Statement.{statement}
 use Rattle.vv.proofs.VersionVec.at_most.Tie as tie
 
@@ -37,6 +39,12 @@ mul-all-2 c = search needs
 element-copy-out-all-2 : tie.Need-element-copy-out-all-2 Inv-loop μ-loop
 element-copy-out-all-2 c = search needs
 
+returns : tie.Need-returns Inv-loop μ-loop
+returns c =
+    let at = c .before .before .before .before in
+    let out = and-eq-true-iff (eqb (at .loop .i) 3) _ .0 (c .if1 .taken) in
+    sym (atMost-ends _ _ (at .loop .i) (omega (arith, len1 (at .before))) (omega (arith, len2 (at .before))) (at .loop .all) (not-true _ (out .1))) ∙ at .loop .inv .1
+
 add-i : tie.Need-add-i Inv-loop μ-loop
 add-i c = search needs
 
@@ -45,14 +53,14 @@ loop-less c = search needs
 
 loop-again : tie.Need-loop-again Inv-loop μ-loop
 loop-again c =
-    let at = c .before .before .before in (
+    let at = c .before .before .before .before in (
       search needs,
       atMost-on (at .before .args .t1 .versions) (at .before .args .t2 .versions) (at .loop .i) (omega (arith, len1 (at .before))) (omega (arith, len2 (at .before))) (at .loop .all) ∙ at .loop .inv .1,
     )
 
-returns : tie.Need-returns Inv-loop μ-loop
+returns-2 : tie.Need-returns-2 Inv-loop μ-loop
 unfolding atMost
-returns c =
+returns-2 c =
     let at = c .before in
     sym (so-far _) ∙ sym (ap (λ (b : Bool). at .loop .all && b) (left-none atMost _ _ (at .loop .i) (omega (arith, len1 (at .before))) (omega (arith, len2 (at .before))))) ∙ at .loop .inv .1
 
@@ -67,7 +75,8 @@ at-most-spec =
     element-copy-out-all
     mul-all-2
     element-copy-out-all-2
+    returns
     add-i
     loop-less
     loop-again
-    returns)
+    returns-2)

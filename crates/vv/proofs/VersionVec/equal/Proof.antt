@@ -1,20 +1,19 @@
 use borrow.Author.Needs.{needs}
 use native.Mathlib.Omega.{arith}
 use Prim.Native.Nat.{_≤_, _-_}
-use mathlib.Core.Bool.{Bool, _&&_}
-use mathlib.Core.Path.{_≡_, refl, sym, ap, _∙_}
+use mathlib.Core.Path.{_≡_, refl, sym, _∙_}
 use lib.ListN.{length, drop}
 use Rattle.rules.specs.Vector.{equal}
-use Rattle.vv.proofs.Walks.{left-none, equal-on, so-far}
+use Rattle.vv.proofs.Walks.{left-none, equal-on, equal-ends}
 use Rattle.vv.proofs.VersionVec.equal.Statement.{statement}
 use Rattle.vv.proofs.VersionVec.equal.Tie as tie
 
 abbrev Inv-loop : tie.InvT-loop
-Inv-loop self other all₀ i₀ all i =
-    (i ≤ 5) × (all && equal (drop i (self .versions)) (drop i (other .versions)) ≡ equal (self .versions) (other .versions))
+Inv-loop self other i₀ i =
+    (i ≤ 5) × (equal (drop i (self .versions)) (drop i (other .versions)) ≡ equal (self .versions) (other .versions))
 
 abbrev μ-loop : tie.MeasureT-loop
-μ-loop self other all₀ i₀ all i = 5 - i
+μ-loop self other i₀ i = 5 - i
 
 len1 : (c : tie.Start Inv-loop μ-loop) → length (c .args .t1 .versions) ≡ 5
 len1 c = search needs
@@ -25,17 +24,22 @@ len2 c = search needs
 loop-holds : tie.Need-loop-holds Inv-loop μ-loop
 loop-holds c = (search needs, refl)
 
-mul-all : tie.Need-mul-all Inv-loop μ-loop
-mul-all c = search needs
+mul-if1 : tie.Need-mul-if1 Inv-loop μ-loop
+mul-if1 c = search needs
 
-element-copy-out-all : tie.Need-element-copy-out-all Inv-loop μ-loop
-element-copy-out-all c = search needs
+element-copy-out-if1 : tie.Need-element-copy-out-if1 Inv-loop μ-loop
+element-copy-out-if1 c = search needs
 
-mul-all-2 : tie.Need-mul-all-2 Inv-loop μ-loop
-mul-all-2 c = search needs
+mul-if1-2 : tie.Need-mul-if1-2 Inv-loop μ-loop
+mul-if1-2 c = search needs
 
-element-copy-out-all-2 : tie.Need-element-copy-out-all-2 Inv-loop μ-loop
-element-copy-out-all-2 c = search needs
+element-copy-out-if1-2 : tie.Need-element-copy-out-if1-2 Inv-loop μ-loop
+element-copy-out-if1-2 c = search needs
+
+returns : tie.Need-returns Inv-loop μ-loop
+returns c =
+    let at = c .before .before .before .before in
+    sym (equal-ends _ _ (at .loop .i) (omega (arith, len1 (at .before))) (omega (arith, len2 (at .before))) (c .if1 .taken)) ∙ at .loop .inv .1
 
 add-i : tie.Need-add-i Inv-loop μ-loop
 add-i c = search needs
@@ -45,16 +49,16 @@ loop-less c = search needs
 
 loop-again : tie.Need-loop-again Inv-loop μ-loop
 loop-again c =
-    let at = c .before .before .before in (
+    let at = c .before .before .before .before in (
       search needs,
-      equal-on (at .before .args .t1 .versions) (at .before .args .t2 .versions) (at .loop .i) (omega (arith, len1 (at .before))) (omega (arith, len2 (at .before))) (at .loop .all) ∙ at .loop .inv .1,
+      equal-on _ _ (at .loop .i) (omega (arith, len1 (at .before))) (omega (arith, len2 (at .before))) (c .if1 .left) ∙ at .loop .inv .1,
     )
 
-returns : tie.Need-returns Inv-loop μ-loop
+returns-2 : tie.Need-returns-2 Inv-loop μ-loop
 unfolding equal
-returns c =
+returns-2 c =
     let at = c .before in
-    sym (so-far _) ∙ sym (ap (λ (b : Bool). at .loop .all && b) (left-none equal _ _ (at .loop .i) (omega (arith, len1 (at .before))) (omega (arith, len2 (at .before))))) ∙ at .loop .inv .1
+    sym (left-none equal _ _ (at .loop .i) (omega (arith, len1 (at .before))) (omega (arith, len2 (at .before)))) ∙ at .loop .inv .1
 
 pub equal-spec : {M : Type 1} → statement M
 equal-spec =
@@ -63,11 +67,12 @@ equal-spec =
     Inv-loop
     μ-loop
     loop-holds
-    mul-all
-    element-copy-out-all
-    mul-all-2
-    element-copy-out-all-2
+    mul-if1
+    element-copy-out-if1
+    mul-if1-2
+    element-copy-out-if1-2
+    returns
     add-i
     loop-less
     loop-again
-    returns)
+    returns-2)
