@@ -1,5 +1,6 @@
-/* The explorer's entry for C. Link target/staticlib/libexports.a, which 'rt staticlib exports' proves and writes (x86-64).
-   docs/FORMAT.md has the bytes of a table, of a path and of a trace, and says what each number means. */
+/* The explorer's entries for C. Link target/staticlib/libexports.a, which 'rt staticlib exports' proves and writes (x86-64).
+   docs/FORMAT.md has the bytes of a table, of a path and of a trace, and says what each number means; docs/GRAMMAR.md has those of a
+   final condition. */
 #ifndef CHJIRVOLLU_H
 #define CHJIRVOLLU_H
 
@@ -50,6 +51,7 @@ enum {
     CHJIRVOLLU_CHECK_FAILED = 15,
     CHJIRVOLLU_WRONG_EXPLORING = 16,
     CHJIRVOLLU_PREEMPTION_LIMIT = 17,
+    CHJIRVOLLU_CONDITION_FALSE = 18,
     CHJIRVOLLU_NO_RUN = 255
 };
 
@@ -65,6 +67,16 @@ uint64_t chjirvollu_explore(
     uint8_t *path, size_t path_length,        /* exactly 16 * branches bytes, else answer 3 */
     uint8_t *trace, size_t trace_length,      /* exactly 16 * operations bytes, else answer 4 */
     uint64_t *report, size_t report_length);  /* exactly 29 numbers, else 255 */
+
+/* The same under a final condition, which is judged at the end of every execution: where it is false, the answer is 18. Bytes that
+   are no condition of this table's threads are answered 5, with thread and row 255. No bytes are no condition. */
+uint64_t chjirvollu_explore_condition(
+    const uint8_t *table, size_t table_length,
+    const uint8_t *condition, size_t condition_length,
+    uint64_t branches, uint64_t operations, uint64_t executions, uint64_t bound, uint64_t exploring,
+    uint8_t *path, size_t path_length,
+    uint8_t *trace, size_t trace_length,
+    uint64_t *report, size_t report_length);
 
 #ifdef __cplusplus
 }

@@ -1,6 +1,7 @@
 //! The run: checks 2 to 5, one execution after another, and the report. Document 01, "Settings,
-//! buffers, answers".
+//! buffers, answers"; answer 18 is that of document 02, section 3.
 
+use crate::condition::Condition;
 use crate::guard;
 use crate::interpreter::{Fault, Interpreter, Lane};
 use crate::rt::thread::{self, State};
@@ -12,6 +13,7 @@ use terms::{Report, Settings, Summary};
 /// What a run is given, once accepted.
 pub(crate) struct Run<'a> {
     pub(crate) program: &'a Program,
+    pub(crate) condition: &'a Condition,
     pub(crate) settings: &'a Settings,
     pub(crate) path: &'a mut [u8],
     pub(crate) trace: &'a mut [u8],
@@ -20,6 +22,8 @@ pub(crate) struct Run<'a> {
 /// What is known of the last execution.
 struct Last {
     fault: Option<Fault>,
+    /// Whether the condition holds of the registers as they are left.
+    holds: bool,
     rows: u64,
     /// Bytes used of the path buffer and of the trace buffer.
     path: usize,
@@ -51,14 +55,14 @@ impl Refusal {
     }
 }
 
-/// Checks 2 to 5, in this order; the lengths are in bytes, that of the list in records.
+/// Checks 2 to 5, in this order, the table before the condition; the lengths of path and trace are in
+/// bytes, that of the list in records.
 pub(crate) fn accept(
     table: &[u8],
+    condition: &[u8],
     settings: &Settings,
-    path: usize,
-    trace: usize,
-    list: Option<usize>,
-) -> Result<Program, Refusal> {
+    (path, trace, list): (usize, usize, Option<usize>),
+) -> Result<(Program, Condition), Refusal> {
     let in_range = (1..=1024).contains(&settings.branches)
         && (1..=4096).contains(&settings.operations)
         && (1..=65535).contains(&settings.executions);
@@ -71,11 +75,13 @@ pub(crate) fn accept(
     if trace as u64 != 16 * settings.operations || list.is_some_and(|length| length != 5) {
         return Err(Refusal::new(4));
     }
-    Program::read(table).map_err(|Bad { thread, row }| Refusal {
+    let program = Program::read(table).map_err(|Bad { thread, row }| Refusal {
         answer: 5,
         thread,
         row,
-    })
+    })?;
+    let condition = Condition::read(condition, program.threads).ok_or(Refusal::new(5))?;
+    Ok((program, condition))
 }
 
 impl Run<'_> {
@@ -113,8 +119,13 @@ impl Run<'_> {
         let limit = self.settings.operations;
         let mut interpreter = Interpreter::new(self.program, limit, self.trace);
         let fault = interpreter.run();
+        let register = |thread: usize, register: usize| {
+            let lane: &Lane = &interpreter.lanes[thread];
+            lane.registers[register]
+        };
         rt::execution(|e| Last {
             fault,
+            holds: self.condition.holds(&register),
             rows: interpreter.rows,
             path: e.path.write(self.path),
             trace: interpreter.trace.used(),
@@ -125,10 +136,12 @@ impl Run<'_> {
     }
 }
 
-/// The answer, if the run stops here: the fault; 0 if nothing is open; 1 if the budget is used up.
+/// The answer, if the run stops here: the fault; 18 if the condition does not hold where all threads
+/// have ended; 0 if nothing is open; 1 if the budget is used up.
 fn answer(last: &Last, executions: u64, budget: u64) -> Option<u64> {
     match last.fault {
         Some(fault) => Some(fault.met.answer),
+        None if !last.holds => Some(18),
         None if last.open == 0 => Some(0),
         None if executions == budget => Some(1),
         None => None,
@@ -196,9 +209,11 @@ mod tests {
             exploring: true,
         };
         let (mut path, mut trace) = ([0; 512], [0; 512]);
-        let program = accept(&table(), &settings, 512, 512, None).expect("accepted");
+        let lengths = (512, 512, None);
+        let (program, condition) = accept(&table(), &[], &settings, lengths).expect("accepted");
         let mut run = Run {
             program: &program,
+            condition: &condition,
             settings: &settings,
             path: &mut path,
             trace: &mut trace,

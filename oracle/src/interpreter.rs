@@ -16,7 +16,7 @@ pub(crate) struct Lane {
     begun: bool,
     /// Rows begun by this thread.
     pub(crate) rows: u64,
-    registers: [u64; 4],
+    pub(crate) registers: [u64; 4],
 }
 
 /// A fault, and the thread and row that the report names.

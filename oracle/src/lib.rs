@@ -2,6 +2,7 @@
 //! rules. What it answers is what every other explorer of this project is compared with.
 
 mod change;
+mod condition;
 mod entry;
 mod explorer;
 mod guard;
@@ -21,7 +22,8 @@ pub(crate) use trace;
 use explorer::Run;
 use terms::{Digest, Report, Settings, Summary};
 
-/// Explores a table, as document 01 says.
+/// Explores a table, as document 01 says. `condition` is claimed of the registers whenever all threads
+/// have ended (document 02, section 3); no bytes claim nothing.
 ///
 /// `list` is the caller's list of thread records; it is judged only when given. `history` is called
 /// once for each execution, when it ends or faults, with the used bytes of path and trace, 16 for
@@ -33,6 +35,7 @@ use terms::{Digest, Report, Settings, Summary};
 /// A panic is a failed run, never an answer.
 pub fn explore(
     table: &[u8],
+    condition: &[u8],
     settings: &Settings,
     path: &mut [u8],
     trace: &mut [u8],
@@ -40,12 +43,14 @@ pub fn explore(
     history: &mut dyn FnMut(&[u8], &[u8]),
 ) -> Report {
     let records = list.as_ref().map(|list| list.len());
-    let program = match explorer::accept(table, settings, path.len(), trace.len(), records) {
-        Ok(program) => program,
+    let lengths = (path.len(), trace.len(), records);
+    let (program, condition) = match explorer::accept(table, condition, settings, lengths) {
+        Ok(accepted) => accepted,
         Err(refusal) => return refusal.report(),
     };
     let run = Run {
         program: &program,
+        condition: &condition,
         settings,
         path,
         trace,
@@ -60,6 +65,7 @@ pub fn explore(
 /// [`explore`], with the digest of the whole history.
 pub fn explore_digest(
     table: &[u8],
+    condition: &[u8],
     settings: &Settings,
     path: &mut [u8],
     trace: &mut [u8],
@@ -67,6 +73,6 @@ pub fn explore_digest(
 ) -> (Report, u64) {
     let mut digest = Digest::default();
     let mut take = |path: &[u8], trace: &[u8]| digest.execution(path, trace);
-    let report = explore(table, settings, path, trace, list, &mut take);
+    let report = explore(table, condition, settings, path, trace, list, &mut take);
     (report, digest.value())
 }

@@ -170,6 +170,7 @@ fn runs_do_not_disturb_each_other() {
         let mut at = 0;
         let report = oracle::explore(
             &table,
+            &[],
             &settings,
             &mut path,
             &mut trace,

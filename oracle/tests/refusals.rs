@@ -13,12 +13,23 @@ const MARK: Summary = Summary {
 
 /// Runs with buffers of these lengths and sees that all of them stay as they are.
 fn refused(table: &[u8], settings: &Settings, lengths: (usize, usize, Option<usize>)) -> Report {
+    refused_claimed(table, &[], settings, lengths)
+}
+
+/// The same with a final condition.
+fn refused_claimed(
+    table: &[u8],
+    condition: &[u8],
+    settings: &Settings,
+    lengths: (usize, usize, Option<usize>),
+) -> Report {
     let mut path = vec![PATTERN; lengths.0];
     let mut trace = vec![PATTERN; lengths.1];
     let mut list = lengths.2.map(|length| vec![MARK; length]);
     let mut told = |_: &[u8], _: &[u8]| panic!("no execution is begun");
     let report = oracle::explore(
         table,
+        condition,
         settings,
         &mut path,
         &mut trace,
@@ -107,7 +118,8 @@ fn buffer_lengths() {
 fn no_list_given() {
     let settings = settings(3, 1, 1);
     let (mut path, mut trace) = ([1; 48], [1; 16]);
-    let (report, digest) = oracle::explore_digest(&good(), &settings, &mut path, &mut trace, None);
+    let (report, digest) =
+        oracle::explore_digest(&good(), &[], &settings, &mut path, &mut trace, None);
     let ran = run(&good(), &settings);
     assert_eq!(report, ran.report);
     assert_eq!(path, ran.last_path());
@@ -181,6 +193,7 @@ fn accepted(row: Row) -> bool {
     let mut trace = path.clone();
     let report = oracle::explore(
         &table,
+        &[],
         &settings,
         &mut path,
         &mut trace,
@@ -316,4 +329,36 @@ fn operands() {
             }
         }
     }
+}
+
+/// Thread 0 of `good` has register 0; a condition about it is accepted, one about thread 1 is not.
+#[test]
+fn a_condition_is_judged_last() {
+    let about = |thread: u8| [1, thread, 0, 7, 0, 0, 0, 0, 0, 0, 0];
+    let (good, settings) = (good(), settings(8, 8, 1));
+    let ran = run_claimed(&good, &about(0), &settings);
+    assert_eq!(ran.counts(), [0, 1, 0, 0]);
+    let judged = |table: &[u8], settings: &Settings, lengths| {
+        refused_claimed(table, &about(1), settings, lengths)
+    };
+    let fits = fitting(&settings);
+    let wrong = Report::refusal(5, 255, 255);
+    assert_eq!(judged(&good, &settings, fits), wrong);
+    assert_eq!(judged(&good[1..], &settings, fits), wrong);
+    let bad_row = table(&[7], &[&[yields(), load(1, RELAXED, 0)]]);
+    let refusal = Report::refusal(5, 0, 1);
+    assert_eq!(judged(&bad_row, &settings, fits), refusal);
+    for (lengths, answer) in [
+        ((16, 128, None), 3),
+        ((128, 16, None), 4),
+        ((128, 128, Some(4)), 4),
+    ] {
+        let refusal = Report::refusal(answer, 255, 255);
+        assert_eq!(judged(&good, &settings, lengths), refusal);
+    }
+    let none = Settings {
+        executions: 0,
+        ..settings
+    };
+    assert_eq!(judged(&good, &none, fits), Report::refusal(2, 255, 255));
 }

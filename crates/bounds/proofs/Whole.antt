@@ -79,9 +79,10 @@ unfolding raised
 raised-by-one st r v h t b = rw (lt-ltb (getD (vector (st .clocks) v) t 0) largest (r .parts v h t b))
 
 -- "threads 1..5, cells 1..4", "operation limit L 1..4,096"
-pub accepted-fits : (table : List ℕ) (s : Settings) → headerFine table ≡ true → settingsFine s ≡ true → Fits (programOf table s)
+pub accepted-fits : (table condition : List ℕ) (s : Settings) → headerFine table ≡ true → settingsFine s ≡ true →
+    Fits (programOf table condition s)
 unfolding settingsFine
-accepted-fits table s h f =
+accepted-fits table condition s h f =
     let header = header-within table h in
     let settings = simp and-eq-true-iff at f in
     record { few = header .1; held = header .2; limited = omega (arith, leb-true) }

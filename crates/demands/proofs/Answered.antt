@@ -1,5 +1,6 @@
 -- Demand 1: which of document 01's answers is given, and what is left. Assumes nothing.
 --     Case, whichCase     the checks of `explored`, one after another, and what it then is
+--     fault-number        a fault's number is that of no other answer
 --     not-refusal         a verdict is no refusal
 --     true-false          nothing is both
 --     answered            demand 1
@@ -7,21 +8,22 @@ use Prim.Native.Nat.{ℕ, _*_, _≤_}
 use mathlib.Core.List.{List}
 use mathlib.Core.Bool.{Bool, true, false, cond}
 use mathlib.Core.Path.{_≡_, refl, sym, ap, _∙_}
-use mathlib.Core.Logic.{_≢_}
+use mathlib.Core.Logic.{_≢_, inl, inr}
 use native.Mathlib.Omega.{arith}
 use lib.Dec.{eqb}
 use lib.ListN.{length}
 use borrow.Author.Tests.{eqb-true, eqb-false, le-leb, lt-leb}
 use Rattle.rules.specs.Path.{written, recordBytes}
 use Rattle.rules.specs.Table as Table
-use Rattle.rules.specs.Table.{judged, good, badHeader, badRow}
+use Rattle.rules.specs.Table.{judged, good, badHeader, badRow, threadsOf}
+use Rattle.rules.specs.Condition.{isCondition}
 use Rattle.rules.specs.Event as Event
 use Rattle.rules.specs.Event.{Site}
-use Rattle.rules.specs.Explorer.{Verdict, exhausted, spent, stopped}
+use Rattle.rules.specs.Explorer.{Verdict, exhausted, spent, unmet, stopped}
 use Rattle.rules.specs.Explored.{Settings, Explored, refused, ran, reported, isRefusal, settingsFine, stopOf, noted, verdictNumber}
-use Rattle.rules.proofs.ExploredLaws.{explored-2, explored-3, explored-4, explored-5-header, explored-5-row, explored-ran}
+use Rattle.rules.proofs.ExploredLaws.{explored-2, explored-3, explored-4, explored-5-header, explored-5-row, explored-5-condition, explored-ran}
 use Rattle.offers.specs.Offered.{Among}
-use Rattle.demands.specs.Demands.{right, Answered, inRange, pathFits, traceFits, it, report, run, theAnswers}
+use Rattle.demands.specs.Demands.{right, Answered, inRange, pathFits, traceFits, badInput, it, report, run, theAnswers}
 
 -- A verdict's number
 
@@ -29,18 +31,23 @@ pub data Numbered (n : ℕ) : Type 0 where
   ended : n ≤ 1 → Numbered n
   faulty : 10 ≤ n → Numbered n
 
+-- a fault's number is from 10 on, and none is 18
+pub fault-number : (f : Event.Fault) → (10 ≤ Event.faultNumber f) × (Event.faultNumber f ≢ 18)
+fault-number Event.deadlock = (omega arith, λ e. omega (arith, e))
+fault-number Event.full = (omega arith, λ e. omega (arith, e))
+fault-number Event.rows = (omega arith, λ e. omega (arith, e))
+fault-number Event.equalOrders = (omega arith, λ e. omega (arith, e))
+fault-number (Event.race k t) = (omega arith, λ e. omega (arith, e))
+fault-number Event.check = (omega arith, λ e. omega (arith, e))
+fault-number Event.flags = (omega arith, λ e. omega (arith, e))
+fault-number Event.preemptions = (omega arith, λ e. omega (arith, e))
+fault-number Event.impossible = (omega arith, λ e. omega (arith, e))
+
 pub numbered : (v : Verdict) → Numbered (verdictNumber v)
 numbered exhausted = ended (omega arith)
 numbered spent = ended (omega arith)
-numbered (stopped Event.deadlock site) = faulty (omega arith)
-numbered (stopped Event.full site) = faulty (omega arith)
-numbered (stopped Event.rows site) = faulty (omega arith)
-numbered (stopped Event.equalOrders site) = faulty (omega arith)
-numbered (stopped (Event.race k t) site) = faulty (omega arith)
-numbered (stopped Event.check site) = faulty (omega arith)
-numbered (stopped Event.flags site) = faulty (omega arith)
-numbered (stopped Event.preemptions site) = faulty (omega arith)
-numbered (stopped Event.impossible site) = faulty (omega arith)
+numbered unmet = faulty (omega arith)
+numbered (stopped f site) = faulty (fault-number f .0)
 
 no-refusal : (n : ℕ) → Numbered n → isRefusal n ≡ false
 no-refusal n (ended h) = rw (lt-leb 2 n (omega arith)) refl
@@ -52,6 +59,7 @@ not-refusal v = no-refusal (verdictNumber v) (numbered v)
 among-answers : (v : Verdict) → ((site : Site) → v ≡ stopped Event.impossible site → ⊥) → Among (verdictNumber v) theAnswers
 among-answers exhausted h = (0, omega arith, refl)
 among-answers spent h = (1, omega arith, refl)
+among-answers unmet h = (14, omega arith, refl)
 among-answers (stopped Event.deadlock site) h = (6, omega arith, refl)
 among-answers (stopped Event.full site) h = (7, omega arith, refl)
 among-answers (stopped Event.rows site) h = (8, omega arith, refl)
@@ -83,76 +91,84 @@ another e f h = h (ap sort (sym e ∙ f))
 same-row : {t k u l : ℕ} → badRow t k ≡ badRow u l → (t ≡ u) × (k ≡ l)
 same-row e = (ap (λ (j : Table.Verdict). place j .0) e, ap (λ (j : Table.Verdict). place j .1) e)
 
-module _ (table : List ℕ) (s : Settings) (path trace : List ℕ) where
+module _ (table condition : List ℕ) (s : Settings) (path trace : List ℕ) where
   abbrev whole : Explored
-  whole = it right table s path trace
+  whole = it right table condition s path trace
 
   abbrev fine : Type 0
-  fine = inRange right table s path trace
+  fine = inRange right table condition s path trace
 
   abbrev pathy : Type 0
-  pathy = pathFits right table s path trace
+  pathy = pathFits right table condition s path trace
 
   abbrev tracy : Type 0
-  tracy = traceFits right table s path trace
+  tracy = traceFits right table condition s path trace
+
+  abbrev bad : Type 0
+  bad = badInput right table condition s path trace
 
   pub data Case : Type 0 where
     badSettings : settingsFine s ≡ false → whole ≡ refused 2 255 255 path trace → Case
     badPath : fine → (pathy → ⊥) → whole ≡ refused 3 255 255 path trace → Case
     badTrace : fine → pathy → (tracy → ⊥) → whole ≡ refused 4 255 255 path trace → Case
-    badTable : fine → pathy → tracy → (t k : ℕ) → judged table ≢ good → (judged table ≡ badHeader → (t ≡ 255) × (k ≡ 255))
-        → ((u l : ℕ) → judged table ≡ badRow u l → (t ≡ u) × (k ≡ l)) → whole ≡ refused 5 t k path trace → Case
-    runs : fine → pathy → tracy → judged table ≡ good → whole ≡ ran (length path) (length trace) (stopOf table s) → Case
+    badTable : fine → pathy → tracy → (t k : ℕ) → bad → (judged table ≡ badHeader → (t ≡ 255) × (k ≡ 255))
+        → ((u l : ℕ) → judged table ≡ badRow u l → (t ≡ u) × (k ≡ l)) → (judged table ≡ good → (t ≡ 255) × (k ≡ 255)) → whole ≡ refused 5 t k path trace → Case
+    runs : fine → pathy → tracy → judged table ≡ good → isCondition (threadsOf table) condition ≡ true → whole ≡ ran (length path) (length trace) (stopOf table condition s) → Case
 
   pub whichCase : Case
   whichCase = bySettings (settingsFine s) refl
     where
+      byCondition : fine → pathy → tracy → judged table ≡ good → (x : Bool) → isCondition (threadsOf table) condition ≡ x → Case
+      byCondition a b c d true e = runs a b c d e (explored-ran table condition s path trace a b c d e)
+      byCondition a b c d false e =
+          badTable a b c 255 255 (inr e) (λ f. (refl, refl)) (λ u l f. absurd (another d f (λ (z : _≡_ {A = ℕ} 0 2). omega arith))) (λ f. (refl, refl)) (explored-5-condition table condition s path trace a b c d e)
+
       byTable : fine → pathy → tracy → (j : Table.Verdict) → judged table ≡ j → Case
       byTable a b c badHeader e =
-          badTable a b c 255 255 (λ f. another e f (λ (z : _≡_ {A = ℕ} 1 0). omega arith)) (λ f. (refl, refl)) (λ u l f. absurd (another e f (λ (z : _≡_ {A = ℕ} 1 2). omega arith))) (explored-5-header table s path trace a b c e)
+          badTable a b c 255 255 (inl (λ f. another e f (λ (z : _≡_ {A = ℕ} 1 0). omega arith))) (λ f. (refl, refl)) (λ u l f. absurd (another e f (λ (z : _≡_ {A = ℕ} 1 2). omega arith))) (λ f. (refl, refl)) (explored-5-header table condition s path trace a b c e)
       byTable a b c (badRow t k) e =
-          badTable a b c t k (λ f. another e f (λ (z : _≡_ {A = ℕ} 2 0). omega arith)) (λ f. absurd (another e f (λ (z : _≡_ {A = ℕ} 2 1). omega arith))) (λ u l f. same-row (sym e ∙ f)) (explored-5-row table s path trace a b c t k e)
-      byTable a b c good e = runs a b c e (explored-ran table s path trace a b c e)
+          badTable a b c t k (inl (λ f. another e f (λ (z : _≡_ {A = ℕ} 2 0). omega arith))) (λ f. absurd (another e f (λ (z : _≡_ {A = ℕ} 2 1). omega arith))) (λ u l f. same-row (sym e ∙ f)) (λ f. absurd (another e f (λ (z : _≡_ {A = ℕ} 2 0). omega arith))) (explored-5-row table condition s path trace a b c t k e)
+      byTable a b c good e = byCondition a b c e (isCondition (threadsOf table) condition) refl
 
       byTrace : fine → pathy → (x : Bool) → eqb (length trace) (recordBytes * s .operations) ≡ x → Case
       byTrace a b true e = byTable a b (eqb-true (length trace) (recordBytes * s .operations) e) (judged table) refl
       byTrace a b false e =
-          let n = eqb-false (length trace) (recordBytes * s .operations) e in badTrace a b n (explored-4 table s path trace a b n)
+          let n = eqb-false (length trace) (recordBytes * s .operations) e in badTrace a b n (explored-4 table condition s path trace a b n)
 
       byPath : fine → (x : Bool) → eqb (length path) (recordBytes * s .branches) ≡ x → Case
       byPath a true e =
           byTrace a (eqb-true (length path) (recordBytes * s .branches) e) (eqb (length trace) (recordBytes * s .operations)) refl
-      byPath a false e = let n = eqb-false (length path) (recordBytes * s .branches) e in badPath a n (explored-3 table s path trace a n)
+      byPath a false e = let n = eqb-false (length path) (recordBytes * s .branches) e in badPath a n (explored-3 table condition s path trace a n)
 
       bySettings : (x : Bool) → settingsFine s ≡ x → Case
       bySettings true e = byPath e (eqb (length path) (recordBytes * s .branches)) refl
-      bySettings false e = badSettings e (explored-2 table s path trace e)
+      bySettings false e = badSettings e (explored-2 table condition s path trace e)
 
   -- the answer of each
-  refused-number : (n t k : ℕ) → whole ≡ refused n t k path trace → (report right table s path trace .answer ≡ n) × (report right table s path trace .thread ≡ t) × (report right table s path trace .row ≡ k)
+  refused-number : (n t k : ℕ) → whole ≡ refused n t k path trace → (report right table condition s path trace .answer ≡ n) × (report right table condition s path trace .thread ≡ t) × (report right table condition s path trace .row ≡ k)
   unfolding refused
   refused-number n t k e =
       (ap (λ (x : Explored). x .report .answer) e, ap (λ (x : Explored). x .report .thread) e, ap (λ (x : Explored). x .report .row) e)
 
-  pub ran-number : whole ≡ ran (length path) (length trace) (stopOf table s) → report right table s path trace .answer ≡ verdictNumber (run right table s path trace .verdict)
+  pub ran-number : whole ≡ ran (length path) (length trace) (stopOf table condition s) → report right table condition s path trace .answer ≡ verdictNumber (run right table condition s path trace .verdict)
   unfolding ran reported
   ran-number e = ap (λ (x : Explored). x .report .answer) e
 
   -- a run's number is none of the refusals'
-  ran-not : (n : ℕ) → 2 ≤ n → n ≤ 5 → whole ≡ ran (length path) (length trace) (stopOf table s) → report right table s path trace .answer ≢ n
-  ran-not n h k e f = go (numbered (run right table s path trace .verdict))
+  ran-not : (n : ℕ) → 2 ≤ n → n ≤ 5 → whole ≡ ran (length path) (length trace) (stopOf table condition s) → report right table condition s path trace .answer ≢ n
+  ran-not n h k e f = go (numbered (run right table condition s path trace .verdict))
     where
-      go : Numbered (verdictNumber (run right table s path trace .verdict)) → ⊥
+      go : Numbered (verdictNumber (run right table condition s path trace .verdict)) → ⊥
       go (ended l) = omega (arith, ran-number e)
       go (faulty l) = omega (arith, ran-number e)
 
-  refused-as : (n t k : ℕ) → whole ≡ refused n t k path trace → whole ≡ refused (report right table s path trace .answer) (report right table s path trace .thread) (report right table s path trace .row) path trace
+  refused-as : (n t k : ℕ) → whole ≡ refused n t k path trace → whole ≡ refused (report right table condition s path trace .answer) (report right table condition s path trace .thread) (report right table condition s path trace .row) path trace
   refused-as n t k e = let z = refused-number n t k e in e ∙ (cc (z .0, z .1, z .2))
 
   -- Which reason an answer has
 
   abbrev answer : ℕ
-  answer = report right table s path trace .answer
+  answer = report right table condition s path trace .answer
 
   differs : (n m t k : ℕ) → whole ≡ refused m t k path trace → (n ≡ m → ⊥) → answer ≡ n → ⊥
   differs n m t k e h f = h (sym f ∙ refused-number m t k e .0)
@@ -161,50 +177,60 @@ module _ (table : List ℕ) (s : Settings) (path trace : List ℕ) where
   two-only (badSettings f e) h = f
   two-only (badPath a b e) h = absurd (differs 2 3 255 255 e (λ z. omega (arith, z)) h)
   two-only (badTrace a b c e) h = absurd (differs 2 4 255 255 e (λ z. omega (arith, z)) h)
-  two-only (badTable a b c t k d u v e) h = absurd (differs 2 5 t k e (λ z. omega (arith, z)) h)
-  two-only (runs a b c d e) h = absurd (ran-not 2 (omega arith) (omega arith) e h)
+  two-only (badTable a b c t k d u v y e) h = absurd (differs 2 5 t k e (λ z. omega (arith, z)) h)
+  two-only (runs a b c d g e) h = absurd (ran-not 2 (omega arith) (omega arith) e h)
 
   three-only : Case → answer ≡ 3 → fine × (pathy → ⊥)
   three-only (badSettings f e) h = absurd (differs 3 2 255 255 e (λ z. omega (arith, z)) h)
   three-only (badPath a b e) h = (a, b)
   three-only (badTrace a b c e) h = absurd (differs 3 4 255 255 e (λ z. omega (arith, z)) h)
-  three-only (badTable a b c t k d u v e) h = absurd (differs 3 5 t k e (λ z. omega (arith, z)) h)
-  three-only (runs a b c d e) h = absurd (ran-not 3 (omega arith) (omega arith) e h)
+  three-only (badTable a b c t k d u v y e) h = absurd (differs 3 5 t k e (λ z. omega (arith, z)) h)
+  three-only (runs a b c d g e) h = absurd (ran-not 3 (omega arith) (omega arith) e h)
 
   four-only : Case → answer ≡ 4 → fine × pathy × (tracy → ⊥)
   four-only (badSettings f e) h = absurd (differs 4 2 255 255 e (λ z. omega (arith, z)) h)
   four-only (badPath a b e) h = absurd (differs 4 3 255 255 e (λ z. omega (arith, z)) h)
   four-only (badTrace a b c e) h = (a, b, c)
-  four-only (badTable a b c t k d u v e) h = absurd (differs 4 5 t k e (λ z. omega (arith, z)) h)
-  four-only (runs a b c d e) h = absurd (ran-not 4 (omega arith) (omega arith) e h)
+  four-only (badTable a b c t k d u v y e) h = absurd (differs 4 5 t k e (λ z. omega (arith, z)) h)
+  four-only (runs a b c d g e) h = absurd (ran-not 4 (omega arith) (omega arith) e h)
 
   pub record Bad : Type 0 where
-    pub first : fine × pathy × tracy × (judged table ≢ good)
-    pub header : judged table ≡ badHeader → (report right table s path trace .thread ≡ 255) × (report right table s path trace .row ≡ 255)
-    pub row : (t k : ℕ) → judged table ≡ badRow t k → (report right table s path trace .thread ≡ t) × (report right table s path trace .row ≡ k)
+    pub first : fine × pathy × tracy × bad
+    pub header : judged table ≡ badHeader → (report right table condition s path trace .thread ≡ 255) × (report right table condition s path trace .row ≡ 255)
+    pub row : (t k : ℕ) → judged table ≡ badRow t k → (report right table condition s path trace .thread ≡ t) × (report right table condition s path trace .row ≡ k)
+    pub claim : judged table ≡ good → (report right table condition s path trace .thread ≡ 255) × (report right table condition s path trace .row ≡ 255)
 
   five-only : Case → answer ≡ 5 → Bad
   five-only (badSettings f e) h = absurd (differs 5 2 255 255 e (λ z. omega (arith, z)) h)
   five-only (badPath a b e) h = absurd (differs 5 3 255 255 e (λ z. omega (arith, z)) h)
   five-only (badTrace a b c e) h = absurd (differs 5 4 255 255 e (λ z. omega (arith, z)) h)
-  five-only (badTable a b c t k d u v e) h =
+  five-only (badTable a b c t k d u v y e) h =
       let n = refused-number 5 t k e in
-      record { first = (a, b, c, d); header = λ f. (n .1 ∙ u f .0, n .2 ∙ u f .1); row = λ x y f. (n .1 ∙ v x y f .0, n .2 ∙ v x y f .1) }
-  five-only (runs a b c d e) h = absurd (ran-not 5 (omega arith) (omega arith) e h)
+      record {
+        first = (a, b, c, d);
+        header = λ f. (n .1 ∙ u f .0, n .2 ∙ u f .1);
+        row = λ x l f. (n .1 ∙ v x l f .0, n .2 ∙ v x l f .1);
+        claim = λ f. (n .1 ∙ y f .0, n .2 ∙ y f .1);
+      }
+  five-only (runs a b c d g e) h = absurd (ran-not 5 (omega arith) (omega arith) e h)
 
-  five-whenever : Case → fine × pathy × tracy × (judged table ≢ good) → answer ≡ 5
+  not-bad : judged table ≡ good → isCondition (threadsOf table) condition ≡ true → bad → ⊥
+  not-bad d g (inl f) = f d
+  not-bad d g (inr f) = true-false g f
+
+  five-whenever : Case → fine × pathy × tracy × bad → answer ≡ 5
   five-whenever (badSettings f e) h = absurd (true-false (h .0) f)
   five-whenever (badPath a b e) h = absurd (b (h .1))
   five-whenever (badTrace a b c e) h = absurd (c (h .2))
-  five-whenever (badTable a b c t k d u v e) h = refused-number 5 t k e .0
-  five-whenever (runs a b c d e) h = absurd (h .3 d)
+  five-whenever (badTable a b c t k d u v y e) h = refused-number 5 t k e .0
+  five-whenever (runs a b c d g e) h = absurd (not-bad d g (h .3))
 
-  refuses : Case → isRefusal answer ≡ true → whole ≡ refused answer (report right table s path trace .thread) (report right table s path trace .row) path trace
+  refuses : Case → isRefusal answer ≡ true → whole ≡ refused answer (report right table condition s path trace .thread) (report right table condition s path trace .row) path trace
   refuses (badSettings f e) h = refused-as 2 255 255 e
   refuses (badPath a b e) h = refused-as 3 255 255 e
   refuses (badTrace a b c e) h = refused-as 4 255 255 e
-  refuses (badTable a b c t k d u v e) h = refused-as 5 t k e
-  refuses (runs a b c d e) h = absurd (true-false h (ap isRefusal (ran-number e) ∙ not-refusal (run right table s path trace .verdict)))
+  refuses (badTable a b c t k d u v y e) h = refused-as 5 t k e
+  refuses (runs a b c d g e) h = absurd (true-false h (ap isRefusal (ran-number e) ∙ not-refusal (run right table condition s path trace .verdict)))
 
   -- what a run has passed, and what it then is
   pub record Ran : Type 0 where
@@ -212,7 +238,7 @@ module _ (table : List ℕ) (s : Settings) (path trace : List ℕ) where
     pub path-long : pathy
     pub trace-long : tracy
     pub accepted : judged table ≡ good
-    pub is : whole ≡ ran (length path) (length trace) (stopOf table s)
+    pub is : whole ≡ ran (length path) (length trace) (stopOf table condition s)
 
   is-no-refusal : (n t k : ℕ) → 2 ≤ n → n ≤ 5 → whole ≡ refused n t k path trace → isRefusal answer ≡ false → ⊥
   is-no-refusal n t k h l e f =
@@ -222,41 +248,42 @@ module _ (table : List ℕ) (s : Settings) (path trace : List ℕ) where
   ran-by (badSettings f e) h = absurd (is-no-refusal 2 255 255 (omega arith) (omega arith) e h)
   ran-by (badPath a b e) h = absurd (is-no-refusal 3 255 255 (omega arith) (omega arith) e h)
   ran-by (badTrace a b c e) h = absurd (is-no-refusal 4 255 255 (omega arith) (omega arith) e h)
-  ran-by (badTable a b c t k d u v e) h = absurd (is-no-refusal 5 t k (omega arith) (omega arith) e h)
-  ran-by (runs a b c d e) h = record { range = a; path-long = b; trace-long = c; accepted = d; is = e }
+  ran-by (badTable a b c t k d u v y e) h = absurd (is-no-refusal 5 t k (omega arith) (omega arith) e h)
+  ran-by (runs a b c d g e) h = record { range = a; path-long = b; trace-long = c; accepted = d; is = e }
 
   pub has-run : isRefusal answer ≡ false → Ran
   has-run = ran-by whichCase
 
-  among-by : Case → ((r : Ran) (site : Site) → run right table s path trace .verdict ≡ stopped Event.impossible site → ⊥) → Among answer theAnswers
+  among-by : Case → ((r : Ran) (site : Site) → run right table condition s path trace .verdict ≡ stopped Event.impossible site → ⊥) → Among answer theAnswers
   among-by (badSettings f e) h = (2, omega arith, sym (refused-number 2 255 255 e .0))
   among-by (badPath a b e) h = (3, omega arith, sym (refused-number 3 255 255 e .0))
   among-by (badTrace a b c e) h = (4, omega arith, sym (refused-number 4 255 255 e .0))
-  among-by (badTable a b c t k d u v e) h = (5, omega arith, sym (refused-number 5 t k e .0))
-  among-by (runs a b c d e) h =
+  among-by (badTable a b c t k d u v y e) h = (5, omega arith, sym (refused-number 5 t k e .0))
+  among-by (runs a b c d g e) h =
       let r : Ran = record { range = a; path-long = b; trace-long = c; accepted = d; is = e } in
-      rw (ran-number e) (among-answers (run right table s path trace .verdict) (h r))
+      rw (ran-number e) (among-answers (run right table condition s path trace .verdict) (h r))
 
-  reported-by : whole ≡ ran (length path) (length trace) (stopOf table s) → report right table s path trace ≡ reported (run right table s path trace)
+  reported-by : whole ≡ ran (length path) (length trace) (stopOf table condition s) → report right table condition s path trace ≡ reported (run right table condition s path trace)
   unfolding ran
   reported-by e = ap (λ (x : Explored). x .report) e
 
-  left-by : whole ≡ ran (length path) (length trace) (stopOf table s)
-      → (whole .path ≡ written (length path) (run right table s path trace .walk .ledger .path)) × (whole .trace ≡ noted (length trace) (run right table s path trace .walk .trace))
+  left-by : whole ≡ ran (length path) (length trace) (stopOf table condition s)
+      → (whole .path ≡ written (length path) (run right table condition s path trace .walk .ledger .path)) × (whole .trace ≡ noted (length trace) (run right table condition s path trace .walk .trace))
   unfolding ran
   left-by e = (ap (λ (x : Explored). x .path) e, ap (λ (x : Explored). x .trace) e)
 
   -- where a run that has passed the checks is never impossible
-  pub answered : ((r : Ran) (site : Site) → run right table s path trace .verdict ≡ stopped Event.impossible site → ⊥) → Answered right table s path trace
+  pub answered : ((r : Ran) (site : Site) → run right table condition s path trace .verdict ≡ stopped Event.impossible site → ⊥) → Answered right table condition s path trace
   answered never =
       record {
         one = among-by whichCase never;
-        two = record { only = two-only whichCase; whenever = λ f. refused-number 2 255 255 (explored-2 table s path trace f) .0 };
-        three = record { only = three-only whichCase; whenever = λ f. refused-number 3 255 255 (explored-3 table s path trace (f .0) (f .1)) .0 };
-        four = record { only = four-only whichCase; whenever = λ f. refused-number 4 255 255 (explored-4 table s path trace (f .0) (f .1) (f .2)) .0 };
+        two = record { only = two-only whichCase; whenever = λ f. refused-number 2 255 255 (explored-2 table condition s path trace f) .0 };
+        three = record { only = three-only whichCase; whenever = λ f. refused-number 3 255 255 (explored-3 table condition s path trace (f .0) (f .1)) .0 };
+        four = record { only = four-only whichCase; whenever = λ f. refused-number 4 255 255 (explored-4 table condition s path trace (f .0) (f .1) (f .2)) .0 };
         five = record { only = λ h. five-only whichCase h .first; whenever = five-whenever whichCase };
         header = λ h. five-only whichCase h .header;
         row = λ h. five-only whichCase h .row;
+        claim = λ h. five-only whichCase h .claim;
         leaves = refuses whichCase;
         reports = λ h. reported-by (has-run h .is);
         ran = λ h. left-by (has-run h .is);

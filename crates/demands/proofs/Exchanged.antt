@@ -64,7 +64,7 @@ module _ (M : Machine) (limits : Limits) where
   unfolding coursesFromBy coursesFrom
   courses-same zero l past = refl
   courses-same (suc n) l past =
-      cc (course-same l, go (λ m more. courses-same n m more) (after (eqb n 0) past (executionBy M limits ledger.right l)) (after (eqb n 0) past (execution M limits l)) (ap (after (eqb n 0) past) (execution-same l)))
+      cc (course-same l, go (λ m more. courses-same n m more) (after (M .final) (eqb n 0) past (executionBy M limits ledger.right l)) (after (M .final) (eqb n 0) past (execution M limits l)) (ap (after (M .final) (eqb n 0) past) (execution-same l)))
     where
       go : ((m : Ledger) (more : List Execution) → coursesFromBy M limits ledger.right n m more ≡ coursesFrom M limits n m more) → (a b : After (M .State)) → a ≡ b
           → _≡_ {A = List (Course (M .State))} (elim a [ stopsHere r ↦ [] | goesOn m more ↦ coursesFromBy M limits ledger.right n m more ])
@@ -74,23 +74,23 @@ module _ (M : Machine) (limits : Limits) where
 
 -- The explorer
 
-run-same : (table : List ℕ) (s : Settings) → runningBy own table s ≡ stopOf table s
+run-same : (table condition : List ℕ) (s : Settings) → runningBy own table condition s ≡ stopOf table condition s
 unfolding runningBy stopOf ledger.Same
-run-same table s = same (machine (programOf table s)) (limitsOf s) (s .executions)
+run-same table condition s = same (machine (programOf table condition s)) (limitsOf s) (s .executions)
 
 -- where the definition refuses so does it, and else it has that run
-explored-same : (table : List ℕ) (s : Settings) (path trace : List ℕ) → ranBy (runningBy own) table s path trace ≡ explored table s path trace
-explored-same table s path trace = go (isRefusal (explored table s path trace .report .answer)) refl
+explored-same : (table condition : List ℕ) (s : Settings) (path trace : List ℕ) → ranBy (runningBy own) table condition s path trace ≡ explored table condition s path trace
+explored-same table condition s path trace = go (isRefusal (explored table condition s path trace .report .answer)) refl
   where
-    go : (b : Bool) → isRefusal (explored table s path trace .report .answer) ≡ b
-        → _≡_ {A = Explored} (cond b (explored table s path trace) (ran (length path) (length trace) (runningBy own table s))) (explored table s path trace)
+    go : (b : Bool) → isRefusal (explored table condition s path trace .report .answer) ≡ b
+        → _≡_ {A = Explored} (cond b (explored table condition s path trace) (ran (length path) (length trace) (runningBy own table condition s))) (explored table condition s path trace)
     go true e = refl
-    go false e = ap (ran (length path) (length trace)) (run-same table s) ∙ sym (has-run table s path trace e .is)
+    go false e = ap (ran (length path) (length trace)) (run-same table condition s) ∙ sym (has-run table condition s path trace e .is)
 
 pub exchanged : Same
 unfolding coursesBy courses
 exchanged = record {
   explored = explored-same;
   run = run-same;
-  executions = λ table s. courses-same (machine (programOf table s)) (limitsOf s) (s .executions) empty [];
+  executions = λ table condition s. courses-same (machine (programOf table condition s)) (limitsOf s) (s .executions) empty [];
 }

@@ -15,7 +15,7 @@ use borrow.Author.Tests.{ltb-true}
 use Rattle.rules.specs.Event as Event
 use Rattle.rules.specs.Event.{Matched, offers, Question, whichThread, whichSlot, whichBit, Move, moves, asks, stops, ends, Entry}
 use Rattle.rules.specs.Explored as Explored
-use Rattle.rules.specs.Explored.{Settings, programOf, limitsOf}
+use Rattle.rules.specs.Explored.{Settings, programOf, limitsOf, verdictNumber}
 use Rattle.rules.specs.Explorer.{Limits, Ledger, empty, Verdict, Walk, Tick, goes, over, faulted}
 use Rattle.rules.specs.Machine.{Program, machine, next, active, activeOp}
 use Rattle.rules.specs.Path as Path
@@ -40,9 +40,10 @@ use Rattle.offers.specs.Chosen as chosen
 use Rattle.offers.specs.Chosen.{Reading, Offers, Offering, OfferingCourse, left}
 use Rattle.offers.specs.Seen.{Taken, here, on, Lasting, Watched, Seeing}
 use Rattle.offers.proofs.Chosen.{all-offers}
-use Rattle.demands.specs.Demands.{Explorer, right, LastIs, theAnswers, openedChoices, turnedChoices, openChoices}
+use Rattle.demands.specs.Demands as Demands
+use Rattle.demands.specs.Demands.{Explorer, right, LastIs, ButLast, theAnswers, openedChoices, turnedChoices, openChoices}
 use Rattle.demands.specs.Wrong as Wrong
-use Rattle.demands.specs.Wrong.{settings, p3, aBit, storeThenLoad, twoLoads, yieldAndLoad, loadThenBit, parting, noCourse, nothing}
+use Rattle.demands.specs.Wrong.{settings, p3, pathFor, traceFor, ofThreadOne, aBit, storeThenLoad, twoLoads, yieldAndLoad, loadThenBit, parting, noCourse, nothing}
 use Rattle.demands.proofs.Answered.{true-false}
 use Rattle.demands.proofs.WrongRuns.{isOver, faultIn, isGood, valuesIn, statesIn, prevIn, cellIn, slotsIn, matchIn, questionIn, stateIn, entriesIn, exploringIn}
 use Rattle.demands.proofs.WrongRuns.{isSlot, asksSlot, maskIn, madeBy, courseAt, walkAt, knownBy, sees, There, Misoffers, computed}
@@ -81,6 +82,13 @@ each-at R (x ∷ y ∷ xs) (suc k) d h e = each-at R (y ∷ xs) k d (omega arith
 -- equal choices part nowhere
 never-part : (xs ys : List Choice) → xs ≡ ys → Parted xs ys → ⊥
 never-part xs ys e p = p .different (rw e)
+
+-- what each but the last has
+but-last-at : (P : Course State → Type 0) (cs : List (Course State)) (k : ℕ) → suc k < length cs → ButLast P cs → P (getD cs k noCourse)
+but-last-at P [] k h b = absurd (omega arith)
+but-last-at P (c ∷ []) k h b = absurd (omega arith)
+but-last-at P (c ∷ d ∷ cs) zero h b = b .0
+but-last-at P (c ∷ d ∷ cs) (suc k) h b = but-last-at P (d ∷ cs) k (omega arith) (b .1)
 
 -- a single execution is the last
 last-of-one : (cs : List (Course State)) (t : Tick State) → length cs ≡ 1 → LastIs cs t → getD cs 0 noCourse .outcome ≡ t
@@ -131,9 +139,11 @@ wrong-answers =
       four = λ h. omega (arith, h .four .whenever (c .fine, refl, λ e. omega (arith, e)), c .five-first);
       five = λ h.
           let n : judged [] ≢ good = λ e. let z = ap isGood (sym e ∙ c .not-good) in omega (arith, z) in
-          omega (arith, h .five .whenever (c .fine, refl, refl, n), c .taken);
+          omega (arith, h .five .whenever (c .fine, refl, refl, inl n), c .taken);
       header = λ h. omega (arith, h .header (c .header-five) (c .not-good) .0, c .header-thread);
       row = λ h. omega (arith, h .row (c .row-five) 0 0 (c .bad-row) .1, c .row-row);
+      no-condition = λ h. omega (arith, h .five .whenever (c .fine, refl, refl, inr (c .claim-none)), c .claim-taken);
+      claim = λ h. omega (arith, h .claim (c .claim-five) (c .claim-good) .0, c .claim-thread);
       leaves = λ h.
           let z = ap (λ (x : Explored.Explored). getD (x .path) 0 0) (h .leaves (c .cleared)) in
           omega (arith, z, c .cleared-path);
@@ -172,10 +182,10 @@ wrong-turns =
           repeats {A = Name} ([] ∷ [] ∷ []) 0 1 [] (omega arith) (omega arith) refl (subst List·Nodup (c .anew-turned) (h .different));
       dropped = λ h.
           let x = parting droppingStep in
-          let z = length-append (turnedChoices x storeAndLoad (p3 2) [] []) (openChoices x storeAndLoad (p3 2) [] []) in
+          let z = length-append (turnedChoices x storeAndLoad [] (p3 2) [] []) (openChoices x storeAndLoad [] (p3 2) [] []) in
           omega (arith, perm-length (h .together), z, c .dropped-opened, c .dropped-turned, c .dropped-open);
       again = λ h.
-          repeats (openedChoices Wrong.forgetful storeAndLoad (p3 6) [] []) 2 5 [] (omega arith) (omega (arith, c .forgetful-opened))
+          repeats (openedChoices Wrong.forgetful storeAndLoad [] (p3 6) [] []) 2 5 [] (omega arith) (omega (arith, c .forgetful-opened))
           (c .forgetful-first ∙ sym (c .forgetful-again)) (h .once);
       left-open = λ h. omega (arith, h .exhausted (c .early) .0, c .early-open);
       never-taken = λ h.
@@ -192,6 +202,20 @@ wrong-stops =
           let z = last-of-one (madeBy Wrong.overlooking oneLoad (settings 2 1 1)) _ (c .overlooked-listed) (h .exhausted (c .overlooked) .0) in
           omega (arith, ap isOver z, c .overlooked-last);
       unspent = λ h. omega (arith, h .spent (c .unspent-verdict) .2, c .unspent);
+      behind-none = λ h.
+          let z = ap verdictNumber (sym (c .none-verdict) ∙ h .unmet .whenever (c .none-last, c .none-false)) in omega (arith, z);
+      behind-one = λ h.
+          let s = p3 2 in
+          let P = Demands.Met Wrong.judgingLast storeAndLoad ofThreadOne s (pathFor s) (traceFor s) in
+          let z = every-at P (Wrong.judgingLast .executions storeAndLoad ofThreadOne s) 1 noCourse (omega (arith, c .one-made)) (h .met (omega (arith, c .one-said))) in
+          true-false (z .1) (c .one-false);
+      unjudged = λ h.
+          let s = p3 3 in
+          let P = Demands.Met Wrong.unjudging storeAndLoad ofThreadOne s (pathFor s) (traceFor s) in
+          let z = but-last-at P (Wrong.unjudging .executions storeAndLoad ofThreadOne s) 1 (omega (arith, c .unjudged-made)) (h .earlier) in
+          true-false (z .1) (c .unjudged-false);
+      condemned = λ h. true-false (c .condemned-true) (h .unmet .only (c .condemned) .1);
+      misplaced = λ h. omega (arith, h .place (c .place-said) .1, c .place-row);
       invented = λ h.
           let z = last-of-one (madeBy (parting inventing) storeAndLoad (p3 1)) _ (c .invented-listed) (h .fault _ _ (c .invented)) in
           omega (arith, ap isOver z, c .invented-last);
@@ -212,13 +236,13 @@ module _ (x : Explorer) (table : List ℕ) (s : Settings) (i k : ℕ) (h : There
   at-tick P e = there (madeBy x table s) (λ c. c .ticks) noCourse nothing P i k (h .made) (h .ticked) e
 
   breaks-offers : (a b : ℕ) → (a ≡ b → ⊥) → Misoffers x table s i k a b
-      → Every (OfferingCourse (programOf table s) (limitsOf s)) (madeBy x table s) → ⊥
+      → Every (OfferingCourse (programOf table [] s) (limitsOf s)) (madeBy x table s) → ⊥
   breaks-offers a b differ m e =
       let w = walkAt x table s i k in
-      let move = next (programOf table s) (w .state) .move in
-      misoffered (programOf table s) (limitsOf s) w (stateIn move) (entriesIn move) (exploringIn move) (matchIn (questionIn move)) a b
+      let move = next (programOf table [] s) (w .state) .move in
+      misoffered (programOf table [] s) (limitsOf s) w (stateIn move) (entriesIn move) (exploringIn move) (matchIn (questionIn move)) a b
       (slot-asked move (m .asked)) (ltb-true _ _ (m .passed)) (m .values) (m .slots) differ
-      (at-tick (Offering (programOf table s) (limitsOf s)) e)
+      (at-tick (Offering (programOf table [] s) (limitsOf s)) e)
 
 -- the first execution is the machine's
 made-first : (M : Event.Machine) (limits : Limits) (n : ℕ) (w : Walk (M .State)) (v : Verdict) (l : Ledger) (cs : List (Course (M .State))) (d : Course (M .State))
@@ -270,7 +294,7 @@ pub wrong-offers : Wrong.WrongOffers
 unfolding Offers
 wrong-offers =
     let c = computed in
-    let p = programOf storeAndLoad (p3 2) in
+    let p = programOf storeAndLoad [] (p3 2) in
     let limits = limitsOf (p3 2) in
     record {
       shortened = λ h.
@@ -278,8 +302,8 @@ wrong-offers =
       too-few = λ h.
           breaks-offers Wrong.tooFew loadThenBit (settings 6 3 2) 1 4 (c .few-there) 1 2 (λ e. omega (arith, e)) (c .few) (h .offers);
       too-few-at-first = λ h.
-          let M = machine (programOf storeAndLoad (p3 1)) in
-          let stop = Wrong.tooFew .run storeAndLoad (p3 1) in
+          let M = machine (programOf storeAndLoad [] (p3 1)) in
+          let stop = Wrong.tooFew .run storeAndLoad [] (p3 1) in
           let z = made-first M (limitsOf (p3 1)) 1 (stop .walk) (stop .verdict) empty (madeBy Wrong.tooFew storeAndLoad (p3 1)) noCourse (omega (arith, c .few-made)) (h .told .made) in
           omega (arith, ap (maskIn 1) z, c .few-mask, c .right-mask);
       too-many = λ h.
@@ -290,7 +314,7 @@ wrong-offers =
           let s = settings 3 1 1 in
           let made = ltb-true _ _ (c .wiped-there .made) in
           let ticked = ltb-true _ _ (c .wiped-there .ticked) in
-          let e = every-at (Seeing (programOf oneLoad s) (limitsOf s)) (madeBy Wrong.wiping oneLoad s) 0 noCourse made (h .seen) in
+          let e = every-at (Seeing (programOf oneLoad [] s) (limitsOf s)) (madeBy Wrong.wiping oneLoad s) 0 noCourse made (h .seen) in
           true-false
           (lasting-next (courseAt Wrong.wiping oneLoad s 0 .ticks) 1 0 0 0 ticked (omega arith) (omega arith)
           (λ taken. omega (arith, taken .0, c .wiped-slot)) (e .lasting) (c .wiped-seen))
@@ -346,10 +370,10 @@ impossible-as (over w) e h = let z = ap Event.faultNumber e in omega (arith, z)
 impossible-as (faulted f s w) e h = h s w (ap (λ (g : Event.Fault). faulted g s w) e)
 
 abbrev Standing : List ℕ → Settings → Walk State → Type 0
-Standing table s = HoldsAt (machine (programOf table s)) (standing.Holds (programOf table s))
+Standing table s = HoldsAt (machine (programOf table [] s)) (standing.Holds (programOf table [] s))
 
 abbrev Stood : List ℕ → Settings → Walk State → Type 0
-Stood table s = HoldsAt (machine (programOf table s)) (standing.Over (programOf table s))
+Stood table s = HoldsAt (machine (programOf table [] s)) (standing.Over (programOf table [] s))
 
 pub wrong-ticks : Wrong.WrongTicks
 wrong-ticks =
@@ -373,7 +397,7 @@ wrong-ticks =
           (omega (arith, c .refused-made)) (h .stood) in
           omega (arith, z .limited, c .refused-begun);
       raised = λ h.
-          let p = programOf oneLoad (settings 3 1 1) in
+          let p = programOf oneLoad [] (settings 3 1 1) in
           let P = HoldsAt (machine p) (Over p) in
           let z =
           at-tick Wrong.raising oneLoad (settings 3 1 1) 0 2 (c .raised-there) P
@@ -382,19 +406,19 @@ wrong-ticks =
           let v = z .vectors .parts (State.causality 0) (omega arith) 0 (omega arith) in
           omega (arith, v, c .raised-version, c .raised-rows);
       two-active = λ h.
-          let M = machine (programOf storeAndLoad (p3 3)) in
+          let M = machine (programOf storeAndLoad [] (p3 3)) in
           let known = knownBy Wrong.bothActive storeAndLoad (p3 3) 2 in
           let z = every-at (RuledIn M 5) (madeBy Wrong.bothActive storeAndLoad (p3 3)) 2 noCourse (omega (arith, c .active-made)) (h .records) in
           two-active (take 0 known) (getD known 0 noBranch) (c .active-first) (c .active-second)
           (z .at-start .records 0 (omega (arith, c .active-known)));
       pointed = λ h.
-          let M = machine (programOf storeAndLoad (p3 2)) in
+          let M = machine (programOf storeAndLoad [] (p3 2)) in
           let known = knownBy Wrong.pointing storeAndLoad (p3 2) 1 in
           let z = every-at (RuledIn M 5) (madeBy Wrong.pointing storeAndLoad (p3 2)) 1 noCourse (omega (arith, c .pointed-made)) (h .records) in
           pointed-back (take 0 known) (getD known 0 noBranch) refl (c .pointed-first)
           (z .at-start .records 0 (omega (arith, c .pointed-known)));
       disagreeing = λ h.
-          let p = programOf storeAndLoad (p3 2) in
+          let p = programOf storeAndLoad [] (p3 2) in
           let limits = limitsOf (p3 2) in
           let P = replay.Answered (machine p) limits in
           let m = c .shortened in

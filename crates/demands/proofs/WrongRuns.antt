@@ -10,21 +10,23 @@ use lib.Dec.{ltb}
 use lib.ListN.{length, getD}
 use Rattle.rules.specs.Cell as Cell
 use Rattle.rules.specs.Cell.{seenBy, slotOf}
+use Rattle.rules.specs.Condition as Condition
+use Rattle.rules.specs.Condition.{isCondition}
 use Rattle.rules.specs.Event as Event
 use Rattle.rules.specs.Event.{Matched, offers, equal, slotsOf, Question, whichThread, whichSlot, whichBit, Move, moves, asks, stops, ends, Entry}
 use Rattle.rules.specs.Explored as Explored
 use Rattle.rules.specs.Explored.{Settings, Report, reported, isRefusal, settingsFine, noted, verdictNumber, programOf, limitsOf}
 use Rattle.rules.specs.Explorer as Runs
-use Rattle.rules.specs.Explorer.{Stop, empty, Walk, Tick, goes, over, faulted, exhausted, spent, stopped}
+use Rattle.rules.specs.Explorer.{Stop, empty, Walk, Tick, goes, over, faulted, exhausted, spent, unmet, stopped}
 use Rattle.rules.specs.Machine as Machine
-use Rattle.rules.specs.Machine.{machine, next, active, activeOp}
+use Rattle.rules.specs.Machine.{machine, next, final, active, activeOp}
 use Rattle.rules.specs.Path as Path
 use Rattle.rules.specs.Path.{Branch, schedule, load, spurious, noBranch, Choice, choiceOf}
 use Rattle.rules.specs.Seen as Seen
 use Rattle.rules.specs.State as State
 use Rattle.rules.specs.State.{State, vector, number, marksOf, count}
 use Rattle.rules.specs.Table as Table
-use Rattle.rules.specs.Table.{judged, good, badHeader, badRow}
+use Rattle.rules.specs.Table.{judged, good, badHeader, badRow, threadsOf}
 use Rattle.rules.specs.Vector as Vector
 use Rattle.rules.specs.Worked as Worked
 use Rattle.rules.specs.Worked.{oneLoad, storeAndLoad}
@@ -33,10 +35,10 @@ use Rattle.ledger.specs.History.{Course, end, ticksFrom, courseOf, coursesFrom,
 use Rattle.ledger.specs.Tree.{noExecution}
 use Rattle.ledger.specs.Turning.{running, turningPoint, threadsFrom, alternatives, openNames, newlyPending, markedAlternatives, openedNames, joinedOver}
 use Rattle.offers.specs.Chosen.{left}
-use Rattle.demands.specs.Demands.{Explorer, right, it, report, openedChoices, turnedChoices, openChoices}
+use Rattle.demands.specs.Demands.{Explorer, right, LastIs, it, report, openedChoices, turnedChoices, openChoices}
 use Rattle.demands.specs.Exchanged.{ticksFromBy, courseBy, coursesFromBy, coursesBy, runningBy}
 use Rattle.demands.specs.Wrong as Wrong
-use Rattle.demands.specs.Wrong.{settings, p3, pathFor, traceFor, noSuchRow, aBit, storeThenLoad, twoLoads, yieldAndLoad, loadThenBit, parting, noCourse, nothing}
+use Rattle.demands.specs.Wrong.{settings, p3, pathFor, traceFor, noSuchRow, ofThreadOne, notSeven, aBit, storeThenLoad, twoLoads, yieldAndLoad, loadThenBit, parting, noCourse, nothing}
 
 -- What is read off
 
@@ -129,18 +131,22 @@ asksSlot (ends s) = 0
 
 -- What is looked at
 
+abbrev pub leftUnder : Explorer → List ℕ → List ℕ → Settings → Explored.Explored
+leftUnder x table condition s = it x table condition s (pathFor s) (traceFor s)
+
+-- without a condition
 abbrev pub leftFor : Explorer → List ℕ → Settings → Explored.Explored
-leftFor x table s = it x table s (pathFor s) (traceFor s)
+leftFor x table s = leftUnder x table [] s
 
 abbrev pub reportFor : Explorer → List ℕ → Settings → Report
 reportFor x table s = leftFor x table s .report
 
 -- the run's stop, its executions, and one of them
 abbrev pub stopBy : Explorer → List ℕ → Settings → Stop State
-stopBy x table s = x .run table s
+stopBy x table s = x .run table [] s
 
 abbrev pub madeBy : Explorer → List ℕ → Settings → List (Course State)
-madeBy x table s = x .executions table s
+madeBy x table s = x .executions table [] s
 
 abbrev pub courseAt : Explorer → List ℕ → Settings → ℕ → Course State
 courseAt x table s i = getD (madeBy x table s) i noCourse
@@ -164,11 +170,11 @@ abbrev pub walkAt : Explorer → List ℕ → Settings → ℕ → ℕ → Walk 
 walkAt x table s i k = getD (courseAt x table s i .ticks) k nothing
 
 abbrev pub moveAt : Explorer → List ℕ → Settings → ℕ → ℕ → Move State
-moveAt x table s i k = next (programOf table s) (walkAt x table s i k .state) .move
+moveAt x table s i k = next (programOf table [] s) (walkAt x table s i k .state) .move
 
 -- the walk that the definition's tick leaves there, and the record that answers
 abbrev pub leftAt : Explorer → List ℕ → Settings → ℕ → ℕ → Walk State
-leftAt x table s i k = left (programOf table s) (limitsOf s) (walkAt x table s i k)
+leftAt x table s i k = left (programOf table [] s) (limitsOf s) (walkAt x table s i k)
 
 abbrev pub answeringAt : Explorer → List ℕ → Settings → ℕ → ℕ → Branch
 answeringAt x table s i k = getD (leftAt x table s i k .ledger .path) (walkAt x table s i k .pos) noBranch
@@ -179,6 +185,10 @@ knownBy x table s i = courseAt x table s i .known
 
 abbrev pub sees : Walk State → ℕ → ℕ → ℕ → Bool
 sees w t c i = seenBy (w .state .clocks) (marksOf (w .state .marks) c) t i
+
+-- whether the condition holds at the end of execution i
+abbrev pub endsUnder : Explorer → List ℕ → List ℕ → Settings → ℕ → Bool
+endsUnder x table condition s i = final (programOf table condition s) (end (getD (x .executions table condition s) i noCourse) .state)
 
 -- there is such a tick
 pub record There (x : Explorer) (table : List ℕ) (s : Settings) (i k : ℕ) : Type 0 where
@@ -197,9 +207,9 @@ pub record Computed : Type 0 where
   pub no-answer : reportFor Wrong.oneTick oneLoad (settings 3 1 1) .answer ≡ 20
   pub not-fine : settingsFine (settings 3 1 0) ≡ false
   pub fine : settingsFine (settings 3 1 1) ≡ true
-  pub three-first : report Wrong.pathFirst oneLoad (settings 3 1 0) [] [] .answer ≡ 3
-  pub four-first : report Wrong.traceFirst oneLoad (settings 3 1 1) [] [] .answer ≡ 4
-  pub five-first : report Wrong.tableFirst [] (settings 3 1 1) (pathFor (settings 3 1 1)) [] .answer ≡ 5
+  pub three-first : report Wrong.pathFirst oneLoad [] (settings 3 1 0) [] [] .answer ≡ 3
+  pub four-first : report Wrong.traceFirst oneLoad [] (settings 3 1 1) [] [] .answer ≡ 4
+  pub five-first : report Wrong.tableFirst [] [] (settings 3 1 1) (pathFor (settings 3 1 1)) [] .answer ≡ 5
   pub not-good : judged [] ≡ badHeader
   pub taken : reportFor Wrong.anyTable [] (settings 3 1 1) .answer ≡ 0
   pub header-five : reportFor Wrong.firstRow [] (settings 3 1 1) .answer ≡ 5
@@ -207,8 +217,13 @@ pub record Computed : Type 0 where
   pub bad-row : judged noSuchRow ≡ badRow 0 0
   pub row-five : reportFor Wrong.nextRow noSuchRow (settings 3 1 1) .answer ≡ 5
   pub row-row : reportFor Wrong.nextRow noSuchRow (settings 3 1 1) .row ≡ 1
-  pub cleared : isRefusal (report Wrong.clearing oneLoad (settings 3 1 0) (1 ∷ []) [] .answer) ≡ true
-  pub cleared-path : getD (it Wrong.clearing oneLoad (settings 3 1 0) (1 ∷ []) [] .path) 0 0 ≡ 0
+  pub claim-none : isCondition (threadsOf oneLoad) ofThreadOne ≡ false
+  pub claim-good : judged oneLoad ≡ good
+  pub claim-taken : leftUnder Wrong.anyTable oneLoad ofThreadOne (settings 3 1 1) .report .answer ≡ 18
+  pub claim-five : leftUnder Wrong.firstRow oneLoad ofThreadOne (settings 3 1 1) .report .answer ≡ 5
+  pub claim-thread : leftUnder Wrong.firstRow oneLoad ofThreadOne (settings 3 1 1) .report .thread ≡ 0
+  pub cleared : isRefusal (report Wrong.clearing oneLoad [] (settings 3 1 0) (1 ∷ []) [] .answer) ≡ true
+  pub cleared-path : getD (it Wrong.clearing oneLoad [] (settings 3 1 0) (1 ∷ []) [] .path) 0 0 ≡ 0
   pub misplaced-ran : isRefusal (reportFor Wrong.misplacing oneLoad (settings 1 1 1) .answer) ≡ false
   pub misplaced : reportFor Wrong.misplacing oneLoad (settings 1 1 1) .row ≡ 1
   pub placed : reported (stopBy Wrong.misplacing oneLoad (settings 1 1 1)) .row ≡ 0
@@ -222,9 +237,9 @@ pub record Computed : Type 0 where
   pub fault-begun : reportFor Wrong.faultsNotBegun oneLoad (settings 2 1 1) .begun ≡ 0
   pub fault-made : length (madeBy Wrong.faultsNotBegun oneLoad (settings 2 1 1)) ≡ 1
   pub twice-counted : reportFor Wrong.twice storeAndLoad (p3 1) .opened ≡ 3
-  pub twice-opened : length (openedChoices Wrong.twice storeAndLoad (p3 1) [] []) ≡ 2
+  pub twice-opened : length (openedChoices Wrong.twice storeAndLoad [] (p3 1) [] []) ≡ 2
   pub none-open : reportFor Wrong.noneOpen storeAndLoad (p3 1) .stillOpen ≡ 0
-  pub some-open : length (openChoices Wrong.noneOpen storeAndLoad (p3 1) [] []) ≡ 2
+  pub some-open : length (openChoices Wrong.noneOpen storeAndLoad [] (p3 1) [] []) ≡ 2
   pub untold-made : length (madeBy Wrong.untold oneLoad (settings 3 1 1)) ≡ 1
   pub untold : length (stopBy Wrong.untold oneLoad (settings 3 1 1) .history) ≡ 0
   -- The tree and the turning points
@@ -232,19 +247,19 @@ pub record Computed : Type 0 where
   pub anew-told : length (stopBy Wrong.anew aBit (settings 2 1 2) .history) ≡ 2
   pub anew-same : choicesIn Wrong.anew aBit (settings 2 1 2) 0 ≡ choicesIn Wrong.anew aBit (settings 2 1 2) 1
   pub anew-point : length (turningPoint (courseAt Wrong.anew aBit (settings 2 1 2) 1)) ≡ 0
-  pub anew-turned : turnedChoices Wrong.anew aBit (settings 2 1 3) [] [] ≡ [] ∷ [] ∷ []
-  pub dropped-opened : length (openedChoices (parting droppingStep) storeAndLoad (p3 2) [] []) ≡ 3
-  pub dropped-turned : length (turnedChoices (parting droppingStep) storeAndLoad (p3 2) [] []) ≡ 1
-  pub dropped-open : length (openChoices (parting droppingStep) storeAndLoad (p3 2) [] []) ≡ 1
-  pub forgetful-opened : length (openedChoices Wrong.forgetful storeAndLoad (p3 6) [] []) ≡ 6
-  pub forgetful-first : getD (openedChoices Wrong.forgetful storeAndLoad (p3 6) [] []) 2 [] ≡ running 1 ∷ running 0 ∷ []
-  pub forgetful-again : getD (openedChoices Wrong.forgetful storeAndLoad (p3 6) [] []) 5 [] ≡ running 1 ∷ running 0 ∷ []
+  pub anew-turned : turnedChoices Wrong.anew aBit [] (settings 2 1 3) [] [] ≡ [] ∷ [] ∷ []
+  pub dropped-opened : length (openedChoices (parting droppingStep) storeAndLoad [] (p3 2) [] []) ≡ 3
+  pub dropped-turned : length (turnedChoices (parting droppingStep) storeAndLoad [] (p3 2) [] []) ≡ 1
+  pub dropped-open : length (openChoices (parting droppingStep) storeAndLoad [] (p3 2) [] []) ≡ 1
+  pub forgetful-opened : length (openedChoices Wrong.forgetful storeAndLoad [] (p3 6) [] []) ≡ 6
+  pub forgetful-first : getD (openedChoices Wrong.forgetful storeAndLoad [] (p3 6) [] []) 2 [] ≡ running 1 ∷ running 0 ∷ []
+  pub forgetful-again : getD (openedChoices Wrong.forgetful storeAndLoad [] (p3 6) [] []) 5 [] ≡ running 1 ∷ running 0 ∷ []
   pub early : reportFor Wrong.early storeAndLoad (p3 2) .answer ≡ 0
   pub early-open : reportFor Wrong.early storeAndLoad (p3 2) .stillOpen ≡ 2
   pub early-verdict : stopBy Wrong.early storeAndLoad (p3 2) .verdict ≡ exhausted
   pub untaken : reportFor Wrong.neverTaking storeAndLoad (p3 2) .answer ≡ 0
-  pub untaken-opened : length (openedChoices Wrong.neverTaking storeAndLoad (p3 2) [] []) ≡ 2
-  pub untaken-turned : length (turnedChoices Wrong.neverTaking storeAndLoad (p3 2) [] []) ≡ 1
+  pub untaken-opened : length (openedChoices Wrong.neverTaking storeAndLoad [] (p3 2) [] []) ≡ 2
+  pub untaken-turned : length (turnedChoices Wrong.neverTaking storeAndLoad [] (p3 2) [] []) ≡ 1
   -- Why it stopped
   pub spent-last : reportFor Wrong.spentAtLast oneLoad (settings 3 1 1) .answer ≡ 1
   pub exhausted-last : verdictNumber (stopBy Wrong.spentAtLast oneLoad (settings 3 1 1) .verdict) ≡ 0
@@ -256,6 +271,20 @@ pub record Computed : Type 0 where
   pub invented : stopBy (parting inventing) storeAndLoad (p3 1) .verdict ≡ stopped Event.deadlock Event.noSite
   pub invented-listed : length (madeBy (parting inventing) storeAndLoad (p3 1)) ≡ 1
   pub invented-last : isOver (courseAt (parting inventing) storeAndLoad (p3 1) 0 .outcome) ≡ 1
+  pub none-verdict : Wrong.judgingLast .run oneLoad notSeven (settings 3 1 1) .verdict ≡ exhausted
+  pub none-last :
+      LastIs (Wrong.judgingLast .executions oneLoad notSeven (settings 3 1 1)) (over (Wrong.judgingLast .run oneLoad notSeven (settings 3 1 1) .walk))
+  pub none-false :
+      final (programOf oneLoad notSeven (settings 3 1 1)) (Wrong.judgingLast .run oneLoad notSeven (settings 3 1 1) .walk .state) ≡ false
+  pub one-said : leftUnder Wrong.judgingLast storeAndLoad ofThreadOne (p3 2) .report .answer ≡ 1
+  pub one-made : length (Wrong.judgingLast .executions storeAndLoad ofThreadOne (p3 2)) ≡ 2
+  pub one-false : endsUnder Wrong.judgingLast storeAndLoad ofThreadOne (p3 2) 1 ≡ false
+  pub unjudged-made : length (Wrong.unjudging .executions storeAndLoad ofThreadOne (p3 3)) ≡ 3
+  pub unjudged-false : endsUnder Wrong.unjudging storeAndLoad ofThreadOne (p3 3) 1 ≡ false
+  pub condemned : stopBy Wrong.condemning oneLoad (settings 3 1 1) .verdict ≡ unmet
+  pub condemned-true : final (programOf oneLoad [] (settings 3 1 1)) (stopBy Wrong.condemning oneLoad (settings 3 1 1) .walk .state) ≡ true
+  pub place-said : leftUnder Wrong.misplacing oneLoad notSeven (settings 3 1 1) .report .answer ≡ 18
+  pub place-row : leftUnder Wrong.misplacing oneLoad notSeven (settings 3 1 1) .report .row ≡ 256
   -- What is offered
   pub shortened-there : There Wrong.shortening storeAndLoad (p3 2) 1 4
   pub shortened : Misoffers Wrong.shortening storeAndLoad (p3 2) 1 4 1 2
@@ -263,7 +292,7 @@ pub record Computed : Type 0 where
   pub few : Misoffers Wrong.tooFew loadThenBit (settings 6 3 2) 1 4 1 2
   pub few-made : length (madeBy Wrong.tooFew storeAndLoad (p3 1)) ≡ 1
   pub few-mask : maskIn 1 (courseAt Wrong.tooFew storeAndLoad (p3 1) 0) ≡ 1
-  pub right-mask : maskIn 1 (courseOf (machine (programOf storeAndLoad (p3 1))) (limitsOf (p3 1)) empty) ≡ 3
+  pub right-mask : maskIn 1 (courseOf (machine (programOf storeAndLoad [] (p3 1))) (limitsOf (p3 1)) empty) ≡ 3
   pub many-there : There Wrong.tooMany storeThenLoad (settings 4 2 2) 1 3
   pub many : Misoffers Wrong.tooMany storeThenLoad (settings 4 2 2) 1 3 2 1
   pub blind-there : There Wrong.blind storeThenLoad (settings 4 2 2) 1 3
@@ -277,7 +306,7 @@ pub record Computed : Type 0 where
   pub ticks-passed : ltb (walkAt right storeAndLoad (p3 2) 1 4 .pos) (leftAt right storeAndLoad (p3 2) 1 4 .pos) ≡ true
   pub ticks-branch : choiceOf (answeringAt right storeAndLoad (p3 2) 1 4) ≡ Path.reads 1
   pub ticks-thread : active (stateIn (moveAt right storeAndLoad (p3 2) 1 4)) ≡ 1
-  pub ticks-cell : cellIn (activeOp (programOf storeAndLoad (p3 2)) (stateIn (moveAt right storeAndLoad (p3 2) 1 4))) ≡ 0
+  pub ticks-cell : cellIn (activeOp (programOf storeAndLoad [] (p3 2)) (stateIn (moveAt right storeAndLoad (p3 2) 1 4))) ≡ 0
   pub ticks-unseen : sees (Wrong.tickOf Wrong.unseeing storeAndLoad (p3 2) Wrong.beforeLoad) 1 0 1 ≡ false
   -- What holds at every tick
   pub no-ticks : length (madeBy Wrong.oneTick oneLoad (settings 3 1 1)) ≡ 1
@@ -310,7 +339,7 @@ unfolding Cell.loadSynced Cell.storeSynced Cell.fateFrom Cell.loadFate Cell.rmwF
     Machine.blank Machine.cellsMade Machine.threadsStarted Machine.start Machine.conflict Machine.fewestFrom Machine.initial
     Machine.standing Machine.schedules Machine.accessMade Machine.othersAwake Machine.switched Machine.allOver Machine.scheduled
     Machine.stores Machine.joins Machine.someCanRun Machine.actsAs Machine.begins Machine.threadEnded Machine.nextAt
-    Machine.next Machine.maskOf Machine.readFrom Machine.bitTaken Machine.answered Path.encoded Path.encodedAll Path.written
+    Machine.next Machine.maskOf Machine.readFrom Machine.bitTaken Machine.answered Machine.final Condition.compared Condition.comparisonAt Condition.conditionAt Condition.isCondition Condition.holds Path.encoded Path.encodedAll Path.written
     Path.firstIn Path.activeOf Path.toggled Path.preemptionsWith Path.lastSchedule Path.threadAdded Path.loadAdded
     Path.spuriousAdded Path.marked Path.madePending Path.takesMarks Path.scheduleMarked Path.scheduleAt Path.exploringBelow
     Path.schedulesBelow Path.switchIn Path.markedBefore Path.backtracked Path.pendings Path.openAt Path.openIn Path.turned
@@ -335,6 +364,11 @@ computed = record {
   bad-row = refl;
   row-five = refl;
   row-row = refl;
+  claim-none = refl;
+  claim-good = refl;
+  claim-taken = refl;
+  claim-five = refl;
+  claim-thread = refl;
   cleared = refl;
   cleared-path = refl;
   misplaced-ran = refl;
@@ -381,6 +415,18 @@ computed = record {
   invented = refl;
   invented-listed = refl;
   invented-last = refl;
+  none-verdict = refl;
+  none-last = refl;
+  none-false = refl;
+  one-said = refl;
+  one-made = refl;
+  one-false = refl;
+  unjudged-made = refl;
+  unjudged-false = refl;
+  condemned = refl;
+  condemned-true = refl;
+  place-said = refl;
+  place-row = refl;
   shortened-there = record { made = refl; ticked = refl };
   shortened = record { asked = refl; passed = refl; values = refl; slots = refl };
   few-there = record { made = refl; ticked = refl };

@@ -13,7 +13,7 @@ use lib.ListN.{length}
 use Rattle.rules.specs.Event as Event
 use Rattle.rules.specs.Event.{Machine, Answer, Move}
 use Rattle.rules.specs.State.{State}
-use Rattle.rules.specs.Machine.{Program, start, next, answered}
+use Rattle.rules.specs.Machine.{Program, start, next, answered, final}
 use Rattle.rules.specs.Explorer.{Limits, Ledger, Walk, Execution, Stop, goes, over, faulted, stopsHere, goesOn, empty}
 use Rattle.rules.specs.Explored.{Settings, Explored, explored, ran, isRefusal, programOf, limitsOf}
 use Rattle.ledger.specs.History.{Course, starting}
@@ -48,7 +48,7 @@ module _ (M : Machine) (limits : Limits) (P : Parts (M .State)) where
   coursesFromBy zero l past = []
   coursesFromBy (suc n) l past =
       courseBy l
-      ∷ elim (P .follows (eqb n 0) past (executionBy M limits P l)) [ stopsHere r ↦ [] | goesOn m more ↦ coursesFromBy n m more ]
+      ∷ elim (P .follows (M .final) (eqb n 0) past (executionBy M limits P l)) [ stopsHere r ↦ [] | goesOn m more ↦ coursesFromBy n m more ]
 
   unfoldable pub coursesBy : ℕ → List (Course (M .State))
   coursesBy n = coursesFromBy n empty []
@@ -56,27 +56,27 @@ module _ (M : Machine) (limits : Limits) (P : Parts (M .State)) where
 -- The explorer
 
 abbrev pub machineBy : Pieces → Program → Machine
-machineBy y p = record { State = State; start = start p; next = y .next p; answered = y .answered p }
+machineBy y p = record { State = State; start = start p; next = y .next p; answered = y .answered p; final = final p }
 
 -- with this run instead of the definition's, where the definition runs
-abbrev pub ranBy : (List ℕ → Settings → Stop State) → List ℕ → Settings → List ℕ → List ℕ → Explored
-ranBy run table s path trace =
-    cond (isRefusal (explored table s path trace .report .answer)) (explored table s path trace)
-    (ran (length path) (length trace) (run table s))
+abbrev pub ranBy : (List ℕ → List ℕ → Settings → Stop State) → List ℕ → List ℕ → Settings → List ℕ → List ℕ → Explored
+ranBy run table condition s path trace =
+    cond (isRefusal (explored table condition s path trace .report .answer)) (explored table condition s path trace)
+    (ran (length path) (length trace) (run table condition s))
 
-unfoldable pub runningBy : Pieces → List ℕ → Settings → Stop State
-runningBy y table s = runBy (machineBy y (programOf table s)) (y .limits s) (y .parts) (s .executions)
+unfoldable pub runningBy : Pieces → List ℕ → List ℕ → Settings → Stop State
+runningBy y table condition s = runBy (machineBy y (programOf table condition s)) (y .limits s) (y .parts) (s .executions)
 
 abbrev pub explorerBy : Pieces → Explorer
 explorerBy y = record {
   explored = ranBy (runningBy y);
   run = runningBy y;
-  executions = λ table s. coursesBy (machineBy y (programOf table s)) (y .limits s) (y .parts) (s .executions);
+  executions = λ table condition s. coursesBy (machineBy y (programOf table condition s)) (y .limits s) (y .parts) (s .executions);
 }
 
 -- with the definition's parts it is the definition's explorer
 pub record Same : Type 0 where
-  pub explored : (table : List ℕ) (s : Settings) (path trace : List ℕ) →
-      explorerBy own .explored table s path trace ≡ right .explored table s path trace
-  pub run : (table : List ℕ) (s : Settings) → explorerBy own .run table s ≡ right .run table s
-  pub executions : (table : List ℕ) (s : Settings) → explorerBy own .executions table s ≡ right .executions table s
+  pub explored : (table condition : List ℕ) (s : Settings) (path trace : List ℕ) →
+      explorerBy own .explored table condition s path trace ≡ right .explored table condition s path trace
+  pub run : (table condition : List ℕ) (s : Settings) → explorerBy own .run table condition s ≡ right .run table condition s
+  pub executions : (table condition : List ℕ) (s : Settings) → explorerBy own .executions table condition s ≡ right .executions table condition s

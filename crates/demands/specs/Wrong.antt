@@ -1,7 +1,7 @@
 -- Wrong explorers, and the sentence of the page that each breaks: the right one, or the explorer over its parts (Exchanged), with
 -- one part exchanged, on a table so small that the checker computes its run. Each statement says that the sentences of one name on
 -- the page do not all hold of it; the one that does not, by which alone it is proved, stands in brackets. Assumes nothing.
---     Broken                                       the sentences do not hold, for a table and settings
+--     Broken, BrokenUnder                          the sentences do not hold, for a table and settings, under a condition
 --     answering, reporting, refusing               an explorer that returns or leaves something else
 --     parting, following, stepping                 one with other marks, or other steps after an execution
 --     limiting, doing, rescanning, answeredBy      one with other limits, moves, offers, effects of an answer
@@ -23,7 +23,8 @@ use Rattle.rules.specs.Cell.{withBoth}
 use Rattle.rules.specs.Explorer.{Limits, Walk, Tick, goes, over, faulted, withLedger, Execution, stop, exhausted, After, stopsHere, goesOn, after, firstMarked}
 use Rattle.rules.specs.Explored.{Settings, Explored, Report, explored, refused, ran, isRefusal, stopOf, programOf, limitsOf, entriesBytes}
 use Rattle.rules.specs.Worked as Worked
-use Rattle.rules.specs.Worked.{row, table, oneLoad, store, storeAndLoad}
+use Rattle.rules.specs.Condition.{equals, differs}
+use Rattle.rules.specs.Worked.{row, table, oneLoad, store, storeAndLoad, comparing}
 use Rattle.ledger.specs.History.{Course, leftBy}
 use Rattle.ledger.specs.Wrong.{Parts, steppingBy, tickBy, droppingStep, uncounted, inventing}
 use Rattle.offers.specs.Seen.{Watched}
@@ -43,9 +44,12 @@ pathFor s = replicate (recordBytes * s .branches) 165
 abbrev pub traceFor : Settings → List ℕ
 traceFor s = replicate (recordBytes * s .operations) 90
 
--- these sentences do not hold of the explorer, for a table and settings with buffers that fit
-abbrev pub Broken : (Explorer → List ℕ → Settings → List ℕ → List ℕ → Type 0) → Explorer → List ℕ → Settings → Type 0
-Broken Sentences x table s = Sentences x table s (pathFor s) (traceFor s) → ⊥
+-- these sentences do not hold of the explorer, for a table, a condition or none, and settings with buffers that fit
+abbrev pub BrokenUnder : (Explorer → List ℕ → List ℕ → Settings → List ℕ → List ℕ → Type 0) → Explorer → List ℕ → List ℕ → Settings → Type 0
+BrokenUnder Sentences x table condition s = Sentences x table condition s (pathFor s) (traceFor s) → ⊥
+
+abbrev pub Broken : (Explorer → List ℕ → List ℕ → Settings → List ℕ → List ℕ → Type 0) → Explorer → List ℕ → Settings → Type 0
+Broken Sentences x table s = BrokenUnder Sentences x table [] s
 
 -- case P3, "thread 0 stores 1, thread 1 loads", with a budget; its right run has five executions and opens four choices
 abbrev pub p3 : ℕ → Settings
@@ -73,18 +77,26 @@ aBit = table (7 ∷ []) ((row 16 0 0 0 0 0 ∷ []) ∷ [])
 abbrev pub loadThenBit : List ℕ
 loadThenBit = table (0 ∷ []) ((store 1 ∷ []) ∷ (Worked.load 0 ∷ row 16 0 0 0 0 0 ∷ []) ∷ [])
 
+-- that thread 1 read 0: false of P3's second execution; bytes that are no condition where there is no thread 1
+abbrev pub ofThreadOne : List ℕ
+ofThreadOne = comparing equals 1 0
+
+-- that thread 0 did not read 7: false of the table with one load
+abbrev pub notSeven : List ℕ
+notSeven = comparing differs 0 7
+
 -- How a part is exchanged
 
 -- what is returned and left, as a function of the definition's and of the input
-abbrev pub answering : (Explored → List ℕ → Settings → List ℕ → List ℕ → Explored) → Explorer
+abbrev pub answering : (Explored → List ℕ → List ℕ → Settings → List ℕ → List ℕ → Explored) → Explorer
 answering f = record {
-  explored = λ table s path trace. f (explored table s path trace) table s path trace;
+  explored = λ table condition s path trace. f (explored table condition s path trace) table condition s path trace;
   run = right .run;
   executions = right .executions;
 }
 
 abbrev pub reporting : (Settings → Report → Report) → Explorer
-reporting f = answering (λ it table s path trace. record { report = f s (it .report); path = it .path; trace = it .trace })
+reporting f = answering (λ it table condition s path trace. record { report = f s (it .report); path = it .path; trace = it .trace })
 
 -- with this answer, so many open, and this row at fault
 abbrev pub saying : ℕ → ℕ → ℕ → Report → Report
@@ -102,14 +114,14 @@ saying answer left at r = record {
 }
 
 -- for a table that is refused
-abbrev pub refusing : (Explored → List ℕ → Settings → List ℕ → List ℕ → Explored) → Explorer
-refusing f = answering (λ it table s path trace. cond (eqb (it .report .answer) 5) (f it table s path trace) it)
+abbrev pub refusing : (Explored → List ℕ → List ℕ → Settings → List ℕ → List ℕ → Explored) → Explorer
+refusing f = answering (λ it table condition s path trace. cond (eqb (it .report .answer) 5) (f it table condition s path trace) it)
 
 -- the marks that a question makes, and what follows an execution
 abbrev pub parting : Parts State → Explorer
 parting P = explorerBy (record { next = own .next; answered = own .answered; limits = own .limits; parts = P })
 
-abbrev pub following : (Bool → List Execution → Tick State → After State) → Explorer
+abbrev pub following : ((State → Bool) → Bool → List Execution → Tick State → After State) → Explorer
 following f = parting (record { marks = firstMarked; follows = f })
 
 abbrev pub stepping : (List Branch → List Branch) → Explorer
@@ -180,14 +192,14 @@ restated x y = map (restatedBranch (instead y x))
 -- the path buffer is judged before the settings; the trace buffer before the path buffer; the table before all
 abbrev pub pathFirst : Explorer
 pathFirst =
-    answering (λ it table s path trace. cond (eqb (length path) (recordBytes * s .branches)) it (refused 3 255 255 path trace))
+    answering (λ it table condition s path trace. cond (eqb (length path) (recordBytes * s .branches)) it (refused 3 255 255 path trace))
 
 abbrev pub traceFirst : Explorer
 traceFirst =
-    answering (λ it table s path trace. cond (eqb (length trace) (recordBytes * s .operations)) it (refused 4 255 255 path trace))
+    answering (λ it table condition s path trace. cond (eqb (length trace) (recordBytes * s .operations)) it (refused 4 255 255 path trace))
 
 abbrev pub tableFirst : Explorer
-tableFirst = answering (λ it table s path trace. elim (judged table) [
+tableFirst = answering (λ it table condition s path trace. elim (judged table) [
   | badHeader ↦ refused 5 255 255 path trace
   | badRow t k ↦ refused 5 t k path trace
   | good ↦ it
@@ -195,23 +207,23 @@ tableFirst = answering (λ it table s path trace. elim (judged table) [
 
 -- no table is refused; a bad header is the first row; a bad row is the next one
 abbrev pub anyTable : Explorer
-anyTable = refusing (λ it table s path trace. ran (length path) (length trace) (stopOf table s))
+anyTable = refusing (λ it table condition s path trace. ran (length path) (length trace) (stopOf table condition s))
 
 abbrev pub firstRow : Explorer
-firstRow = refusing (λ it table s path trace. refused 5 0 0 path trace)
+firstRow = refusing (λ it table condition s path trace. refused 5 0 0 path trace)
 
 abbrev pub nextRow : Explorer
-nextRow = refusing (λ it table s path trace. refused 5 (it .report .thread) (it .report .row + 1) path trace)
+nextRow = refusing (λ it table condition s path trace. refused 5 (it .report .thread) (it .report .row + 1) path trace)
 
 -- the path buffer is cleared before anything is judged, and a run writes it anew
 abbrev pub clearing : Explorer
-clearing = answering (λ it table s path trace.
+clearing = answering (λ it table condition s path trace.
     cond (isRefusal (it .report .answer)) (record { report = it .report; path = replicate (length path) 0; trace = it .trace }) it)
 
 -- the trace buffer is as it was past the last entry
 abbrev pub leavingOver : Explorer
-leavingOver = answering (λ it table s path trace.
-    let entries = entriesBytes (stopOf table s .walk .trace) in
+leavingOver = answering (λ it table condition s path trace.
+    let entries = entriesBytes (stopOf table condition s .walk .trace) in
     record { report = it .report; path = it .path; trace = entries ++ drop (length entries) trace })
 
 -- the row at fault is the next one
@@ -226,19 +238,23 @@ pub record WrongAnswers : Type 0 where
   -- [one] 20 is answered, which is none of document 01's
   pub one : Broken Answered oneTick oneLoad (settings 3 1 1)
   -- [two] no execution is allowed and there is no path buffer: 3
-  pub two : Answered pathFirst oneLoad (settings 3 1 0) [] [] → ⊥
+  pub two : Answered pathFirst oneLoad [] (settings 3 1 0) [] [] → ⊥
   -- [three] there is neither path nor trace buffer: 4
-  pub three : Answered traceFirst oneLoad (settings 3 1 1) [] [] → ⊥
+  pub three : Answered traceFirst oneLoad [] (settings 3 1 1) [] [] → ⊥
   -- [four] there is no table and no trace buffer: 5
-  pub four : Answered tableFirst [] (settings 3 1 1) (pathFor (settings 3 1 1)) [] → ⊥
+  pub four : Answered tableFirst [] [] (settings 3 1 1) (pathFor (settings 3 1 1)) [] → ⊥
   -- [five] there is no table: 0
   pub five : Broken Answered anyTable [] (settings 3 1 1)
   -- [header] it is said to be row 0 of thread 0
   pub header : Broken Answered firstRow [] (settings 3 1 1)
   -- [row] row 0 is bad, and row 1 is named
   pub row : Broken Answered nextRow noSuchRow (settings 3 1 1)
+  -- [five] a thread that there is not is named: 18
+  pub no-condition : BrokenUnder Answered anyTable oneLoad ofThreadOne (settings 3 1 1)
+  -- [claim] and here row 0 of thread 0 is at fault
+  pub claim : BrokenUnder Answered firstRow oneLoad ofThreadOne (settings 3 1 1)
   -- [leaves] no execution is allowed, and the path buffer is not as it was
-  pub leaves : Answered clearing oneLoad (settings 3 1 0) (1 ∷ []) [] → ⊥
+  pub leaves : Answered clearing oneLoad [] (settings 3 1 0) (1 ∷ []) [] → ⊥
   -- [reports] the path is full for the only row, and the next one is named
   pub reports : Broken Answered misplacing oneLoad (settings 1 1 1)
   -- [ran] one entry, and room for two
@@ -262,11 +278,11 @@ notBegun (faulted f site w) =
     faulted f site (withLedger w (record { path = w .ledger .path; opened = w .ledger .opened; begun = w .ledger .begun - 1 }))
 
 abbrev pub faultsNotBegun : Explorer
-faultsNotBegun = following (λ last past t. after last past (notBegun t))
+faultsNotBegun = following (λ final last past t. after final last past (notBegun t))
 
 -- the last execution is not in the history
 abbrev pub untold : Explorer
-untold = following (λ last past t. elim (after last past t) [
+untold = following (λ final last past t. elim (after final last past t) [
   | stopsHere r ↦ stopsHere (record { verdict = r .verdict; walk = r .walk; history = past })
   | goesOn l more ↦ goesOn l more
 ])
@@ -303,7 +319,7 @@ forgetful = stepping (λ bs. restated skip visited (stepped bs))
 
 -- it stops after its first execution, as if nothing were open
 abbrev pub early : Explorer
-early = following (λ last past t. stopsHere (stop exhausted (leftBy t) past))
+early = following (λ final last past t. stopsHere (stop exhausted (leftBy t) past))
 
 -- it marks, and never takes what it has marked: Pending is then Visited
 abbrev pub untaken : Walk State → Walk State
@@ -317,7 +333,7 @@ untakenBy (over w) = over (untaken w)
 untakenBy (faulted f site w) = faulted f site (untaken w)
 
 abbrev pub neverTaking : Explorer
-neverTaking = following (λ last past t. after last past (untakenBy t))
+neverTaking = following (λ final last past t. after final last past (untakenBy t))
 
 pub record WrongTurns : Type 0 where
   -- the second execution is the first again
@@ -407,10 +423,10 @@ noCourse = record { known = []; ticks = []; outcome = over nothing }
 
 -- the walk from which the loading thread loads, in the second execution of the right run; and the one that a tick leaves
 abbrev pub beforeLoad : Walk State
-beforeLoad = getD (getD (right .executions storeAndLoad (p3 2)) 1 noCourse .ticks) 4 nothing
+beforeLoad = getD (getD (right .executions storeAndLoad [] (p3 2)) 1 noCourse .ticks) 4 nothing
 
 abbrev pub tickOf : Pieces → List ℕ → Settings → Walk State → Walk State
-tickOf y table s w = leftBy (tickBy (machineBy y (programOf table s)) (y .limits s) (y .parts) w)
+tickOf y table s w = leftBy (tickBy (machineBy y (programOf table [] s)) (y .limits s) (y .parts) w)
 
 pub record WrongOffers : Type 0 where
   -- [offers] the second execution reads slot 1 from a record that says that it alone is offered
@@ -427,7 +443,7 @@ pub record WrongOffers : Type 0 where
   pub wiped : Broken Offered wiping oneLoad (settings 3 1 1)
   -- from a tick to the next, on which [seen] rests: the loading thread reads slot 1, and then has not seen it
   pub unseen :
-      Watched (programOf storeAndLoad (p3 2)) (limitsOf (p3 2)) beforeLoad (tickOf unseeing storeAndLoad (p3 2) beforeLoad) → ⊥
+      Watched (programOf storeAndLoad [] (p3 2)) (limitsOf (p3 2)) beforeLoad (tickOf unseeing storeAndLoad (p3 2) beforeLoad) → ⊥
 
 -- Why it stopped
 
@@ -437,11 +453,25 @@ spentAtLast = reporting (λ s r. cond (eqb (r .begun) (s .executions)) (saying 1
 
 -- every execution is taken for the last that is allowed
 abbrev pub unspent : Explorer
-unspent = following (λ last past t. after true past t)
+unspent = following (λ final last past t. after final true past t)
 
 -- a fault is taken for the end of its execution
 abbrev pub overlooking : Explorer
-overlooking = following (λ last past t. after last past (over (leftBy t)))
+overlooking = following (λ final last past t. after final last past (over (leftBy t)))
+
+-- a condition is judged where the run would go on: behind 0 and 1
+abbrev pub judgingLast : Explorer
+judgingLast = following (λ final last past t. elim (after (λ st. true) last past t) [
+  | stopsHere r ↦ stopsHere r
+  | goesOn l more ↦ after final last past t
+])
+
+-- none is judged; every one counts as false
+abbrev pub unjudging : Explorer
+unjudging = following (λ final last past t. after (λ st. true) last past t)
+
+abbrev pub condemning : Explorer
+condemning = following (λ final last past t. after (λ st. false) last past t)
 
 pub record WrongStops : Type 0 where
   -- [says] the verdict is that nothing is open
@@ -452,6 +482,16 @@ pub record WrongStops : Type 0 where
   pub overlooked : Broken Stops overlooking oneLoad (settings 2 1 1)
   -- [spent] one of two executions has begun
   pub unspent : Broken Stops unspent storeAndLoad (p3 2)
+  -- [unmet] the condition is false at the end of the only execution: 0 is answered
+  pub behind-none : BrokenUnder Stops judgingLast oneLoad notSeven (settings 3 1 1)
+  -- [met] it is false at the end of the second execution, the last that is allowed: 1 is answered
+  pub behind-one : BrokenUnder Stops judgingLast storeAndLoad ofThreadOne (p3 2)
+  -- [earlier] and here a third begins
+  pub unjudged : BrokenUnder Stops unjudging storeAndLoad ofThreadOne (p3 3)
+  -- [unmet] there is no condition: 18 is answered
+  pub condemned : Broken Stops condemning oneLoad (settings 3 1 1)
+  -- [place] it is said to be row 256
+  pub misplaced : BrokenUnder Stops misplacing oneLoad notSeven (settings 3 1 1)
   -- [fault] a deadlock, which the only execution has not met
   pub invented : Broken Stops (parting inventing) storeAndLoad (p3 1)
 
@@ -459,7 +499,7 @@ pub record WrongStops : Type 0 where
 
 -- one row more than the limit may begin
 abbrev pub oneRowMore : Explorer
-oneRowMore = doing (λ p st. next (record { table = p .table; operations = p .operations + 1; exploring = p .exploring }) st)
+oneRowMore = doing (λ p st. next (record { table = p .table; condition = p .condition; operations = p .operations + 1; exploring = p .exploring }) st)
 
 -- "every yielded thread other than the one just chosen becomes runnable": but not thread 0
 abbrev pub forgettingOne : Explorer

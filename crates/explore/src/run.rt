@@ -33,19 +33,31 @@ fn bytes(records: u64, all: usize) -> usize
 
 // Explores in buffers of the right lengths, and prints.
 fn run_in(table: &[u8], settings: Settings, path: &mut [u8], trace: &mut [u8], whole: bool) {
-    let report = explore(table, settings, path, trace);
+    let report = explore(table, &table[..0], settings, path, trace);
     tell::print_report(table, settings, report, trace, whole);
 }
 
 // Explores. The library gives no word before its answer, so a long run is made with budgets that double: one that is spent
 // is named on standard error.
-fn explore(table: &[u8], settings: Settings, path: &mut [u8], trace: &mut [u8]) -> Report {
+fn explore(
+    table: &[u8],
+    condition: &[u8],
+    settings: Settings,
+    path: &mut [u8],
+    trace: &mut [u8],
+) -> Report {
     let mut budget = 8192;
     while budget < MAX_EXECUTIONS {
         if settings.executions <= budget {
-            return explorer::explore(table, settings, path, trace);
+            return explorer::explore(table, condition, settings, path, trace);
         }
-        let report = explorer::explore(table, with_budget(settings, budget), path, trace);
+        let report = explorer::explore(
+            table,
+            condition,
+            with_budget(settings, budget),
+            path,
+            trace,
+        );
         let answer = report.answer;
         let Answer::Spent = answer else {
             return report;
@@ -53,7 +65,7 @@ fn explore(table: &[u8], settings: Settings, path: &mut [u8], trace: &mut [u8]) 
         say_spent(budget);
         budget = 2 * budget;
     }
-    explorer::explore(table, settings, path, trace)
+    explorer::explore(table, condition, settings, path, trace)
 }
 
 // Says that a budget is spent.

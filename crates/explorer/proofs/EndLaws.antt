@@ -12,6 +12,7 @@ use lib.Seq.{ext-getD, getD-take}
 use borrow.Author.Tests.{eq-eqb, ne-eqb, eqb-true, eqb-false, ltb-true, ltb-false}
 use Rattle.rules.specs.State.{State}
 use Rattle.rules.specs.Table.{shapeOf}
+use Rattle.rules.specs.Machine as machine
 use Rattle.rules.specs.Path.{openIn, written}
 use Rattle.rules.specs.Event.{Entry}
 use Rattle.rules.specs.Explorer as explorer
@@ -20,6 +21,7 @@ use Rattle.rules.specs.Explored as rules
 use Rattle.rules.specs.Explored.{stopOf, ran, reported, noted}
 use Rattle.ledger.specs.History.{leftBy}
 use Rattle.ledger.proofs.Ledgers.{never-goes, execution-begun}
+use Rattle.layout.specs.Tables.{state}
 use Rattle.path.specs.Holds.{Holds}
 use Rattle.path.specs.Steps.{Steps}
 use Rattle.path.proofs.HoldsLaws.{holds-none}
@@ -33,7 +35,7 @@ use Rattle.meeting.specs.Stands.{Lent, Stands, Comes}
 use Rattle.meeting.specs.declared.Cursor.{Cursor}
 use Rattle.meeting.specs.declared.Ticked.{Ticked}
 use Rattle.explorer.specs.Explores.{Ready, settingsOf, exploredOf}
-use Rattle.explorer.specs.Runs.{mostOpened, Greater, Shaped, Knows, Executes, judgedAs, Continues, Judges, Running, Finished, Empty, Ran, machineOf, limitsOf}
+use Rattle.explorer.specs.Runs.{mostOpened, Greater, Shaped, Knows, Executes, metBy, judgedAs, Continues, Judges, Running, Finished, Empty, Ran, machineOf, limitsOf}
 use Rattle.explorer.specs.declared.Settings.{Settings}
 use Rattle.explorer.specs.declared.run.Verdict.{Verdict}
 use Rattle.explorer.specs.declared.run.Verdict.the-variants as verdict
@@ -70,15 +72,18 @@ front-left : {entry exit : List ℕ} {from to : ℕ} (es : List Entry) → Clear
 front-left {entry} {exit} es c e front =
     take-same (16 * length es) exit entry (c .long) (λ i h. c .below i (omega (arith, e))) ∙ front
 
-module _ (table : List ℕ) (s : Settings) where
+module _ (table condition : List ℕ) (s : Settings) where
   abbrev whole : Stop State
-  whole = stopOf table (settingsOf s)
+  whole = stopOf table condition (settingsOf s)
 
   abbrev from : ℕ → Ledger → List Execution → Stop State
-  from n l past = explorer.runFrom (machineOf table s) (limitsOf s) n l past
+  from n l past = explorer.runFrom (machineOf table condition s) (limitsOf s) n l past
+
+  abbrev final : State → Bool
+  final = machineOf table condition s .final
 
   abbrev execution : Ledger → Tick State
-  execution l = explorer.execution (machineOf table s) (limitsOf s) l
+  execution l = explorer.execution (machineOf table condition s) (limitsOf s) l
 
   whole-from : whole ≡ from (s .executions - 0) explorer.empty []
   unfolding stopOf explorer.run
@@ -88,23 +93,23 @@ module _ (table : List ℕ) (s : Settings) where
   onward k (stopsHere r) = r
   onward k (goesOn m more) = from k m more
 
-  from-more : (k : ℕ) (l : Ledger) (past : List Execution) → from (suc k) l past ≡ onward k (after (eqb k 0) past (execution l))
+  from-more : (k : ℕ) (l : Ledger) (past : List Execution) → from (suc k) l past ≡ onward k (after final (eqb k 0) past (execution l))
   unfolding explorer.runFrom
-  from-more k l past = go (after (eqb k 0) past (execution l))
+  from-more k l past = go (after final (eqb k 0) past (execution l))
     where
       go : (a : After State) → elim a [ stopsHere r ↦ r | goesOn m more ↦ from k m more ] ≡ onward k a
       go (stopsHere r) = refl
       go (goesOn m more) = refl
 
-  from-stops : (k : ℕ) (l : Ledger) (past : List Execution) (r : Stop State) → after (eqb k 0) past (execution l) ≡ stopsHere r → from (suc k) l past ≡ r
+  from-stops : (k : ℕ) (l : Ledger) (past : List Execution) (r : Stop State) → after final (eqb k 0) past (execution l) ≡ stopsHere r → from (suc k) l past ≡ r
   from-stops k l past r e = from-more k l past ∙ ap (onward k) e
 
-  from-goes : (k : ℕ) (l : Ledger) (past : List Execution) (m : Ledger) (more : List Execution) → after (eqb k 0) past (execution l) ≡ goesOn m more → from (suc k) l past ≡ from k m more
+  from-goes : (k : ℕ) (l : Ledger) (past : List Execution) (m : Ledger) (more : List Execution) → after final (eqb k 0) past (execution l) ≡ goesOn m more → from (suc k) l past ≡ from k m more
   from-goes k l past m more e = from-more k l past ∙ ap (onward k) e
 
   ran-made : (path trace : List ℕ) (r : Stop State) → whole ≡ r → {exitPath exitTrace : List ℕ} (report : Report) → reportOf report ≡ reported r
       → exitPath ≡ written (length path) (r .walk .ledger .path) → exitTrace ≡ noted (length trace) (r .walk .trace)
-      → Ran table s path trace report exitPath exitTrace
+      → Ran table condition s path trace report exitPath exitTrace
   unfolding ran
   ran-made path trace r is report e f g = rw (is, sym e, sym f, sym g) refl
 
@@ -112,7 +117,7 @@ module _ (table : List ℕ) (s : Settings) where
   pub ran-cleared : {n m k l : ℕ} {x : rules.Explored} → x ≡ ran k l whole → k ≡ n → l ≡ m → x ≡ ran n m whole
   ran-cleared h e f = h ∙ (cc (e, f))
 
-  pub running-none : (path trace : List ℕ) (c : Cursor) → Ready table s path trace → Empty path → Empty trace → c .len ≡ 0 → c .opened ≡ 0 → 0 < s .executions → Running table s path trace c 0 0
+  pub running-none : (path trace : List ℕ) (c : Cursor) → Ready table s path trace → Empty path → Empty trace → c .len ≡ 0 → c .opened ≡ 0 → 0 < s .executions → Running table condition s path trace c 0 0
   running-none path trace c ready none empty len opened more =
       record {
         allowed = more;
@@ -135,10 +140,10 @@ module _ (table : List ℕ) (s : Settings) where
       }
 
   -- an execution more
-  module _ {path trace : List ℕ} {c : Cursor} {longest begun : ℕ} (run : Running table s path trace c longest begun)
+  module _ {path trace : List ℕ} {c : Cursor} {longest begun : ℕ} (run : Running table condition s path trace c longest begun)
       {shape : List ℕ} (is-shape : shape ≡ shapeOf table)
       (entry exit : Lent) (same-path : entry .path ≡ path) (same-trace : entry .trace ≡ trace) (r : Ticked) (does : Executes entry exit table shape s c r)
-      (v : Verdict) (judges : Judges (exit .path) (r .outcome) (r .cursor .len) (eqb (begun + 1) (s .executions)) v) where
+      (v : Verdict) (judges : Judges (exit .path) (metBy table condition (exit .values)) (r .outcome) (r .cursor .len) (eqb (begun + 1) (s .executions)) v) where
     abbrev ledger : Ledger
     ledger = run .coming .ledger
 
@@ -154,14 +159,18 @@ module _ (table : List ℕ) (s : Settings) where
 
     comes : Comes (r .outcome) (r .cursor) exit (execution ledger)
     comes =
-        does .comes ledger
+        does .comes condition ledger
         (record { ready = rw (sym same-path, sym same-trace) at (run .ready); is-shape = is-shape })
         (rw (sym same-path) at (run .coming .knows))
 
     stands : Stands exit (r .cursor) (leftBy (execution ledger))
     stands = left-stands exit (r .cursor) (r .outcome) (execution ledger) comes
 
-    judged : v ≡ judgedAs (r .outcome) (openIn (leftBy (execution ledger) .ledger .path)) its-last
+    is-met : final (state (exit .clocks) (exit .marks) (exit .values) (exit .numbers)) ≡ metBy table condition (exit .values)
+    unfolding machine.final
+    is-met = refl
+
+    judged : v ≡ judgedAs (metBy table condition (exit .values)) (r .outcome) (openIn (leftBy (execution ledger) .ledger .path)) its-last
     judged = judges .is (leftBy (execution ledger) .ledger .path) (stands .holds) (stands .is-len)
 
     last-is : its-last ≡ eqb after-it 0
@@ -171,7 +180,7 @@ module _ (table : List ℕ) (s : Settings) where
     rest-is = run .coming .rest ∙ ap (λ (n : ℕ). from n ledger past) (omega (arith, run .allowed))
 
     begun-is : leftBy (execution ledger) .ledger .begun ≡ begun + 1
-    begun-is = execution-begun (machineOf table s) (limitsOf s) ledger ∙ ap (λ (n : ℕ). n + 1) (run .coming .is-begun)
+    begun-is = execution-begun (machineOf table condition s) (limitsOf s) ledger ∙ ap (λ (n : ℕ). n + 1) (run .coming .is-begun)
 
     clean-beyond : (i : ℕ) → 16 * longest ≤ i → 16 * r .cursor .entries ≤ i → getD (exit .trace) i 0 ≡ 0
     clean-beyond i h k = does .beyond i k ∙ ap (λ (b : List ℕ). getD b i 0) same-trace ∙ run .clean i h
@@ -180,9 +189,9 @@ module _ (table : List ℕ) (s : Settings) where
     pub running-more : v ≡ verdict.GoesOn → {path' : List ℕ} {len : ℕ} → Steps (exit .path) path' (r .cursor .len) len
         → (d : Cursor) → d .len ≡ len → d .opened ≡ r .cursor .opened → {m : ℕ} → Greater longest (r .cursor .entries) m
         → length (exit .path) ≡ length path → length (exit .trace) ≡ length trace
-        → Running table s path' (exit .trace) d m (begun + 1)
+        → Running table condition s path' (exit .trace) d m (begun + 1)
     running-more e {path'} {len} steps d same-len same-opened {m} greater long traced =
-        let g = goes-with exit (r .cursor) its-last past (r .outcome) (execution ledger) (never-goes (machineOf table s) (limitsOf s) ledger) comes (sym e ∙ judged) in
+        let g = goes-with final exit (r .cursor) its-last past (metBy table condition (exit .values)) is-met (r .outcome) (execution ledger) (never-goes (machineOf table condition s) (limitsOf s) ledger) comes (sym e ∙ judged) in
         let w : Walk State = g .walk in
         let allowed : begun + 1 < s .executions = omega (arith, run .allowed, goes-on v (begun + 1) (s .executions) e (judges .continues)) in
         record {
@@ -220,9 +229,9 @@ module _ (table : List ℕ) (s : Settings) where
         → Cleared (exit .trace) trace' (16 * r .cursor .entries) (16 * m)
         → (report : Report) → Finished (exit .clocks) (exit .numbers) (exit .path) a (begun + 1) (r .cursor) report
         → length (exit .path) ≡ length path → length (exit .trace) ≡ length trace
-        → Ran table s path trace report (exit .path) trace'
+        → Ran table condition s path trace report (exit .path) trace'
     ran-out a e {trace'} {m} greater cleared report finished long traced =
-        let g = stops-with exit (r .cursor) its-last past (r .outcome) (execution ledger) a (never-goes (machineOf table s) (limitsOf s) ledger) comes (sym e ∙ judged) in
+        let g = stops-with final exit (r .cursor) its-last past (metBy table condition (exit .values)) is-met (r .outcome) (execution ledger) a (never-goes (machineOf table condition s) (limitsOf s) ledger) comes (sym e ∙ judged) in
         let w : Walk State = g .walk in
         let stopped : Stop State = stop (g .verdict) w past in
         let is : whole ≡ stopped = rest-is ∙ from-stops after-it ledger past stopped (rw (sym last-is) (g .is)) in

@@ -32,12 +32,12 @@ pub started : (clocks : Clocks) (marks : Marks) (values : Values) (numbers : Num
     → threads ≡ getD shape 0 0 → cells ≡ getD shape 1 0
     → ((p : machine.Program) → p .table ≡ table → p .exploring ≡ exploring → threadsOf (p .table) ≡ threads → cellsOf (p .table) ≡ cells → state clocks marks values numbers ≡ machine.start p)
     → Started clocks marks values numbers table shape exploring
-started clocks marks values numbers table shape exploring threads cells e f h s path trace shaped explores =
-    h (programOf table s) refl explores
+started clocks marks values numbers table shape exploring threads cells e f h condition s path trace shaped explores =
+    h (programOf table condition s) refl explores
     (sym (e ∙ ready-threads (shaped .ready) (shaped .is-shape)))
     (sym (f ∙ ready-cells (shaped .ready) (shaped .is-shape)))
 
-module _ (table shape : List ℕ) (s : Settings) (path trace : List ℕ) (shaped : Shaped table shape s path trace) where
+module _ (table condition shape : List ℕ) (s : Settings) (path trace : List ℕ) (shaped : Shaped table shape s path trace) where
   in-range : (s .branches ≤ 1024) × (s .operations ≤ 4096)
   unfolding settingsFine
   in-range = let f = simp and-eq-true-iff at (shaped .ready .in-range) in omega (arith, leb-true)
@@ -45,7 +45,7 @@ module _ (table shape : List ℕ) (s : Settings) (path trace : List ℕ) (shaped
   same-operations : {limits : Limits} → Limited s limits → limits .operations ≡ s .operations
   same-operations l = l .operations (omega (arith, in-range))
 
-  runs-so : {limits : Limits} → Limited s limits → Runs (programOf table s) (limitsOf s) table shape limits path trace
+  runs-so : {limits : Limits} → Limited s limits → Runs (programOf table condition s) (limitsOf s) table shape limits path trace
   runs-so l =
       record {
         is-table = refl;
@@ -60,8 +60,8 @@ module _ (table shape : List ℕ) (s : Settings) (path trace : List ℕ) (shaped
       }
 
   fresh-stands : {clocks : Clocks} {marks : Marks} {values : Values} {numbers : Numbers} {c d : Cursor} (l : Ledger)
-      → state clocks marks values numbers ≡ machine.start (programOf table s) → Afresh c d → Knows path c l
-      → Stands (lent clocks marks values numbers path trace) d (explorer.fresh (machineOf table s) (limitsOf s) (explorer.oneBegun (machineOf table s) (limitsOf s) l))
+      → state clocks marks values numbers ≡ machine.start (programOf table condition s) → Afresh c d → Knows path c l
+      → Stands (lent clocks marks values numbers path trace) d (explorer.fresh (machineOf table condition s) (limitsOf s) (explorer.oneBegun (machineOf table condition s) (limitsOf s) l))
   fresh-stands l e a k =
       record {
         is-state = sym e;
@@ -74,7 +74,7 @@ module _ (table shape : List ℕ) (s : Settings) (path trace : List ℕ) (shaped
       }
 
   execution-is : (l : Ledger) {n : ℕ} → n ≡ s .operations
-      → explorer.walked (machineOf table s) (limitsOf s) (ticksOf n) (explorer.fresh (machineOf table s) (limitsOf s) (explorer.oneBegun (machineOf table s) (limitsOf s) l)) ≡ explorer.execution (machineOf table s) (limitsOf s) l
+      → explorer.walked (machineOf table condition s) (limitsOf s) (ticksOf n) (explorer.fresh (machineOf table condition s) (limitsOf s) (explorer.oneBegun (machineOf table condition s) (limitsOf s) l)) ≡ explorer.execution (machineOf table condition s) (limitsOf s) l
   unfolding explorer.execution
   execution-is l e = rw e refl
 
@@ -85,12 +85,12 @@ module _ (table shape : List ℕ) (s : Settings) (c d : Cursor) (path trace : Li
       → Walks (lent clocks marks values numbers path trace) exit table shape limits d r → Executes entry exit table shape s c r
   executed starts l a w =
       record {
-        comes = λ m shaped' knows.
+        comes = λ condition m shaped' knows.
             let shaped : Shaped table shape s path trace = rw (same-path, same-trace) at shaped' in
             subst (λ (y : Tick State). Comes (r .outcome) (r .cursor) exit y)
-            (execution-is table shape s path trace shaped m (same-operations table shape s path trace shaped l))
-            (w .comes (programOf table s) (limitsOf s) _ (runs-so table shape s path trace shaped l)
-            (fresh-stands table shape s path trace shaped m (starts s path trace shaped refl) a (rw same-path at knows)));
+            (execution-is table condition shape s path trace shaped m (same-operations table condition shape s path trace shaped l))
+            (w .comes (programOf table condition s) (limitsOf s) _ (runs-so table condition shape s path trace shaped l)
+            (fresh-stands table condition shape s path trace shaped m (starts condition s path trace shaped refl) a (rw same-path at knows)));
         gone = record { placed = w .gone .placed; few = omega (arith, w .gone .few, a .same-opened) };
         beyond = λ i h. w .beyond i h ∙ ap (λ (b : List ℕ). getD b i 0) (sym same-trace);
       }

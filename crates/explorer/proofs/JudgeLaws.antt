@@ -1,10 +1,12 @@
 -- The end of an execution. Assumes nothing.
---     judge-fault, judge-exhausted, judge-spent, judge-more      what it says of the run, by what it came to and what is open
+--     held-by                                                    the condition is judged with the table's threads
+--     judge-fault, judge-unmet, judge-exhausted, judge-spent, judge-more      what it says of the run, by what it came to, whether
+--                                                                the final condition is met and what is open
 --     stops-with, goes-with                                      what comes after it, by the definition
 --     left-stands                                                the walk that it leaves
 use Prim.Native.Nat.{ℕ, suc, _+_, _-_, _*_, _≤_, _<_}
 use mathlib.Core.List.{List, [], _∷_, _++_}
-use mathlib.Core.Bool.{Bool, true, false, cond}
+use mathlib.Core.Bool.{Bool, true, false, cond, not}
 use mathlib.Core.Path.{_≡_, refl, sym, ap, subst, _∙_}
 use native.Mathlib.Omega.{arith}
 use types.Run.{OneOf, miss}
@@ -14,6 +16,8 @@ use lib.ListN.{length, getD, replicate}
 use lib.Seq.{ext-getD, take-all}
 use borrow.Author.Tests.{eq-eqb, ne-eqb, ltb-true, ltb-false, eqb-true, eqb-false}
 use Rattle.rules.specs.State.{State, Clocks, Marks, Values, Numbers}
+use Rattle.rules.specs.Table.{threadsOf}
+use Rattle.rules.specs.Condition as claims
 use Rattle.rules.specs.Path.{Branch, openIn, written}
 use Rattle.rules.specs.Explorer as explorer
 use Rattle.rules.specs.Explorer.{Walk, Ledger, Execution, executionOf, Tick, goes, over, faulted, After, stopsHere, goesOn, Stop, stop, nextLedger, after}
@@ -22,6 +26,7 @@ use Rattle.rules.specs.Explored.{stopOf, ran, reported, noted}
 use Rattle.ledger.specs.History.{leftBy}
 use Rattle.ledger.proofs.Ledgers.{never-goes, execution-begun}
 use Rattle.layout.specs.Tables.{state}
+use Rattle.condition.specs.Reads.{registerIn}
 use Rattle.path.specs.Holds.{Holds}
 use Rattle.path.specs.Steps.{AnyOpen, Steps}
 use Rattle.path.proofs.HoldsLaws.{holds-none}
@@ -42,67 +47,75 @@ use Rattle.meeting.specs.declared.Outcome.the-variants as code
 use Rattle.meeting.specs.declared.Ticked.{Ticked}
 use Rattle.meeting.proofs.Outcome.{the-type as outcomes}
 use Rattle.explorer.specs.Explores.{Ready, settingsOf, exploredOf}
-use Rattle.explorer.specs.Runs.{mostOpened, Greater, Shaped, Knows, Executes, judgedAs, Judges, Coming, Running, Finished, Empty, Ran, machineOf, limitsOf}
+use Rattle.explorer.specs.Runs.{mostOpened, Greater, Shaped, Knows, Executes, metBy, endedAs, judgedAs, Judges, Coming, Running, Finished, Empty, Ran, machineOf, limitsOf}
 use Rattle.explorer.specs.declared.Settings.{Settings}
 use Rattle.explorer.specs.declared.run.Verdict.{Verdict}
 use Rattle.explorer.specs.declared.run.Verdict.the-variants as verdict
 
 -- The end of an execution
 
-abbrev unlessFault : ℕ → Bool → Verdict
-unlessFault n last = cond (eqb n 0) (verdict.Answers answer.Exhausted) (cond last (verdict.Answers answer.Spent) verdict.GoesOn)
+pub held-by : (table condition : List ℕ) (values : Values) {threads : ℕ} {held : Bool} → threads ≡ threadsOf table → held ≡ claims.holds threads (registerIn values) condition → held ≡ metBy table condition values
+held-by table condition values e h = rw e at h
 
-no-fault : (o : Outcome) → OneOf (0 ∷ 1 ∷ []) (tagOf outcomes o) → (n : ℕ) (last : Bool) → judgedAs o n last ≡ unlessFault n last
-no-fault code.Goes k n last = refl
-no-fault code.Ends k n last = refl
-no-fault (code.Stops f s) k n last = absurd (miss (0 ∷ 1 ∷ []) 2 tt k)
+no-fault : (met : Bool) (o : Outcome) → OneOf (0 ∷ 1 ∷ []) (tagOf outcomes o) → (n : ℕ) (last : Bool) → judgedAs met o n last ≡ endedAs met n last
+no-fault met code.Goes k n last = refl
+no-fault met code.Ends k n last = refl
+no-fault met (code.Stops f s) k n last = absurd (miss (0 ∷ 1 ∷ []) 2 tt k)
 
-module _ (path : List ℕ) (o : Outcome) (len : ℕ) (last : Bool) where
-  pub judge-fault : {f : Fault} {s : Site} → o ≡ code.Stops f s → Judges path o len last (verdict.Answers (answer.Stopped f s))
-  judge-fault e = record { continues = tt; is = λ bs h l. ap (λ (y : Outcome). judgedAs y (openIn bs) last) (sym e) }
+module _ (path : List ℕ) (met : Bool) (o : Outcome) (len : ℕ) (last : Bool) where
+  pub judge-fault : {f : Fault} {s : Site} → o ≡ code.Stops f s → Judges path met o len last (verdict.Answers (answer.Stopped f s))
+  judge-fault e = record { continues = tt; is = λ bs h l. ap (λ (y : Outcome). judgedAs met y (openIn bs) last) (sym e) }
 
-  module _ (k : OneOf (0 ∷ 1 ∷ []) (tagOf outcomes o)) {any : Bool} (a : AnyOpen path len any) where
-    pub judge-exhausted : any ≡ false → Judges path o len last (verdict.Answers answer.Exhausted)
-    judge-exhausted e =
-        record {
-          continues = tt;
-          is = λ bs h l.
-              let z : eqb (openIn bs) 0 ≡ true = eq-eqb (openIn bs) 0 (omega (arith, ltb-false 0 (openIn bs) (sym (a .is bs h l) ∙ e))) in
-              sym (no-fault o k (openIn bs) last ∙ ap (λ (y : Bool). cond y (verdict.Answers answer.Exhausted) (cond last (verdict.Answers answer.Spent) verdict.GoesOn)) z);
-        }
+  module _ (k : OneOf (0 ∷ 1 ∷ []) (tagOf outcomes o)) {held : Bool} (q : held ≡ met) where
+    pub judge-unmet : held ≡ false → Judges path met o len last (verdict.Answers answer.Unmet)
+    judge-unmet e =
+        record { continues = tt; is = λ bs h l. sym (no-fault met o k (openIn bs) last ∙ ap (λ (y : Bool). endedAs y (openIn bs) last) (sym q ∙ e)) }
 
-    some-open : any ≡ true → (bs : List Branch) → Holds path bs → length bs ≡ len → judgedAs o (openIn bs) last ≡ cond last (verdict.Answers answer.Spent) verdict.GoesOn
-    some-open e bs h l =
-        let z : eqb (openIn bs) 0 ≡ false = ne-eqb (openIn bs) 0 (λ (y : openIn bs ≡ 0). omega (arith, ltb-true 0 (openIn bs) (sym (a .is bs h l) ∙ e))) in
-        no-fault o k (openIn bs) last ∙ ap (λ (y : Bool). cond y (verdict.Answers answer.Exhausted) (cond last (verdict.Answers answer.Spent) verdict.GoesOn)) z
+    -- the condition is met
+    module _ (held-so : held ≡ true) {any : Bool} (a : AnyOpen path len any) where
+      as-open : {none : Bool} (bs : List Branch) → eqb (openIn bs) 0 ≡ none → judgedAs met o (openIn bs) last ≡ cond none (verdict.Answers answer.Exhausted) (cond last (verdict.Answers answer.Spent) verdict.GoesOn)
+      as-open bs z =
+          no-fault met o k (openIn bs) last ∙ ap (λ (y : Bool). endedAs y (openIn bs) last) (sym q ∙ held-so)
+          ∙ ap (λ (y : Bool). cond y (verdict.Answers answer.Exhausted) (cond last (verdict.Answers answer.Spent) verdict.GoesOn)) z
 
-    pub judge-spent : any ≡ true → last ≡ true → Judges path o len last (verdict.Answers answer.Spent)
-    judge-spent e f =
-        record {
-          continues = tt;
-          is = λ bs h l. sym (some-open e bs h l ∙ ap (λ (y : Bool). cond y (verdict.Answers answer.Spent) verdict.GoesOn) f);
-        }
+      pub judge-exhausted : any ≡ false → Judges path met o len last (verdict.Answers answer.Exhausted)
+      judge-exhausted e =
+          record {
+            continues = tt;
+            is = λ bs h l. sym (as-open bs (eq-eqb (openIn bs) 0 (omega (arith, ltb-false 0 (openIn bs) (sym (a .is bs h l) ∙ e)))));
+          }
 
-    pub judge-more : any ≡ true → last ≡ false → Judges path o len last verdict.GoesOn
-    judge-more e f =
-        record {
-          continues = f;
-          is = λ bs h l. sym (some-open e bs h l ∙ ap (λ (y : Bool). cond y (verdict.Answers answer.Spent) verdict.GoesOn) f);
-        }
+      some-open : any ≡ true → (bs : List Branch) → Holds path bs → length bs ≡ len → judgedAs met o (openIn bs) last ≡ cond last (verdict.Answers answer.Spent) verdict.GoesOn
+      some-open e bs h l =
+          as-open bs (ne-eqb (openIn bs) 0 (λ (y : openIn bs ≡ 0). omega (arith, ltb-true 0 (openIn bs) (sym (a .is bs h l) ∙ e))))
+
+      pub judge-spent : any ≡ true → last ≡ true → Judges path met o len last (verdict.Answers answer.Spent)
+      judge-spent e f =
+          record {
+            continues = tt;
+            is = λ bs h l. sym (some-open e bs h l ∙ ap (λ (y : Bool). cond y (verdict.Answers answer.Spent) verdict.GoesOn) f);
+          }
+
+      pub judge-more : any ≡ true → last ≡ false → Judges path met o len last verdict.GoesOn
+      judge-more e f =
+          record {
+            continues = f;
+            is = λ bs h l. sym (some-open e bs h l ∙ ap (λ (y : Bool). cond y (verdict.Answers answer.Spent) verdict.GoesOn) f);
+          }
 
 -- What comes after it, by the definition
 
-pub record StopsWith (x : Lent) (c : Cursor) (last : Bool) (past : List Execution) (t : Tick State) (a : Answer) : Type 0 where
+pub record StopsWith (final : State → Bool) (x : Lent) (c : Cursor) (last : Bool) (past : List Execution) (t : Tick State) (a : Answer) : Type 0 where
   pub verdict : explorer.Verdict
   pub walk : Walk State
-  pub is : after last past t ≡ stopsHere (stop verdict walk past)
+  pub is : after final last past t ≡ stopsHere (stop verdict walk past)
   pub fits : answerFits a verdict
   pub stands : Stands x c walk
   pub left : leftBy t ≡ walk
 
-pub record GoesWith (x : Lent) (c : Cursor) (last : Bool) (past : List Execution) (t : Tick State) : Type 0 where
+pub record GoesWith (final : State → Bool) (x : Lent) (c : Cursor) (last : Bool) (past : List Execution) (t : Tick State) : Type 0 where
   pub walk : Walk State
-  pub is : after last past t ≡ goesOn (nextLedger (walk .ledger)) (past ++ (executionOf walk ∷ []))
+  pub is : after final last past t ≡ goesOn (nextLedger (walk .ledger)) (past ++ (executionOf walk ∷ []))
   pub stands : Stands x c walk
   pub left : leftBy t ≡ walk
 
@@ -116,33 +129,40 @@ answers-not a e = let z : _≡_ {A = ℕ} 0 1 = ap goingOn e in omega arith
 answers-same : (a b : Answer) → verdict.Answers a ≡ verdict.Answers b → a ≡ b
 answers-same a b e = cc
 
-module _ (x : Lent) (c : Cursor) (last : Bool) (past : List Execution) where
-  over-stops : (w : Walk State) (a : Answer) (none final : Bool) → eqb (openIn (w .ledger .path)) 0 ≡ none → last ≡ final
-      → verdict.Answers a ≡ cond none (verdict.Answers answer.Exhausted) (cond final (verdict.Answers answer.Spent) verdict.GoesOn)
-      → Stands x c w → StopsWith x c last past (over w) a
-  unfolding after
-  over-stops w a true final n l e stands =
-      record { verdict = explorer.exhausted; walk = w; is = rw n refl; fits = rw (answers-same a answer.Exhausted e) refl; stands = stands; left = refl }
-  over-stops w a false true n l e stands =
-      record { verdict = explorer.spent; walk = w; is = rw (n, l) refl; fits = rw (answers-same a answer.Spent e) refl; stands = stands; left = refl }
-  over-stops w a false false n l e stands = absurd (answers-not a e)
+module _ (final : State → Bool) (x : Lent) (c : Cursor) (last : Bool) (past : List Execution) (met : Bool)
+    (is-met : final (state (x .clocks) (x .marks) (x .values) (x .numbers)) ≡ met) where
+  met-by : (w : Walk State) → Stands x c w → final (w .state) ≡ met
+  met-by w stands = ap final (stands .is-state) ∙ is-met
 
-  over-goes : (w : Walk State) (none final : Bool) → eqb (openIn (w .ledger .path)) 0 ≡ none → last ≡ final
-      → verdict.GoesOn ≡ cond none (verdict.Answers answer.Exhausted) (cond final (verdict.Answers answer.Spent) verdict.GoesOn)
-      → Stands x c w → GoesWith x c last past (over w)
+  over-stops : (w : Walk State) (a : Answer) (held none ends : Bool) → final (w .state) ≡ held → eqb (openIn (w .ledger .path)) 0 ≡ none → last ≡ ends
+      → verdict.Answers a ≡ cond (not held) (verdict.Answers answer.Unmet) (cond none (verdict.Answers answer.Exhausted) (cond ends (verdict.Answers answer.Spent) verdict.GoesOn))
+      → Stands x c w → StopsWith final x c last past (over w) a
   unfolding after
-  over-goes w true final n l e stands = absurd (answers-not answer.Exhausted (sym e))
-  over-goes w false true n l e stands = absurd (answers-not answer.Spent (sym e))
-  over-goes w false false n l e stands = record { walk = w; is = rw (n, l) refl; stands = stands; left = refl }
+  over-stops w a false none ends q n l e stands =
+      record { verdict = explorer.unmet; walk = w; is = rw q refl; fits = rw (answers-same a answer.Unmet e) refl; stands = stands; left = refl }
+  over-stops w a true true ends q n l e stands =
+      record { verdict = explorer.exhausted; walk = w; is = rw (q, n) refl; fits = rw (answers-same a answer.Exhausted e) refl; stands = stands; left = refl }
+  over-stops w a true false true q n l e stands =
+      record { verdict = explorer.spent; walk = w; is = rw (q, n, l) refl; fits = rw (answers-same a answer.Spent e) refl; stands = stands; left = refl }
+  over-stops w a true false false q n l e stands = absurd (answers-not a e)
+
+  over-goes : (w : Walk State) (held none ends : Bool) → final (w .state) ≡ held → eqb (openIn (w .ledger .path)) 0 ≡ none → last ≡ ends
+      → verdict.GoesOn ≡ cond (not held) (verdict.Answers answer.Unmet) (cond none (verdict.Answers answer.Exhausted) (cond ends (verdict.Answers answer.Spent) verdict.GoesOn))
+      → Stands x c w → GoesWith final x c last past (over w)
+  unfolding after
+  over-goes w false none ends q n l e stands = absurd (answers-not answer.Unmet (sym e))
+  over-goes w true true ends q n l e stands = absurd (answers-not answer.Exhausted (sym e))
+  over-goes w true false true q n l e stands = absurd (answers-not answer.Spent (sym e))
+  over-goes w true false false q n l e stands = record { walk = w; is = rw (q, n, l) refl; stands = stands; left = refl }
 
   pub stops-with : (o : Outcome) (t : Tick State) (a : Answer) → ((w : Walk State) → t ≡ goes w → ⊥) → Comes o c x t
-      → verdict.Answers a ≡ judgedAs o (openIn (leftBy t .ledger .path)) last → StopsWith x c last past t a
+      → verdict.Answers a ≡ judgedAs met o (openIn (leftBy t .ledger .path)) last → StopsWith final x c last past t a
   unfolding after
   stops-with code.Goes (goes w) a never h e = absurd (never w refl)
   stops-with code.Goes (over w) a never h e = absurd h
   stops-with code.Goes (faulted g s w) a never h e = absurd h
   stops-with code.Ends (goes w) a never h e = absurd h
-  stops-with code.Ends (over w) a never h e = over-stops w a (eqb (openIn (w .ledger .path)) 0) last refl refl e h
+  stops-with code.Ends (over w) a never h e = over-stops w a met (eqb (openIn (w .ledger .path)) 0) last (met-by w h) refl refl e h
   stops-with code.Ends (faulted g s w) a never h e = absurd h
   stops-with (code.Stops f s) (goes w) a never h e = absurd h
   stops-with (code.Stops f s) (over w) a never h e = absurd h
@@ -157,12 +177,12 @@ module _ (x : Lent) (c : Cursor) (last : Bool) (past : List Execution) where
       }
 
   pub goes-with : (o : Outcome) (t : Tick State) → ((w : Walk State) → t ≡ goes w → ⊥) → Comes o c x t
-      → verdict.GoesOn ≡ judgedAs o (openIn (leftBy t .ledger .path)) last → GoesWith x c last past t
+      → verdict.GoesOn ≡ judgedAs met o (openIn (leftBy t .ledger .path)) last → GoesWith final x c last past t
   goes-with code.Goes (goes w) never h e = absurd (never w refl)
   goes-with code.Goes (over w) never h e = absurd h
   goes-with code.Goes (faulted g s w) never h e = absurd h
   goes-with code.Ends (goes w) never h e = absurd h
-  goes-with code.Ends (over w) never h e = over-goes w (eqb (openIn (w .ledger .path)) 0) last refl refl e h
+  goes-with code.Ends (over w) never h e = over-goes w met (eqb (openIn (w .ledger .path)) 0) last (met-by w h) refl refl e h
   goes-with code.Ends (faulted g s w) never h e = absurd h
   goes-with (code.Stops f s) (goes w) never h e = absurd h
   goes-with (code.Stops f s) (over w) never h e = absurd h

@@ -1,9 +1,10 @@
 -- What a run may take for granted: the settings are in range, and so is the shape of an accepted table. Assumes nothing.
 --     settings-made, within-both, within-not      the tests of the settings
 --     holds-both, holds-not                       the tests of a buffer's length
+--     no-threads                                  a table of no bytes
 --     ready-shape, ready-header, ready-threads, ready-cells, ready-executions      what follows for a run
 use Prim.Native.Nat.{ℕ, _*_, _/_, _%_, _≤_, _<_}
-use mathlib.Core.List.{List}
+use mathlib.Core.List.{List, [], _∷_}
 use mathlib.Core.Bool.{Bool, true, false, _&&_, and-eq-true-iff}
 use mathlib.Core.Path.{_≡_, refl, sym, _∙_}
 use native.Mathlib.Omega.{arith}
@@ -42,6 +43,10 @@ holds-both bytes records h =
 pub holds-not : (bytes records : ℕ) → (bytes % 16 ≡ 0 → ⊥) → eqb (bytes % 16) 0 ≡ eqb bytes (16 * records)
 holds-not bytes records h =
     ne-eqb (bytes % 16) 0 h ∙ sym (ne-eqb bytes (16 * records) (λ (e : bytes ≡ 16 * records). h (omega arith)))
+
+pub no-threads : (table : List ℕ) → length table ≡ 0 → 0 ≡ threadsOf table
+no-threads [] e = refl
+no-threads (b ∷ table) e = absurd (omega arith)
 
 header-within : (table : List ℕ) → headerFine table ≡ true → (headerBytes ≤ length table) × (threadsOf table ≤ 5) × (cellsOf table ≤ 4)
 unfolding headerFine

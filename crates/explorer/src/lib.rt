@@ -2,8 +2,10 @@
 ghost use mathlib.Core.Path.{_≡_};
 ghost use Prim.Native.Nat.{_*_};
 ghost use lib.Dec.{eqb};
+ghost use Rattle.rules.specs.Table.{threadsOf};
 ghost use Rattle.rules.specs.Explored as rules;
 ghost use Rattle.explorer.specs.Explores.{settingsOf, exploredOf};
+use layout::wide8;
 use path::Bound;
 use report::Answer;
 use report::Report;
@@ -27,9 +29,16 @@ pub const MAX_OPERATIONS: u64 = 4096;
 
 pub const MAX_EXECUTIONS: u64 = 65535;
 
-// Explores the program. A refusal leaves both buffers as they are; a run leaves the path and the last execution's trace.
-pub fn explore(table: &[u8], settings: Settings, path: &mut [u8], trace: &mut [u8]) -> Report
-    ensures { λ r. ⌜ exploredOf r (now (path .exit)) (now (trace .exit)) ≡ rules.explored (now (table .entry)) (settingsOf settings) (now (path .entry)) (now (trace .entry)) ⌝ }
+// Explores the program, under a final condition; no bytes are no condition. A refusal leaves both buffers as they are; a run leaves
+// the path and the last execution's trace.
+pub fn explore(
+    table: &[u8],
+    condition: &[u8],
+    settings: Settings,
+    path: &mut [u8],
+    trace: &mut [u8],
+) -> Report
+    ensures { λ r. ⌜ exploredOf r (now (path .exit)) (now (trace .exit)) ≡ rules.explored (now (table .entry)) (now (condition .entry)) (settingsOf settings) (now (path .entry)) (now (trace .entry)) ⌝ }
 {
     if !settings_fine(settings) {
         return report::refused(Answer::BadSettings);
@@ -41,13 +50,31 @@ pub fn explore(table: &[u8], settings: Settings, path: &mut [u8], trace: &mut [u
         return report::refused(Answer::BadTrace);
     }
     match table::judge(table) {
-        Judged::Accepted => run::run(path, trace, table, settings),
+        Judged::Accepted => {
+            if !condition::is_condition(condition, threads_of(table)) {
+                return report::refused(Answer::BadTable {
+                    thread: 255,
+                    row: 255,
+                });
+            }
+            run::run(path, trace, table, condition, settings)
+        }
         Judged::Header => report::refused(Answer::BadTable {
             thread: 255,
             row: 255,
         }),
         Judged::Row { thread, row } => report::refused(Answer::BadTable { thread, row }),
     }
+}
+
+// How many threads the table has, by its first byte.
+fn threads_of(table: &[u8]) -> usize
+    ensures { λ r. ⌜ r ≡ threadsOf (now (table .entry)) ⌝ }
+{
+    if table.len() == 0 {
+        return 0;
+    }
+    wide8(table[0])
 }
 
 // Whether B, L and N are in range.

@@ -5,8 +5,9 @@ ghost use lib.ListN.{length, getD};
 ghost use Rattle.meeting.specs.Stands.{lent};
 ghost use Rattle.walk.specs.Walks.{Placed};
 ghost use Rattle.explorer.specs.Explores.{Ready};
-ghost use Rattle.explorer.specs.Runs.{mostOpened, Fuel, Afresh, Greater, Limited, Walks, Started, Executes, Judges, Finished, Empty, Ran};
+ghost use Rattle.explorer.specs.Runs.{metBy, mostOpened, Fuel, Afresh, Greater, Limited, Walks, Started, Executes, Judges, Finished, Empty, Ran};
 use crate::Settings;
+use crate::threads_of;
 use event::Fault;
 use layout::CLOCKS;
 use layout::Clocks;
@@ -37,19 +38,31 @@ pub enum Verdict {
 }
 
 // Runs an accepted table with settings in range and buffers of the right lengths.
-pub fn run(path: &mut [u8], trace: &mut [u8], table: &[u8], settings: Settings) -> Report
+pub fn run(
+    path: &mut [u8],
+    trace: &mut [u8],
+    table: &[u8],
+    condition: &[u8],
+    settings: Settings,
+) -> Report
     requires { ⌜ Ready (now table) settings (now path) (now trace) ⌝ }
-    ensures { λ r. ⌜ Ran (now (table .entry)) settings (now (path .entry)) (now (trace .entry)) r (now (path .exit)) (now (trace .exit)) ⌝ }
+    ensures { λ r. ⌜ Ran (now (table .entry)) (now (condition .entry)) settings (now (path .entry)) (now (trace .entry)) r (now (path .exit)) (now (trace .exit)) ⌝ }
 {
     clear_all(path);
     clear_all(trace);
-    executions(path, trace, table, settings)
+    executions(path, trace, table, condition, settings)
 }
 
 // One execution after another, over buffers that hold nothing.
-fn executions(path: &mut [u8], trace: &mut [u8], table: &[u8], settings: Settings) -> Report
+fn executions(
+    path: &mut [u8],
+    trace: &mut [u8],
+    table: &[u8],
+    condition: &[u8],
+    settings: Settings,
+) -> Report
     requires { ⌜ Ready (now table) settings (now path) (now trace) × Empty (now path) × Empty (now trace) ⌝ }
-    ensures { λ r. ⌜ Ran (now (table .entry)) settings (now (path .entry)) (now (trace .entry)) r (now (path .exit)) (now (trace .exit)) ⌝ }
+    ensures { λ r. ⌜ Ran (now (table .entry)) (now (condition .entry)) settings (now (path .entry)) (now (trace .entry)) r (now (path .exit)) (now (trace .exit)) ⌝ }
 {
     let shape = table::shape(table);
     let mut clocks = [[0u16; MAX_THREADS]; CLOCKS];
@@ -78,7 +91,8 @@ fn executions(path: &mut [u8], trace: &mut [u8], table: &[u8], settings: Setting
         cursor = next;
         longest = greater(longest, cursor.entries);
         let last = begun == settings.executions;
-        if let Verdict::Answers(answer) = judge_end(path, outcome, cursor.len, last) {
+        let verdict = judge_end(path, table, condition, &values, outcome, cursor.len, last);
+        if let Verdict::Answers(answer) = verdict {
             trace::clear(trace, ENTRY * cursor.entries, ENTRY * longest);
             return finish(&clocks, &numbers, path, answer, begun, cursor);
         }
@@ -213,12 +227,24 @@ fn limits_of(settings: Settings) -> Limits
     }
 }
 
-// A fault is the answer. An execution that ended answers 0 if nothing is open, and 1 if it was the last allowed.
-fn judge_end(path: &[u8], outcome: Outcome, len: usize, last: bool) -> Verdict
-    ensures { λ r. ⌜ Judges (now (path .entry)) outcome len last r ⌝ }
+// A fault is the answer. An execution that ended answers 18 if the final condition is false of the registers, 0 if nothing is open,
+// and 1 if it was the last allowed.
+fn judge_end(
+    path: &[u8],
+    table: &[u8],
+    condition: &[u8],
+    values: &Values,
+    outcome: Outcome,
+    len: usize,
+    last: bool,
+) -> Verdict
+    ensures { λ r. ⌜ Judges (now (path .entry)) (metBy (now (table .entry)) (now (condition .entry)) (now (values .entry))) outcome len last r ⌝ }
 {
     if let Outcome::Stops { fault, site } = outcome {
         return Verdict::Answers(Answer::Stopped { fault, site });
+    }
+    if !condition::holds(condition, threads_of(table), values) {
+        return Verdict::Answers(Answer::Unmet);
     }
     if !path::any_open(path, len) {
         return Verdict::Answers(Answer::Exhausted);

@@ -109,9 +109,9 @@ copied-more xs ys n h b j l = go (eqb j n) refl
 pub copied-all : (xs ys : List ℕ) (n : ℕ) → length xs ≡ n → length ys ≡ n → Begins xs ys n → xs ≡ ys
 copied-all xs ys n e f b = ext-getD 0 xs ys (e ∙ sym f) (λ i h. b i (omega (arith, e)))
 
-module _ (table : List ℕ) (branches operations executions bound exploring : ℕ) (path trace report : List ℕ) where
+module _ (table condition : List ℕ) (branches operations executions bound exploring : ℕ) (path trace report : List ℕ) where
   abbrev whole : Entered
-  whole = entered table branches operations executions bound exploring path trace report
+  whole = entered table condition branches operations executions bound exploring path trace report
 
   pub entered-bound : 256 < bound → left 255 path trace report ≡ whole
   unfolding entered
@@ -126,19 +126,19 @@ module _ (table : List ℕ) (branches operations executions bound exploring : �
     unfolding entered
     entered-report n = rw (le-ltb 256 bound h, le-ltb 1 exploring k, ne-eqb (length report) 29 n) refl
 
-    entered-so : length report ≡ 29 → whole ≡ enteredBy (rules.explored table (settingsFor branches operations executions bound exploring) path trace)
+    entered-so : length report ≡ 29 → whole ≡ enteredBy (rules.explored table condition (settingsFor branches operations executions bound exploring) path trace)
     unfolding entered
     entered-so n = rw (le-ltb 256 bound h, le-ltb 1 exploring k, eq-eqb (length report) 29 n) refl
 
     pub entered-run : length report ≡ 29 → (done : Report) (number : ℕ) (numbers : List ℕ) {exitPath exitTrace : List ℕ}
-        → exploredOf done exitPath exitTrace ≡ rules.explored table (settingsFor branches operations executions bound exploring) path trace
+        → exploredOf done exitPath exitTrace ≡ rules.explored table condition (settingsFor branches operations executions bound exploring) path trace
         → number ≡ numberOf (done .answer) → numbers ≡ numbersOf (reportOf done)
         → left number exitPath exitTrace numbers ≡ whole
     entered-run n done number numbers e f g = rw (f, g) (ap enteredBy e ∙ sym (entered-so n))
 
 -- with the settings that the numbers stand for
-pub explored-so : (table path trace : List ℕ) (branches operations executions bound exploring : ℕ) (b : Bound) {x : Explored}
+pub explored-so : (table condition path trace : List ℕ) (branches operations executions bound exploring : ℕ) (b : Bound) {x : Explored}
     → boundOf b ≡ boundFor bound
-    → x ≡ rules.explored table (record { branches = branches; operations = operations; executions = executions; bound = boundOf b; exploring = eqb exploring 1 }) path trace
-    → x ≡ rules.explored table (settingsFor branches operations executions bound exploring) path trace
-explored-so table path trace branches operations executions bound exploring b e h = h ∙ (cc e)
+    → x ≡ rules.explored table condition (record { branches = branches; operations = operations; executions = executions; bound = boundOf b; exploring = eqb exploring 1 }) path trace
+    → x ≡ rules.explored table condition (settingsFor branches operations executions bound exploring) path trace
+explored-so table condition path trace branches operations executions bound exploring b e h = h ∙ (cc e)

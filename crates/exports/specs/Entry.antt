@@ -1,7 +1,8 @@
--- What the entry for Rust and C is given and leaves: numbers and bytes alone. Assumes nothing.
+-- What the entries for Rust and C are given and leave: numbers and bytes alone. Assumes nothing.
 --     numbersOf      a report as 29 numbers
 --     settingsFor    the settings that five numbers stand for
 --     Entered        what is answered, and what the three buffers are left as
+--     noCondition    the final condition of the entry that takes none
 --     entered        for any input
 use Prim.Native.Nat.{ℕ, _+_}
 use mathlib.Core.List.{List, [], _∷_, _++_}
@@ -61,12 +62,15 @@ outOfRange bound exploring report = ltb 256 bound || ltb 1 exploring || not (eqb
 abbrev pub enteredBy : Explored → Entered
 enteredBy e = record { answer = e .report .answer; path = e .path; trace = e .trace; report = numbersOf (e .report) }
 
+abbrev pub noCondition : List ℕ
+noCondition = []
+
 -- 255, which is no answer of document 01, and nothing written; else what the definition's `explored` is, in numbers
-unfoldable pub entered : List ℕ → ℕ → ℕ → ℕ → ℕ → ℕ → List ℕ → List ℕ → List ℕ → Entered
-entered table branches operations executions bound exploring path trace report =
+unfoldable pub entered : List ℕ → List ℕ → ℕ → ℕ → ℕ → ℕ → ℕ → List ℕ → List ℕ → List ℕ → Entered
+entered table condition branches operations executions bound exploring path trace report =
     cond (outOfRange bound exploring report)
     (record { answer = 255; path = path; trace = trace; report = report })
-    (enteredBy (explored table (settingsFor branches operations executions bound exploring) path trace))
+    (enteredBy (explored table condition (settingsFor branches operations executions bound exploring) path trace))
 
 abbrev pub left : ℕ → List ℕ → List ℕ → List ℕ → Entered
 left answer path trace report = record { answer = answer; path = path; trace = trace; report = report }

@@ -1,10 +1,10 @@
-// The entry for Rust and C: numbers and slices only, so that no struct's layout crosses.
+// The entries for Rust and C: numbers and slices only, so that no struct's layout crosses.
 ghost use mathlib.Core.Path.{_≡_};
 ghost use Prim.Native.Nat.{_≤_};
 ghost use lib.ListN.{length};
 ghost use Rattle.path.specs.Bounds.{boundOf};
 ghost use Rattle.report.specs.Answers.{reportOf, summaryOf, summariesOf};
-ghost use Rattle.exports.specs.Entry.{numbersOf, fourOf, summaryNumbers, boundFor, entered, left};
+ghost use Rattle.exports.specs.Entry.{numbersOf, fourOf, summaryNumbers, boundFor, noCondition, entered, left};
 use explorer::Settings;
 use path::Bound;
 use report::Report;
@@ -16,8 +16,8 @@ pub const NUMBERS: usize = 29;
 // What is answered where an argument is out of range; no run answers it.
 pub const NO_RUN: u64 = 255;
 
-// Explores; `bound` is 0 to 255, or 256 for none, `exploring` 0 or 1, and `report` takes exactly 29 numbers. Answers the
-// report's first number; another bound, exploring or report length gives 255, and nothing is written.
+// Explores without a final condition; `bound` is 0 to 255, or 256 for none, `exploring` 0 or 1, and `report` takes exactly 29
+// numbers. Answers the report's first number; another bound, exploring or report length gives 255, and nothing is written.
 #[no_mangle]
 pub extern "C" fn chjirvollu_explore(
     table: &[u8],
@@ -30,7 +30,67 @@ pub extern "C" fn chjirvollu_explore(
     trace: &mut [u8],
     report: &mut [u64],
 ) -> u64
-    ensures { λ r. ⌜ left r (now (path .exit)) (now (trace .exit)) (now (report .exit)) ≡ entered (now (table .entry)) branches operations executions bound exploring (now (path .entry)) (now (trace .entry)) (now (report .entry)) ⌝ }
+    ensures { λ r. ⌜ left r (now (path .exit)) (now (trace .exit)) (now (report .exit)) ≡ entered (now (table .entry)) noCondition branches operations executions bound exploring (now (path .entry)) (now (trace .entry)) (now (report .entry)) ⌝ }
+{
+    let condition = &table[..0];
+    enter(
+        table,
+        condition,
+        branches,
+        operations,
+        executions,
+        bound,
+        exploring,
+        path,
+        trace,
+        report,
+    )
+}
+
+// The same under a final condition, whose bytes follow the table's. No bytes are no condition.
+#[no_mangle]
+pub extern "C" fn chjirvollu_explore_condition(
+    table: &[u8],
+    condition: &[u8],
+    branches: u64,
+    operations: u64,
+    executions: u64,
+    bound: u64,
+    exploring: u64,
+    path: &mut [u8],
+    trace: &mut [u8],
+    report: &mut [u64],
+) -> u64
+    ensures { λ r. ⌜ left r (now (path .exit)) (now (trace .exit)) (now (report .exit)) ≡ entered (now (table .entry)) (now (condition .entry)) branches operations executions bound exploring (now (path .entry)) (now (trace .entry)) (now (report .entry)) ⌝ }
+{
+    enter(
+        table,
+        condition,
+        branches,
+        operations,
+        executions,
+        bound,
+        exploring,
+        path,
+        trace,
+        report,
+    )
+}
+
+// What both entries do.
+fn enter(
+    table: &[u8],
+    condition: &[u8],
+    branches: u64,
+    operations: u64,
+    executions: u64,
+    bound: u64,
+    exploring: u64,
+    path: &mut [u8],
+    trace: &mut [u8],
+    report: &mut [u64],
+) -> u64
+    ensures { λ r. ⌜ left r (now (path .exit)) (now (trace .exit)) (now (report .exit)) ≡ entered (now (table .entry)) (now (condition .entry)) branches operations executions bound exploring (now (path .entry)) (now (trace .entry)) (now (report .entry)) ⌝ }
 {
     if 256 < bound {
         return NO_RUN;
@@ -49,7 +109,7 @@ pub extern "C" fn chjirvollu_explore(
         bound,
         exploring: exploring == 1,
     };
-    let done = explorer::explore(table, settings, path, trace);
+    let done = explorer::explore(table, condition, settings, path, trace);
     let answer = done.answer;
     let number = report::number(answer);
     write_numbers(report, numbers(done));

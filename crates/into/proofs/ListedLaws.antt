@@ -32,9 +32,9 @@ pub refusal-made : (a : Answer) {n : ℕ} → n ≡ numberOf a → not (leb 2 n 
 refusal-made a e = rw e
 
 -- the definition
-module _ (table : List ℕ) (s : rules.Settings) (path trace : List ℕ) (list : List Summary) where
+module _ (table condition : List ℕ) (s : rules.Settings) (path trace : List ℕ) (list : List Summary) where
   abbrev into : rules.ExploredInto
-  into = exploredInto table s path trace list
+  into = exploredInto table condition s path trace list
 
   abbrev counts : Bool
   counts = eqb (length list) 5 || not (settingsFine s) || not (eqb (length path) (16 * s .branches))
@@ -46,7 +46,7 @@ module _ (table : List ℕ) (s : rules.Settings) (path trace : List ℕ) (list :
   unfolding exploredInto refused
   into-miscounted e = let f : counts ≡ false = not-true counts e in rw (exploredInto, f)
 
-  into-counted : wrong ≡ false → into ≡ copied (explored table s path trace) list
+  into-counted : wrong ≡ false → into ≡ copied (explored table condition s path trace) list
   unfolding exploredInto
   into-counted e = let f : counts ≡ true = not-false counts e in rw (exploredInto, f)
 
@@ -56,7 +56,7 @@ module _ (table : List ℕ) (s : rules.Settings) (path trace : List ℕ) (list :
   pub refused-by-list : wrong ≡ true → into .explored ≡ refused 4 255 255 path trace
   refused-by-list e = answers (into-miscounted e)
 
-  pub not-by-list : wrong ≡ false → into .explored ≡ explored table s path trace
+  pub not-by-list : wrong ≡ false → into .explored ≡ explored table condition s path trace
   not-by-list e = answers (into-counted e)
 
   pub into-copied : into ≡ copied (into .explored) list
@@ -82,45 +82,45 @@ module _ (table : List ℕ) (s : rules.Settings) (path trace : List ℕ) (list :
       by-case : (m : Bool) → wrong ≡ m → (fine : Bool) → settingsFine s ≡ fine → (held : Bool) → eqb (length path) (16 * s .branches) ≡ held
           → isRefusal (into .explored .report .answer) ≡ true
       by-case true m fine a held b = refuses 4 (refused-by-list m) refl
-      by-case false m false a held b = refuses 2 (not-by-list m ∙ explored-2 table s path trace a) refl
+      by-case false m false a held b = refuses 2 (not-by-list m ∙ explored-2 table condition s path trace a) refl
       by-case false m true a false b =
-          refuses 3 (not-by-list m ∙ explored-3 table s path trace a (eqb-false (length path) (16 * s .branches) b)) refl
+          refuses 3 (not-by-list m ∙ explored-3 table condition s path trace a (eqb-false (length path) (16 * s .branches) b)) refl
       by-case false m true a true b = absurd (true≢false (rw (e, a, b) at m))
 
 -- the report and the buffers
-module _ (table : List ℕ) (s : Settings) (path trace : List ℕ) (n : ℕ) (r : Report) where
+module _ (table condition : List ℕ) (s : Settings) (path trace : List ℕ) (n : ℕ) (r : Report) where
   at-list : {b : Bool} → miscounts (settingsOf s) (length path) n ≡ b → (list : List Summary) → length list ≡ n
       → miscounts (settingsOf s) (length path) (length list) ≡ b
   at-list m list l = ap (miscounts (settingsOf s) (length path)) l ∙ m
 
   pub refuses-list : miscounts (settingsOf s) (length path) n ≡ true → reportOf r ≡ refusal answer.BadTrace
-      → (list : List Summary) → length list ≡ n → exploredOf r path trace ≡ exploredInto table (settingsOf s) path trace list .explored
+      → (list : List Summary) → length list ≡ n → exploredOf r path trace ≡ exploredInto table condition (settingsOf s) path trace list .explored
   unfolding refused
   refuses-list m e list l =
       ap (λ (x : rules.Report). record { report = x; path = path; trace = trace }) (e ∙ bad-trace path trace)
-      ∙ sym (refused-by-list table (settingsOf s) path trace list (at-list m list l))
+      ∙ sym (refused-by-list table condition (settingsOf s) path trace list (at-list m list l))
 
   pub goes-on : miscounts (settingsOf s) (length path) n ≡ false
-      → {exitPath exitTrace : List ℕ} → exploredOf r exitPath exitTrace ≡ explored table (settingsOf s) path trace
-      → (list : List Summary) → length list ≡ n → exploredOf r exitPath exitTrace ≡ exploredInto table (settingsOf s) path trace list .explored
-  goes-on m e list l = e ∙ sym (not-by-list table (settingsOf s) path trace list (at-list m list l))
+      → {exitPath exitTrace : List ℕ} → exploredOf r exitPath exitTrace ≡ explored table condition (settingsOf s) path trace
+      → (list : List Summary) → length list ≡ n → exploredOf r exitPath exitTrace ≡ exploredInto table condition (settingsOf s) path trace list .explored
+  goes-on m e list l = e ∙ sym (not-by-list table condition (settingsOf s) path trace list (at-list m list l))
 
 -- the list: it holds the summaries where there was a run and it holds five
-module _ (table : List ℕ) (s : rules.Settings) (path trace exitPath exitTrace : List ℕ) (r : Report) (ys : List ThreadRecord)
-    (e : (list : List Summary) → length list ≡ length ys → exploredOf r exitPath exitTrace ≡ exploredInto table s path trace list .explored) where
+module _ (table condition : List ℕ) (s : rules.Settings) (path trace exitPath exitTrace : List ℕ) (r : Report) (ys : List ThreadRecord)
+    (e : (list : List Summary) → length list ≡ length ys → exploredOf r exitPath exitTrace ≡ exploredInto table condition s path trace list .explored) where
   abbrev were : List Summary
   were = summariesOf ys
 
   abbrev refusal-is : Bool
   refusal-is = isRefusal (numberOf (r .answer))
 
-  same : exploredOf r exitPath exitTrace ≡ exploredInto table s path trace were .explored
+  same : exploredOf r exitPath exitTrace ≡ exploredInto table condition s path trace were .explored
   same = e were (length-map ys summaryOf)
 
   refuses : eqb (length ys) 5 ≡ false → refusal-is ≡ true
   refuses five =
       ap (λ (x : rules.Explored). isRefusal (x .report .answer)) same
-      ∙ other-length table s path trace were (ap (λ (n : ℕ). eqb n 5) (length-map ys summaryOf) ∙ five)
+      ∙ other-length table condition s path trace were (ap (λ (n : ℕ). eqb n 5) (length-map ys summaryOf) ∙ five)
 
   kept : summariesOf (cond (not refusal-is && eqb (length ys) 5) (r .threads) ys) ≡ cond refusal-is were (summariesOf (r .threads))
   kept = by-case refusal-is refl (eqb (length ys) 5) refl
@@ -132,8 +132,8 @@ module _ (table : List ℕ) (s : rules.Settings) (path trace exitPath exitTrace 
       by-case false a false b = absurd (true≢false (sym (refuses b) ∙ a))
 
   pub listed : {ran : Bool} {zs : List ThreadRecord} → ran ≡ not refusal-is → zs ≡ cond (ran && eqb (length ys) 5) (r .threads) ys
-      → exploredIntoOf r exitPath exitTrace zs ≡ exploredInto table s path trace were
+      → exploredIntoOf r exitPath exitTrace zs ≡ exploredInto table condition s path trace were
   listed a f =
       ap (λ (l : List Summary). record { explored = exploredOf r exitPath exitTrace; list = l })
       (ap summariesOf (f ∙ ap (λ (b : Bool). cond (b && eqb (length ys) 5) (r .threads) ys) a) ∙ kept)
-      ∙ ap (λ (x : rules.Explored). copied x were) same ∙ sym (into-copied table s path trace were)
+      ∙ ap (λ (x : rules.Explored). copied x were) same ∙ sym (into-copied table condition s path trace were)

@@ -30,7 +30,7 @@ same-list (x ∷ xs) (y ∷ ys) e = cc (same-record x y (ap first e), same-list 
 
 pub one-into : OneInto
 unfolding OneInto
-one-into table s path trace list r q leftPath leftTrace otherPath otherTrace leftList otherList h k =
+one-into table condition s path trace list r q leftPath leftTrace otherPath otherTrace leftList otherList h k =
     let e = h ∙ sym k in (
       ap (λ (x : rules.ExploredInto). x .explored .report) e,
       ap (λ (x : rules.ExploredInto). x .explored .path) e,

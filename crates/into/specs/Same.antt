@@ -13,8 +13,8 @@ use Rattle.into.specs.Listed.{exploredIntoOf}
 
 unfoldable pub OneInto : Type 0
 OneInto =
-    (table : List ℕ) (s : Settings) (path trace : List ℕ) (list : List ThreadRecord)
+    (table condition : List ℕ) (s : Settings) (path trace : List ℕ) (list : List ThreadRecord)
     (r q : Report) (leftPath leftTrace otherPath otherTrace : List ℕ) (leftList otherList : List ThreadRecord)
-    → exploredIntoOf r leftPath leftTrace leftList ≡ rules.exploredInto table (settingsOf s) path trace (summariesOf list)
-    → exploredIntoOf q otherPath otherTrace otherList ≡ rules.exploredInto table (settingsOf s) path trace (summariesOf list)
+    → exploredIntoOf r leftPath leftTrace leftList ≡ rules.exploredInto table condition (settingsOf s) path trace (summariesOf list)
+    → exploredIntoOf q otherPath otherTrace otherList ≡ rules.exploredInto table condition (settingsOf s) path trace (summariesOf list)
     → (reportOf r ≡ reportOf q) × (leftPath ≡ otherPath) × (leftTrace ≡ otherTrace) × (leftList ≡ otherList)

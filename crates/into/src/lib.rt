@@ -12,18 +12,19 @@ use report::Answer;
 use report::Report;
 use report::ThreadRecord;
 
-// Explores the program, and copies the five summaries into the caller's list, which must hold exactly five. A refusal leaves
+// Explores the program under a final condition, and copies the five summaries into the caller's list, which must hold exactly five. A refusal leaves
 // both buffers and the list as they are.
 pub fn explore_into(
     table: &[u8],
+    condition: &[u8],
     settings: Settings,
     path: &mut [u8],
     trace: &mut [u8],
     list: &mut [ThreadRecord],
 ) -> Report
-    ensures { λ r. ⌜ exploredIntoOf r (now (path .exit)) (now (trace .exit)) (now (list .exit)) ≡ rules.exploredInto (now (table .entry)) (settingsOf settings) (now (path .entry)) (now (trace .entry)) (summariesOf (now (list .entry))) ⌝ }
+    ensures { λ r. ⌜ exploredIntoOf r (now (path .exit)) (now (trace .exit)) (now (list .exit)) ≡ rules.exploredInto (now (table .entry)) (now (condition .entry)) (settingsOf settings) (now (path .entry)) (now (trace .entry)) (summariesOf (now (list .entry))) ⌝ }
 {
-    let report = explore_counted(table, settings, path, trace, list.len());
+    let report = explore_counted(table, condition, settings, path, trace, list.len());
     list::copy_into(list, ran(report), threads_of(report));
     report
 }
@@ -32,17 +33,18 @@ pub fn explore_into(
 // the settings and the path buffer.
 fn explore_counted(
     table: &[u8],
+    condition: &[u8],
     settings: Settings,
     path: &mut [u8],
     trace: &mut [u8],
     listed: usize,
 ) -> Report
-    ensures { λ r. ⌜ ((list : List rules.Summary) → length list ≡ listed → exploredOf r (now (path .exit)) (now (trace .exit)) ≡ rules.exploredInto (now (table .entry)) (settingsOf settings) (now (path .entry)) (now (trace .entry)) list .explored) ⌝ }
+    ensures { λ r. ⌜ ((list : List rules.Summary) → length list ≡ listed → exploredOf r (now (path .exit)) (now (trace .exit)) ≡ rules.exploredInto (now (table .entry)) (now (condition .entry)) (settingsOf settings) (now (path .entry)) (now (trace .entry)) list .explored) ⌝ }
 {
     if miscounted(settings, path.len(), listed) {
         return report::refused(Answer::BadTrace);
     }
-    explorer::explore(table, settings, path, trace)
+    explorer::explore(table, condition, settings, path, trace)
 }
 
 // Whether the list's length is wrong, and neither the settings nor the path buffer is.

@@ -52,7 +52,7 @@ module _ (M : Machine) (limits : Limits) (P : Ledger → Type 0) (Q : Course (M 
   made-courses n w v l (c ∷ []) o p m = (rw (m .0) (each l o p), tt)
   made-courses n w v l (c ∷ d ∷ cs) o p m = (
     rw (m .0) (each l o p),
-    made-courses n w v (nextLedger (m .1 .ledger)) (d ∷ cs) (next-known M limits l o (m .1) (m .2)) (next l o p (m .1) (m .2)) (m .5),
+    made-courses n w v (nextLedger (m .1 .ledger)) (d ∷ cs) (next-known M limits l o (m .1) (m .2)) (next l o p (m .1) (m .2)) (m .6),
   )
 
   pub every-course : P empty → (n : ℕ) → Every Q (courses M limits n)

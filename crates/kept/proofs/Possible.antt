@@ -127,7 +127,7 @@ module _ (M : Machine) (limits : Limits) (Holds : Holding M) (Asked : Asking M) 
   unfolding courseOf
   no-verdict n w site l [] h m e = omega (arith, m .0)
   no-verdict n w site l (c ∷ []) h m e = e .0 .never site w (rw (m .0) (m .1))
-  no-verdict n w site l (c ∷ d ∷ cs) h m e = no-verdict n w site (nextLedger (m .1 .ledger)) (d ∷ cs) h (m .5) (e .1)
+  no-verdict n w site l (c ∷ d ∷ cs) h m e = no-verdict n w site (nextLedger (m .1 .ledger)) (d ∷ cs) h (m .6) (e .1)
 
 pub never-impossible : NeverImpossible
 unfolding NeverImpossible Real

@@ -106,7 +106,7 @@ module _ (M : Machine) (limits : Limits) (Holds : Holding M) (Asked : Asking M) 
   unfolding courseOf
   last-ruled n w v l c [] m r =
       let z = stops-left M limits n w v (execution M limits l) (m .1) in rw z at ((rw (m .0) at (r .0)) .at-end)
-  last-ruled n w v l c (d ∷ cs) m r = last-ruled n w v (nextLedger (m .1 .ledger)) d cs (m .5) (r .1)
+  last-ruled n w v l c (d ∷ cs) m r = last-ruled n w v (nextLedger (m .1 .ledger)) d cs (m .6) (r .1)
 
   left-ruled : (n : ℕ) (w : Walk (M .State)) (v : Verdict) (cs : List (Course (M .State))) → Made M limits n w v empty cs →
       Every (RuledIn M (limits .branches)) cs → PathRules (limits .branches) (w .ledger .path)

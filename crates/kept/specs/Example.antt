@@ -30,6 +30,7 @@ asker = record {
   start = 0;
   next = λ s. record { site = noSite; move = doesNext s };
   answered = λ s a. moves (suc s) [];
+  final = λ s. true;
 }
 
 abbrev pub limitsThere : Limits

@@ -14,7 +14,7 @@ use Rattle.rules.specs.Vector.{Whom}
 use Rattle.rules.specs.Path.{Branch, schedule, load, spurious, Schedule, Bound, openAt, openIn, isExploring, toggled, lastSchedule, preemptionsAfter, threadAdded, loadAdded, spuriousAdded}
 use Rattle.rules.specs.Event.{Place, nowhere, branch, Question, whichThread, whichSlot, whichBit, Machine, Standing, slotsOf}
 use Rattle.rules.specs.Explorer.{seedOf, pushed, Limits, Ledger, allMarked, backtrackFrom, firstMarked, withBranch, Walk, Tick, execution}
-use Rattle.rules.specs.Explorer.{Verdict, exhausted, spent, stopped, Stop, nextLedger, empty, run}
+use Rattle.rules.specs.Explorer.{Verdict, exhausted, spent, unmet, stopped, Stop, nextLedger, empty, run}
 use Rattle.ledger.specs.History.{leftBy, Course, executed, courses, Stops, Made, Told, Real}
 use Rattle.ledger.specs.Balance.{begun, opened, Balance, Balanced, Begun, Added, Quiet}
 use Rattle.ledger.proofs.Counts.{pendings-seedOf, openIn-added, stepped-open}
@@ -64,6 +64,7 @@ module _ (M : Machine) (limits : Limits) where
   pub stops-left : (n : ℕ) (w : Walk (M .State)) (v : Verdict) (t : Tick (M .State)) → Stops M limits n w v t → leftBy t ≡ w
   stops-left n w exhausted t s = ap leftBy (s .0)
   stops-left n w spent t s = ap leftBy (s .0)
+  stops-left n w unmet t s = ap leftBy (s .0)
   stops-left n w (stopped f site) t s = ap leftBy s
 
   -- the executions from a ledger on: the last leaves its ledger level, as many have begun, and no more than n
@@ -81,19 +82,19 @@ module _ (M : Machine) (limits : Limits) where
   made-sums n w v l c (d ∷ cs) e m =
       let u = m .1 in
       let b = rw (m .2) at (execution-begun M limits l) in
-      let r = made-sums n w v (nextLedger (u .ledger)) d cs (next-ready (u .ledger) (rw (m .2) at (execution-level l e)) (m .3)) (m .5) in
-      record { level = r .level; begun-is = omega (arith, b, r .begun-is); within = λ h. r .within (m .4) }
+      let r = made-sums n w v (nextLedger (u .ledger)) d cs (next-ready (u .ledger) (rw (m .2) at (execution-level l e)) (m .4)) (m .6) in
+      record { level = r .level; begun-is = omega (arith, b, r .begun-is); within = λ h. r .within (m .5) }
 
   -- the verdict, and what is open
   pub none-left : (n : ℕ) (w : Walk (M .State)) (l : Ledger) (c : Course (M .State)) (cs : List (Course (M .State))) →
       Made M limits n w exhausted l (c ∷ cs) → openIn (w .ledger .path) ≡ 0
-  none-left n w l c [] m = m .1 .1
-  none-left n w l c (d ∷ cs) m = none-left n w (nextLedger (m .1 .ledger)) d cs (m .5)
+  none-left n w l c [] m = m .1 .2
+  none-left n w l c (d ∷ cs) m = none-left n w (nextLedger (m .1 .ledger)) d cs (m .6)
 
   some-left : (n : ℕ) (w : Walk (M .State)) (l : Ledger) (c : Course (M .State)) (cs : List (Course (M .State))) →
       Made M limits n w spent l (c ∷ cs) → (0 < openIn (w .ledger .path)) × (w .ledger .begun ≡ n)
-  some-left n w l c [] m = (m .1 .1, m .1 .2)
-  some-left n w l c (d ∷ cs) m = some-left n w (nextLedger (m .1 .ledger)) d cs (m .5)
+  some-left n w l c [] m = (m .1 .2, m .1 .3)
+  some-left n w l c (d ∷ cs) m = some-left n w (nextLedger (m .1 .ledger)) d cs (m .6)
 
   balance : (n : ℕ) (r : Stop (M .State)) (cs : List (Course (M .State))) → 1 ≤ n → Told M limits n cs r → Balance n r
   unfolding openIn

@@ -5,6 +5,7 @@ use mathlib.Core.Path.{_≡_, refl, ap, sym, _∙_}
 use native.Mathlib.Omega.{arith}
 use lib.ListN.{length, getD, length-map}
 use Rattle.rules.specs.Cell as Cell
+use Rattle.rules.specs.Condition as Condition
 use Rattle.rules.specs.Event as Event
 use Rattle.rules.specs.Event.{Fault, deadlock, Site, noSite}
 use Rattle.rules.specs.Explorer as Explorer
@@ -55,7 +56,7 @@ record Computed : Type 0 where
   wrong-tree : WrongTree
 
 computed : Computed
-unfolding Cell.loadSynced Cell.storeSynced Cell.fateFrom Cell.loadFate Cell.matchedFrom Cell.matchedLoad Cell.loadRace
+unfolding Condition.compared Condition.comparisonAt Condition.conditionAt Condition.holds Cell.loadSynced Cell.storeSynced Cell.fateFrom Cell.loadFate Cell.matchedFrom Cell.matchedLoad Cell.loadRace
     Cell.storeRace Cell.loadTracked Cell.storeTracked Cell.coherentFrom Cell.coherent Cell.touchDone Cell.storeOrderFrom
     Cell.storeOrder Cell.storeDone Cell.sighted Cell.loadDone Event.little Event.slotsFrom Explorer.allMarked
     Explorer.seedOf Explorer.pushed Explorer.allBelow Explorer.reply Explorer.tick Explorer.walked Explorer.execution
@@ -63,7 +64,7 @@ unfolding Cell.loadSynced Cell.storeSynced Cell.fateFrom Cell.loadFate Cell.matc
     Machine.threadsStarted Machine.start Machine.conflict Machine.fewestFrom Machine.initial Machine.standing
     Machine.schedules Machine.accessMade Machine.othersAwake Machine.switched Machine.allOver Machine.scheduled
     Machine.stores Machine.actsAs Machine.begins Machine.threadEnded Machine.nextAt Machine.next Machine.maskOf
-    Machine.readFrom Machine.answered Path.firstIn Path.activeOf Path.toggled Path.preemptionsWith Path.lastSchedule
+    Machine.readFrom Machine.answered Machine.final Path.firstIn Path.activeOf Path.toggled Path.preemptionsWith Path.lastSchedule
     Path.threadAdded Path.loadAdded Path.marked Path.madePending Path.takesMarks Path.scheduleMarked Path.scheduleAt
     Path.exploringBelow Path.schedulesBelow Path.switchIn Path.markedBefore Path.backtracked Path.pendings Path.openAt
     Path.openIn Path.turned Path.turnedBranch Path.stepped Path.choiceOf Seen.seenThrough Seen.seen Seen.seenBeforeYield
@@ -82,6 +83,9 @@ computed = record {
     four = refl;
     five = refl;
     fault = refl;
+    claim-false = refl;
+    claim-false-last = refl;
+    claim-true = refl;
     path = refl;
   };
   named = record {

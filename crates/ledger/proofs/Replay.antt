@@ -69,7 +69,7 @@ module _ (M : Machine) (limits : Limits) where
   all-follow n w v l (c ∷ []) o m = (rw (m .0) (follows l o), tt)
   all-follow n w v l (c ∷ d ∷ cs) o m = (
     rw (m .0) (follows l o),
-    all-follow n w v (nextLedger (m .1 .ledger)) (d ∷ cs) (next-known M limits l o (m .1) (m .2)) (m .5),
+    all-follow n w v (nextLedger (m .1 .ledger)) (d ∷ cs) (next-known M limits l o (m .1) (m .2)) (m .6),
   )
 
 pub replay : Replay

@@ -48,8 +48,8 @@ module _ (M : Machine) (limits : Limits) where
   unfolding runFromBy runFrom
   runFrom-same zero l past = refl
   runFrom-same (suc n) l past =
-      run-step n (λ m more. runFrom-same n m more) (after (eqb n 0) past (executionBy M limits right l))
-      ∙ ap (λ (t : Tick (M .State)). elim (after (eqb n 0) past t) [ stopsHere r ↦ r | goesOn m more ↦ runFrom M limits n m more ]) (execution-same l)
+      run-step n (λ m more. runFrom-same n m more) (after (M .final) (eqb n 0) past (executionBy M limits right l))
+      ∙ ap (λ (t : Tick (M .State)). elim (after (M .final) (eqb n 0) past t) [ stopsHere r ↦ r | goesOn m more ↦ runFrom M limits n m more ]) (execution-same l)
 
 pub same : Same
 unfolding Same runBy run

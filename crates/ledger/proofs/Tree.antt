@@ -85,7 +85,7 @@ module _ (M : Machine) (limits : Limits) where
       let e = executed (courseOf M limits l) in
       rw (m .0)
       (subst Pairs (append-snoc past e (map executed (d ∷ cs)))
-      (all-part n w v (nextLedger (m .1 .ledger)) (past ++ (e ∷ [])) (d ∷ cs) (kept-on l past i (m .1) (m .2) (m .3)) (m .5)))
+      (all-part n w v (nextLedger (m .1 .ledger)) (past ++ (e ∷ [])) (d ∷ cs) (kept-on l past i (m .1) (m .2) (m .4)) (m .6)))
 
 pub tree : Tree
 unfolding Tree Real

@@ -146,8 +146,8 @@ module _ (M : Machine) (limits : Limits) where
   told n w v l names c [] i m = (m .0, stops l names i w (stops-left M limits n w v (execution M limits l) (m .1)))
   told n w v l names c (d ∷ cs) i m =
       let u = m .1 in
-      let k = some-open (u .ledger .path) (m .3) in
-      let r = told n w v (nextLedger (u .ledger)) (names ++ (next-name u ∷ [])) d cs (kept-on l names i u (m .2) k) (m .5) in
+      let k = some-open (u .ledger .path) (m .4) in
+      let r = told n w v (nextLedger (u .ledger)) (names ++ (next-name u ∷ [])) d cs (kept-on l names i u (m .2) k) (m .6) in
       (m .0, rw (r .0) (goes-on l names i u (m .2) k cs w (r .1)))
 
 -- Of all executions of a run

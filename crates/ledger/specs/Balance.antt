@@ -45,7 +45,8 @@ pub record Balance {S : Type 0} (n : ℕ) (r : Stop S) : Type 0 where
   -- "execution budget N"
   pub budget : (1 ≤ begun r) × (begun r ≤ n)
 
--- "at every stop": exhausted, with the budget spent, or at whatever fault
+-- "at every stop": exhausted, with the budget spent, or at whatever fault; and where a condition is not met, "the balance holds at
+-- that stop too"
 unfoldable pub Balanced : Type 1
 Balanced = (M : Machine) (limits : Limits) (n : ℕ) → 1 ≤ n → Balance n (run M limits n)
 

@@ -7,12 +7,13 @@
 --     Told, Real             they are those of the run's history
 use Prim.Native.Nat.{ℕ, zero, suc, _<_}
 use mathlib.Core.List.{List, [], _∷_, map}
+use mathlib.Core.Bool.{true, false}
 use mathlib.Core.Path.{_≡_}
 use lib.Dec.{eqb}
 use Rattle.rules.specs.Path.{Branch, openIn}
 use Rattle.rules.specs.Event.{Machine, impossible, noSite}
 use Rattle.rules.specs.Explorer.{Limits, Ledger, Walk, Tick, goes, over, faulted, tick, fresh, oneBegun, execution}
-use Rattle.rules.specs.Explorer.{Execution, executionOf, Verdict, exhausted, spent, stopped, Stop, nextLedger, empty, after, stopsHere, goesOn, run}
+use Rattle.rules.specs.Explorer.{Execution, executionOf, Verdict, exhausted, spent, unmet, stopped, Stop, nextLedger, empty, after, stopsHere, goesOn, run}
 
 abbrev pub Every : {A : Type 0} → (A → Type 0) → List A → Type 0
 Every P [] = Unit {0}
@@ -58,20 +59,21 @@ module _ (M : Machine) (limits : Limits) where
   coursesFrom zero l past = []
   coursesFrom (suc n) l past =
       courseOf l
-      ∷ elim (after (eqb n 0) past (execution M limits l)) [ stopsHere r ↦ [] | goesOn m more ↦ coursesFrom n m more ]
+      ∷ elim (after (M .final) (eqb n 0) past (execution M limits l)) [ stopsHere r ↦ [] | goesOn m more ↦ coursesFrom n m more ]
 
   unfoldable pub courses : ℕ → List (Course (M .State))
   courses n = coursesFrom n empty []
 
   -- How the last execution came out, in a run with a budget of n that leaves this walk: "0 an execution ended, no choice open",
-  -- "1 N executions ended, some choice open", or the fault, as the execution met it
+  -- "1 N executions ended, some choice open", where its condition held; where not, 18; or the fault, as the execution met it
   abbrev pub Stops : ℕ → Walk (M .State) → Verdict → Tick (M .State) → Type 0
-  Stops n w exhausted t = (t ≡ over w) × (openIn (w .ledger .path) ≡ 0)
-  Stops n w spent t = (t ≡ over w) × (0 < openIn (w .ledger .path)) × (w .ledger .begun ≡ n)
+  Stops n w exhausted t = (t ≡ over w) × (M .final (w .state) ≡ true) × (openIn (w .ledger .path) ≡ 0)
+  Stops n w spent t = (t ≡ over w) × (M .final (w .state) ≡ true) × (0 < openIn (w .ledger .path)) × (w .ledger .begun ≡ n)
+  Stops n w unmet t = (t ≡ over w) × (M .final (w .state) ≡ false)
   Stops n w (stopped f site) t = t ≡ faulted f site w
 
-  -- The executions from a ledger on. Each but the last was over, with a choice open and fewer than n begun, and the next goes on
-  -- from the next path. With none allowed nothing begins
+  -- The executions from a ledger on. Each but the last was over, its condition met, with a choice open and fewer than n begun, and
+  -- the next goes on from the next path. With none allowed nothing begins
   abbrev pub Made : ℕ → Walk (M .State) → Verdict → Ledger → List (Course (M .State)) → Type 0
   Made n w v l [] = (n ≡ 0) × (w ≡ fresh M limits l) × (v ≡ stopped impossible noSite)
   Made n w v l (c ∷ []) = (c ≡ courseOf l) × Stops n w v (execution M limits l)
@@ -79,6 +81,7 @@ module _ (M : Machine) (limits : Limits) where
       (c ≡ courseOf l)
       × (u : Walk (M .State))
       × (execution M limits l ≡ over u)
+      × (M .final (u .state) ≡ true)
       × (0 < openIn (u .ledger .path))
       × (u .ledger .begun < n)
       × Made n w v (nextLedger (u .ledger)) (d ∷ more)

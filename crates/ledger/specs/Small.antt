@@ -1,6 +1,7 @@
 -- A small run that the checker computes whole: document 01's case P3, "thread 0 stores 1, thread 1 loads, Relaxed, one cell
 -- starting at 0". Assumes nothing.
---     small, limitsOf     its machine, and its limits
+--     small, under        its machine, without and with a final condition
+--     limitsOf            its limits
 --     Outcome             what a run of it comes to
 --     Worked              the worked cases
 use Prim.Native.Nat.{ℕ}
@@ -11,19 +12,26 @@ use Rattle.rules.specs.Path.{Bound, unbounded, atMost, Branch, schedule, load, 
 use Rattle.rules.specs.Event.{full, Machine}
 use Rattle.rules.specs.State.{State}
 use Rattle.rules.specs.Machine.{machine}
-use Rattle.rules.specs.Explorer.{Limits, Stop, Verdict, exhausted, spent, stopped, run}
-use Rattle.rules.specs.Worked.{storeAndLoad, loadsInAll}
+use Rattle.rules.specs.Explorer.{Limits, Stop, Verdict, exhausted, spent, unmet, stopped, run}
+use Rattle.rules.specs.Condition.{equals, differs}
+use Rattle.rules.specs.Worked.{storeAndLoad, comparing, loadsInAll}
 use Rattle.ledger.specs.Balance.{begun, opened, open-in}
 
+abbrev pub under : List ℕ → Machine
+under condition = machine (record { table = storeAndLoad; condition = condition; operations = 2; exploring = true })
+
 abbrev pub small : Machine
-small = machine (record { table = storeAndLoad; operations = 2; exploring = true })
+small = under []
 
 -- with a branch limit, a preemption bound and an execution budget; its two rows fit
 abbrev pub limitsOf : ℕ → Bound → Limits
 limitsOf B bound = record { branches = B; operations = 2; bound = bound; ticks = 32 }
 
+abbrev pub runUnder : List ℕ → ℕ → Bound → ℕ → Stop State
+runUnder condition B bound n = run (under condition) (limitsOf B bound) n
+
 abbrev pub runOf : ℕ → Bound → ℕ → Stop State
-runOf B bound n = run small (limitsOf B bound) n
+runOf = runUnder []
 
 -- answer, executions begun, values read in the order of the traces, choices opened, choices open
 pub record Outcome : Type 0 where
@@ -36,10 +44,13 @@ pub record Outcome : Type 0 where
 abbrev pub outcome : Verdict → ℕ → List ℕ → ℕ → ℕ → Outcome
 outcome v e vs c l = record { verdict = v; executions = e; values = vs; choices = c; left = l }
 
-abbrev pub outcomeOf : ℕ → Bound → ℕ → Outcome
-outcomeOf B bound n =
-    let r = runOf B bound n in
+abbrev pub outcomeUnder : List ℕ → ℕ → Bound → ℕ → Outcome
+outcomeUnder condition B bound n =
+    let r = runUnder condition B bound n in
     outcome (r .verdict) (begun r) (loadsInAll (r .history)) (opened r) (open-in r)
+
+abbrev pub outcomeOf : ℕ → Bound → ℕ → Outcome
+outcomeOf = outcomeUnder []
 
 -- "schedule: five states .., preemptions, initial active or 255, prev u16 or 65535", on an exploring record
 abbrev pub scheduled : List ℕ → ℕ → ℕ → ℕ → Branch
@@ -61,6 +72,11 @@ pub record Worked : Type 0 where
   pub five : outcomeOf 16 unbounded 5 ≡ outcome exhausted 5 (0 ∷ 1 ∷ 0 ∷ 0 ∷ 1 ∷ []) 4 0
   -- a fault: "11 a branch is to be added with B present"; the loading thread ends, past its one row
   pub fault : outcomeOf 4 unbounded 100 ≡ outcome (stopped full (record { thread = 1; row = 1 })) 1 (0 ∷ []) 2 2
+  -- "a false one is answer 18, ahead of 0 and 1": that thread 1 reads 0 is false of the second execution, also where it is the last
+  -- that is allowed; that it does not read 2, of none
+  pub claim-false : outcomeUnder (comparing equals 1 0) 16 unbounded 100 ≡ outcome unmet 2 (0 ∷ 1 ∷ []) 2 1
+  pub claim-false-last : outcomeUnder (comparing equals 1 0) 16 unbounded 2 ≡ outcome unmet 2 (0 ∷ 1 ∷ []) 2 1
+  pub claim-true : outcomeUnder (comparing differs 1 2) 16 unbounded 100 ≡ outcome exhausted 5 (0 ∷ 1 ∷ 0 ∷ 0 ∷ 1 ∷ []) 4 0
   -- the path left by the fourth execution
   pub path : runOf 16 unbounded 4 .walk .ledger .path ≡
       scheduled (visited ∷ active ∷ 0 ∷ 0 ∷ 0 ∷ []) 0 0 noPrev

@@ -24,7 +24,7 @@ use Rattle.ledger.specs.Small.{small, limitsOf}
 
 pub record Parts (S : Type 0) : Type 0 where
   pub marks : Bound → Ledger → Question → Ledger
-  pub follows : Bool → List Execution → Tick S → After S
+  pub follows : (S → Bool) → Bool → List Execution → Tick S → After S
 
 abbrev pub right : {S : Type 0} → Parts S
 right = record { marks = firstMarked; follows = after }
@@ -54,7 +54,7 @@ module _ (M : Machine) (limits : Limits) (P : Parts (M .State)) where
   unfoldable pub runFromBy : ℕ → Ledger → List Execution → Stop (M .State)
   runFromBy zero l past = record { verdict = stopped Event.impossible noSite; walk = fresh M limits l; history = past }
   runFromBy (suc n) l past =
-      elim (P .follows (eqb n 0) past (executionBy l)) [ stopsHere r ↦ r | goesOn m more ↦ runFromBy n m more ]
+      elim (P .follows (M .final) (eqb n 0) past (executionBy l)) [ stopsHere r ↦ r | goesOn m more ↦ runFromBy n m more ]
 
   unfoldable pub runBy : ℕ → Stop (M .State)
   runBy n = runFromBy n empty []
@@ -69,8 +69,8 @@ Same = (M : Machine) (limits : Limits) (n : ℕ) → runBy M limits right n ≡ 
 abbrev pub steppingBy : {S : Type 0} → (List Branch → List Branch) → Parts S
 steppingBy step = record {
   marks = firstMarked;
-  follows = λ last past t.
-      elim (after last past t) [
+  follows = λ final last past t.
+      elim (after final last past t) [
         | stopsHere r ↦ stopsHere r
         | goesOn l more ↦ goesOn (record { path = step (leftBy t .ledger .path); opened = l .opened; begun = l .begun }) more
       ];
@@ -118,7 +118,7 @@ reopening = record {
 abbrev pub inventing : {S : Type 0} → Parts S
 inventing = record {
   marks = firstMarked;
-  follows = λ last past t. stopsHere (stop (stopped Event.deadlock noSite) (leftBy t) past);
+  follows = λ final last past t. stopsHere (stop (stopped Event.deadlock noSite) (leftBy t) past);
 }
 
 -- What they come to, on the small machine with a budget of ten executions

@@ -12,7 +12,7 @@ use borrow.Author.Tests.{leb-true}
 use Rattle.rules.specs.Vector.{largest}
 use Rattle.rules.specs.Table.{headerFine, threadsOf, cellsOf}
 use Rattle.rules.specs.State.{State, threads, cells}
-use Rattle.rules.specs.Machine.{Program, machine}
+use Rattle.rules.specs.Machine.{Program, machine, final}
 use Rattle.rules.specs.Explorer.{Limits, Ledger, Walk, Tick, goes, over, faulted, tick, Execution, execution, After, after, stopsHere, goesOn, empty}
 use Rattle.rules.specs.Explored.{Settings, settingsFine, programOf, limitsOf}
 use Rattle.rules.proofs.MeasureStart.{start-ready}
@@ -109,7 +109,7 @@ module _ (p : Program) (limits : Limits) (limited : p .operations ≤ largest) (
     courses-seen zero l past e = tt
     courses-seen (suc n) l past e = (
       course-seen l (e .0),
-      go (after (eqb n 0) past (execution (machine p) limits l)) (e .1)
+      go (after (final p) (eqb n 0) past (execution (machine p) limits l)) (e .1)
           (λ k more f. courses-seen n k more f),
     )
       where
@@ -134,7 +134,7 @@ operations-few settings e = let f = simp and-eq-true-iff at e in omega (arith, l
 
 pub seen-in-runs : SeenInRuns
 unfolding SeenInRuns Seen
-seen-in-runs table settings fine accepted =
+seen-in-runs table condition settings fine accepted =
     let few = operations-few settings fine in
-    all-seen (programOf table settings) (limitsOf settings) (settings .executions) (good-header table accepted) (omega arith)
+    all-seen (programOf table condition settings) (limitsOf settings) (settings .executions) (good-header table accepted) (omega arith)
     (omega arith)

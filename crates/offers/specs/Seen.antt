@@ -81,6 +81,6 @@ Seen =
 -- of an accepted table, within settings that are not refused
 unfoldable pub SeenInRuns : Type 0
 SeenInRuns =
-    (table : List ℕ) (settings : Settings) → settingsFine settings ≡ true → judged table ≡ good
-    → Every (Seeing (programOf table settings) (limitsOf settings))
-    (courses (machine (programOf table settings)) (limitsOf settings) (settings .executions))
+    (table condition : List ℕ) (settings : Settings) → settingsFine settings ≡ true → judged table ≡ good
+    → Every (Seeing (programOf table condition settings) (limitsOf settings))
+    (courses (machine (programOf table condition settings)) (limitsOf settings) (settings .executions))

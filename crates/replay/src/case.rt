@@ -36,6 +36,9 @@ pub const PATH_LEFT: usize = 41;
 
 pub const TRACE_LEFT: usize = 42;
 
+// Where a case has a condition, it stands behind the answer.
+pub const CONDITION: usize = 43;
+
 // The longest table that a line may hold; the longest that is accepted has 3,880 bytes.
 pub const MOST_TABLE: usize = 4096;
 
@@ -129,7 +132,7 @@ pub fn list_is_wrong(numbers: &Numbers) -> bool {
     list != NOT_GIVEN && list != 5
 }
 
-// Writes a table's bytes; answers how many there are, or more than 4,096 if they do not fit.
+// Writes a table's or a condition's bytes; answers how many there are, or more than 4,096 if they do not fit.
 pub fn read_table(text: &[u8], table: &mut [u8; 4096]) -> usize {
     if fields::is_byte(text, b'-') {
         return 0;

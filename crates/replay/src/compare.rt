@@ -40,15 +40,18 @@ pub enum Outcome {
 
 // Asks the case of a line again.
 pub fn replay_line(line: &[u8], path: &mut [u8], trace: &mut [u8]) -> Outcome {
-    let mut starts = [0usize; 44];
+    let mut starts = [0usize; 45];
     let count = fields::split(line, &mut starts);
-    if count != FIELDS {
+    if count != FIELDS && count != FIELDS + 1 {
         return Outcome::Count(count);
     }
     let mut numbers = [0u64; 43];
     let wrong = case::read_fields(line, &starts, &mut numbers);
     if wrong != FIELDS {
         return Outcome::Field(wrong);
+    }
+    if count != FIELDS && !fields::is_hex(condition_text(line, &starts)) {
+        return Outcome::Field(case::CONDITION);
     }
     let mut table = [0u8; 4096];
     let size = case::read_table(
@@ -71,6 +74,20 @@ pub fn replay_line(line: &[u8], path: &mut [u8], trace: &mut [u8]) -> Outcome {
     )
 }
 
+// The condition's field, or nothing where there is none: then no field begins there.
+fn condition_text<'a>(line: &'a [u8], starts: &Starts) -> &'a [u8] {
+    fields::text(line, starts[case::CONDITION], starts[case::CONDITION + 1])
+}
+
+// The first `n` bytes, or all if there are fewer.
+fn first_bytes(bytes: &[u8; 4096], n: usize) -> &[u8] {
+    let all: &[u8] = bytes;
+    if n <= all.len() {
+        return &all[0..n];
+    }
+    all
+}
+
 // Asks a case whose buffers have the lengths that it states, and holds the answer to the list's.
 fn run_case(
     line: &[u8],
@@ -85,16 +102,28 @@ fn run_case(
     if bytes.len() < size {
         return Outcome::Field(case::TABLE);
     }
-    let given = ask(&bytes[0..size], numbers, path, trace);
+    let mut condition = [0u8; 4096];
+    let claimed = case::read_table(condition_text(line, starts), &mut condition);
+    if case::MOST_TABLE < claimed {
+        return Outcome::Field(case::CONDITION);
+    }
+    let claim = first_bytes(&condition, claimed);
+    let given = ask(&bytes[0..size], claim, numbers, path, trace);
     judge(line, starts, numbers, &given, path, trace)
 }
 
-// Fills the buffers and explores; answers the report's numbers. The entry that takes a thread list refuses one that does not
-// hold five records, after it has judged the settings and the path: that refusal stands in here.
-fn ask(table: &[u8], numbers: &Numbers, path: &mut [u8], trace: &mut [u8]) -> Given {
+// What the explorer answers. The entry that takes a thread list refuses one that does not hold five records, after it has judged
+// the settings and the path: that refusal stands in here.
+fn ask(
+    table: &[u8],
+    condition: &[u8],
+    numbers: &Numbers,
+    path: &mut [u8],
+    trace: &mut [u8],
+) -> Given {
     buffers::fill(path);
     buffers::fill(trace);
-    let report = explorer::explore(table, case::settings(numbers), path, trace);
+    let report = explorer::explore(table, condition, case::settings(numbers), path, trace);
     let given = flat(report);
     if !case::list_is_wrong(numbers) {
         return given;

@@ -1,23 +1,23 @@
 // The fields of a line of the list: texts between single spaces, decimal numbers and lowercase hex.
 use decimal::Parsed;
 
-// A line with its answer has this many fields.
+// A line with its answer has this many fields; a condition is one more, the last.
 pub const FIELDS: usize = 43;
 // What stands for the `-` of a number that is not given.
 pub const NOT_GIVEN: u64 = 18446744073709551615;
 
 // Where each field begins, and behind the last one past the line's end.
-pub type Starts = [usize; 44];
+pub type Starts = [usize; 45];
 
-// Finds where the fields begin; answers how many there are, 44 standing for every count above 43.
+// Finds where the fields begin; answers how many there are, 45 standing for every count above 44.
 pub fn split(line: &[u8], starts: &mut Starts) -> usize {
     let mut count = 1;
     starts[0] = 0;
     let mut i = 0;
     while i < line.len() {
         if line[i] == b' ' {
-            if FIELDS <= count {
-                return FIELDS + 1;
+            if FIELDS < count {
+                return FIELDS + 2;
             }
             starts[count] = i + 1;
             count += 1;

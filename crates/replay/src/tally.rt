@@ -128,7 +128,7 @@ fn say_line(line: u64) {
 fn say_count(count: usize) {
     io::write_all(
         STDERR_FILENO,
-        b"an answered case has 43 fields, and this line ",
+        b"an answered case has 43 fields, or 44 with a condition, and this line ",
     );
     if fields::FIELDS < count {
         io::write_all(STDERR_FILENO, b"more\n");
@@ -141,7 +141,7 @@ fn say_count(count: usize) {
 // A field of it has the wrong form.
 fn say_field(field: usize) {
     io::write_all(STDERR_FILENO, b"field ");
-    io::print_decimal(STDERR_FILENO, field as u64 % 43 + 1);
+    io::print_decimal(STDERR_FILENO, field as u64 % 44 + 1);
     io::write_all(STDERR_FILENO, b" is not what an answered case has there\n");
 }
 

@@ -22,6 +22,7 @@ fits answer.BadPath v e = absurd e
 fits answer.BadTrace v e = absurd e
 fits (answer.BadTable t k) v e = absurd e
 fits (answer.Stopped f s) v e = rw e (record { number = refl; kind = refl; other = refl; thread = refl; row = refl })
+fits answer.Unmet v e = rw e (record { number = refl; kind = refl; other = refl; thread = refl; row = refl })
 
 so-reported : (a : Answer) (r : Stop State) → Fits a (r .verdict) → ranReport a (r .walk .ledger .begun) (r .walk .ledger .opened) (openIn (r .walk .ledger .path)) (r .walk .state) ≡ reported r
 unfolding reported

@@ -1,6 +1,7 @@
 -- What the answers and faults say that the code takes together. Assumes nothing.
 --     no-fault      an answer that is no fault has no race
 --     no-race       nor has a fault of another kind
+--     raced         a race has its own kind and other thread
 --     no-place      an answer that is neither a bad row nor a fault names no thread and row
 --     placed        nor does a deadlock, but every other fault does
 use Prim.Native.Nat.{ℕ}
@@ -22,23 +23,25 @@ use Rattle.report.specs.declared.Answer.{Answer}
 use Rattle.report.specs.declared.Answer.the-variants as answer
 use Rattle.report.specs.Answers.{siteOf, kindOf, otherOf, threadOf, rowOf}
 
-pub no-place : (a : Answer) → OneOf (0 ∷ 1 ∷ 2 ∷ 3 ∷ 4 ∷ []) (tagOf Answer.the-type a) → (255 ≡ threadOf a) × (255 ≡ rowOf a)
+pub no-place : (a : Answer) → OneOf (0 ∷ 1 ∷ 2 ∷ 3 ∷ 4 ∷ 7 ∷ []) (tagOf Answer.the-type a) → (255 ≡ threadOf a) × (255 ≡ rowOf a)
 no-place answer.Exhausted k = (refl, refl)
 no-place answer.Spent k = (refl, refl)
 no-place answer.BadSettings k = (refl, refl)
 no-place answer.BadPath k = (refl, refl)
 no-place answer.BadTrace k = (refl, refl)
-no-place (answer.BadTable t r) k = absurd (miss (0 ∷ 1 ∷ 2 ∷ 3 ∷ 4 ∷ []) 5 tt k)
-no-place (answer.Stopped f s) k = absurd (miss (0 ∷ 1 ∷ 2 ∷ 3 ∷ 4 ∷ []) 6 tt k)
+no-place (answer.BadTable t r) k = absurd (miss (0 ∷ 1 ∷ 2 ∷ 3 ∷ 4 ∷ 7 ∷ []) 5 tt k)
+no-place (answer.Stopped f s) k = absurd (miss (0 ∷ 1 ∷ 2 ∷ 3 ∷ 4 ∷ 7 ∷ []) 6 tt k)
+no-place answer.Unmet k = (refl, refl)
 
-pub no-fault : (a : Answer) → OneOf (0 ∷ 1 ∷ 2 ∷ 3 ∷ 4 ∷ 5 ∷ []) (tagOf Answer.the-type a) → (0 ≡ kindOf a) × (255 ≡ otherOf a)
+pub no-fault : (a : Answer) → OneOf (0 ∷ 1 ∷ 2 ∷ 3 ∷ 4 ∷ 5 ∷ 7 ∷ []) (tagOf Answer.the-type a) → (0 ≡ kindOf a) × (255 ≡ otherOf a)
 no-fault answer.Exhausted k = (refl, refl)
 no-fault answer.Spent k = (refl, refl)
 no-fault answer.BadSettings k = (refl, refl)
 no-fault answer.BadPath k = (refl, refl)
 no-fault answer.BadTrace k = (refl, refl)
 no-fault (answer.BadTable t r) k = (refl, refl)
-no-fault (answer.Stopped f s) k = absurd (miss (0 ∷ 1 ∷ 2 ∷ 3 ∷ 4 ∷ 5 ∷ []) 6 tt k)
+no-fault (answer.Stopped f s) k = absurd (miss (0 ∷ 1 ∷ 2 ∷ 3 ∷ 4 ∷ 5 ∷ 7 ∷ []) 6 tt k)
+no-fault answer.Unmet k = (refl, refl)
 
 pub no-race : (f : Fault) → OneOf (0 ∷ 1 ∷ 2 ∷ 3 ∷ 5 ∷ 6 ∷ 7 ∷ 8 ∷ []) (tagOf Fault.the-type f) → (0 ≡ raceKind (faultOf f)) × (255 ≡ otherThread (faultOf f))
 no-race fault.Deadlock k = (refl, refl)
@@ -54,6 +57,9 @@ no-race fault.Impossible k = (refl, refl)
 module _ (a : Answer) (f : Fault) (s : Site) (e : a ≡ answer.Stopped f s) where
   pub raceless : OneOf (0 ∷ 1 ∷ 2 ∷ 3 ∷ 5 ∷ 6 ∷ 7 ∷ 8 ∷ []) (tagOf Fault.the-type f) → (0 ≡ kindOf a) × (255 ≡ otherOf a)
   raceless k = rw e (no-race f k)
+
+  pub raced : {kind other : ℕ} → f ≡ fault.Race kind other → (kind ≡ kindOf a) × (other ≡ otherOf a)
+  raced d = rw (e, d) (refl, refl)
 
   module _ (b : Bool) (n : b ≡ leb 11 (faultNumber (faultOf f))) where
     pub placed : b ≡ true → (s .thread ≡ threadOf a) × (s .row ≡ rowOf a)

@@ -26,7 +26,8 @@ abbrev pub siteOf : Site → rules.Site
 siteOf s = record { thread = s .thread; row = s .row }
 
 -- the answer's number: "0 an execution ended, no choice open", "1 N executions ended, some choice open", "2 B, L or N out of range",
--- "3 path buffer length wrong", "4 trace buffer or thread list length wrong", "5 table refused", and those of the faults
+-- "3 path buffer length wrong", "4 trace buffer or thread list length wrong", "5 table refused", those of the faults, and "a false
+-- one is answer 18"
 abbrev pub numberOf : Answer → ℕ
 numberOf answer.Exhausted = verdictNumber explorer.exhausted
 numberOf answer.Spent = verdictNumber explorer.spent
@@ -35,6 +36,7 @@ numberOf answer.BadPath = 3
 numberOf answer.BadTrace = 4
 numberOf (answer.BadTable t k) = 5
 numberOf (answer.Stopped f s) = verdictNumber (explorer.stopped (faultOf f) (siteOf s))
+numberOf answer.Unmet = verdictNumber explorer.unmet
 
 -- "race kind (else 0)"
 abbrev pub kindOf : Answer → ℕ
@@ -45,6 +47,7 @@ kindOf answer.BadPath = 0
 kindOf answer.BadTrace = 0
 kindOf (answer.BadTable t k) = 0
 kindOf (answer.Stopped f s) = verdictKind (explorer.stopped (faultOf f) (siteOf s))
+kindOf answer.Unmet = verdictKind explorer.unmet
 
 -- "other thread (else 255)"
 abbrev pub otherOf : Answer → ℕ
@@ -55,9 +58,10 @@ otherOf answer.BadPath = 255
 otherOf answer.BadTrace = 255
 otherOf (answer.BadTable t k) = 255
 otherOf (answer.Stopped f s) = verdictOther (explorer.stopped (faultOf f) (siteOf s))
+otherOf answer.Unmet = verdictOther explorer.unmet
 
 -- "thread and row at fault (from 11 on the current thread and its row, the row count if it is ending; for 5 the first bad row, or
--- 255, 255 if header or length is bad ..; 255, 255 for 0 to 4 and 10)"
+-- 255, 255 if header or length is bad ..; 255, 255 for 0 to 4 and 10)"; 18 has "the condition's place (thread and row 255)"
 abbrev pub threadOf : Answer → ℕ
 threadOf answer.Exhausted = 255
 threadOf answer.Spent = 255
@@ -66,6 +70,7 @@ threadOf answer.BadPath = 255
 threadOf answer.BadTrace = 255
 threadOf (answer.BadTable t k) = t
 threadOf (answer.Stopped f s) = verdictSite (explorer.stopped (faultOf f) (siteOf s)) .thread
+threadOf answer.Unmet = 255
 
 abbrev pub rowOf : Answer → ℕ
 rowOf answer.Exhausted = 255
@@ -75,6 +80,7 @@ rowOf answer.BadPath = 255
 rowOf answer.BadTrace = 255
 rowOf (answer.BadTable t k) = k
 rowOf (answer.Stopped f s) = verdictSite (explorer.stopped (faultOf f) (siteOf s)) .row
+rowOf answer.Unmet = 255
 
 abbrev pub summaryOf : ThreadRecord → Summary
 summaryOf r = record { state = r .state; rows = r .rows; yields = r .yields; version = r .version }
@@ -143,3 +149,4 @@ answerFits answer.BadPath v = ⊥
 answerFits answer.BadTrace v = ⊥
 answerFits (answer.BadTable t k) v = ⊥
 answerFits (answer.Stopped f s) v = v ≡ explorer.stopped (faultOf f) (siteOf s)
+answerFits answer.Unmet v = v ≡ explorer.unmet

@@ -21,7 +21,8 @@ use layout::of_thread::STATE;
 use layout::of_thread::YIELDS;
 use layout::wide16;
 
-// Document 01's table of answers: 0 and 1, the refusals 2 to 5, and the faults from 10 on, with where they were met.
+// Document 01's table of answers: 0 and 1, the refusals 2 to 5, the faults from 10 on, with where they were met, and 18, a final
+// condition that is false.
 pub enum Answer {
     Exhausted,
     Spent,
@@ -30,6 +31,7 @@ pub enum Answer {
     BadTrace,
     BadTable { thread: usize, row: usize },
     Stopped { fault: Fault, site: Site },
+    Unmet,
 }
 
 // One thread at the end of the last execution; all zero if it is absent.
@@ -150,6 +152,7 @@ pub fn number(answer: Answer) -> u64
         Answer::BadTrace => 4,
         Answer::BadTable { .. } => 5,
         Answer::Stopped { fault, .. } => fault_number(fault),
+        Answer::Unmet => 18,
     }
 }
 

@@ -1,4 +1,5 @@
 pub mod AccessLaws
+pub mod ConditionLaws
 pub mod ExploredLaws
 pub mod MarkLaws
 pub mod Measure
@@ -15,3 +16,4 @@ pub mod SlotLaws
 pub mod StateLaws
 pub mod VectorLaws
 pub mod Worked
+pub mod WorkedTexts

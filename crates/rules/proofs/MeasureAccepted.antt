@@ -37,9 +37,9 @@ pub operations-within : (s : Settings) → settingsFine s ≡ true → s .operat
 unfolding settingsFine
 operations-within s e = let f = simp and-eq-true-iff at e in omega (arith, leb-true)
 
-module _ (table : List ℕ) (s : Settings) (header : headerFine table ≡ true) (settings : settingsFine s ≡ true) (l : Ledger) where
+module _ (table condition : List ℕ) (s : Settings) (header : headerFine table ≡ true) (settings : settingsFine s ≡ true) (l : Ledger) where
   abbrev p : Program
-  p = programOf table s
+  p = programOf table condition s
 
   abbrev begins : Walk State
   begins = fresh (machine p) (limitsOf s) (oneBegun (machine p) (limitsOf s) l)

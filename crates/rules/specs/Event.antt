@@ -1,5 +1,6 @@
--- What a machine is to the explorer: where it starts, what it does next, and how it goes on with an answer. A machine never
--- reads the path: it asks, and is answered. The explorer and all that is said of its ledger are over any machine.
+-- What a machine is to the explorer: where it starts, what it does next, how it goes on with an answer, and what is claimed of
+-- its end. A machine never reads the path: it asks, and is answered. The explorer and all that is said of its ledger are over any
+-- machine.
 use Prim.Native.Nat.{ℕ, zero, suc, _+_, _/_, _%_}
 use mathlib.Core.List.{List, [], _∷_}
 use mathlib.Core.Bool.{Bool, cond}
@@ -145,3 +146,5 @@ pub record Machine : Type 1 where
   pub start : State
   pub next : State → Event State
   pub answered : State → Answer → Move State
+  -- whether the final condition holds in a state in which an execution has ended: the explorer judges it, never `next`
+  pub final : State → Bool

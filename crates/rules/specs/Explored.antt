@@ -1,18 +1,19 @@
 -- What `explore` answers for any bytes, settings and buffers, and what it leaves in the buffers: document 01, "Settings,
--- buffers, answers". Assumes nothing.
+-- buffers, answers", and document 02, §3, for a final condition. Assumes nothing.
 use Prim.Native.Nat.{ℕ, _+_, _-_, _*_}
 use mathlib.Core.List.{List, [], _∷_, _++_, map}
 use mathlib.Core.Bool.{Bool, true, false, cond, not, _&&_, _||_}
 use lib.Dec.{leb, eqb}
 use lib.ListN.{length, replicate}
 use Rattle.rules.specs.Path.{Bound, openIn, written, recordBytes}
-use Rattle.rules.specs.Table.{judged, good, badHeader, badRow}
+use Rattle.rules.specs.Table.{judged, good, badHeader, badRow, threadsOf}
+use Rattle.rules.specs.Condition.{isCondition}
 use Rattle.rules.specs.Event.{Site, noSite, Entry, entryBytes, faultNumber, raceKind, otherThread}
 use Rattle.rules.specs.State as State
 use Rattle.rules.specs.State.{State, number, rowsOf, yields, begun}
 use Rattle.rules.specs.Cell.{version}
 use Rattle.rules.specs.Machine.{Program, machine, absent, isIn, everyThread}
-use Rattle.rules.specs.Explorer.{Limits, Stop, Verdict, exhausted, spent, stopped, run}
+use Rattle.rules.specs.Explorer.{Limits, Stop, Verdict, exhausted, spent, unmet, stopped, run}
 
 -- "Branch limit B ..; operation limit L ..; execution budget N ..; preemption bound none or 0..255; exploring on start yes or
 -- no.": a bound is a byte, so that one above 255 cannot be given
@@ -83,26 +84,31 @@ refused answer t k path trace = record {
   trace = trace;
 }
 
+-- "a false one is answer 18"
 abbrev pub verdictNumber : Verdict → ℕ
 verdictNumber exhausted = 0
 verdictNumber spent = 1
+verdictNumber unmet = 18
 verdictNumber (stopped f site) = faultNumber f
 
 abbrev pub verdictKind : Verdict → ℕ
 verdictKind exhausted = 0
 verdictKind spent = 0
+verdictKind unmet = 0
 verdictKind (stopped f site) = raceKind f
 
 abbrev pub verdictOther : Verdict → ℕ
 verdictOther exhausted = 255
 verdictOther spent = 255
+verdictOther unmet = 255
 verdictOther (stopped f site) = otherThread f
 
 -- "255, 255 for 0 to 4 and 10", "from 11 on the current thread and its row, the row count if it is ending": in a scheduling the
--- thread that called it [Q5]
+-- thread that called it [Q5]. Of 18 "the condition's place (thread and row 255)"
 unfoldable pub verdictSite : Verdict → Site
 verdictSite exhausted = noSite
 verdictSite spent = noSite
+verdictSite unmet = noSite
 verdictSite (stopped f site) = cond (leb 11 (faultNumber f)) site noSite
 
 unfoldable pub reported : Stop State → Report
@@ -140,11 +146,16 @@ limitsOf s = record {
   ticks = ticksOf (s .operations);
 }
 
-abbrev pub programOf : List ℕ → Settings → Program
-programOf table s = record { table = table; operations = s .operations; exploring = s .exploring }
+abbrev pub programOf : List ℕ → List ℕ → Settings → Program
+programOf table condition s = record {
+  table = table;
+  condition = condition;
+  operations = s .operations;
+  exploring = s .exploring;
+}
 
-unfoldable pub stopOf : List ℕ → Settings → Stop State
-stopOf table s = run (machine (programOf table s)) (limitsOf s) (s .executions)
+unfoldable pub stopOf : List ℕ → List ℕ → Settings → Stop State
+stopOf table condition s = run (machine (programOf table condition s)) (limitsOf s) (s .executions)
 
 unfoldable pub ran : ℕ → ℕ → Stop State → Explored
 ran pathBytes traceBytes r = record {
@@ -161,9 +172,10 @@ unfoldable pub settingsFine : Settings → Bool
 settingsFine s = within (s .branches) 1024 && within (s .operations) 4096 && within (s .executions) 65535
 
 -- "2 B, L or N out of range; 3 path buffer length wrong; 4 trace buffer .. length wrong; 5 table refused". "The path buffer has
--- exactly 16·B bytes, the trace buffer 16·L."
-unfoldable pub explored : List ℕ → Settings → List ℕ → List ℕ → Explored
-explored table s path trace =
+-- exactly 16·B bytes, the trace buffer 16·L." And of the condition's bytes (docs/GRAMMAR.md): "those that are no condition .. are
+-- answer 5 with thread and row 255; a bad table is answered first"
+unfoldable pub explored : List ℕ → List ℕ → Settings → List ℕ → List ℕ → Explored
+explored table condition s path trace =
     elim (settingsFine s) [
       | false ↦ refused 2 255 255 path trace
       | true ↦
@@ -176,7 +188,11 @@ explored table s path trace =
                       elim (judged table) [
                         | badHeader ↦ refused 5 255 255 path trace
                         | badRow t k ↦ refused 5 t k path trace
-                        | good ↦ ran (length path) (length trace) (stopOf table s)
+                        | good ↦
+                            elim (isCondition (threadsOf table) condition) [
+                              | false ↦ refused 5 255 255 path trace
+                              | true ↦ ran (length path) (length trace) (stopOf table condition s)
+                            ]
                       ]
                 ]
           ]
@@ -196,9 +212,9 @@ abbrev pub copied : Explored → List Summary → ExploredInto
 copied e list = record { explored = e; list = cond (isRefusal (e .report .answer)) list (e .report .threads) }
 
 -- "4 trace buffer or thread list length wrong": judged with the trace buffer, so before the table [Q13]
-unfoldable pub exploredInto : List ℕ → Settings → List ℕ → List ℕ → List Summary → ExploredInto
-exploredInto table s path trace list =
+unfoldable pub exploredInto : List ℕ → List ℕ → Settings → List ℕ → List ℕ → List Summary → ExploredInto
+exploredInto table condition s path trace list =
     elim (eqb (length list) 5 || not (settingsFine s) || not (eqb (length path) (recordBytes * s .branches))) [
-      | true ↦ copied (explored table s path trace) list
+      | true ↦ copied (explored table condition s path trace) list
       | false ↦ record { explored = refused 4 255 255 path trace; list = list }
     ]

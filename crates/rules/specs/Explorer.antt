@@ -7,7 +7,7 @@
 --     run               one execution after another, with their history
 use Prim.Native.Nat.{ℕ, zero, suc, _+_}
 use mathlib.Core.List.{List, [], _∷_, _++_, map}
-use mathlib.Core.Bool.{Bool, true, cond, _&&_}
+use mathlib.Core.Bool.{Bool, true, cond, not, _&&_}
 use lib.Dec.{ltb, leb, eqb}
 use lib.ListN.{length, getD, take}
 use Rattle.rules.specs.Path.{Branch, schedule, load, spurious, Load, Bound, Added, added, Choice}
@@ -211,10 +211,12 @@ pub record Execution : Type 0 where
 abbrev pub executionOf : {S : Type 0} → Walk S → Execution
 executionOf w = record { choices = map choiceOf (take (w .pos) (w .ledger .path)); trace = w .trace }
 
--- "0 an execution ended, no choice open"; "1 N executions ended, some choice open"; a fault, with where it was met
+-- "0 an execution ended, no choice open"; "1 N executions ended, some choice open"; "a false one is answer 18"; a fault, with
+-- where it was met
 pub data Verdict : Type 0 where
   exhausted : Verdict
   spent : Verdict
+  unmet : Verdict
   stopped : Fault → Site → Verdict
 
 -- where a run stops: the last execution as it was left, and all executions
@@ -238,14 +240,17 @@ nextLedger l = record { path = stepped (l .path); opened = l .opened; begun = l 
 abbrev pub empty : Ledger
 empty = record { path = []; opened = 0; begun = 0 }
 
--- "0 an execution ended, no choice open": also at the Nth [Q8]. "After answer 0 or 1 no `step` is made."
-unfoldable pub after : {S : Type 0} → Bool → List Execution → Tick S → After S
-after last past (goes w) = stopsHere (stop (stopped Event.impossible noSite) w past)
-after last past (over w) =
-    cond (eqb (openIn (w .ledger .path)) 0) (stopsHere (stop exhausted w past))
+-- "The condition is judged when all threads have ended; a false one is answer 18, ahead of 0 and 1 .., and the run stops there."
+-- "0 an execution ended, no choice open": also at the Nth [Q8]. "After answer 0 or 1 no `step` is made.", nor after 18, "leaving
+-- what 0 leaves"
+unfoldable pub after : {S : Type 0} → (S → Bool) → Bool → List Execution → Tick S → After S
+after final last past (goes w) = stopsHere (stop (stopped Event.impossible noSite) w past)
+after final last past (over w) =
+    cond (not (final (w .state))) (stopsHere (stop unmet w past))
+    (cond (eqb (openIn (w .ledger .path)) 0) (stopsHere (stop exhausted w past))
     (cond last (stopsHere (stop spent w past))
-    (goesOn (nextLedger (w .ledger)) (past ++ (executionOf w ∷ []))))
-after last past (faulted f site w) = stopsHere (stop (stopped f site) w past)
+    (goesOn (nextLedger (w .ledger)) (past ++ (executionOf w ∷ [])))))
+after final last past (faulted f site w) = stopsHere (stop (stopped f site) w past)
 
 module _ (M : Machine) (limits : Limits) where
   -- at most n more executions, from this ledger, after these executions. With none allowed, which is refused before a run,
@@ -253,7 +258,7 @@ module _ (M : Machine) (limits : Limits) where
   unfoldable pub runFrom : ℕ → Ledger → List Execution → Stop (M .State)
   runFrom zero l past = record { verdict = stopped Event.impossible noSite; walk = fresh M limits l; history = past }
   runFrom (suc n) l past =
-      elim (after (eqb n 0) past (execution M limits l)) [ stopsHere r ↦ r | goesOn m more ↦ runFrom n m more ]
+      elim (after (M .final) (eqb n 0) past (execution M limits l)) [ stopsHere r ↦ r | goesOn m more ↦ runFrom n m more ]
 
   -- "execution budget N"
   unfoldable pub run : ℕ → Stop (M .State)

@@ -3,7 +3,7 @@
 --     start         the state at the start of each execution
 --     next          what the active thread does next
 --     answered      how it goes on with a thread, a slot or a bit
---     machine       the three, for a table
+--     machine       the three, and the final condition, for a table
 use Prim.Native.Nat.{ℕ, zero, suc, _+_, _^_}
 use mathlib.Core.List.{List, [], _∷_, map}
 use mathlib.Core.Bool.{Bool, true, false, cond, not, _&&_, _||_}
@@ -14,6 +14,7 @@ use Rattle.rules.specs.Vector.{zeros, joined, atMost, raised, oneMore, W
 use Rattle.rules.specs.Seen.{unseens}
 use Rattle.rules.specs.Table as Table
 use Rattle.rules.specs.Table.{Op, Decoded, refused, decoded, opAt, opcodeOf, startValue, threadsOf, cellsOf, countsOf, firstRows}
+use Rattle.rules.specs.Condition.{holds}
 use Rattle.rules.specs.Event as Event
 use Rattle.rules.specs.Event.{Entry, Matched, Place, nowhere, branch, Standing, whichThread, whichSlot, whichBit, Answer, runThread, readSlot, takeBit, noSite, Move, Machine, moves, asks, stops, ends}
 use Rattle.rules.specs.State as State
@@ -21,9 +22,10 @@ use Rattle.rules.specs.State.{State, Clocks, Numbers, vector, withVector
 use Rattle.rules.specs.State.{causality, scheduleOf, mutated, lastAccess, lastNonLoad, ofRegister, ofStore, nextRow, rowsOf, yields, lastYield, operation, operatesOn, phase, awaits, count, accessBranch, nonLoadBranch, activeThread, begun, exploring, skipping}
 use Rattle.rules.specs.Cell.{joinInto, version, slotOf, newest, storeDone, storeRace, storeTracked, loadDone, rmwDone, unsyncLoadDone, mutDone, newestOf, fenced, matchedLoad, matchedRmw, Access, raced, read, Race, noRace, raceOf, withClocks, withValues}
 
--- A program: the bytes of its table, the operation limit, and whether it is exploring on start
+-- A program: the bytes of its table and of its final condition, the operation limit, and whether it is exploring on start
 pub record Program : Type 0 where
   pub table : List ℕ
+  pub condition : List ℕ
   pub operations : ℕ
   pub exploring : Bool
 
@@ -551,6 +553,10 @@ answered p st (runThread whom at) = scheduled st whom at
 answered p st (readSlot slot offered) = readFrom st (active st) (activeRow st) slot (maskOf 0 offered) (activeOp p st)
 answered p st (takeBit bit) = bitTaken st (active st) (activeRow st) (cond bit 1 0) (activeOp p st)
 
+-- "The condition is judged when all threads have ended": by their registers there
+unfoldable pub final : Program → State → Bool
+final p st = holds (threadsOf (p .table)) (register st) (p .condition)
+
 -- The machine of a program
 abbrev pub machine : Program → Machine
-machine p = record { State = State; start = start p; next = next p; answered = answered p }
+machine p = record { State = State; start = start p; next = next p; answered = answered p; final = final p }

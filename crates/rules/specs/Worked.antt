@@ -1,5 +1,6 @@
--- Small hand-offs with known outcomes: document 01's cases P, in one table. Each has what the definition gives and what the
--- document says; that the two columns are equal is one statement, computed by the checker (proofs/Worked.antt).
+-- Small hand-offs with known outcomes: document 01's cases P, in one table, and some of them under a final condition. Each has
+-- what the definition gives and what the document says; that the two columns are equal is one statement, computed by the checker
+-- (proofs/Worked.antt).
 use Prim.Native.Nat.{ℕ, zero, suc, _+_, _-_, _*_, _^_}
 use mathlib.Core.List.{List, [], _∷_, _++_, map}
 use mathlib.Core.Bool.{true, cond}
@@ -9,6 +10,7 @@ use Rattle.rules.specs.Path.{Bound, unbounded, atMost}
 use Rattle.rules.specs.Event.{Entry, little}
 use Rattle.rules.specs.Change.{Change, Changed, success, failure, applied}
 use Rattle.rules.specs.Table.{Row, Decoded, refused, decoded, changeDecoded}
+use Rattle.rules.specs.Condition.{equals, differs, opens, closes, either}
 use Rattle.rules.specs.Cell.{kthOldest, liveStores}
 use Rattle.rules.specs.Explorer.{Execution}
 use Rattle.rules.specs.Explored.{Settings, Explored, explored, stopOf}
@@ -94,8 +96,12 @@ limits B L bound = record { branches = B; operations = L; executions = 100; boun
 
 -- What is looked at
 
+abbrev pub runUnder : List ℕ → List ℕ → Settings → Explored
+runUnder t condition s = explored t condition s (replicate (16 * s .branches) 165) (replicate (16 * s .operations) 90)
+
+-- without a condition
 abbrev pub run : List ℕ → Settings → Explored
-run t s = explored t s (replicate (16 * s .branches) 165) (replicate (16 * s .operations) 90)
+run t s = runUnder t [] s
 
 abbrev pub answerOf : Explored → List ℕ
 answerOf e = e .report .answer ∷ []
@@ -167,7 +173,7 @@ p3 = record { given = answerAndBegun (run storeAndLoad (limits 8 4 unbounded)); 
 
 abbrev pub p3Values : Worked
 p3Values = record {
-  given = loadsInAll (stopOf storeAndLoad (limits 8 4 unbounded) .history);
+  given = loadsInAll (stopOf storeAndLoad [] (limits 8 4 unbounded) .history);
   said = 0 ∷ 1 ∷ 0 ∷ 0 ∷ 1 ∷ [];
 }
 
@@ -240,6 +246,51 @@ p11Register = record { given = answerOf (run (decrementThenCheck 0) (limits 8 4 
 abbrev pub p11NotKept : Worked
 p11NotKept = record { given = answerOf (run (decrementThenCheck 7) (limits 8 4 unbounded)); said = 15 ∷ [] }
 
+-- "a comparison of a thread's register with a number": register 0, the number a small one
+abbrev pub comparing : ℕ → ℕ → ℕ → List ℕ
+comparing sign t n = sign ∷ t ∷ 0 ∷ little 8 n
+
+-- "with the condition's place (thread and row 255)"
+abbrev pub placeAndBegun : Explored → List ℕ
+placeAndBegun e = e .report .answer ∷ e .report .thread ∷ e .report .row ∷ e .report .kind ∷ e .report .other ∷ e .report .begun ∷ []
+
+-- P3, whose thread 1 reads 0,1,0,0,1: that it reads 0 is false of the second execution; that it reads 0 or 1, of none
+abbrev pub p3Unmet : Worked
+p3Unmet = record {
+  given = placeAndBegun (runUnder storeAndLoad (comparing equals 1 0) (limits 8 4 unbounded));
+  said = 18 ∷ 255 ∷ 255 ∷ 0 ∷ 255 ∷ 2 ∷ [];
+}
+
+abbrev pub p3Met : Worked
+p3Met = record {
+  given =
+      answerAndBegun
+      (runUnder storeAndLoad (opens ∷ comparing equals 1 0 ++ (either ∷ comparing equals 1 1 ++ (closes ∷ []))) (limits 8 4 unbounded));
+  said = 0 ∷ 5 ∷ [];
+}
+
+-- P1, which reads 7 in its only execution: "ahead of 0 and 1", "leaving what 0 leaves"
+abbrev pub p1Unmet : Worked
+p1Unmet = record {
+  given = answerAndBegun (runUnder oneLoad (comparing differs 0 7) (limits 3 1 unbounded));
+  said = 18 ∷ 1 ∷ [];
+}
+
+abbrev pub p1Leaves : Worked
+p1Leaves = record {
+  given =
+      runUnder oneLoad (comparing differs 0 7) (limits 3 1 unbounded) .path
+      ++ runUnder oneLoad (comparing differs 0 7) (limits 3 1 unbounded) .trace;
+  said = p1Path .said ++ p1Trace .said;
+}
+
+-- P1 has no thread 1
+abbrev pub p1NoThread : Worked
+p1NoThread = record {
+  given = placeAndBegun (runUnder oneLoad (comparing equals 1 7) (limits 3 1 unbounded));
+  said = 5 ∷ 255 ∷ 255 ∷ 0 ∷ 255 ∷ 0 ∷ [];
+}
+
 abbrev pub worked : List Worked
 worked =
     p1
@@ -260,4 +311,9 @@ worked =
     ∷ p11
     ∷ p11Register
     ∷ p11NotKept
+    ∷ p3Unmet
+    ∷ p3Met
+    ∷ p1Unmet
+    ∷ p1Leaves
+    ∷ p1NoThread
     ∷ []

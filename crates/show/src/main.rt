@@ -29,7 +29,7 @@ fn main() {
 fn show(table: &[u8]) {
     let mut path = [0u8; 16384];
     let mut trace = [0u8; 65536];
-    let report = explorer::explore(table, settings(), &mut path, &mut trace);
+    let report = explorer::explore(table, &table[..0], settings(), &mut path, &mut trace);
     tell::print_report(table, settings(), report, &trace, false);
 }
 

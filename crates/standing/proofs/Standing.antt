@@ -70,9 +70,9 @@ module _ (p : Program) (l : ℕ) where
   answer-lower st whichBit (runThread whom at) h fit = absurd fit
   answer-lower st whichBit (readSlot slot values) h fit = absurd fit
 
-module _ (table : List ℕ) (s : Settings) (accepted : judged table ≡ good) (fine : settingsFine s ≡ true) where
+module _ (table condition : List ℕ) (s : Settings) (accepted : judged table ≡ good) (fine : settingsFine s ≡ true) where
   abbrev p : Program
-  p = programOf table s
+  p = programOf table condition s
 
   -- "threads 1..5, cells 1..4"
   within : (1 ≤ threadsOf table) × (threadsOf table ≤ threads) × (cellsOf table ≤ cells)

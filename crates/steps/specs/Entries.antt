@@ -4,7 +4,7 @@
 --     entries                  how many there are
 --     rowSays, operationAt     what a row does, by its thread and number; the row of an entry
 use Prim.Native.Nat.{ℕ, _+_, _*_, _/_}
-use mathlib.Core.List.{List}
+use mathlib.Core.List.{List, []}
 use mathlib.Core.Bool.{Bool, false, cond, not, _||_}
 use lib.Dec.{ltb, eqb}
 use lib.ListN.{length, getD}
@@ -45,7 +45,7 @@ entries trace = firstNot (λ (i : ℕ). isEntry (entryAt trace i)) (room trace) 
 
 -- a table as the machine has it; neither limit nor flag is looked at here
 abbrev pub program : List ℕ → Program
-program table = record { table = table; operations = 0; exploring = false }
+program table = record { table = table; condition = []; operations = 0; exploring = false }
 
 -- what a thread's row of this number does; refused for a thread that no table has
 unfoldable pub rowSays : List ℕ → ℕ → ℕ → Decoded Op

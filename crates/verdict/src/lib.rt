@@ -98,6 +98,9 @@ fn failed(number: u64, thread: u64, row: u64) {
             row,
             0,
         ),
+        18 => line::write(
+            b"answer 18: failed: every thread has ended, and the final condition is false",
+        ),
         _ => line::say(
             b"answer #: stopped by a mistake of the explorer itself, at thread #, row #: please report it",
             number,

@@ -3,9 +3,9 @@
 use std::fmt;
 use terms::{Settings, NUMBERS};
 
-/// Fields of a case.
+/// Fields of a case without condition.
 pub const CASE_FIELDS: usize = 10;
-/// Fields of an answered case.
+/// Fields of an answered case without condition. A condition stands behind all of them.
 pub const ALL_FIELDS: usize = CASE_FIELDS + NUMBERS + 4;
 /// A line has at most this many bytes, its end not counted.
 pub const LONGEST_LINE: usize = 262_144;
@@ -17,6 +17,8 @@ pub const LONGEST_BUFFER: u64 = 1_000_000;
 pub const LONGEST_LIST: u64 = 1_000;
 /// A table has at most this many bytes; the longest that is accepted has 3,880.
 pub const LONGEST_TABLE: usize = 4_096;
+/// A condition has at most this many bytes; the longest that is accepted has 1,023.
+pub const LONGEST_CONDITION: usize = 4_096;
 
 /// Everything that a run is given.
 #[derive(Clone, Debug, PartialEq, Eq)]
@@ -30,6 +32,8 @@ pub struct Case {
     /// Length of the thread list, where one is passed.
     pub list: Option<usize>,
     pub table: Vec<u8>,
+    /// The final condition; no bytes are none.
+    pub condition: Vec<u8>,
 }
 
 /// What a run left in a buffer.
@@ -60,23 +64,51 @@ pub struct Answer {
     pub trace: Left,
 }
 
+/// A case with its answer, as a line.
+pub fn answered(case: &Case, answer: &Answer) -> String {
+    format!("{} {answer}{}", Given(case), Claimed(case))
+}
+
 impl fmt::Display for Case {
     fn fmt(&self, f: &mut fmt::Formatter<'_>) -> fmt::Result {
-        let s = &self.settings;
+        write!(f, "{}{}", Given(self), Claimed(self))
+    }
+}
+
+/// The fields that every case has.
+struct Given<'a>(&'a Case);
+
+/// The field of a condition, where there is one.
+struct Claimed<'a>(&'a Case);
+
+impl fmt::Display for Claimed<'_> {
+    fn fmt(&self, f: &mut fmt::Formatter<'_>) -> fmt::Result {
+        if self.0.condition.is_empty() {
+            return Ok(());
+        }
+        f.write_str(" ")?;
+        write_hex(f, &self.0.condition)
+    }
+}
+
+impl fmt::Display for Given<'_> {
+    fn fmt(&self, f: &mut fmt::Formatter<'_>) -> fmt::Result {
+        let Given(case) = self;
+        let s = &case.settings;
         write!(
             f,
             "{} {} {} {} {} {} {} {} {} ",
-            self.name,
+            case.name,
             s.branches,
             s.operations,
             s.executions,
             or_dash(s.bound),
             u8::from(s.exploring),
-            self.path,
-            self.trace,
-            or_dash(self.list),
+            case.path,
+            case.trace,
+            or_dash(case.list),
         )?;
-        write_hex(f, &self.table)
+        write_hex(f, &case.table)
     }
 }
 
@@ -130,7 +162,7 @@ pub fn field_name(position: usize) -> String {
         "other thread",
     ];
     const SUMMARY: [&str; 4] = ["state", "rows begun", "yields", "own version"];
-    const LAST: [&str; 4] = ["DIGEST", "LIST'", "PATH'", "TRACE'"];
+    const LAST: [&str; 5] = ["DIGEST", "LIST'", "PATH'", "TRACE'", "CONDITION"];
     let number = position.wrapping_sub(CASE_FIELDS);
     match position {
         0..CASE_FIELDS => FIRST[position].to_string(),
@@ -138,7 +170,7 @@ pub fn field_name(position: usize) -> String {
         _ if number < NUMBERS => {
             format!("thread {} {}", (number - 9) / 4, SUMMARY[(number - 9) % 4])
         }
-        _ => LAST[(number - NUMBERS) % 4].to_string(),
+        _ => LAST[(number - NUMBERS) % 5].to_string(),
     }
 }
 
@@ -150,22 +182,31 @@ pub fn is_comment(line: &[u8]) -> bool {
 /// Reads the case of a line, with or without an answer behind it; the answer is not looked at.
 pub fn read_case(line: &[u8]) -> Result<Case, String> {
     let fields = split(line)?;
-    if fields.len() != CASE_FIELDS && fields.len() != ALL_FIELDS {
-        return Err(format!(
-            "{} fields where a case has {CASE_FIELDS} and an answered case {ALL_FIELDS}",
-            fields.len()
-        ));
+    match fields.len() {
+        CASE_FIELDS | ALL_FIELDS => case_of(&fields, None),
+        CASE_FIELDS_WITH | ALL_FIELDS_WITH => case_of(&fields, fields.last()),
+        count => Err(format!(
+            "{count} fields where a case has {CASE_FIELDS}, an answered case {ALL_FIELDS}, and one \
+             more with a condition"
+        )),
     }
-    case_of(&fields)
 }
+
+const CASE_FIELDS_WITH: usize = CASE_FIELDS + 1;
+const ALL_FIELDS_WITH: usize = ALL_FIELDS + 1;
 
 /// Reads an answered case.
 pub fn read_answered(line: &[u8]) -> Result<(Case, Answer), String> {
     let fields = split(line)?;
-    if fields.len() != ALL_FIELDS {
-        return Err(format!("{} fields where an answered case has {ALL_FIELDS}", fields.len()));
-    }
-    let case = case_of(&fields)?;
+    let case = match fields.len() {
+        ALL_FIELDS => case_of(&fields, None)?,
+        ALL_FIELDS_WITH => case_of(&fields, fields.last())?,
+        count => {
+            return Err(format!(
+            "{count} fields where an answered case has {ALL_FIELDS}, and one more with a condition"
+        ))
+        }
+    };
     let answer = answer_of(&fields, &case)?;
     Ok((case, answer))
 }
@@ -189,8 +230,15 @@ pub fn too_long() -> String {
     format!("the line is longer than {LONGEST_LINE} bytes")
 }
 
-fn case_of(fields: &[&[u8]]) -> Result<Case, String> {
-    let at = |position: usize| Field { position, text: fields[position] };
+fn case_of(fields: &[&[u8]], condition: Option<&&[u8]>) -> Result<Case, String> {
+    let at = |position: usize| Field::new(position, fields[position]);
+    let condition = match condition {
+        Some(text) => {
+            let last = Field { number: fields.len(), position: ALL_FIELDS, text };
+            last.some_hex(LONGEST_CONDITION)?
+        }
+        None => Vec::new(),
+    };
     Ok(Case {
         name: at(0).name()?,
         settings: Settings {
@@ -204,11 +252,12 @@ fn case_of(fields: &[&[u8]]) -> Result<Case, String> {
         trace: at(7).number(LONGEST_BUFFER)? as usize,
         list: at(8).number_or_dash(LONGEST_LIST)?.map(|n| n as usize),
         table: at(9).hex(LONGEST_TABLE)?,
+        condition,
     })
 }
 
 fn answer_of(fields: &[&[u8]], case: &Case) -> Result<Answer, String> {
-    let at = |position: usize| Field { position, text: fields[position] };
+    let at = |position: usize| Field::new(position, fields[position]);
     let mut numbers = [0; NUMBERS];
     for (n, number) in numbers.iter_mut().enumerate() {
         *number = at(CASE_FIELDS + n).number(u64::MAX)?;
@@ -226,14 +275,21 @@ fn answer_of(fields: &[&[u8]], case: &Case) -> Result<Answer, String> {
 /// One field, for reading.
 #[derive(Clone, Copy)]
 struct Field<'a> {
+    /// Which of the line's it is, counted from 1.
+    number: usize,
+    /// Where it stands in an answered case with a condition: that gives its name.
     position: usize,
     text: &'a [u8],
 }
 
 impl Field<'_> {
+    fn new(position: usize, text: &[u8]) -> Field<'_> {
+        Field { number: position + 1, position, text }
+    }
+
     fn wrong(self, what: &str) -> String {
         let name = field_name(self.position);
-        format!("field {} ({name}) {what}", self.position + 1)
+        format!("field {} ({name}) {what}", self.number)
     }
 
     fn name(self) -> Result<String, String> {
@@ -279,6 +335,10 @@ impl Field<'_> {
         if self.text == b"-" {
             return Ok(Vec::new());
         }
+        self.some_hex(most)
+    }
+
+    fn some_hex(self, most: usize) -> Result<Vec<u8>, String> {
         if !self.text.len().is_multiple_of(2) {
             return Err(self.wrong("has an odd number of hex digits"));
         }

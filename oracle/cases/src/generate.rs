@@ -4,7 +4,7 @@ use crate::format::Case;
 use crate::random::Random;
 use crate::recipes::Recipe;
 use crate::table::{critical, explore_state, skip_branch, Program};
-use crate::{damage, edit, recipes};
+use crate::{claims, damage, edit, recipes};
 use terms::Settings;
 
 /// The case of this seed and index, the same on every machine.
@@ -22,6 +22,7 @@ pub fn case(seed: u64, index: u64) -> Case {
         trace: 16 * settings.operations as usize,
         list: r.chance(1, 3).then_some(5),
         table: program.table(),
+        condition: Vec::new(),
     };
     if r.chance(1, 6) {
         damage::spoil(r, &mut case, &program);
@@ -30,7 +31,14 @@ pub fn case(seed: u64, index: u64) -> Case {
             damage::spoil(r, &mut case, &program);
         }
     }
+    // Drawn last: without its condition a case is what it was before there were any.
+    case.condition = claims::draw(r, &program);
     case
+}
+
+/// A program by one of the recipes, with a few changes.
+pub fn program(r: &mut Random) -> Program {
+    edited(r, recipes::program).0
 }
 
 /// A program of the recipe with a few changes, and settings for it.

@@ -1,8 +1,10 @@
 //! Cases for the explorers: a seeded generator, hand-built ones, their text, and the comparison of
 //! answers. The binary `cases` makes commands of them; FORMAT.md describes the text.
 
+pub mod claims;
 pub mod command;
 pub mod compare;
+pub mod condition;
 mod damage;
 mod draw;
 mod edit;
@@ -19,5 +21,6 @@ mod spread;
 pub mod state;
 pub mod table;
 pub mod tally;
+pub mod texts;
 
 pub use generate::case;

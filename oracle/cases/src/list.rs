@@ -1,6 +1,8 @@
-//! The fixed list of answers: hand-built cases first, then generated ones whose lines are short.
+//! The fixed list of answers: hand-built cases first, then generated ones whose lines are short; at the
+//! end those with a condition.
 
-use crate::hand;
+use crate::format::{answered, Case};
+use crate::hand::{self, Hand};
 use crate::run::by_oracle;
 use std::io::{self, Write};
 
@@ -18,6 +20,11 @@ const FIRST: usize = 12;
 /// Refusals have the shortest lines, and the hand-built cases show them all: so many generated ones
 /// of each go in.
 const REFUSALS: usize = 30;
+/// The seed of the generated cases with a condition: another one, since those above have names too.
+pub const CLAIMED_SEED: u64 = 2;
+/// How many of them go in, so many of them with answer 18.
+pub const CLAIMED: usize = 12;
+const UNMET: usize = 6;
 
 const HEADER: &str = "\
 # Answers of the oracle, made by: cargo run --release -p cases -- list > ../crates/replay/stdin
@@ -28,34 +35,77 @@ const HEADER: &str = "\
 # rows begun, yields, own version of each of five threads), the digest of the whole history, LIST'
 # PATH' TRACE'. PATH, TRACE and LIST are lengths; '-' is none; tables and buffers are hex, a buffer
 # without the zero bytes at its end; '=' is unchanged, '+' the five summaries. Byte i of a buffer is
-# (7 i + 90) mod 256 before the run.
+# (7 i + 90) mod 256 before the run. The cases at the end have one field more, the last: their final
+# condition, hex.
 ";
 
 /// Writes the whole list. An error inside is a fault of the oracle.
 pub fn write(out: &mut impl Write) -> io::Result<Result<(), String>> {
-    out.write_all(HEADER.as_bytes())?;
-    for hand in hand::all() {
-        match by_oracle(&hand.case) {
-            Ok(answer) => writeln!(out, "# {}\n{} {answer}", hand.shows, hand.case)?,
-            Err(fault) => return Ok(Err(fault)),
+    match lines() {
+        Ok(lines) => {
+            out.write_all(HEADER.as_bytes())?;
+            lines.iter().try_for_each(|line| writeln!(out, "{line}")).map(Ok)
         }
+        Err(fault) => Ok(Err(fault)),
     }
-    writeln!(out, "# Generated cases of seed {SEED} with short answers.")?;
-    for line in Generated::default().take(GENERATED) {
-        match line {
-            Ok(line) => writeln!(out, "{line}")?,
-            Err(fault) => return Ok(Err(fault)),
-        }
-    }
-    Ok(Ok(()))
 }
 
-/// The lines of the generated cases that go in, without end.
+/// Every line behind the header.
+fn lines() -> Result<Vec<String>, String> {
+    let (bare, claimed): (Vec<Hand>, Vec<Hand>) =
+        hand::all().into_iter().partition(|hand| hand.case.condition.is_empty());
+    let mut lines = Vec::new();
+    for hand in &bare {
+        lines.extend(hand_lines(hand)?);
+    }
+    lines.push(format!("# Generated cases of seed {SEED} with short answers."));
+    for line in Generated::default().take(GENERATED) {
+        lines.push(line?);
+    }
+    lines.push(format!(
+        "# Cases with a condition: hand-built ones, then generated ones of seed {CLAIMED_SEED}."
+    ));
+    for hand in &claimed {
+        lines.extend(hand_lines(hand)?);
+    }
+    lines.extend(claimed_lines()?);
+    Ok(lines)
+}
+
+/// What a hand-built case shows, and the case.
+fn hand_lines(hand: &Hand) -> Result<[String; 2], String> {
+    let answer = by_oracle(&hand.case)?;
+    Ok([format!("# {}", hand.shows), answered(&hand.case, &answer)])
+}
+
+/// The first generated cases with a condition whose lines are short, half of them unmet, and no refusal.
+fn claimed_lines() -> Result<Vec<String>, String> {
+    let (mut lines, mut unmet) = (Vec::new(), 0);
+    let cases = (0..).map(|index| crate::case(CLAIMED_SEED, index));
+    for case in cases.filter(|case| !case.condition.is_empty()) {
+        if lines.len() == CLAIMED {
+            break;
+        }
+        let answer = by_oracle(&case)?;
+        let line = answered(&case, &answer);
+        let is_unmet = answer.numbers[0] == 18;
+        let others = lines.len() - unmet;
+        let full = if is_unmet { unmet == UNMET } else { others == CLAIMED - UNMET };
+        let refused = (2..=5).contains(&answer.numbers[0]);
+        if line.len() <= SHORT && !full && !refused {
+            unmet += usize::from(is_unmet);
+            lines.push(line);
+        }
+    }
+    Ok(lines)
+}
+
+/// The lines of the generated cases that go in, without end. None has a condition here.
 #[derive(Default)]
 struct Generated {
     index: u64,
     /// How many went in, by answer.
-    taken: [usize; 18],
+    taken: [usize; 19],
 }
 
 impl Generated {
@@ -75,7 +125,7 @@ impl Iterator for Generated {
 
     fn next(&mut self) -> Option<Self::Item> {
         loop {
-            let case = crate::case(SEED, self.index);
+            let case = Case { condition: Vec::new(), ..crate::case(SEED, self.index) };
             let answer = match by_oracle(&case) {
                 Ok(answer) => answer,
                 Err(fault) => return Some(Err(fault)),

@@ -1,7 +1,7 @@
 //! Commands over cases. See `USAGE`.
 
 use cases::command::{self, number, wrong, Outcome, Stop};
-use cases::format::{read_answered, read_case};
+use cases::format::{answered, read_answered, read_case};
 use cases::lines::{Lines, Refused};
 use cases::pick::{self, Answered};
 use cases::run::by_oracle;
@@ -88,7 +88,7 @@ fn answer(file: &str, reader: impl BufRead, out: &mut impl Write) -> Outcome {
     for case in Lines::new(file, reader, read_case) {
         let case = case?;
         let answer = by_oracle(&case).map_err(Stop::Explorer)?;
-        writeln!(out, "{case} {answer}")?;
+        writeln!(out, "{}", answered(&case, &answer))?;
     }
     Ok(true)
 }
@@ -144,7 +144,7 @@ fn pick_from(seed: u64, count: u64, out: &mut impl Write) -> Outcome {
 /// Answered cases, and what they bring up as comments.
 fn print_picked(picked: &[Answered], out: &mut impl Write) -> Outcome {
     for (case, answer) in picked {
-        writeln!(out, "{case} {answer}")?;
+        writeln!(out, "{}", answered(case, answer))?;
     }
     for line in pick::tally(picked).to_string().lines() {
         writeln!(out, "# {line}")?;
@@ -154,7 +154,7 @@ fn print_picked(picked: &[Answered], out: &mut impl Write) -> Outcome {
 
 fn state_all(file: &str, specs: &str, folder: &str, out: &mut impl Write) -> Outcome {
     let definition = Definition::read(specs)?;
-    let cases: Result<Vec<Answered>, Refused> = answered(file)?.collect();
+    let cases: Result<Vec<Answered>, Refused> = answered_in(file)?.collect();
     let cases = cases?;
     write_repository(&state::statements(&cases, &definition), &definition, folder)?;
     writeln!(out, "{} cases stated", cases.len())?;
@@ -166,13 +166,13 @@ fn ask(case: &Answered, specs: &str, folder: &str) -> Outcome {
     write_repository(&[questions(case, &definition)], &definition, folder)
 }
 
-fn answered(file: &str) -> Result<impl Iterator<Item = Result<Answered, Refused>>, Stop> {
+fn answered_in(file: &str) -> Result<impl Iterator<Item = Result<Answered, Refused>>, Stop> {
     Ok(Lines::new(file, open(file)?, read_answered))
 }
 
 /// The case of this name.
 fn named(file: &str, name: &str) -> Result<Answered, Stop> {
-    for line in answered(file)? {
+    for line in answered_in(file)? {
         let line = line?;
         if line.0.name == name {
             return Ok(line);

@@ -10,8 +10,10 @@ pub const MOST_WORK: u64 = 400;
 pub const MOST_HAND_WORK: u64 = 1_000;
 /// Both buffers together have at most this many bytes: nineteen generated cases in twenty.
 pub const MOST_BYTES: usize = 4_096;
-/// Answers 0 to 17 are classes of cases, and the nine race kinds, instead of 14.
-const CLASSES: usize = 18 + 9;
+/// A condition has at most this many bytes: all generated ones but one in forty.
+pub const MOST_CONDITION: usize = 200;
+/// Answers 0 to 18 are classes of cases, and the nine race kinds, instead of 14.
+const CLASSES: usize = 19 + 9;
 /// So many generated cases are looked at for each one picked. Answer 13 is the rarest: a small case
 /// of it comes up once in a thousand.
 const LOOKED: u64 = 200;
@@ -31,7 +33,7 @@ pub fn pick(seed: u64, count: u64) -> Result<Vec<Answered>, String> {
             break;
         }
         let case = crate::case(seed, index);
-        if case.path + case.trace > MOST_BYTES {
+        if !fits(&case) {
             continue;
         }
         let answer = by_oracle(&case)?;
@@ -52,9 +54,14 @@ pub fn pick(seed: u64, count: u64) -> Result<Vec<Answered>, String> {
     Ok(picked.into_iter().map(|(_, case, answer)| (case, answer)).collect())
 }
 
+/// Whether buffers and condition are short.
+fn fits(case: &Case) -> bool {
+    case.path + case.trace <= MOST_BYTES && case.condition.len() <= MOST_CONDITION
+}
+
 fn class(answer: &Answer) -> usize {
     match (answer.numbers[0], answer.numbers[7]) {
-        (14, kind) => 17 + kind as usize,
+        (14, kind) => 18 + kind as usize,
         (number, _) => number as usize,
     }
 }
@@ -65,7 +72,7 @@ fn weight(class: usize) -> u64 {
     match class {
         2..=5 | 13 => 9,
         6..=9 | 14 | 17 => 0,
-        18.. => 2,
+        19.. => 2,
         _ => 18,
     }
 }
@@ -76,7 +83,7 @@ pub fn hand() -> Result<Vec<Answered>, String> {
     let mut picked = Vec::new();
     for case in crate::hand::all().into_iter().map(|hand| hand.case) {
         let answer = by_oracle(&case)?;
-        if case.path + case.trace <= MOST_BYTES && work(&answer) <= MOST_HAND_WORK {
+        if fits(&case) && work(&answer) <= MOST_HAND_WORK {
             picked.push((case, answer));
         }
     }
@@ -110,15 +117,15 @@ mod tests {
 
     #[test]
     fn every_answer_has_its_share() {
-        let picked = pick(1, 110).expect("answers");
-        assert_eq!(picked.len(), 110);
+        let picked = pick(1, 120).expect("answers");
+        assert_eq!(picked.len(), 120);
         let tally = tally(&picked);
         assert!(tally.races[1..].iter().all(|&n| n > 0), "{:?}", tally.races);
         let answers = tally.answers;
         for answer in [2, 3, 4, 5, 13] {
             assert!(answers[answer] >= 5, "{answers:?}");
         }
-        for answer in [0, 1, 10, 11, 12, 15, 16] {
+        for answer in [0, 1, 10, 11, 12, 15, 16, 18] {
             assert!(answers[answer] >= 10, "{answers:?}");
         }
     }
@@ -126,7 +133,7 @@ mod tests {
     #[test]
     fn what_is_picked_is_small_and_answered_rightly() {
         for (case, answer) in pick(2, 60).expect("answers") {
-            assert!(work(&answer) <= MOST_WORK && case.path + case.trace <= MOST_BYTES, "{case}");
+            assert!(work(&answer) <= MOST_WORK && fits(&case), "{case}");
             assert_eq!(by_oracle(&case), Ok(answer), "{case}");
         }
     }
@@ -136,7 +143,7 @@ mod tests {
         let (picked, all) = (hand().expect("answers"), crate::hand::all());
         assert!(picked.len() < all.len() && picked.len() > all.len() * 19 / 20, "{}", picked.len());
         let answers = tally(&picked).answers;
-        let missing = (0..18).filter(|&answer| answers[answer] == 0);
+        let missing = (0..19).filter(|&answer| answers[answer] == 0);
         assert_eq!(missing.collect::<Vec<_>>(), [6, 7, 8, 9, 17]);
     }
 
@@ -151,8 +158,7 @@ mod tests {
     fn nine_generated_cases_in_ten_are_small() {
         let small = (0..2_000).filter(|&index| {
             let case = crate::case(4, index);
-            let fits = case.path + case.trace <= MOST_BYTES;
-            fits && work(&by_oracle(&case).expect("an answer")) <= MOST_WORK
+            fits(&case) && work(&by_oracle(&case).expect("an answer")) <= MOST_WORK
         });
         let small = small.count();
         assert!((1_700..=1_900).contains(&small), "{small}");

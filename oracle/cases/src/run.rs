@@ -2,7 +2,7 @@
 
 use crate::format::{Answer, Case, Left, ListLeft};
 use std::panic::{catch_unwind, AssertUnwindSafe};
-use terms::{Digest, Report, Settings, Summary};
+use terms::{Digest, Report, Summary};
 
 /// The byte that stands at a place of a buffer before the run. It changes from place to place, so
 /// that a buffer that was cleared, shifted or written in part cannot look unchanged.
@@ -18,31 +18,32 @@ pub fn list_pattern(place: usize) -> Summary {
 
 /// Runs the oracle. An error is a fault of the oracle, never an answer.
 pub fn by_oracle(case: &Case) -> Result<Answer, String> {
-    run(case, "oracle", |table, settings, path, trace, list| {
-        oracle::explore_digest(table, settings, path, trace, list)
+    run(case, "oracle", |path, trace, list| {
+        oracle::explore_digest(&case.table, &case.condition, &case.settings, path, trace, list)
     })
 }
 
 /// Runs the plain implementation.
 pub fn by_plain(case: &Case) -> Result<Answer, String> {
-    run(case, "plain", |table, settings, path, trace, list| {
+    run(case, "plain", |path, trace, list| {
         let mut digest = Digest::default();
         let history = |path: &[u8], trace: &[u8]| digest.execution(path, trace);
-        let report = plain::explore_watched(table, settings, path, trace, list, history);
+        let Case { table, condition, settings, .. } = case;
+        let report = plain::explore_watched(table, condition, settings, path, trace, list, history);
         (report, digest.value())
     })
 }
 
 fn run<F>(case: &Case, who: &str, explore: F) -> Result<Answer, String>
 where
-    F: FnOnce(&[u8], &Settings, &mut [u8], &mut [u8], Option<&mut [Summary]>) -> (Report, u64),
+    F: FnOnce(&mut [u8], &mut [u8], Option<&mut [Summary]>) -> (Report, u64),
 {
     let mut path: Vec<u8> = (0..case.path).map(pattern).collect();
     let mut trace: Vec<u8> = (0..case.trace).map(pattern).collect();
     let mut list: Option<Vec<Summary>> = case.list.map(|n| (0..n).map(list_pattern).collect());
     let explored = catch_unwind(AssertUnwindSafe(|| {
         let list = list.as_deref_mut();
-        explore(&case.table, &case.settings, &mut path, &mut trace, list)
+        explore(&mut path, &mut trace, list)
     }));
     let (report, digest) = explored.map_err(|_| format!("{who} panicked on: {case}"))?;
     let list = list_left(list.as_deref(), &report).ok_or_else(|| {
@@ -78,7 +79,7 @@ mod tests {
         explore: impl FnOnce(&mut [u8], &mut [u8], &mut [Summary]) -> Report,
     ) -> Result<Answer, String> {
         let case = Case { list: Some(5), ..crate::hand::all().swap_remove(0).case };
-        run(&case, "it", |_, _, path, trace, list| (explore(path, trace, list.expect("a list")), 0))
+        run(&case, "it", |path, trace, list| (explore(path, trace, list.expect("a list")), 0))
     }
 
     #[test]

@@ -1,5 +1,6 @@
-//! How often each answer, race kind, opcode, order and change kind comes up.
+//! How often each answer, race kind, opcode, order, change kind and word of a condition comes up.
 
+use crate::condition::{self, Word, SIGNS};
 use crate::format::{Answer, Case, Left};
 use crate::run::by_oracle;
 use crate::spread::spread;
@@ -8,9 +9,11 @@ use std::fmt;
 
 /// Answers that a run of the generator has to show often. 13 and 17 need programs that chance
 /// seldom makes; the hand-built cases have them.
-pub const REQUIRED: [usize; 12] = [0, 1, 2, 3, 4, 5, 10, 11, 12, 14, 15, 16];
+pub const REQUIRED: [usize; 13] = [0, 1, 2, 3, 4, 5, 10, 11, 12, 14, 15, 16, 18];
 /// How often is often.
 pub const OFTEN: u64 = 20;
+/// Answer 18 has to be one in so many.
+pub const UNMET: u64 = 50;
 /// From how many cases on that is asked.
 pub const ASKED_FROM: u64 = 20_000;
 
@@ -26,17 +29,36 @@ pub struct Rows {
     pub changes: [[u64; 13]; 2],
 }
 
+/// Counts over cases with a condition.
+#[derive(Clone, Debug, Default, PartialEq, Eq)]
+pub struct Claims {
+    pub given: u64,
+    /// Those that met answer 5, be it by the table.
+    pub refused: u64,
+    /// Those that held to the end: answers 0 and 1.
+    pub held: u64,
+    /// Those that held once at least before they did not.
+    pub later: u64,
+    /// Accepted ones by the depth of their groups.
+    pub depths: [u64; 9],
+    /// Comparisons of accepted ones by their sign.
+    pub signs: [u64; 6],
+    /// Joints of accepted ones: "and", "or".
+    pub joints: [u64; 2],
+}
+
 /// Counts over cases.
 #[derive(Clone, Debug, Default, PartialEq, Eq)]
 pub struct Tally {
     pub cases: u64,
     pub executions: u64,
-    pub answers: [u64; 18],
+    pub answers: [u64; 19],
     pub races: [u64; 10],
     pub lists: u64,
     pub bounds: u64,
     /// Runs that stop at a fault of a thread that goes on yielded, since it was picked so.
     pub picked: u64,
+    pub claims: Claims,
     /// Rows of accepted tables.
     pub held: Rows,
     /// Rows completed in last executions.
@@ -87,6 +109,58 @@ impl Rows {
     }
 }
 
+impl Claims {
+    fn take(&mut self, condition: &[u8], answer: &Answer) {
+        if condition.is_empty() {
+            return;
+        }
+        let (number, executions) = (answer.numbers[0], answer.numbers[1]);
+        self.given += 1;
+        self.refused += u64::from(number == 5);
+        self.held += u64::from(number < 2);
+        self.later += u64::from(number == 18 && executions > 1);
+        let words = condition::words(condition).filter(|_| !(2..=5).contains(&number));
+        let Some(words) = words else {
+            return;
+        };
+        self.depths[condition::depth(&words)] += 1;
+        for word in words {
+            match word {
+                Word::Compare { sign, .. } => self.signs[usize::from(sign) - 1] += 1,
+                Word::And => self.joints[0] += 1,
+                Word::Or => self.joints[1] += 1,
+                Word::Open | Word::Close => {}
+            }
+        }
+    }
+
+    fn add(&mut self, other: &Claims) {
+        self.given += other.given;
+        self.refused += other.refused;
+        self.held += other.held;
+        self.later += other.later;
+        add_each(&mut self.depths, &other.depths);
+        add_each(&mut self.signs, &other.signs);
+        add_each(&mut self.joints, &other.joints);
+    }
+}
+
+impl fmt::Display for Claims {
+    fn fmt(&self, f: &mut fmt::Formatter<'_>) -> fmt::Result {
+        writeln!(f, "with a condition {}", self.given)?;
+        writeln!(f, "of these refused by 5: {}", self.refused)?;
+        writeln!(f, "of these held to the end: {}", self.held)?;
+        writeln!(f, "of these unmet after the first execution: {}", self.later)?;
+        for (depth, n) in self.depths.iter().enumerate() {
+            writeln!(f, "groups {depth} deep: {n}")?;
+        }
+        for (sign, n) in SIGNS.iter().zip(self.signs) {
+            writeln!(f, "sign {sign}: {n}")?;
+        }
+        writeln!(f, "joints and, or: {} {}", self.joints[0], self.joints[1])
+    }
+}
+
 fn add_each(sum: &mut [u64], more: &[u64]) {
     for (s, m) in sum.iter_mut().zip(more) {
         *s += m;
@@ -103,6 +177,7 @@ impl Tally {
         self.races[answer.numbers[7] as usize] += 1;
         self.lists += u64::from(case.list.is_some());
         self.bounds += u64::from(case.settings.bound.is_some());
+        self.claims.take(&case.condition, answer);
         let refused = (2..=5).contains(&number);
         let program = Program::read(&case.table).filter(|_| !refused);
         let Some(program) = program else {
@@ -126,6 +201,7 @@ impl Tally {
         self.lists += other.lists;
         self.bounds += other.bounds;
         self.picked += other.picked;
+        self.claims.add(&other.claims);
         add_each(&mut self.answers, &other.answers);
         add_each(&mut self.races, &other.races);
         self.held.add(&other.held);
@@ -134,7 +210,8 @@ impl Tally {
 
     /// Required answers that came up too seldom, where there were enough cases to ask.
     pub fn missing(&self) -> Vec<usize> {
-        let seldom = |&&answer: &&usize| self.answers[answer] < OFTEN;
+        let wanted = |answer: usize| if answer == 18 { self.cases / UNMET } else { OFTEN };
+        let seldom = |&&answer: &&usize| self.answers[answer] < wanted(answer);
         match self.cases >= ASKED_FROM {
             true => REQUIRED.iter().filter(seldom).copied().collect(),
             false => Vec::new(),
@@ -157,6 +234,7 @@ impl fmt::Display for Tally {
             writeln!(f, "race kind {kind}: {n}")?;
         }
         writeln!(f, "faults of a picked yielder: {}", self.picked)?;
+        write!(f, "{}", self.claims)?;
         writeln!(f, "rows: in accepted tables, completed in last executions")?;
         for (opcode, name) in OPCODES.iter().enumerate() {
             let (held, done) = (self.held.opcodes[opcode], self.done.opcodes[opcode]);

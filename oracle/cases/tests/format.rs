@@ -1,6 +1,8 @@
 //! The text of cases and answers: what is written reads back, what is damaged is refused.
 
-use cases::format::{read_answered, read_case, Answer, Case, Left, ListLeft, LONGEST_LINE};
+use cases::format::{
+    answered, read_answered, read_case, Answer, Case, Left, ListLeft, LONGEST_LINE,
+};
 use cases::lines::Lines;
 use cases::run::by_oracle;
 
@@ -11,7 +13,7 @@ fn generated_cases_read_back() {
         let line = case.to_string();
         assert_eq!(read_case(line.as_bytes()).as_ref(), Ok(&case), "{line}");
         let answer = by_oracle(&case).expect("an answer");
-        let answered = format!("{case} {answer}");
+        let answered = answered(&case, &answer);
         assert_eq!(read_case(answered.as_bytes()).as_ref(), Ok(&case));
         assert_eq!(read_answered(answered.as_bytes()), Ok((case, answer)));
     }
@@ -24,7 +26,7 @@ fn all_forms_of_what_is_left_read_back() {
     for list in [ListLeft::Unchanged, ListLeft::Summaries] {
         for path in [Left::Unchanged, Left::Bytes(Vec::new()), Left::Bytes(vec![0, 255])] {
             let answer = Answer { list, path, ..answer.clone() };
-            let line = format!("{listed} {answer}");
+            let line = answered(&listed, &answer);
             assert_eq!(read_answered(line.as_bytes()), Ok((listed.clone(), answer)));
         }
     }
@@ -34,7 +36,7 @@ fn all_forms_of_what_is_left_read_back() {
 fn sound() -> String {
     let hand = cases::hand::all().swap_remove(0);
     let answer = by_oracle(&hand.case).expect("an answer");
-    format!("{} {answer}", hand.case)
+    answered(&hand.case, &answer)
 }
 
 /// The sound line with one field, counted from 1, replaced.
@@ -106,7 +108,10 @@ fn damaged_lines_are_refused() {
     let long = "0".repeat(LONGEST_LINE + 1);
     let damaged = [
         (short.to_string(), "42 fields where an answered case has 43"),
-        (format!("{line} 0"), "44 fields where an answered case has 43"),
+        (format!("{line} 00 00"), "45 fields where an answered case has 43"),
+        (format!("{line} 0"), "field 44 (CONDITION) has an odd number of hex digits"),
+        (format!("{line} -"), "field 44 (CONDITION) has an odd number of hex digits"),
+        (format!("{line} 0A"), "field 44 (CONDITION) is not lowercase hex"),
         (ten.join(" "), "10 fields where an answered case has 43"),
         (format!(" {line}"), "field 1 is empty"),
         (format!("{line} "), "field 44 is empty"),
@@ -119,6 +124,8 @@ fn damaged_lines_are_refused() {
         let start = format!("some.txt: line 4: {wanted}");
         assert!(said.starts_with(&start), "said: {said}\nwanted: {start}");
     }
+    let claimed = format!("{line} {}", "00".repeat(4_097));
+    assert!(said(&claimed).ends_with("field 44 (CONDITION) has more than 4096 bytes"));
     let listed = with(9, "5");
     assert!(said(&listed).ends_with("(LIST') is neither '=' nor '+', though a list is passed"));
 }
@@ -129,10 +136,28 @@ fn a_case_line_has_ten_or_all_fields() {
     let fields: Vec<&str> = line.split(' ').collect();
     for count in 1..=fields.len() {
         let part = fields[..count].join(" ");
+        // The eleventh field of this line would not do for a condition.
         assert_eq!(read_case(part.as_bytes()).is_ok(), count == 10 || count == 43, "{count}");
     }
     // Behind the tenth nothing is looked at.
     assert!(read_case(with(11, "zero").as_bytes()).is_ok());
+}
+
+#[test]
+fn a_condition_is_one_field_more() {
+    let line = sound();
+    let ten: Vec<&str> = line.split(' ').take(10).collect();
+    let (case, answer) = read_answered(line.as_bytes()).expect("a sound line");
+    assert_eq!(case.condition, []);
+    let claimed = Case { condition: vec![0, 255], ..case };
+    assert_eq!(claimed.to_string(), format!("{} 00ff", ten.join(" ")));
+    assert_eq!(answered(&claimed, &answer), format!("{line} 00ff"));
+    for text in [claimed.to_string(), answered(&claimed, &answer)] {
+        assert_eq!(read_case(text.as_bytes()).as_ref(), Ok(&claimed), "{text}");
+    }
+    assert_eq!(read_answered(format!("{line} 00ff").as_bytes()), Ok((claimed, answer)));
+    let said = read_case(format!("{} 0", ten.join(" ")).as_bytes()).expect_err("half a byte");
+    assert_eq!(said, "field 11 (CONDITION) has an odd number of hex digits");
 }
 
 #[test]

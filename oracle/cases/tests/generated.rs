@@ -1,7 +1,7 @@
 //! The generator brings up what it should, and both implementations agree on it.
 
 use cases::compare::compare;
-use cases::tally::{allowed, tally, OFTEN};
+use cases::tally::{allowed, tally, Claims, OFTEN};
 
 const CASES: u64 = 20_000;
 
@@ -29,7 +29,16 @@ fn every_answer_and_row_comes_up() {
         assert!([0, 2, 4].iter().all(|&order| done.failures[order] >= OFTEN));
         assert!(tally.lists > CASES / 4 && tally.bounds > CASES / 4);
         assert!(tally.picked > CASES / 50, "seed {seed}: {}", tally.picked);
+        conditions_come_up(&tally.claims);
     }
+}
+
+fn conditions_come_up(claims: &Claims) {
+    assert!(claims.given > CASES / 5 && claims.given < CASES / 2, "{claims}");
+    assert!(claims.held > CASES / 50 && claims.later > CASES / 100, "{claims}");
+    assert!(claims.refused > CASES / 50, "{claims}");
+    let words = claims.signs.iter().chain(&claims.joints).chain(&claims.depths);
+    assert!(words.min() >= Some(&OFTEN), "{claims}");
 }
 
 #[test]

@@ -22,14 +22,20 @@ fn the_list_is_long_and_shows_every_answer() {
     let file = file();
     assert!(file.len() <= 2_000_000);
     let (mut names, mut answers) = (HashSet::new(), HashMap::new());
+    let mut claimed = 0;
     for line in file.split(|&b| b == b'\n').filter(|line| !is_comment(line)) {
         let (case, answer) = read_answered(line).expect("a sound line");
         assert!(names.insert(case.name.clone()), "{} twice", case.name);
         *answers.entry(answer.numbers[0]).or_insert(0) += 1;
+        // Those with a condition stand at the end.
+        let claims = !case.condition.is_empty();
+        assert!(claims || claimed == 0, "{} comes after a case with a condition", case.name);
+        claimed += u64::from(claims);
     }
     assert!(names.len() >= 1_500);
-    for answer in [0, 1, 2, 3, 4, 5, 10, 11, 12, 13, 14, 15, 16] {
+    for answer in [0, 1, 2, 3, 4, 5, 10, 11, 12, 13, 14, 15, 16, 18] {
         assert!(answers[&answer] >= 5, "answer {answer}");
     }
     assert!(answers[&17] >= 1);
+    assert!(claimed >= 20);
 }

@@ -1,12 +1,13 @@
-//! Calls without sense: any bytes as a table, any numbers as settings, buffers of any length. What
-//! is asked of the library is that it answers at all, writes where it may, and agrees with plain.
+//! Calls without sense: any bytes as a table or condition, any numbers as settings, buffers of any
+//! length. What is asked of the library is that it answers at all, writes where it may, and agrees with plain.
 
 use crate::judge::{by_plain, differences};
 use crate::library::{report_pattern, Call, Left, Numbers, NO_ARGUMENTS, UNBOUNDED};
 use cases::format::Case;
 use cases::random::Random;
 use cases::run::pattern;
-use cases::table::{HEADER, ROW};
+use cases::table::{Program, HEADER, ROW};
+use cases::{claims, condition};
 use std::fmt;
 use terms::{Settings, NUMBERS};
 
@@ -57,7 +58,9 @@ pub fn draw(seed: u64, index: u64) -> Drawn {
         exploring: exploring == 1,
     };
     let table = table(r, seed, index);
-    let case = Case { name: format!("b{seed}.{index}"), settings, path, trace, list: None, table };
+    let condition = condition(r, &table);
+    let name = format!("b{seed}.{index}");
+    let case = Case { name, settings, path, trace, list: None, table, condition };
     Drawn { case, numbers: Numbers { branches, operations, executions, bound, exploring }, report }
 }
 
@@ -115,7 +118,25 @@ fn likely_rows(r: &mut Random) -> Vec<u8> {
     table
 }
 
-/// The table with a few bytes changed, put in or taken out.
+/// Any bytes, or a condition for the table, whole or damaged; often none.
+fn condition(r: &mut Random, table: &[u8]) -> Vec<u8> {
+    let likely = |r: &mut Random| match Program::read(table).filter(|p| !p.threads.is_empty()) {
+        Some(program) => condition::bytes(&claims::sound(r, &program)),
+        None => condition::bytes(&condition::equals(0, 0, 0)),
+    };
+    match r.below(12) {
+        0 => (0..r.below(1_200)).map(|_| r.number() as u8).collect(),
+        1 => (0..r.below(40)).map(|_| r.below(12) as u8).collect(),
+        2..=3 => likely(r),
+        4 => {
+            let sound = likely(r);
+            damaged(r, sound)
+        }
+        _ => Vec::new(),
+    }
+}
+
+/// The bytes with a few of them changed, put in or taken out.
 fn damaged(r: &mut Random, mut table: Vec<u8>) -> Vec<u8> {
     for _ in 0..r.between(1, 3) {
         if table.is_empty() {
@@ -165,7 +186,7 @@ fn refused_wrongs(left: &Left) -> Vec<String> {
 fn accepted_wrongs(drawn: &Drawn, left: &Left) -> Result<Vec<String>, String> {
     let mut found = differences(&by_plain(&drawn.case)?, left);
     match left.returned {
-        0 | 1 | 10..=17 => {}
+        0 | 1 | 10..=18 => {}
         2..=5 => found.extend(written(left)),
         other => found.push(format!("{other} is no answer")),
     }

@@ -17,8 +17,8 @@ pub struct Expected {
 
 /// The oracle's answer. An error is a fault of the oracle, never an answer.
 pub fn by_oracle(case: &Case) -> Result<Expected, String> {
-    by(case, "oracle", |table, settings, path, trace| {
-        oracle::explore(table, settings, path, trace, None, &mut |_, _| ())
+    by(case, "oracle", |table, condition, settings, path, trace| {
+        oracle::explore(table, condition, settings, path, trace, None, &mut |_, _| ())
     })
 }
 
@@ -27,15 +27,15 @@ pub fn by_plain(case: &Case) -> Result<Expected, String> {
     by(case, "plain", plain::explore)
 }
 
-/// The library's entry takes no thread list, so none is passed here either.
+/// The library's entries take no thread list, so none is passed here either.
 fn by<F>(case: &Case, who: &'static str, explore: F) -> Result<Expected, String>
 where
-    F: FnOnce(&[u8], &Settings, &mut [u8], &mut [u8]) -> Report,
+    F: FnOnce(&[u8], &[u8], &Settings, &mut [u8], &mut [u8]) -> Report,
 {
     let mut path: Vec<u8> = (0..case.path).map(pattern).collect();
     let mut trace: Vec<u8> = (0..case.trace).map(pattern).collect();
     let explored = catch_unwind(AssertUnwindSafe(|| {
-        explore(&case.table, &case.settings, &mut path, &mut trace)
+        explore(&case.table, &case.condition, &case.settings, &mut path, &mut trace)
     }));
     let report = explored.map_err(|_| format!("{who} panicked on: {case}"))?;
     Ok(Expected { who, numbers: report.numbers(), path, trace })

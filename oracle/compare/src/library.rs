@@ -1,4 +1,4 @@
-//! The proved explorer behind its C entry. All that is unsafe in calling it stands here.
+//! The proved explorer behind its C entries. All that is unsafe in calling it stands here.
 
 use crate::guarded::Guarded;
 use cases::run::pattern;
@@ -15,6 +15,24 @@ mod entry {
         pub fn chjirvollu_explore(
             table: *const u8,
             table_length: usize,
+            branches: u64,
+            operations: u64,
+            executions: u64,
+            bound: u64,
+            exploring: u64,
+            path: *mut u8,
+            path_length: usize,
+            trace: *mut u8,
+            trace_length: usize,
+            report: *mut u64,
+            report_length: usize,
+        ) -> u64;
+
+        pub fn chjirvollu_explore_condition(
+            table: *const u8,
+            table_length: usize,
+            condition: *const u8,
+            condition_length: usize,
             branches: u64,
             operations: u64,
             executions: u64,
@@ -52,7 +70,7 @@ impl From<&Settings> for Numbers {
     }
 }
 
-/// Calls the entry.
+/// Calls the entry that takes no condition.
 pub fn explore(
     table: &[u8],
     numbers: Numbers,
@@ -81,9 +99,42 @@ pub fn explore(
     }
 }
 
+/// Calls the entry that takes a condition.
+pub fn explore_condition(
+    table: &[u8],
+    condition: &[u8],
+    numbers: Numbers,
+    path: &mut [u8],
+    trace: &mut [u8],
+    report: &mut [u64],
+) -> u64 {
+    // SAFETY: as above.
+    unsafe {
+        entry::chjirvollu_explore_condition(
+            table.as_ptr(),
+            table.len(),
+            condition.as_ptr(),
+            condition.len(),
+            numbers.branches,
+            numbers.operations,
+            numbers.executions,
+            numbers.bound,
+            numbers.exploring,
+            path.as_mut_ptr(),
+            path.len(),
+            trace.as_mut_ptr(),
+            trace.len(),
+            report.as_mut_ptr(),
+            report.len(),
+        )
+    }
+}
+
 /// What a watched call is given.
 pub struct Call<'a> {
     pub table: &'a [u8],
+    /// None where the entry that takes no condition is called.
+    pub condition: Option<&'a [u8]>,
     pub numbers: Numbers,
     /// Lengths of the path, the trace and the report.
     pub path: usize,
@@ -109,10 +160,13 @@ pub fn report_pattern(place: usize) -> u64 {
 }
 
 impl Call<'_> {
-    /// The call that a case means.
+    /// The call that a case means. Without a condition it goes to the entry that takes none; one shift in
+    /// sixteen gives no bytes to the other entry.
     pub fn of(case: &cases::format::Case, shift: usize) -> Call<'_> {
+        let bare = case.condition.is_empty() && shift % 16 != 15;
         Call {
             table: &case.table,
+            condition: (!bare).then_some(&case.condition),
             numbers: Numbers::from(&case.settings),
             path: case.path,
             trace: case.trace,
@@ -124,18 +178,28 @@ impl Call<'_> {
     /// Makes the call with filled buffers inside guards.
     pub fn make(&self) -> Left {
         let mut table = Guarded::new(self.table.iter().copied(), self.shift);
+        let claimed = self.condition.unwrap_or(&[]);
+        let mut condition = Guarded::new(claimed.iter().copied(), self.shift);
         let mut path = Guarded::new((0..self.path).map(pattern), self.shift);
         let mut trace = Guarded::new((0..self.trace).map(pattern), self.shift);
         let mut report = Guarded::new((0..self.report).map(report_pattern), 0);
-        // The table too is lent from memory that can be written, so that a write into it would show
-        // as a difference and not end the program.
-        let lent = &*table.lent();
-        let returned = explore(lent, self.numbers, path.lent(), trace.lent(), report.lent());
-        // A lent table cannot change, so far as the compiler knows; here it shall look.
-        let table = std::hint::black_box(table);
+        // Table and condition too are lent from memory that can be written, so that a write into them
+        // would show as a difference and not end the program.
+        let (lent, claim) = (&*table.lent(), &*condition.lent());
+        let (numbers, path_lent) = (self.numbers, path.lent());
+        let returned = match self.condition {
+            None => explore(lent, numbers, path_lent, trace.lent(), report.lent()),
+            Some(_) => {
+                explore_condition(lent, claim, numbers, path_lent, trace.lent(), report.lent())
+            }
+        };
+        // What is lent so cannot change, so far as the compiler knows; here it shall look.
+        let [table, condition] = std::hint::black_box([table, condition]);
         let watched = [
             ("a guard of the table", table.intact()),
             ("the table", table.inside() == self.table),
+            ("a guard of the condition", condition.intact()),
+            ("the condition", condition.inside() == claimed),
             ("a guard of the path buffer", path.intact()),
             ("a guard of the trace buffer", trace.intact()),
             ("a guard of the report", report.intact()),

@@ -131,7 +131,8 @@ fn compare_bytes(seed: u64, count: u64, out: &mut impl Write) -> Outcome {
 }
 
 /// The hand-built cases have the limits among them: no rows and 32, five threads of 32 rows, the
-/// greatest B, L and N used up.
+/// greatest B, L and N used up, conditions of 1,023 to 1,025 bytes and of eight and nine groups in each
+/// other.
 fn compare_limits(out: &mut impl Write) -> Outcome {
     let mut tally = Tally::default();
     for (index, hand) in (0..).zip(cases::hand::all()) {

@@ -34,6 +34,7 @@ pub fn disagreements(timed: &Timed) -> Result<Vec<String>, String> {
         trace: timed.trace(),
         list: None,
         table: timed.program.table(),
+        condition: Vec::new(),
     };
     Ok(differences(&by_plain(&case)?, &Call::of(&case, 0).make()))
 }
@@ -47,7 +48,7 @@ pub fn measure(timed: &Timed, plain_first: bool, times: &mut Times) {
     let mut report = [0; NUMBERS];
     let numbers = Numbers::from(&timed.settings);
     let by_plain = |path: &mut [u8], trace: &mut [u8]| {
-        black_box(plain::explore(black_box(&table), &timed.settings, path, trace));
+        black_box(plain::explore(black_box(&table), &[], &timed.settings, path, trace));
     };
     let mut by_library = |path: &mut [u8], trace: &mut [u8]| {
         black_box(library::explore(black_box(&table), numbers, path, trace, &mut report));

@@ -1,6 +1,7 @@
 //! One execution: the interpreter of rows, and the scheduling that loom has in `rt/execution.rs`.
 
 use crate::atomic::{Access, State};
+use crate::claim::Claim;
 use crate::fault::Fault;
 use crate::op::{Cell, Change, Op, Order, Orders, Register, Row};
 use crate::path::{self, Path, Seed};
@@ -330,6 +331,11 @@ impl<'a> Execution<'a> {
         let value = self.path.branch_spurious()?.into();
         self.threads[self.current].set_register(register, value);
         Ok(Done::value(value))
+    }
+
+    /// Whether the registers are now as claimed.
+    pub fn meets(&self, claim: &Claim) -> bool {
+        claim.is_met(|thread, register| self.threads[usize::from(thread)].register(register))
     }
 
     /// Rows begun.

@@ -7,6 +7,7 @@
 #![forbid(unsafe_code)]
 
 mod atomic;
+mod claim;
 mod execution;
 mod fault;
 mod op;
@@ -16,6 +17,7 @@ mod thread;
 mod trace;
 mod vv;
 
+use claim::Claim;
 use execution::Execution;
 use fault::{Fault, Race};
 use path::Path;
@@ -34,25 +36,34 @@ const MAX_EXECUTIONS: u64 = 65_535;
 const RECORD: u64 = 16;
 
 /// Explores the program of `table`, leaving the last execution's choices in `path` and what it did
-/// in `trace`.
-pub fn explore(table: &[u8], settings: &Settings, path: &mut [u8], trace: &mut [u8]) -> Report {
-    explore_watched(table, settings, path, trace, None, |_, _| ())
+/// in `trace`. Whenever all threads have ended, `condition` has to hold; no bytes are none.
+pub fn explore(
+    table: &[u8],
+    condition: &[u8],
+    settings: &Settings,
+    path: &mut [u8],
+    trace: &mut [u8],
+) -> Report {
+    explore_watched(table, condition, settings, path, trace, None, |_, _| ())
 }
 
 /// Explores as `explore` does, and also writes the five summaries into `list`.
 pub fn explore_into(
     table: &[u8],
+    condition: &[u8],
     settings: &Settings,
     path: &mut [u8],
     trace: &mut [u8],
     list: &mut [Summary],
 ) -> Report {
-    explore_watched(table, settings, path, trace, Some(list), |_, _| ())
+    let list = Some(list);
+    explore_watched(table, condition, settings, path, trace, list, |_, _| ())
 }
 
 /// Explores, and shows `history` the used bytes of path and trace as each execution ends or faults.
 pub fn explore_watched(
     table: &[u8],
+    condition: &[u8],
     settings: &Settings,
     path: &mut [u8],
     trace: &mut [u8],
@@ -67,11 +78,14 @@ pub fn explore_watched(
         Ok(program) => program,
         Err(refused) => return Report::refusal(5, refused.thread.into(), refused.row.into()),
     };
+    let Some(claim) = Claim::accept(condition, program.threads) else {
+        return Report::refusal(5, 255, 255);
+    };
     path.fill(0);
     trace.fill(0);
     let path = Path::new(path, settings.bound, settings.exploring);
     let execution = Execution::new(&program, settings.operations, path, Trace::new(trace));
-    let report = run(execution, settings.executions, history);
+    let report = run(execution, &claim, settings.executions, history);
     if let Some(list) = list {
         list.copy_from_slice(&report.threads);
     }
@@ -101,7 +115,12 @@ fn refusal(settings: &Settings, path: usize, trace: usize, list: Option<usize>) 
 }
 
 /// Runs one execution after another.
-fn run(mut execution: Execution, budget: u64, mut history: impl FnMut(&[u8], &[u8])) -> Report {
+fn run(
+    mut execution: Execution,
+    claim: &Claim,
+    budget: u64,
+    mut history: impl FnMut(&[u8], &[u8]),
+) -> Report {
     let mut executions = 0;
     let outcome = loop {
         executions += 1;
@@ -109,6 +128,7 @@ fn run(mut execution: Execution, budget: u64, mut history: impl FnMut(&[u8], &[u
         history(execution.path.used(), execution.trace.used());
         match (outcome, execution.path.last_open()) {
             (Err(fault), _) => break Err(fault),
+            (Ok(()), _) if !execution.meets(claim) => break Ok(18),
             (Ok(()), None) => break Ok(0),
             (Ok(()), Some(_)) if executions == budget => break Ok(1),
             (Ok(()), Some(last)) => execution.path.step(last),

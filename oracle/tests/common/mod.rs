@@ -275,6 +275,11 @@ impl Ran {
 
 /// Runs a table that is not refused, and checks what holds for every such run.
 pub fn run(table: &[u8], settings: &Settings) -> Ran {
+    run_claimed(table, &[], settings)
+}
+
+/// The same with a final condition.
+pub fn run_claimed(table: &[u8], condition: &[u8], settings: &Settings) -> Ran {
     let mut path = vec![PATTERN; 16 * settings.branches as usize];
     let mut trace = vec![PATTERN; 16 * settings.operations as usize];
     let mut list = [Summary {
@@ -287,6 +292,7 @@ pub fn run(table: &[u8], settings: &Settings) -> Ran {
     let mut take = |p: &[u8], t: &[u8]| history.push((p.to_vec(), t.to_vec()));
     let report = oracle::explore(
         table,
+        condition,
         settings,
         &mut path,
         &mut trace,
@@ -315,7 +321,7 @@ fn balanced(ran: &Ran, settings: &Settings) {
     assert_eq!(rows, report.rows);
     assert!(report.rows <= settings.operations);
     assert_eq!(open_in(ran.last_path()), report.open);
-    let named = report.answer >= 11;
+    let named = (11..=17).contains(&report.answer);
     assert_eq!(named, report.thread != 255);
     assert_eq!(named, report.row != 255);
     assert_eq!(report.answer == 14, report.kind != 0);

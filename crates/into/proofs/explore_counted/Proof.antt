@@ -13,8 +13,8 @@ refused-requires c κs = search needs
 returns : tie.Need-returns
 returns c =
     let count = c .before .before in
-    let at = count .before .before .before .before .args in
-    refuses-list (at .table .now) (at .settings) (at .path .now) (at .trace .now) (at .listed) (c .refused .result)
+    let at = count .before .before .before .before .before .args in
+    refuses-list (at .table .now) (at .condition .now) (at .settings) (at .path .now) (at .trace .now) (at .listed) (c .refused .result)
     (sym (count .miscounted .ensures) ∙ c .before .if1 .taken) (c .refused .ensures)
 
 explore-requires : tie.Need-explore-requires
@@ -30,8 +30,8 @@ returns-2 : tie.Need-returns-2
 returns-2 c =
     let done = c .before .before .before .before in
     let count = done .before .before .before .before in
-    let at = count .before .before .before .before .args in
-    goes-on (at .table .now) (at .settings) (at .path .now) (at .trace .now) (at .listed) (done .explore .result)
+    let at = count .before .before .before .before .before .args in
+    goes-on (at .table .now) (at .condition .now) (at .settings) (at .path .now) (at .trace .now) (at .listed) (done .explore .result)
     (sym (count .miscounted .ensures) ∙ done .before .before .before .if1 .left) (done .explore .ensures)
 
 pub explore-counted-spec : {M : Type 1} → statement M

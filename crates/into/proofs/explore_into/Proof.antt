@@ -96,8 +96,11 @@ abbrev stayed : Stays (into.ended .signature .params) (into.ended .kept)
 stayed = (
   stay-dropped (shrSliceOf (0 ∷ []) tt (plain (λ _. u8))) yes,
   (
-    stay-dropped (plain (λ _. S.the-row)) yes,
-    (gave-slice (1 ∷ []) tt (plain (λ _. u8)), (gave-slice (2 ∷ []) tt (plain (λ _. u8)), (gave-slice (3 ∷ []) tt (plain (λ _. R)), tt))),
+    stay-dropped (shrSliceOf (1 ∷ []) tt (plain (λ _. u8))) yes,
+    (
+      stay-dropped (plain (λ _. S.the-row)) yes,
+      (gave-slice (2 ∷ []) tt (plain (λ _. u8)), (gave-slice (3 ∷ []) tt (plain (λ _. u8)), (gave-slice (4 ∷ []) tt (plain (λ _. R)), tt))),
+    ),
   ),
 )
 
@@ -123,12 +126,12 @@ module _ {M : Type 1} (𝓤 : URA M) (H : Heap 𝓤) (A : Atoms 𝓤) (mem : Mem
   threads-said r ts = exE 𝓤 _ (λ ws. snd∗ 𝓤 (sem 𝓤 H A (lasts threads.ended tt (r, tt) ws)) (fact 𝓤 (ts ≡ r .threads)))
 
 module _ {M : Type 1} (𝓤 : URA M) (H : Heap 𝓤) (A : Atoms 𝓤) (W : Given 𝓤 H A) (mem : Memory → SProp 𝓤) (run : Routine → Fun 𝓤)
-    (κ₀ κ₁ κ₂ κ₃ : Lft) (q₀ q₁ q₂ q₃ : Share) (table : RefT Bytes) (d : Settings) (path trace : RefT Bytes) (list : RefT Records) where
-  abbrev κs : Lfts 4
-  κs = (κ₀, (κ₁, (κ₂, (κ₃, tt))))
+    (κ₀ κ₁ κ₂ κ₃ κ₄ : Lft) (q₀ q₁ q₂ q₃ q₄ : Share) (table condition : RefT Bytes) (d : Settings) (path trace : RefT Bytes) (list : RefT Records) where
+  abbrev κs : Lfts 5
+  κs = (κ₀, (κ₁, (κ₂, (κ₃, (κ₄, tt)))))
 
-  abbrev qs : Shares 4
-  qs = (q₀, (q₁, (q₂, (q₃, tt))))
+  abbrev qs : Shares 5
+  qs = (q₀, (q₁, (q₂, (q₃, (q₄, tt)))))
 
   -- the settings' machine value, and the number of records that the list has
   abbrev m : Val
@@ -137,50 +140,50 @@ module _ {M : Type 1} (𝓤 : URA M) (H : Heap 𝓤) (A : Atoms 𝓤) (W : Given
   abbrev n : ℕ
   n = length (list .now)
 
-  abbrev a : RefT Bytes × (Settings × (RefT Bytes × (RefT Bytes × (RefT Records × Unit {0}))))
-  a = (table, (d, (path, (trace, (list, tt)))))
+  abbrev a : RefT Bytes × (RefT Bytes × (Settings × (RefT Bytes × (RefT Bytes × (RefT Records × Unit {0})))))
+  a = (table, (condition, (d, (path, (trace, (list, tt))))))
 
-  abbrev vals : List Val × (List Val × (List Val × (List Val × (List Val × Unit {0}))))
-  vals = (slice table ∷ [], (m ∷ [], (slice path ∷ [], (slice trace ∷ [], (slice list ∷ [], tt)))))
+  abbrev vals : List Val × (List Val × (List Val × (List Val × (List Val × (List Val × Unit {0})))))
+  vals = (slice table ∷ [], (slice condition ∷ [], (m ∷ [], (slice path ∷ [], (slice trace ∷ [], (slice list ∷ [], tt))))))
 
   abbrev Post : Val → SProp 𝓤
   Post = walkOf 𝓤 H A into.ended stayed (into.clauses 𝓤 H A mem run) .post ((κs, qs, tt, a, vals), tt)
 
-  -- the tokens of `explore_counted`'s three lifetimes, and of the list's
-  abbrev three : Item 𝓤
-  three = ‵ (flft κ₀ q₀) ⊛ ‵ (flft κ₁ q₁) ⊛ ‵ (flft κ₂ q₂) ⊛ ‵ ftrue
+  -- the tokens of `explore_counted`'s four lifetimes, and of the list's
+  abbrev four : Item 𝓤
+  four = ‵ (flft κ₀ q₀) ⊛ ‵ (flft κ₁ q₁) ⊛ ‵ (flft κ₂ q₂) ⊛ ‵ (flft κ₃ q₃) ⊛ ‵ ftrue
 
   abbrev one : Item 𝓤
-  one = ‵ (flft κ₃ q₃) ⊛ ‵ ftrue
+  one = ‵ (flft κ₄ q₄) ⊛ ‵ ftrue
 
   abbrev Lent : Fml
-  Lent = MutSlice (named 3) κ₃ R .own list (slice list ∷ [])
+  Lent = MutSlice (named 4) κ₄ R .own list (slice list ∷ [])
 
   -- `explore_counted`: what it is passed, and that the caller has what it asks; the list is kept
-  abbrev passed : RefT Bytes × (Settings × (RefT Bytes × (RefT Bytes × (ℕ × Unit {0}))))
-  passed = (table, (d, (path, (trace, (n, tt)))))
+  abbrev passed : RefT Bytes × (RefT Bytes × (Settings × (RefT Bytes × (RefT Bytes × (ℕ × Unit {0})))))
+  passed = (table, (condition, (d, (path, (trace, (n, tt))))))
 
   abbrev to-counted : Counted 𝓤 H A mem run .Ghost
   to-counted =
-      (((κ₀, (κ₁, (κ₂, tt))), (q₀, (q₁, (q₂, tt))), tt, passed, (slice table ∷ [], (m ∷ [], (slice path ∷ [], (slice trace ∷ [], (vint w64 n ∷ [], tt)))))), tt)
+      (((κ₀, (κ₁, (κ₂, (κ₃, tt)))), (q₀, (q₁, (q₂, (q₃, tt)))), tt, passed, (slice table ∷ [], (slice condition ∷ [], (m ∷ [], (slice path ∷ [], (slice trace ∷ [], (vint w64 n ∷ [], tt))))))), tt)
 
-  asked : ent 𝓤 (⋆ 𝓤 H A (three ∷ ‵ (owns (ShrSlice (named 0) κ₀ u8 ∷ S.the-row ∷ MutSlice (named 1) κ₁ u8 ∷ MutSlice (named 2) κ₂ u8 ∷ usize ∷ []) passed (to-counted .0 .4)) ∷ [])) (Counted 𝓤 H A mem run .pre to-counted)
+  asked : ent 𝓤 (⋆ 𝓤 H A (four ∷ ‵ (owns (ShrSlice (named 0) κ₀ u8 ∷ ShrSlice (named 1) κ₁ u8 ∷ S.the-row ∷ MutSlice (named 2) κ₂ u8 ∷ MutSlice (named 3) κ₃ u8 ∷ usize ∷ []) passed (to-counted .0 .4)) ∷ [])) (Counted 𝓤 H A mem run .pre to-counted)
   asked =
-      qed W (three ∷ ‵ (owns (ShrSlice (named 0) κ₀ u8 ∷ S.the-row ∷ MutSlice (named 1) κ₁ u8 ∷ MutSlice (named 2) κ₂ u8 ∷ usize ∷ []) passed (to-counted .0 .4)) ∷ []) ∵ join ! $ frame ! $ done !
+      qed W (four ∷ ‵ (owns (ShrSlice (named 0) κ₀ u8 ∷ ShrSlice (named 1) κ₁ u8 ∷ S.the-row ∷ MutSlice (named 2) κ₂ u8 ∷ MutSlice (named 3) κ₃ u8 ∷ usize ∷ []) passed (to-counted .0 .4)) ∷ []) ∵ join ! $ frame ! $ done !
 
-  goes-counted : Room R n → ent 𝓤 (onEntry 𝓤 H A into.signature κs qs a vals) (sep 𝓤 (Counted 𝓤 H A mem run .pre to-counted) (sep 𝓤 (sem 𝓤 H A Lent) (A .lft κ₃ q₃)))
+  goes-counted : Room R n → ent 𝓤 (onEntry 𝓤 H A into.signature κs qs a vals) (sep 𝓤 (Counted 𝓤 H A mem run .pre to-counted) (sep 𝓤 (sem 𝓤 H A Lent) (A .lft κ₄ q₄)))
   goes-counted room =
-      qed W ((‵ (flft κ₀ q₀) ⊛ ‵ (flft κ₁ q₁) ⊛ ‵ (flft κ₂ q₂) ⊛ ‵ (flft κ₃ q₃) ⊛ ‵ ftrue) ∷ ‵ (owns (ShrSlice (named 0) κ₀ u8 ∷ S.the-row ∷ MutSlice (named 1) κ₁ u8 ∷ MutSlice (named 2) κ₂ u8 ∷ MutSlice (named 3) κ₃ R ∷ []) a vals) ∷ []) ∵
-      move ! (1 ∷ []) $ fsplit ! $ move ! (1 ∷ []) $ fsplit ! $ move ! (1 ∷ []) $ fsplit ! $ move ! (1 ∷ []) $ fsplit ! $ move ! (1 ∷ []) $ fsplit ! $
-      move ! (6 ∷ []) $ split ! $ move ! (1 ∷ []) $ split ! $ move ! (1 ∷ []) $ split ! $ move ! (1 ∷ []) $ split ! $
-      -- [the list's token; true; trace's; path's; table's; what the list, nothing, the trace, the path, the settings and the table own]
-      nothing ! $ owned ! usize (Is usize) (uint-makes 𝓤 H A W w64) n _ (refl, room .0) $ fjoin ! $ move ! (8 ∷ 0 ∷ []) $ fjoin ! $ move ! (8 ∷ 0 ∷ []) $ fjoin ! $ move ! (8 ∷ 0 ∷ []) $ fjoin ! $ move ! (8 ∷ 0 ∷ []) $ fjoin ! $
-      move ! (3 ∷ 2 ∷ []) $ join ! $ move ! (3 ∷ 0 ∷ []) $ join ! $ move ! (3 ∷ 0 ∷ []) $ join ! $
+      qed W ((‵ (flft κ₀ q₀) ⊛ ‵ (flft κ₁ q₁) ⊛ ‵ (flft κ₂ q₂) ⊛ ‵ (flft κ₃ q₃) ⊛ ‵ (flft κ₄ q₄) ⊛ ‵ ftrue) ∷ ‵ (owns (ShrSlice (named 0) κ₀ u8 ∷ ShrSlice (named 1) κ₁ u8 ∷ S.the-row ∷ MutSlice (named 2) κ₂ u8 ∷ MutSlice (named 3) κ₃ u8 ∷ MutSlice (named 4) κ₄ R ∷ []) a vals) ∷ []) ∵
+      move ! (1 ∷ []) $ fsplit ! $ move ! (1 ∷ []) $ fsplit ! $ move ! (1 ∷ []) $ fsplit ! $ move ! (1 ∷ []) $ fsplit ! $ move ! (1 ∷ []) $ fsplit ! $ move ! (1 ∷ []) $ fsplit ! $
+      move ! (7 ∷ []) $ split ! $ move ! (1 ∷ []) $ split ! $ move ! (1 ∷ []) $ split ! $ move ! (1 ∷ []) $ split ! $ move ! (1 ∷ []) $ split ! $
+      -- [the list's token; true; trace's; path's; condition's; table's; what the list, nothing, the trace, the path, the settings, the condition and the table own]
+      nothing ! $ owned ! usize (Is usize) (uint-makes 𝓤 H A W w64) n _ (refl, room .0) $ fjoin ! $ move ! (9 ∷ 0 ∷ []) $ fjoin ! $ move ! (9 ∷ 0 ∷ []) $ fjoin ! $ move ! (9 ∷ 0 ∷ []) $ fjoin ! $ move ! (9 ∷ 0 ∷ []) $ fjoin ! $ move ! (9 ∷ 0 ∷ []) $ fjoin ! $
+      move ! (3 ∷ 2 ∷ []) $ join ! $ move ! (3 ∷ 0 ∷ []) $ join ! $ move ! (3 ∷ 0 ∷ []) $ join ! $ move ! (3 ∷ 0 ∷ []) $ join ! $
       use2 W (raw (Counted 𝓤 H A mem run .pre to-counted)) asked $ frame ! $ move ! (1 ∷ []) $ frame ! $ keep ! (0 ∷ []) $ done !
 
   -- what it ensures: report and buffers are the definition's, at any list of so many
   abbrev Answered : Report → Bytes → Bytes → Type 0
-  Answered r ps ts = (summaries : List Summary) → length summaries ≡ n → exploredOf r ps ts ≡ exploredInto (table .now) (settingsOf d) (path .now) (trace .now) summaries .explored
+  Answered r ps ts = (summaries : List Summary) → length summaries ≡ n → exploredOf r ps ts ≡ exploredInto (table .now) (condition .now) (settingsOf d) (path .now) (trace .now) summaries .explored
 
   module _ (r : Report) (w : Val) (is : Is P.the-row r (w ∷ [])) where
     report-typed : Holds (hasTy P′.mir w) × WT w
@@ -201,50 +204,50 @@ module _ {M : Type 1} (𝓤 : URA M) (H : Heap 𝓤) (A : Atoms 𝓤) (W : Given
 
     -- at exit each `&mut` is given up, and what says its last value is had
     exits : (ps ts : Bytes) (zs : Records) → length ps ≡ length (path .now) → length ts ≡ length (trace .now) → length zs ≡ n
-        → exploredIntoOf r ps ts zs ≡ exploredInto (table .now) (settingsOf d) (path .now) (trace .now) (summariesOf (list .now))
-        → ent 𝓤 (⋆ 𝓤 H A (one ∷ ‵ (finally R (list .name) zs) ∷ three ∷ ‵ (finally u8 (trace .name) ts) ∷ ‵ (finally u8 (path .name) ps) ∷ [])) (Post w)
+        → exploredIntoOf r ps ts zs ≡ exploredInto (table .now) (condition .now) (settingsOf d) (path .now) (trace .now) (summariesOf (list .now))
+        → ent 𝓤 (⋆ 𝓤 H A (one ∷ ‵ (finally R (list .name) zs) ∷ four ∷ ‵ (finally u8 (trace .name) ts) ∷ ‵ (finally u8 (path .name) ps) ∷ [])) (Post w)
     exits ps ts zs lp lt lz e =
-        qed W (one ∷ ‵ (finally R (list .name) zs) ∷ three ∷ ‵ (finally u8 (trace .name) ts) ∷ ‵ (finally u8 (path .name) ps) ∷ []) ∵
-        suffices ! _ (ends-at 𝓤 H A into.ended stayed (into.clauses 𝓤 H A mem run) W ((κs, qs, tt, a, vals), tt) w r (tt, (tt, (ps, (ts, (zs, tt))))) (tt, (tt, (lp, (lt, (lz, tt)))))) $ says ! e $
-        split ! $ move ! (3 ∷ []) $ split ! $ move ! (1 ∷ []) $ split ! $ move ! (1 ∷ []) $ split ! $
-        move ! (4 ∷ 5 ∷ []) $ join ! $ move ! (1 ∷ 0 ∷ []) $ join ! $ move ! (2 ∷ 0 ∷ []) $ join ! $ move ! (2 ∷ 0 ∷ []) $ join ! $ frame ! $
-        move ! (1 ∷ 0 ∷ []) $ fjoin ! $ move ! (1 ∷ 0 ∷ []) $ fjoin ! $ move ! (1 ∷ 0 ∷ []) $ fjoin ! $ nothing ! $ fjoin ! $ nothing ! $ fjoin ! $ frame ! $
+        qed W (one ∷ ‵ (finally R (list .name) zs) ∷ four ∷ ‵ (finally u8 (trace .name) ts) ∷ ‵ (finally u8 (path .name) ps) ∷ []) ∵
+        suffices ! _ (ends-at 𝓤 H A into.ended stayed (into.clauses 𝓤 H A mem run) W ((κs, qs, tt, a, vals), tt) w r (tt, (tt, (tt, (ps, (ts, (zs, tt)))))) (tt, (tt, (tt, (lp, (lt, (lz, tt))))))) $ says ! e $
+        split ! $ move ! (3 ∷ []) $ split ! $ move ! (1 ∷ []) $ split ! $ move ! (1 ∷ []) $ split ! $ move ! (1 ∷ []) $ split ! $
+        move ! (5 ∷ 6 ∷ []) $ join ! $ move ! (1 ∷ 0 ∷ []) $ join ! $ move ! (2 ∷ 0 ∷ []) $ join ! $ move ! (2 ∷ 0 ∷ []) $ join ! $ move ! (2 ∷ 0 ∷ []) $ join ! $ frame ! $
+        move ! (1 ∷ 0 ∷ []) $ fjoin ! $ move ! (1 ∷ 0 ∷ []) $ fjoin ! $ move ! (1 ∷ 0 ∷ []) $ fjoin ! $ nothing ! $ fjoin ! $ nothing ! $ fjoin ! $ nothing ! $ fjoin ! $ frame ! $
         owned ! P.the-row (Is P.the-row) (LL.makes P.the-type P′.the-plain 𝓤 H A) r _ is $ done !
 
   module _ (f : Bool) (u : Val) (ts : Records) (v : Val) where
     -- `list::copy_into`, at the list's own lifetime, share and name
     abbrev to-copy : Copy 𝓤 H A mem run .Ghost
-    to-copy = (((κ₃, tt), (q₃, tt), tt, (list, (f, (ts, tt))), (slice list ∷ [], (u ∷ [], (v ∷ [], tt)))), tt)
+    to-copy = (((κ₄, tt), (q₄, tt), tt, (list, (f, (ts, tt))), (slice list ∷ [], (u ∷ [], (v ∷ [], tt)))), tt)
 
-    goes-copy : Is bool f (u ∷ []) → Is Five ts (v ∷ []) → ent 𝓤 (sep 𝓤 (sem 𝓤 H A Lent) (A .lft κ₃ q₃)) (Copy 𝓤 H A mem run .pre to-copy)
+    goes-copy : Is bool f (u ∷ []) → Is Five ts (v ∷ []) → ent 𝓤 (sep 𝓤 (sem 𝓤 H A Lent) (A .lft κ₄ q₄)) (Copy 𝓤 H A mem run .pre to-copy)
     goes-copy is-bool is-five =
-        qed W (‵ Lent ∷ ‵ (flft κ₃ q₃) ∷ []) ∵ nothing ! $ owned ! Five (Is Five) (array-makes 𝓤 H A W R (LL.makes T.the-type T′.the-plain 𝓤 H A) 5) ts _ is-five $ fjoin ! $
+        qed W (‵ Lent ∷ ‵ (flft κ₄ q₄) ∷ []) ∵ nothing ! $ owned ! Five (Is Five) (array-makes 𝓤 H A W R (LL.makes T.the-type T′.the-plain 𝓤 H A) 5) ts _ is-five $ fjoin ! $
         owned ! bool (Is bool) (bool-makes 𝓤 H A W) f _ is-bool $ fjoin ! $ move ! (1 ∷ 0 ∷ []) $ fjoin ! $ nothing ! $ move ! (2 ∷ 0 ∷ []) $ join ! $ join ! $ frame ! $ done !
 
   module _ (C : Calls 𝓤 H) (Λ : Loops 𝓤 H) (fm : FmC 𝓤 H (W .laws) C) (known-counted : Triple 𝓤 (C #explore-counted) (Counted 𝓤 H A mem run)) (known-ran : Triple 𝓤 (C #ran) (Ran 𝓤 H A mem run))
       (known-threads : Triple 𝓤 (C #threads-of) (Threads 𝓤 H A mem run)) (known-copy : Triple 𝓤 (C #copy-into) (Copy 𝓤 H A mem run)) where
-    walk : Room u8 (length (table .now)) → Is S.the-row d (m ∷ []) → Room u8 (length (path .now)) → Room u8 (length (trace .now)) → Room R n
-        → ent 𝓤 (onEntry 𝓤 H A into.signature κs qs a vals) (WpFn 𝓤 H C Λ code.function (slice table ∷ m ∷ slice path ∷ slice trace ∷ slice list ∷ []) Post)
-    walk table-room settings path-room trace-room list-room =
-        qed W (raw (onEntry 𝓤 H A into.signature κs qs a vals) ∷ []) ∵ enter ! C Λ code.function (slice table ∷ m ∷ slice path ∷ slice trace ∷ slice list ∷ []) _ $
-        alloc1 ! (λ l₀. alloc1 ! (λ l₁. alloc1 ! (λ l₂. alloc1 ! (λ l₃. alloc1 ! (λ l₄. alloc1 ! (λ l₅. alloc1 ! (λ l₆. alloc1 ! (λ l₇. alloc1 ! (λ l₈. alloc1 ! (λ l₉. alloc1 ! (λ l₁₀. alloc1 ! (λ l₁₁. alloc1 ! (λ l₁₂. alloc1 ! (λ l₁₃. alloc1 ! (λ l₁₄. alloc1 ! (λ l₁₅. alloc1 ! (λ l₁₆. alloc0 ! $ params1 ! $
-        pass1 ! (init ! 30 refl (tt, (tt, (record { fits = table-room .0 }, tt)))) $ pass1 ! (init ! 28 refl (LL.lawful S.the-type S′.the-laws 𝓤 H A W .typed d _ settings .0)) $ pass1 ! (init ! 26 refl (tt, (tt, (record { fits = path-room .0 }, tt)))) $
+    walk : Room u8 (length (table .now)) → Room u8 (length (condition .now)) → Is S.the-row d (m ∷ []) → Room u8 (length (path .now)) → Room u8 (length (trace .now)) → Room R n
+        → ent 𝓤 (onEntry 𝓤 H A into.signature κs qs a vals) (WpFn 𝓤 H C Λ code.function (slice table ∷ slice condition ∷ m ∷ slice path ∷ slice trace ∷ slice list ∷ []) Post)
+    walk table-room condition-room settings path-room trace-room list-room =
+        qed W (raw (onEntry 𝓤 H A into.signature κs qs a vals) ∷ []) ∵ enter ! C Λ code.function (slice table ∷ slice condition ∷ m ∷ slice path ∷ slice trace ∷ slice list ∷ []) _ $
+        alloc1 ! (λ l₀. alloc1 ! (λ l₁. alloc1 ! (λ l₂. alloc1 ! (λ l₃. alloc1 ! (λ l₄. alloc1 ! (λ l₅. alloc1 ! (λ l₆. alloc1 ! (λ l₇. alloc1 ! (λ l₈. alloc1 ! (λ l₉. alloc1 ! (λ l₁₀. alloc1 ! (λ l₁₁. alloc1 ! (λ l₁₂. alloc1 ! (λ l₁₃. alloc1 ! (λ l₁₄. alloc1 ! (λ l₁₅. alloc1 ! (λ l₁₆. alloc1 ! (λ l₁₇. alloc0 ! $ params1 ! $
+        pass1 ! (init ! 32 refl (tt, (tt, (record { fits = table-room .0 }, tt)))) $ pass1 ! (init ! 30 refl (tt, (tt, (record { fits = condition-room .0 }, tt)))) $ pass1 ! (init ! 28 refl (LL.lawful S.the-type S′.the-laws 𝓤 H A W .typed d _ settings .0)) $ pass1 ! (init ! 26 refl (tt, (tt, (record { fits = path-room .0 }, tt)))) $
         pass1 ! (init ! 24 refl (tt, (tt, (record { fits = trace-room .0 }, tt)))) $ pass1 ! (init ! 22 refl (tt, (tt, (record { fits = list-room .0 }, tt)))) $ pass0 ! $
-        -- [_16; …; _15; …; _0; …; what is had at entry]: local i stands at 32 - 2i
+        -- [_17; …; _16; …; _0; …; what is had at entry]: local i stands at 34 - 2i
         assigns ! (addr ! (from ! (fld ! refl (hop ! (look-in ! 26 (sub ! 0 refl (whole !))) (stop !))))) (from ! (stop !)) (init ! 18 refl (tt, tt)) $
         assigns ! (agg ! (and-then ! (load ! (from ! (stop !)) (look ! 18 refl)) (and-then ! (load ! (from ! (fld ! refl (stop !))) (look-in ! 26 (sub ! 1 refl (whole !)))) (no-more !)))) (from ! (stop !)) (init ! 16 refl (tt, (tt, (record { fits = path-room .0 }, tt)))) $
         assigns ! (addr ! (from ! (fld ! refl (hop ! (look-in ! 24 (sub ! 0 refl (whole !))) (stop !))))) (from ! (stop !)) (init ! 14 refl (tt, tt)) $
         assigns ! (agg ! (and-then ! (load ! (from ! (stop !)) (look ! 14 refl)) (and-then ! (load ! (from ! (fld ! refl (stop !))) (look-in ! 24 (sub ! 1 refl (whole !)))) (no-more !)))) (from ! (stop !)) (init ! 12 refl (tt, (tt, (record { fits = trace-room .0 }, tt)))) $
         assigns ! (of-opd ! (load ! (from ! (fld ! refl (stop !))) (look-in ! 22 (sub ! 1 refl (whole !))))) (from ! (stop !)) (init ! 10 refl (tt, record { fits = list-room .0 })) $
         -- `explore_counted`
-        move ! (34 ∷ []) $ use1 W (raw (Counted 𝓤 H A mem run .pre to-counted) ⊛ (‵ Lent ⊛ ‵ (flft κ₃ q₃))) (goes-counted list-room) $ split ! $
-        calls-at ! fm (Counted 𝓤 H A mem run) known-counted to-counted (and-then ! (load ! (from ! (stop !)) (look ! 32 refl)) (and-then ! (load ! (from ! (stop !)) (look ! 30 refl)) (and-then ! (load ! (from ! (stop !)) (look ! 18 refl)) (and-then ! (load ! (from ! (stop !)) (look ! 14 refl)) (and-then ! (load ! (from ! (stop !)) (look ! 12 refl)) (no-more !)))))) (λ w.
-        use1 W (later (some (λ (r : Report). (three ⊛ ‵ (P.the-row .own r (w ∷ []))) ⊛ raw (ensured 𝓤 H A counted.ended (counted.clauses 𝓤 H A mem run) (κ₀, (κ₁, (κ₂, tt))) passed tt r)))) (id⊢ 𝓤 _) $ await ! tt $ pick ! (λ r.
-        split ! $ move ! (1 ∷ []) $ use1 W (some (λ (ws : Unit {0} × (Unit {0} × (Bytes × (Bytes × (Unit {0} × Unit {0}))))). ‵ (lasts counted.ended (κ₀, (κ₁, (κ₂, tt))) passed ws) ⊛ raw (fact 𝓤 (Answered r (ws .1 .1 .0) (ws .1 .1 .1 .0))))) (id⊢ 𝓤 _) $ pick ! (λ ws.
-        split ! $ move ! (1 ∷ []) $ heard ! (Answered r (ws .1 .1 .0) (ws .1 .1 .1 .0)) (λ answered. fsplit ! $ drop ! $ fsplit ! $ drop ! $ fsplit ! $ fsplit ! $ move ! (1 ∷ []) $ feqL ! (λ same-path. move ! (1 ∷ []) $ fsplit ! $ fsplit ! $ move ! (1 ∷ []) $ feqL ! (λ same-trace.
-        -- [the last trace; true; the last path; the tokens and the report; the list and its token; _16; …]
+        move ! (36 ∷ []) $ use1 W (raw (Counted 𝓤 H A mem run .pre to-counted) ⊛ (‵ Lent ⊛ ‵ (flft κ₄ q₄))) (goes-counted list-room) $ split ! $
+        calls-at ! fm (Counted 𝓤 H A mem run) known-counted to-counted (and-then ! (load ! (from ! (stop !)) (look ! 34 refl)) (and-then ! (load ! (from ! (stop !)) (look ! 32 refl)) (and-then ! (load ! (from ! (stop !)) (look ! 30 refl)) (and-then ! (load ! (from ! (stop !)) (look ! 18 refl)) (and-then ! (load ! (from ! (stop !)) (look ! 14 refl)) (and-then ! (load ! (from ! (stop !)) (look ! 12 refl)) (no-more !))))))) (λ w.
+        use1 W (later (some (λ (r : Report). (four ⊛ ‵ (P.the-row .own r (w ∷ []))) ⊛ raw (ensured 𝓤 H A counted.ended (counted.clauses 𝓤 H A mem run) (κ₀, (κ₁, (κ₂, (κ₃, tt)))) passed tt r)))) (id⊢ 𝓤 _) $ await ! tt $ pick ! (λ r.
+        split ! $ move ! (1 ∷ []) $ use1 W (some (λ (ws : Unit {0} × (Unit {0} × (Unit {0} × (Bytes × (Bytes × (Unit {0} × Unit {0})))))). ‵ (lasts counted.ended (κ₀, (κ₁, (κ₂, (κ₃, tt)))) passed ws) ⊛ raw (fact 𝓤 (Answered r (ws .1 .1 .1 .0) (ws .1 .1 .1 .1 .0))))) (id⊢ 𝓤 _) $ pick ! (λ ws.
+        split ! $ move ! (1 ∷ []) $ heard ! (Answered r (ws .1 .1 .1 .0) (ws .1 .1 .1 .1 .0)) (λ answered. fsplit ! $ drop ! $ fsplit ! $ drop ! $ fsplit ! $ drop ! $ fsplit ! $ fsplit ! $ move ! (1 ∷ []) $ feqL ! (λ same-path. move ! (1 ∷ []) $ fsplit ! $ fsplit ! $ move ! (1 ∷ []) $ feqL ! (λ same-trace.
+        -- [the last trace; true; the last path; the tokens and the report; the list and its token; _17; …]
         move ! (1 ∷ []) $ drop ! $ move ! (2 ∷ []) $ split ! $ move ! (1 ∷ []) $ facts ! P.the-row (Is P.the-row) (shows 𝓤 H A P.the-row) r (w ∷ []) (λ is. land ! (from ! (stop !)) (init ! 24 refl (report-typed r w is)) $
-        -- [the tokens; the last trace; the last path; the list and its token; _16; …]: local i stands at 36 - 2i
+        -- [the tokens; the last trace; the last path; the list and its token; _17; …]: local i stands at 38 - 2i
         assigns ! (addr ! (from ! (fld ! refl (hop ! (look-in ! 26 (sub ! 0 refl (whole !))) (stop !))))) (from ! (stop !)) (init ! 10 refl (tt, tt)) $
         assigns ! (agg ! (and-then ! (load ! (from ! (stop !)) (look ! 10 refl)) (and-then ! (load ! (from ! (fld ! refl (stop !))) (look-in ! 26 (sub ! 1 refl (whole !)))) (no-more !)))) (from ! (stop !)) (init ! 8 refl (tt, (tt, (record { fits = list-room .0 }, tt)))) $
         -- `ran`
@@ -260,26 +263,29 @@ module _ {M : Type 1} (𝓤 : URA M) (H : Heap 𝓤) (A : Atoms 𝓤) (W : Given
         -- `list::copy_into`
         move ! (3 ∷ []) $ use1 W (raw (Copy 𝓤 H A mem run .pre (to-copy f u ts v))) (goes-copy f u ts v is-bool is-five) $
         calls-at ! fm (Copy 𝓤 H A mem run) known-copy (to-copy f u ts v) (and-then ! (load ! (from ! (stop !)) (look ! 8 refl)) (and-then ! (load ! (from ! (stop !)) (look ! 6 refl)) (and-then ! (load ! (from ! (stop !)) (look ! 4 refl)) (no-more !)))) (λ z.
-        use1 W (later (some (λ (e : Unit {0}). (one ⊛ ‵ (unit .own e (z ∷ []))) ⊛ raw (ensured 𝓤 H A copy.ended (copy.clauses 𝓤 H A mem run) (κ₃, tt) (list, (f, (ts, tt))) tt e)))) (id⊢ 𝓤 _) $ await ! tt $ pick ! (λ e.
-        split ! $ move ! (1 ∷ []) $ use1 W (some (λ (ys : Records × (Unit {0} × (Unit {0} × Unit {0}))). ‵ (lasts copy.ended (κ₃, tt) (list, (f, (ts, tt))) ys) ⊛ raw (fact 𝓤 (ys .0 ≡ cond (f && eqb n 5) ts (list .now))))) (id⊢ 𝓤 _) $ pick ! (λ ys.
+        use1 W (later (some (λ (e : Unit {0}). (one ⊛ ‵ (unit .own e (z ∷ []))) ⊛ raw (ensured 𝓤 H A copy.ended (copy.clauses 𝓤 H A mem run) (κ₄, tt) (list, (f, (ts, tt))) tt e)))) (id⊢ 𝓤 _) $ await ! tt $ pick ! (λ e.
+        split ! $ move ! (1 ∷ []) $ use1 W (some (λ (ys : Records × (Unit {0} × (Unit {0} × Unit {0}))). ‵ (lasts copy.ended (κ₄, tt) (list, (f, (ts, tt))) ys) ⊛ raw (fact 𝓤 (ys .0 ≡ cond (f && eqb n 5) ts (list .now))))) (id⊢ 𝓤 _) $ pick ! (λ ys.
         split ! $ move ! (1 ∷ []) $ heard ! (ys .0 ≡ cond (f && eqb n 5) ts (list .now)) (λ copied. fsplit ! $ fsplit ! $ move ! (1 ∷ []) $ feqL ! (λ same-list.
-        -- [the last list; true; its token and the result; the tokens; the last trace; the last path; _16; …]
+        -- [the last list; true; its token and the result; the tokens; the last trace; the last path; _17; …]
         move ! (1 ∷ []) $ drop ! $ move ! (1 ∷ []) $ split ! $ move ! (1 ∷ []) $ facts ! unit (Is unit) (shows 𝓤 H A unit) e (z ∷ []) (λ is-unit. land ! (from ! (stop !)) (init ! 13 refl (nothing-lawful 𝓤 H A W .typed e _ is-unit .0)) $
-        -- [its token; the last list; the tokens; the last trace; the last path; _16; …]: local i stands at 37 - 2i
-        assigns ! (of-opd ! (load ! (from ! (stop !)) (look ! 25 refl))) (from ! (stop !)) (init ! 37 refl (report-typed r w is)) $
-        returns ! (look ! 37 refl) $ forget ! 5 refl $ forget ! 7 refl $ forget ! 9 refl $ forget ! 11 refl $ forget ! 13 refl $ forget ! 15 refl $ forget ! 17 refl $ forget ! 19 refl $ forget ! 21 refl $ forget ! 23 refl $ forget ! 25 refl $ forget ! 27 refl $ forget ! 29 refl $ forget ! 31 refl $ forget ! 33 refl $ forget ! 35 refl $ forget ! 37 refl $
-        move ! (37 ∷ 38 ∷ 35 ∷ 36 ∷ 33 ∷ 34 ∷ 31 ∷ 32 ∷ 29 ∷ 30 ∷ 27 ∷ 28 ∷ 25 ∷ 26 ∷ 23 ∷ 24 ∷ 21 ∷ 22 ∷ 19 ∷ 20 ∷ 17 ∷ 18 ∷ 15 ∷ 16 ∷ 13 ∷ 14 ∷ 11 ∷ 12 ∷ 9 ∷ 10 ∷ 7 ∷ 8 ∷ 5 ∷ 6 ∷ []) $
-        free1 ! $ free1 ! $ free1 ! $ free1 ! $ free1 ! $ free1 ! $ free1 ! $ free1 ! $ free1 ! $ free1 ! $ free1 ! $ free1 ! $ free1 ! $ free1 ! $ free1 ! $ free1 ! $ free1 ! $ free0 ! $
-        by ! (exits r w is (ws .1 .1 .0) (ws .1 .1 .1 .0) (ys .0) same-path same-trace same-list
-        (listed (table .now) (settingsOf d) (path .now) (trace .now) (ws .1 .1 .0) (ws .1 .1 .1 .0) r (list .now) answered flag (copied ∙ ap (λ (rs : Records). cond (f && eqb n 5) rs (list .now)) summaries)))))))))))))))))))))))))))))))))))))))))
+        -- [its token; the last list; the tokens; the last trace; the last path; _17; …]: local i stands at 39 - 2i
+        assigns ! (of-opd ! (load ! (from ! (stop !)) (look ! 25 refl))) (from ! (stop !)) (init ! 39 refl (report-typed r w is)) $
+        returns ! (look ! 39 refl) $ forget ! 5 refl $ forget ! 7 refl $ forget ! 9 refl $ forget ! 11 refl $ forget ! 13 refl $ forget ! 15 refl $ forget ! 17 refl $ forget ! 19 refl $ forget ! 21 refl $ forget ! 23 refl $ forget ! 25 refl $ forget ! 27 refl $ forget ! 29 refl $ forget ! 31 refl $ forget ! 33 refl $ forget ! 35 refl $ forget ! 37 refl $ forget ! 39 refl $
+        move ! (39 ∷ 40 ∷ 37 ∷ 38 ∷ 35 ∷ 36 ∷ 33 ∷ 34 ∷ 31 ∷ 32 ∷ 29 ∷ 30 ∷ 27 ∷ 28 ∷ 25 ∷ 26 ∷ 23 ∷ 24 ∷ 21 ∷ 22 ∷ 19 ∷ 20 ∷ 17 ∷ 18 ∷ 15 ∷ 16 ∷ 13 ∷ 14 ∷ 11 ∷ 12 ∷ 9 ∷ 10 ∷ 7 ∷ 8 ∷ 5 ∷ 6 ∷ []) $
+        free1 ! $ free1 ! $ free1 ! $ free1 ! $ free1 ! $ free1 ! $ free1 ! $ free1 ! $ free1 ! $ free1 ! $ free1 ! $ free1 ! $ free1 ! $ free1 ! $ free1 ! $ free1 ! $ free1 ! $ free1 ! $ free0 ! $
+        by ! (exits r w is (ws .1 .1 .1 .0) (ws .1 .1 .1 .1 .0) (ys .0) same-path same-trace same-list
+        (listed (table .now) (condition .now) (settingsOf d) (path .now) (trace .now) (ws .1 .1 .1 .0) (ws .1 .1 .1 .1 .0) r (list .now) answered flag (copied ∙ ap (λ (rs : Records). cond (f && eqb n 5) rs (list .now)) summaries))))))))))))))))))))))))))))))))))))))))))
 
 module _ {M : Type 1} (𝓤 : URA M) (H : Heap 𝓤) (A : Atoms 𝓤) (W : Given 𝓤 H A) (mem : Memory → SProp 𝓤) (run : Routine → Fun 𝓤) where
-  goes : AllGo 𝓤 H A W 4 (into.signature .params) (into.ended .kept) stayed
+  goes : AllGo 𝓤 H A W 5 (into.signature .params) (into.ended .kept) stayed
   goes = (
-    goes-dropped 𝓤 H A W 4 (shrSliceOf (0 ∷ []) tt (plain (λ _. u8))) yes (λ κs x f. refl),
+    goes-dropped 𝓤 H A W 5 (shrSliceOf (0 ∷ []) tt (plain (λ _. u8))) yes (λ κs x f. refl),
     (
-      goes-dropped 𝓤 H A W 4 (plain (λ _. S.the-row)) yes (λ κs x f. refl),
-      (goes-gave-slice 𝓤 H A W 4 1 tt (plain (λ _. u8)), (goes-gave-slice 𝓤 H A W 4 2 tt (plain (λ _. u8)), (goes-gave-slice 𝓤 H A W 4 3 tt (plain (λ _. R)), tt))),
+      goes-dropped 𝓤 H A W 5 (shrSliceOf (1 ∷ []) tt (plain (λ _. u8))) yes (λ κs x f. refl),
+      (
+        goes-dropped 𝓤 H A W 5 (plain (λ _. S.the-row)) yes (λ κs x f. refl),
+        (goes-gave-slice 𝓤 H A W 5 2 tt (plain (λ _. u8)), (goes-gave-slice 𝓤 H A W 5 3 tt (plain (λ _. u8)), (goes-gave-slice 𝓤 H A W 5 4 tt (plain (λ _. R)), tt))),
+      ),
     ),
   )
 
@@ -287,11 +293,11 @@ module _ {M : Type 1} (𝓤 : URA M) (H : Heap 𝓤) (A : Atoms 𝓤) (W : Given
       (known-threads : Triple 𝓤 (C #threads-of) (Threads 𝓤 H A mem run)) (known-copy : Triple 𝓤 (C #copy-into) (Copy 𝓤 H A mem run)) where
     into-walks : Walks 𝓤 H A into.ended stayed (WpFn 𝓤 H C Λ code.function) (into.clauses 𝓤 H A mem run)
     into-walks = walked 𝓤 H A into.ended stayed (into.clauses 𝓤 H A mem run) (WpFn 𝓤 H C Λ code.function)
-        (λ κs. (slice-vals, (LL.vals S.the-type S′.the-laws, (slice-vals, (slice-vals, (slice-vals, tt))))))
-        (λ κs. (shr-slice-tells (named 0) (κs .0) u8, (LL.tells S.the-type S′.the-laws, (mut-slice-tells (named 1) (κs .1 .0) u8, (mut-slice-tells (named 2) (κs .1 .1 .0) u8, (mut-slice-tells (named 3) (κs .1 .1 .1 .0) R, tt))))))
-        (λ κs qs bounds a g are. via 𝓤 _ (fst∗ 𝓤 _ (emp 𝓤)) (walk 𝓤 H A W mem run (κs .0) (κs .1 .0) (κs .1 .1 .0) (κs .1 .1 .1 .0) (qs .0) (qs .1 .0) (qs .1 .1 .0) (qs .1 .1 .1 .0)
-        (a .0) (a .1 .0) (a .1 .1 .0) (a .1 .1 .1 .0) (a .1 .1 .1 .1 .0) C Λ fm known-counted known-ran known-threads known-copy
-        (are .0 .0 .1) (are .1 .0) (are .1 .1 .0 .0 .1) (are .1 .1 .1 .0 .0 .1) (are .1 .1 .1 .1 .0 .0 .1)))
+        (λ κs. (slice-vals, (slice-vals, (LL.vals S.the-type S′.the-laws, (slice-vals, (slice-vals, (slice-vals, tt)))))))
+        (λ κs. (shr-slice-tells (named 0) (κs .0) u8, (shr-slice-tells (named 1) (κs .1 .0) u8, (LL.tells S.the-type S′.the-laws, (mut-slice-tells (named 2) (κs .1 .1 .0) u8, (mut-slice-tells (named 3) (κs .1 .1 .1 .0) u8, (mut-slice-tells (named 4) (κs .1 .1 .1 .1 .0) R, tt)))))))
+        (λ κs qs bounds a g are. via 𝓤 _ (fst∗ 𝓤 _ (emp 𝓤)) (walk 𝓤 H A W mem run (κs .0) (κs .1 .0) (κs .1 .1 .0) (κs .1 .1 .1 .0) (κs .1 .1 .1 .1 .0) (qs .0) (qs .1 .0) (qs .1 .1 .0) (qs .1 .1 .1 .0) (qs .1 .1 .1 .1 .0)
+        (a .0) (a .1 .0) (a .1 .1 .0) (a .1 .1 .1 .0) (a .1 .1 .1 .1 .0) (a .1 .1 .1 .1 .1 .0) C Λ fm known-counted known-ran known-threads known-copy
+        (are .0 .0 .1) (are .1 .0 .0 .1) (are .1 .1 .0) (are .1 .1 .1 .0 .0 .1) (are .1 .1 .1 .1 .0 .0 .1) (are .1 .1 .1 .1 .1 .0 .0 .1)))
 
 into-meets : {M : Type 1} (𝓤 : URA M) (H : Heap 𝓤) (A : Atoms 𝓤) → Given 𝓤 H A → (mem : Memory → SProp 𝓤) (run : Routine → Fun 𝓤) (𝓣 : Tables 𝓤 H)
     → Triple 𝓤 (𝓣 .C #explore-counted) (Counted 𝓤 H A mem run) → Triple 𝓤 (𝓣 .C #ran) (Ran 𝓤 H A mem run) → Triple 𝓤 (𝓣 .C #threads-of) (Threads 𝓤 H A mem run) → Triple 𝓤 (𝓣 .C #copy-into) (Copy 𝓤 H A mem run)

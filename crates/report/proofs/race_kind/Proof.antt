@@ -1,4 +1,4 @@
-use Rattle.report.proofs.CaseLaws.{no-fault, raceless}
+use Rattle.report.proofs.CaseLaws.{no-fault, raceless, raced}
 use borrow.Author.Needs.{needs}
 use Rattle.report.proofs.race_kind.Statement.{statement}
 use Rattle.report.proofs.race_kind.Tie as tie
@@ -19,7 +19,7 @@ cast-result : tie.Need-cast-result
 cast-result c = search needs
 
 returns-3 : tie.Need-returns-3
-returns-3 c = search needs
+returns-3 c = raced _ _ _ (c .before .before .before .before .answer .given .1) (c .before .fault .given .1) .0
 
 pub race-kind-spec : {M : Type 1} → statement M
 race-kind-spec =

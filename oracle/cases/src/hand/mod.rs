@@ -1,5 +1,6 @@
 //! Cases built by hand, each with a line that says what it shows and the answer it is built for.
 
+mod claims;
 mod fences;
 mod flags;
 mod limits;
@@ -36,6 +37,7 @@ pub fn all() -> Vec<Hand> {
         fences::all(),
         orders::all(),
         refused::all(),
+        claims::all(),
     ]
     .concat()
 }
@@ -51,6 +53,7 @@ fn hand(name: &str, answer: u64, program: Program) -> Hand {
         trace: 16 * 64,
         list: None,
         table: program.table(),
+        condition: Vec::new(),
     };
     Hand { shows: String::new(), answer, case }
 }

@@ -132,8 +132,9 @@ fn given(case: &Case) -> String {
         "record {{ branches = {}; operations = {}; executions = {}; bound = {bound}; exploring = {} }}",
         s.branches, s.operations, s.executions, s.exploring
     );
-    let table = list(case.table.iter().map(|&byte| byte.into()), "[]");
-    let run = format!("({table}) ({settings}) (pattern {}) (pattern {})", case.path, case.trace);
+    let bytes = |bytes: &[u8]| list(bytes.iter().map(|&byte| byte.into()), "[]");
+    let program = format!("({}) ({})", bytes(&case.table), bytes(&case.condition));
+    let run = format!("{program} ({settings}) (pattern {}) (pattern {})", case.path, case.trace);
     match case.list {
         None => format!("told (explored {run})"),
         Some(places) => format!("toldInto (exploredInto {run} (records {places}))"),
@@ -203,7 +204,7 @@ mod tests {
                         bound = unbounded; exploring = true }";
         assert_eq!(
             given,
-            format!("told (explored ({table}) ({settings}) (pattern 48) (pattern 16))")
+            format!("told (explored ({table}) ([]) ({settings}) (pattern 48) (pattern 16))")
         );
         assert!(stated.starts_with("((0 ∷ 1 ∷ 0 ∷ 0 ∷ 1 ∷ 255 ∷ 255 ∷ 0 ∷ 255 ∷ 4 ∷ "), "{stated}");
         assert!(stated.ends_with(" 0) ∷ [])"), "{stated}");
@@ -227,6 +228,13 @@ mod tests {
         assert!(after(ListLeft::Unchanged).ends_with(") ∷ summaries (records 5) ∷ [])"));
         let five = list(answer.numbers[9..].iter().copied(), "[]");
         assert!(after(ListLeft::Summaries).ends_with(&format!(") ∷ ({five}) ∷ [])")));
+    }
+
+    #[test]
+    fn a_condition_is_stated_behind_the_table() {
+        let (mut case, _) = first();
+        case.condition = vec![1, 0, 0, 7];
+        assert!(given(&case).contains(" ∷ []) (1 ∷ 0 ∷ 0 ∷ 7 ∷ []) (record { branches"));
     }
 
     #[test]

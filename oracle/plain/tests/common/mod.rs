@@ -266,13 +266,28 @@ pub fn value(entry: &[u8; 16]) -> u64 {
 
 /// Runs with buffers of the right lengths.
 pub fn run(table: &[u8], settings: &Settings) -> Left {
+    run_claimed(table, &[], settings)
+}
+
+/// The same with a final condition.
+pub fn run_claimed(table: &[u8], condition: &[u8], settings: &Settings) -> Left {
     let path = 16 * settings.branches.min(2_000) as usize;
     let trace = 16 * settings.operations.min(5_000) as usize;
-    run_in(table, settings, path, trace, 5)
+    run_all(table, condition, settings, (path, trace, 5))
+}
+
+/// Runs without condition, with buffers of any lengths.
+pub fn run_in(table: &[u8], settings: &Settings, path: usize, trace: usize, list: usize) -> Left {
+    run_all(table, &[], settings, (path, trace, list))
 }
 
 /// Runs all three entries, which have to agree, and tests what must hold of every run.
-pub fn run_in(table: &[u8], settings: &Settings, path: usize, trace: usize, list: usize) -> Left {
+fn run_all(
+    table: &[u8],
+    condition: &[u8],
+    settings: &Settings,
+    (path, trace, list): (usize, usize, usize),
+) -> Left {
     let before = Summary {
         state: 7,
         rows: 7,
@@ -284,15 +299,16 @@ pub fn run_in(table: &[u8], settings: &Settings, path: usize, trace: usize, list
     let (path_bytes, trace_bytes) = (&mut left.path, &mut left.trace);
     left.report = plain::explore_watched(
         table,
+        condition,
         settings,
         path_bytes,
         trace_bytes,
         Some(&mut summaries),
         |path, trace| left.history.push((path.to_vec(), trace.to_vec())),
     );
-    agrees_with_list(&left, table, settings, &summaries);
+    agrees_with_list(&left, [table, condition], settings, &summaries);
     if list == 5 {
-        agrees_without_list(&left, table, settings);
+        agrees_without_list(&left, [table, condition], settings);
     }
     if (2..=5).contains(&left.report.answer) {
         let untouched = dirty(path, trace);
@@ -317,7 +333,12 @@ fn dirty(path: usize, trace: usize) -> Left {
     }
 }
 
-fn agrees_with_list(left: &Left, table: &[u8], settings: &Settings, list: &[Summary]) {
+fn agrees_with_list(
+    left: &Left,
+    [table, condition]: [&[u8]; 2],
+    settings: &Settings,
+    list: &[Summary],
+) {
     let mut again = dirty(left.path.len(), left.trace.len());
     let mut summaries = vec![
         Summary {
@@ -330,6 +351,7 @@ fn agrees_with_list(left: &Left, table: &[u8], settings: &Settings, list: &[Summ
     ];
     let report = plain::explore_into(
         table,
+        condition,
         settings,
         &mut again.path,
         &mut again.trace,
@@ -339,9 +361,10 @@ fn agrees_with_list(left: &Left, table: &[u8], settings: &Settings, list: &[Summ
     assert!(again.path == left.path && again.trace == left.trace);
 }
 
-fn agrees_without_list(left: &Left, table: &[u8], settings: &Settings) {
+fn agrees_without_list(left: &Left, [table, condition]: [&[u8]; 2], settings: &Settings) {
     let mut again = dirty(left.path.len(), left.trace.len());
-    let report = plain::explore(table, settings, &mut again.path, &mut again.trace);
+    let (path, trace) = (&mut again.path, &mut again.trace);
+    let report = plain::explore(table, condition, settings, path, trace);
     assert_eq!(report, left.report);
     assert!(again.path == left.path && again.trace == left.trace);
 }

@@ -6,7 +6,7 @@ use Rattle.replay.proofs.fields.split.Statement.{statement}
 use Rattle.replay.proofs.fields.split.Tie as tie
 
 abbrev Inv-loop : tie.InvT-loop
-Inv-loop line starts₀ count₀ i₀ starts count i = (i ≤ length line) × (count ≤ 43)
+Inv-loop line starts₀ count₀ i₀ starts count i = (i ≤ length line) × (count ≤ 44)
 
 abbrev μ-loop : tie.MeasureT-loop
 μ-loop line starts₀ count₀ i₀ starts count i = length line - i

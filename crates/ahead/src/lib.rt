@@ -1,0 +1,114 @@
+// What lies ahead in a text, by the first word of each line; and the line and column of a place.
+ghost use mathlib.Core.Path.{_≡_};
+ghost use Prim.Native.Nat.{_<_, _^_};
+ghost use lib.ListN.{drop};
+ghost use Rattle.rules.specs.Text.{rowsAhead, threadsAhead};
+ghost use Rattle.ahead.specs.Counts.{Counts, Placed, Behind, rowOf, threadOf};
+
+// A line and a column, both from 1, the column in bytes.
+pub struct Place {
+    pub line: usize,
+    pub column: usize,
+}
+
+// The rows from here on up to the next thread, to the condition or to the end; so many lines at most.
+pub fn rows_ahead(text: &[u8], at: usize, lines: usize) -> usize
+    ensures { λ r. ⌜ Counts r lines (rowsAhead lines (drop at (now (text .entry)))) ⌝ }
+{
+    let mut rows = 0;
+    let mut from = at;
+    let mut left = lines;
+    while 0 < left {
+        let here = token::skip(text, from);
+        let to = token::token_end(text, here);
+        if text.len() <= here {
+            return rows;
+        }
+        if token::is_word(text, here, to, b"thread") {
+            return rows;
+        }
+        if token::is_word(text, here, to, b"finally") {
+            return rows;
+        }
+        rows += row_of(text, here);
+        from = token::next_line(text, here);
+        left -= 1;
+    }
+    rows
+}
+
+// One, where a token stands here.
+fn row_of(text: &[u8], at: usize) -> usize
+    ensures { λ r. ⌜ Counts r 1 (rowOf (drop at (now (text .entry)))) ⌝ }
+{
+    if token::ends_line(text, at) {
+        return 0;
+    }
+    1
+}
+
+// The threads from here on; so many lines at most.
+pub fn threads_ahead(text: &[u8], at: usize, lines: usize) -> usize
+    ensures { λ r. ⌜ Counts r lines (threadsAhead lines (drop at (now (text .entry)))) ⌝ }
+{
+    let mut threads = 0;
+    let mut from = at;
+    let mut left = lines;
+    while 0 < left {
+        let here = token::skip(text, from);
+        let to = token::token_end(text, here);
+        if text.len() <= here {
+            return threads;
+        }
+        if token::is_word(text, here, to, b"finally") {
+            return threads;
+        }
+        threads += thread_of(text, here, to);
+        from = token::next_line(text, here);
+        left -= 1;
+    }
+    threads
+}
+
+// One, where the token says "thread".
+fn thread_of(text: &[u8], at: usize, to: usize) -> usize
+    ensures { λ r. ⌜ Counts r 1 (threadOf at to (now (text .entry))) ⌝ }
+{
+    if token::is_word(text, at, to, b"thread") {
+        return 1;
+    }
+    0
+}
+
+// The line and column of a place.
+pub fn place_of(text: &[u8], at: usize) -> Place
+    ensures { λ r. ⌜ Placed (now (text .entry)) (drop at (now (text .entry))) r ⌝ }
+{
+    let mut line = 1;
+    let mut column = 1;
+    let mut i = 0;
+    while i < at && i < text.len() {
+        let next = behind(line, column, text[i]);
+        line = next.line;
+        column = next.column;
+        i += 1;
+    }
+    Place { line, column }
+}
+
+// The place behind a byte.
+fn behind(line: usize, column: usize, byte: u8) -> Place
+    requires { ⌜ (line < 2 ^ 63) × (column < 2 ^ 63) ⌝ }
+    ensures { λ r. ⌜ Behind line column byte r ⌝ }
+{
+    if byte == b'\n' {
+        return Place {
+            line: line + 1,
+            column: 1,
+        };
+    }
+    Place {
+        line,
+        column: column + 1,
+    }
+}

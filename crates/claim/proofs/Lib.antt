@@ -1,0 +1,2 @@
+pub mod FineLaws
+mod UnitLaws

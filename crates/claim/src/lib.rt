@@ -1,0 +1,123 @@
+// A final condition as a line of text.
+ghost use mathlib.Core.Path.{_≡_};
+ghost use mathlib.Core.Bool.{false};
+ghost use Prim.Native.Nat.{_+_, _<_, _≤_};
+ghost use lib.ListN.{length, getD, drop};
+ghost use Rattle.rules.specs.Condition.{isSign};
+ghost use Rattle.rules.specs.Writer.{blankBefore, unitsShown, conditionShown};
+ghost use Rattle.put.specs.Puts.{Puts};
+ghost use Rattle.claim.specs.Units.{Units, markShown, comparisonShown, unitShown, unitBytes};
+use condition::AT_LEAST;
+use condition::CLOSES;
+use condition::COMPARISON;
+use condition::EQUALS;
+use condition::OPENS;
+use put::put_byte;
+use put::put_bytes;
+use put::put_number;
+use table::little::u64_at;
+
+// The condition's line, unless there is none.
+pub fn put_condition(text: &mut [u8], at: usize, condition: &[u8]) -> usize
+    requires { ⌜ Units (now condition) ⌝ }
+    ensures { λ r. ⌜ Puts (now (text .entry)) (now (text .exit)) at (conditionShown (now (condition .entry))) r ⌝ }
+{
+    if condition.len() == 0 {
+        return at;
+    }
+    let first = put_bytes(text, at, b"finally");
+    let behind = put_units(text, first, condition);
+    put_byte(text, behind, b'\n')
+}
+
+// Its signs, words and comparisons.
+fn put_units(text: &mut [u8], at: usize, condition: &[u8]) -> usize
+    requires { ⌜ Units (now condition) ⌝ }
+    ensures { λ r. ⌜ Puts (now (text .entry)) (now (text .exit)) at (unitsShown (length (now (condition .entry))) false (now (condition .entry))) r ⌝ }
+{
+    let mut to = at;
+    let mut from = 0;
+    let mut opened = false;
+    let mut left = condition.len();
+    while 0 < left {
+        if condition.len() <= from {
+            return to;
+        }
+        to = put_unit(text, to, condition, from, opened);
+        opened = condition[from] == OPENS;
+        from += unit_bytes(condition[from]);
+        left -= 1;
+    }
+    to
+}
+
+// The one that begins here. A blank stands before it, but not behind `(` and not before `)`.
+fn put_unit(text: &mut [u8], at: usize, condition: &[u8], from: usize, opened: bool) -> usize
+    requires { ⌜ Units (drop from (now condition)) × (from < length (now condition)) ⌝ }
+    ensures { λ r. ⌜ Puts (now (text .entry)) (now (text .exit)) at (unitShown opened (getD (now (condition .entry)) from 0) (drop (from + 1) (now (condition .entry)))) r ⌝ }
+{
+    let byte = condition[from];
+    let first = put_blank(text, at, opened, byte);
+    if is_sign(byte) {
+        return put_comparison(text, first, condition, from);
+    }
+    put_mark(text, first, byte)
+}
+
+fn put_blank(text: &mut [u8], at: usize, opened: bool, byte: u8) -> usize
+    ensures { λ r. ⌜ Puts (now (text .entry)) (now (text .exit)) at (blankBefore opened byte) r ⌝ }
+{
+    if opened | (byte == CLOSES) {
+        return at;
+    }
+    put_byte(text, at, b' ')
+}
+
+// A comparison: the thread's register, the sign, the number.
+fn put_comparison(text: &mut [u8], at: usize, condition: &[u8], from: usize) -> usize
+    requires { ⌜ (from + 11 ≤ length (now condition)) × (getD (now condition) (from + 1) 0 < 10) × (getD (now condition) (from + 2) 0 < 10) ⌝ }
+    ensures { λ r. ⌜ Puts (now (text .entry)) (now (text .exit)) at (comparisonShown (getD (now (condition .entry)) from 0) (drop (from + 1) (now (condition .entry)))) r ⌝ }
+{
+    let thread = 48 + condition[from + 1];
+    let register = 48 + condition[from + 2];
+    let name = [thread, b'.', b'r', register, b' '];
+    let named = put_bytes(text, at, &name);
+    let signed = put_mark(text, named, condition[from]);
+    let blank = put_byte(text, signed, b' ');
+    put_number(text, blank, u64_at(condition, from + 3))
+}
+
+// The sign or word that a byte is; nothing where it is none.
+fn put_mark(text: &mut [u8], at: usize, byte: u8) -> usize
+    ensures { λ r. ⌜ Puts (now (text .entry)) (now (text .exit)) at (markShown byte) r ⌝ }
+{
+    match byte {
+        0 => put_bytes(text, at, b"="),
+        1 => put_bytes(text, at, b"="),
+        2 => put_bytes(text, at, b"!="),
+        3 => put_bytes(text, at, b"<"),
+        4 => put_bytes(text, at, b"<="),
+        5 => put_bytes(text, at, b">"),
+        6 => put_bytes(text, at, b">="),
+        7 => put_bytes(text, at, b"("),
+        8 => put_bytes(text, at, b")"),
+        9 => put_bytes(text, at, b"and"),
+        10 => put_bytes(text, at, b"or"),
+        _ => at,
+    }
+}
+
+fn unit_bytes(byte: u8) -> usize
+    ensures { λ r. ⌜ r ≡ unitBytes byte ⌝ }
+{
+    if is_sign(byte) {
+        return COMPARISON;
+    }
+    1
+}
+
+fn is_sign(byte: u8) -> bool
+    ensures { λ r. ⌜ r ≡ isSign byte ⌝ }
+{
+    (EQUALS <= byte) & (byte <= AT_LEAST)
+}

@@ -1,0 +1,4 @@
+pub mod ByteLaws
+mod ClaimLaws
+mod ConcludeLaws
+mod UnitLaws

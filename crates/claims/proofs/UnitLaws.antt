@@ -1,0 +1,223 @@
+-- What stands at a place of a condition. Assumes nothing.
+--     place-bounds, register-most     a word's place in a list, and a thread's register
+--     mark-..          a bracket, "and" or "or"
+--     number-.., sign-..     behind a thread's register
+--     unit-..          the whole unit
+use Prim.Native.Nat.{ℕ, suc, _+_, _-_, _*_, _≤_, _<_}
+use mathlib.Core.List.{List, [], _∷_}
+use mathlib.Core.Bool.{Bool, true, false, cond, not, _&&_, and-eq-true-iff}
+use mathlib.Core.Path.{_≡_, refl, ap, sym, _∙_}
+use native.Mathlib.Omega.{arith}
+use borrow.Author.Tests.{le-leb, lt-leb, leb-true}
+use lib.Dec.{leb, eqb}
+use lib.ListN.{length, getD, take, drop, replicate}
+use Rattle.rules.specs.Vector.{equal}
+use Rattle.rules.specs.Event.{little}
+use Rattle.rules.specs.Condition.{isSign}
+use Rattle.rules.specs.Token.{Found, nothing, found, only, onlyIf, isBetween, content, token, pastToken, tokenLength, numberIn, placeIn}
+use Rattle.rules.specs.Text.{marks, markIn, threadRegisterIn, comparisonOf, numberBehind, signBehind, unitAt}
+use Rattle.rules.specs.Text as rules
+use Rattle.token.specs.Places.{part}
+use Rattle.token.proofs.PlaceLaws.{left-by, part-token}
+use Rattle.claims.specs.Units.{Stands, unitOf, markAt, brokenOf}
+use Rattle.claims.specs.declared.Unit.{Unit}
+
+-- Bounds
+
+place-bounds : (i : ℕ) (word : List ℕ) (ws : List (List ℕ)) (v : ℕ) → placeIn i word ws ≡ found v → (i ≤ v) × (v < i + length ws)
+unfolding placeIn
+place-bounds i word [] v e = let z : _≡_ {A = ℕ} 0 1 = cc in absurd (omega arith)
+place-bounds i word (w ∷ ws) v e =
+    (elim (equal word w)
+    as (λ t. elim t [ true ↦ found i | false ↦ placeIn (i + 1) word ws ] ≡ found v → (i ≤ v) × (v < i + suc (length ws))) [
+      | true ↦ λ h. let z : i ≡ v = cc in (omega arith, omega arith)
+      | false ↦ λ h. let r = place-bounds (i + 1) word ws v h in (omega (arith, r .0), omega (arith, r .1))
+    ]) e
+
+pub mark-least : (word : List ℕ) (v : ℕ) → markIn word ≡ found v → 1 ≤ v
+mark-least word v e = place-bounds 1 word marks v e .0
+
+pub mark-most : (word : List ℕ) (v : ℕ) → markIn word ≡ found v → v ≤ 10
+mark-most word v e = omega (arith, place-bounds 1 word marks v e .1)
+
+only-is : (t : Bool) (v w : ℕ) → onlyIf t v ≡ found w → t ≡ true
+only-is true v w e = refl
+only-is false v w e = cc
+
+only-value : (t : Bool) (v w : ℕ) → onlyIf t v ≡ found w → v ≡ w
+only-value true v w e = cc
+only-value false v w e = cc
+
+and-first : (a b : Bool) → a && b ≡ true → a ≡ true
+and-first a b e = and-eq-true-iff a b .0 e .0
+
+and-second : (a b : Bool) → a && b ≡ true → b ≡ true
+and-second a b e = and-eq-true-iff a b .0 e .1
+
+between-most : (least most b : ℕ) → isBetween least most b ≡ true → b ≤ most
+between-most least most b e = leb-true b most (and-second (leb least b) (leb b most) e)
+
+pub register-most : (word : List ℕ) (v : ℕ) → threadRegisterIn word ≡ found v → v < 20
+unfolding threadRegisterIn
+register-most word v e =
+    let a : Bool = eqb (length word) 4 in
+    let b : Bool = isBetween 48 52 (getD word 0 0) in
+    let c : Bool = eqb (getD word 1 0) 46 in
+    let d : Bool = eqb (getD word 2 0) 114 in
+    let f : Bool = isBetween 48 51 (getD word 3 0) in
+    let t : a && b && c && d && f ≡ true = only-is (a && b && c && d && f) _ _ e in
+    let w : 4 * (getD word 0 0 - 48) + (getD word 3 0 - 48) ≡ v = only-value (a && b && c && d && f) _ _ e in
+    let first : getD word 0 0 ≤ 52 = between-most 48 52 _ (and-second a b (and-first (a && b) c (and-first (a && b && c) d (and-first (a && b && c && d) f t)))) in
+    let last : getD word 3 0 ≤ 51 = between-most 48 51 _ (and-second (a && b && c && d) f t) in
+    omega arith
+
+-- A bracket, "and" or "or"
+
+abbrev notSign : ℕ → Bool
+notSign b = not (isSign b)
+
+-- what comes of a word, by what it stands for
+abbrev markThen : List ℕ → Found → rules.Unit
+markThen rest f = elim f [ nothing ↦ rules.none | found b ↦ rules.unit (b ∷ []) rest ]
+
+is-none : (text : List ℕ) (u : Unit) → u .size ≡ 0 → unitOf text u ≡ rules.none
+is-none text u s = rw s
+
+sign-yes : (v : ℕ) → 1 ≤ v → v ≤ 6 → isSign v ≡ true
+sign-yes v l h = rw (le-leb 1 v l, le-leb v 6 h)
+
+sign-not : (v : ℕ) → 1 ≤ v → 6 < v → isSign v ≡ false
+sign-not v l h = rw (le-leb 1 v l, lt-leb v 6 h)
+
+only-by : (p : ℕ → Bool) (f : Found) (v : ℕ) (t : Bool) → f ≡ found v → p v ≡ t → only p f ≡ onlyIf t v
+only-by p f v t e h = ap (only p) e ∙ ap (λ (s : Bool). onlyIf s v) h
+
+module _ (text : List ℕ) (at to : ℕ) where
+  pub mark-none : (u : Unit) → (u .size ≡ 0) × (u .bytes ≡ replicate 11 0) → markIn (part at to text) ≡ nothing → Stands text (markAt at to text) u
+  mark-none u s m = record { is = is-none text u (s .0) ∙ sym (ap (λ (f : Found). markThen (drop to text) (only notSign f)) m); small = omega (arith, s .0); long = ap length (s .1) }
+
+  module _ (v : ℕ) (m : markIn (part at to text) ≡ found v) where
+    pub mark-sign : (u : Unit) → (u .size ≡ 0) × (u .bytes ≡ replicate 11 0) → v ≤ 6 → Stands text (markAt at to text) u
+    mark-sign u s h =
+        let e : only notSign (markIn (part at to text)) ≡ nothing = only-by notSign _ v false m (ap not (sign-yes v (mark-least _ v m) h)) in
+        record { is = is-none text u (s .0) ∙ sym (ap (markThen (drop to text)) e); small = omega (arith, s .0); long = ap length (s .1) }
+
+    pub mark-here : 6 < v → Stands text (markAt at to text) (record { whole = true; size = 1; bytes = v ∷ 0 ∷ 0 ∷ 0 ∷ 0 ∷ 0 ∷ 0 ∷ 0 ∷ 0 ∷ 0 ∷ 0 ∷ []; at = to })
+    mark-here h =
+        let e : only notSign (markIn (part at to text)) ≡ found v = only-by notSign _ v true m (ap not (sign-not v (mark-least _ v m) h)) in
+        record { is = sym (ap (markThen (drop to text)) e); small = omega arith; long = refl }
+
+-- Behind a thread's register
+
+abbrev numberThen : ℕ → ℕ → List ℕ → Found → rules.Unit
+numberThen register sign bs f =
+    elim f [
+      | nothing ↦ rules.broken (comparisonOf 1 register 0) bs
+      | found n ↦ rules.unit (comparisonOf sign register n) (pastToken bs)
+    ]
+
+abbrev signThen : ℕ → ℕ → List ℕ → Found → rules.Unit
+signThen lines register bs f =
+    elim f [
+      | nothing ↦ rules.broken (comparisonOf 1 register 0) bs
+      | found sign ↦ numberBehind lines register sign (pastToken bs)
+    ]
+
+-- the token that stands where there is content
+module _ (text : List ℕ) (lines at to register : ℕ) (bs : List ℕ) (left : drop at text ≡ content lines bs) (long : to ≡ at + tokenLength (drop at text)) where
+  word-there : part at to text ≡ token (content lines bs)
+  word-there = part-token text at to long ∙ ap token left
+
+  past-there : drop to text ≡ pastToken (content lines bs)
+  past-there = left-by text at to _ long ∙ ap pastToken left
+
+  is-broken : unitOf text (brokenOf register at) ≡ rules.broken (comparisonOf 1 register 0) (content lines bs)
+  unfolding little
+  is-broken = ap (rules.broken (comparisonOf 1 register 0)) left
+
+  broken-long : length (comparisonOf 1 register 0) ≡ 11
+  unfolding little
+  broken-long = refl
+
+  module _ (sign : ℕ) where
+    number-there : (f : Found) → numberIn (part at to text) ≡ f → numberThen register sign (content lines bs) f ≡ numberBehind lines register sign bs
+    number-there f e = ap (numberThen register sign (content lines bs)) (sym e ∙ ap numberIn word-there)
+
+    pub number-broken : (u : Unit) → u ≡ brokenOf register at → numberIn (part at to text) ≡ nothing → Stands text (numberBehind lines register sign bs) u
+    number-broken u b e = rw b (record { is = is-broken ∙ number-there nothing e; small = omega arith; long = broken-long })
+
+    compared-of : (v : ℕ) → take 11 (comparisonOf sign register v) ≡ comparisonOf sign register v
+    unfolding little
+    compared-of v = refl
+
+    compared-long : (v : ℕ) → length (take 11 (comparisonOf sign register v)) ≡ 11
+    unfolding little
+    compared-long v = refl
+
+    pub number-here : (bytes : List ℕ) (v : ℕ) → bytes ≡ comparisonOf sign register v → numberIn (part at to text) ≡ found v
+        → Stands text (numberBehind lines register sign bs) (record { whole = true; size = 11; bytes = bytes; at = to })
+    number-here bytes v b e = record {
+      is =
+          ap (λ (x : List ℕ). rules.unit x (drop to text)) (ap (take 11) b ∙ compared-of v)
+          ∙ ap (rules.unit (comparisonOf sign register v)) past-there
+          ∙ number-there (found v) e;
+      small = omega arith;
+      long = ap length (b ∙ sym (compared-of v)) ∙ compared-long v;
+    }
+
+  sign-there : (f : Found) → only isSign (markIn (part at to text)) ≡ f → signThen lines register (content lines bs) f ≡ signBehind lines register bs
+  sign-there f e = ap (signThen lines register (content lines bs)) (sym e ∙ ap (λ (w : List ℕ). only isSign (markIn w)) word-there)
+
+  pub sign-none : (u : Unit) → u ≡ brokenOf register at → markIn (part at to text) ≡ nothing → Stands text (signBehind lines register bs) u
+  sign-none u b e = rw b (record { is = is-broken ∙ sign-there nothing (ap (only isSign) e); small = omega arith; long = broken-long })
+
+  module _ (v : ℕ) (m : markIn (part at to text) ≡ found v) where
+    pub sign-other : (u : Unit) → u ≡ brokenOf register at → 6 < v → Stands text (signBehind lines register bs) u
+    sign-other u b h =
+        rw b (record { is = is-broken ∙ sign-there nothing (only-by isSign _ v false m (sign-not v (mark-least _ v m) h)); small = omega arith; long = broken-long })
+
+    pub sign-here : (u : Unit) → v ≤ 6 → Stands text (numberBehind lines register v (drop to text)) u → Stands text (signBehind lines register bs) u
+    sign-here u h s = record {
+      is =
+          s .is
+          ∙ ap (numberBehind lines register v) past-there
+          ∙ sign-there (found v) (only-by isSign _ v true m (sign-yes v (mark-least _ v m) h));
+      small = s .small;
+      long = s .long;
+    }
+
+-- The whole unit
+
+abbrev unitThen : ℕ → List ℕ → Found → rules.Unit
+unitThen lines bs f =
+    elim f [
+      | found at ↦ signBehind lines at (pastToken bs)
+      | nothing ↦ markThen (pastToken bs) (only notSign (markIn (token bs)))
+    ]
+
+unit-next : (lines : ℕ) (bs : List ℕ) → unitAt lines bs ≡ unitThen lines bs (threadRegisterIn (token bs))
+unfolding unitAt
+unit-next lines bs = refl
+
+module _ (text : List ℕ) (lines at to : ℕ) (long : to ≡ at + tokenLength (drop at text)) where
+  named : (f : Found) → threadRegisterIn (part at to text) ≡ f → unitThen lines (drop at text) f ≡ unitAt lines (drop at text)
+  named f e =
+      ap (unitThen lines (drop at text)) (sym e ∙ ap threadRegisterIn (part-token text at to long)) ∙ sym (unit-next lines (drop at text))
+
+  pub unit-mark : (u : Unit) → threadRegisterIn (part at to text) ≡ nothing → Stands text (markAt at to text) u → Stands text (unitAt lines (drop at text)) u
+  unit-mark u e s = record {
+    is =
+        s .is
+        ∙ ap (λ (w : List ℕ). markThen (drop to text) (only notSign (markIn w))) (part-token text at to long)
+        ∙ ap (λ (r : List ℕ). markThen r (only notSign (markIn (token (drop at text))))) (left-by text at to _ long)
+        ∙ named nothing e;
+    small = s .small;
+    long = s .long;
+  }
+
+  pub unit-compared : (u : Unit) (v : ℕ) → threadRegisterIn (part at to text) ≡ found v → Stands text (signBehind lines v (drop to text)) u → Stands text (unitAt lines (drop at text)) u
+  unit-compared u v e s = record {
+    is = s .is ∙ ap (signBehind lines v) (left-by text at to _ long) ∙ named (found v) e;
+    small = s .small;
+    long = s .long;
+  }

@@ -1,0 +1,51 @@
+use mathlib.Core.Path.{_≡_, sym, ap, _∙_}
+use Rattle.token.specs.Finds.{foundOf}
+use Rattle.claims.proofs.UnitLaws.{register-most, unit-mark, unit-compared}
+use borrow.Author.Needs.{needs}
+use Rattle.claims.proofs.unit_at.Statement.{statement}
+use Rattle.claims.proofs.unit_at.Tie as tie
+
+token-end-requires : tie.Need-token-end-requires
+token-end-requires c κs = search needs
+
+thread-register-requires : tie.Need-thread-register-requires
+thread-register-requires c κs = search needs
+
+enum-known-register : tie.Need-enum-known-register
+enum-known-register c = search needs
+
+enum-told : tie.Need-enum-told
+enum-told c = search needs
+
+mark-at-requires : tie.Need-mark-at-requires
+mark-at-requires c κs = search needs
+
+returns : tie.Need-returns
+returns c =
+    let got = c .before .before .before in
+    unit-mark _ _ _ _ (got .before .token-end .ensures) _ (sym (got .thread-register .ensures) ∙ ap foundOf (c .before .enum-told .given .1)) (c .mark-at .ensures)
+
+sign-behind-requires : tie.Need-sign-behind-requires
+sign-behind-requires c κs =
+    let told = c .before in
+    let got = told .before .before in
+    register-most _ _ (sym (got .thread-register .ensures) ∙ ap foundOf (told .register .given .1))
+
+returns-2 : tie.Need-returns-2
+returns-2 c =
+    let told = c .before .before in
+    let got = told .before .before in
+    unit-compared _ _ _ _ (got .before .token-end .ensures) _ _ (sym (got .thread-register .ensures) ∙ ap foundOf (told .register .given .1)) (c .sign-behind .ensures)
+
+pub unit-at-spec : {M : Type 1} → statement M
+unit-at-spec =
+    tie.close
+    (tie.spec
+    token-end-requires
+    thread-register-requires
+    enum-known-register
+    enum-told
+    mark-at-requires
+    returns
+    sign-behind-requires
+    returns-2)

@@ -1,0 +1,60 @@
+-- What the answers of this crate stand for in the definition. Assumes nothing.
+--     Stands          what stands at a place
+--     markAt          a bracket, "and" or "or"
+--     Claims          what was read of a condition
+--     Concludes       a text's condition, taken or refused
+use Prim.Native.Nat.{ℕ, _≤_, _<_}
+use mathlib.Core.List.{List, [], _∷_}
+use mathlib.Core.Bool.{Bool, true, false, cond, not}
+use mathlib.Core.Path.{_≡_}
+use lib.Dec.{eqb}
+use lib.ListN.{length, take, drop}
+use Rattle.rules.specs.Condition.{isSign}
+use Rattle.rules.specs.Token.{Found, nothing, found, only}
+use Rattle.rules.specs.Text as rules
+use Rattle.rules.specs.Text.{markIn, comparisonOf}
+use Rattle.token.specs.Places.{part}
+use Rattle.claims.specs.declared.Unit.{Unit}
+use Rattle.claims.specs.declared.Claim.{Claim}
+use Rattle.claims.specs.declared.Conclusion.{Conclusion}
+
+-- with no byte it is nothing that a condition has
+abbrev pub unitOf : List ℕ → Unit → rules.Unit
+unitOf text u =
+    cond (eqb (u .size) 0) rules.none
+    (cond (u .whole) (rules.unit (take (u .size) (u .bytes)) (drop (u .at) text)) (rules.broken (take (u .size) (u .bytes)) (drop (u .at) text)))
+
+pub record Stands (text : List ℕ) (unit : rules.Unit) (u : Unit) : Type 0 where
+  pub is : unitOf text u ≡ unit
+  pub small : u .size ≤ 11
+  pub long : length (u .bytes) ≡ 11
+
+-- of the token between two places
+abbrev pub markAt : ℕ → ℕ → List ℕ → rules.Unit
+markAt at to text =
+    elim (only (λ (b : ℕ). not (isSign b)) (markIn (part at to text))) [
+      | nothing ↦ rules.none
+      | found b ↦ rules.unit (b ∷ []) (drop to text)
+    ]
+
+abbrev pub brokenOf : ℕ → ℕ → Unit
+brokenOf register at = record { whole = false; size = 11; bytes = comparisonOf 1 register 0; at = at }
+
+abbrev pub claimedOf : (lines : ℕ) → List ℕ → Claim → rules.Claimed lines
+claimedOf lines text c = rules.claimedTo lines (take (c .length) (c .bytes)) (drop (c .at) text) (c .whole)
+
+pub record Claims (text : List ℕ) (lines : ℕ) (claimed : rules.Claimed lines) (c : Claim) : Type 0 where
+  pub is : claimedOf lines text c ≡ claimed
+  pub most : c .length ≤ 1035
+  pub whole : c .whole ≡ true → c .length ≤ 1024
+  pub long : length (c .bytes) ≡ 1035
+
+-- beside any table of so many threads
+abbrev pub concludedOf : List ℕ → List ℕ → Conclusion → rules.TextRead
+concludedOf table text c =
+    cond (c .taken) (rules.accepted table (take (c .length) (c .bytes))) (rules.refusedAt (drop (c .at) text))
+
+pub record Concludes (text : List ℕ) (at lines threads : ℕ) (c : Conclusion) : Type 0 where
+  pub is : (m : rules.Made) → m .threads ≡ threads → concludedOf (rules.tableOf m) text c ≡ rules.concluded lines m (drop at text)
+  pub most : c .length ≤ 1024
+  pub long : length (c .bytes) ≡ 1035

@@ -1,0 +1,258 @@
+// The final condition of a text: the bytes that its signs, words and comparisons stand for, and where it is refused. Each promise is an
+// equation with the definition in rules (Text).
+ghost use mathlib.Core.Path.{_≡_};
+ghost use mathlib.Core.Bool.{false};
+ghost use mathlib.Core.List.{[]};
+ghost use Prim.Native.Nat.{_+_, _≤_, _<_};
+ghost use lib.ListN.{drop, replicate};
+ghost use lib.Seq.{paste};
+ghost use Rattle.rules.specs.Text as rules;
+ghost use Rattle.claims.specs.Units.{Stands, Claims, Concludes, markAt, brokenOf};
+use condition::COMPARISON;
+use condition::CONDITION_BYTES;
+use condition::Found as Judged;
+use token::Found;
+
+// The longest condition, and a comparison that broke off behind it.
+pub const MOST: usize = 1035;
+
+// What stands at a place: so many bytes of a condition and where they end, or, with none, nothing that a condition has. A comparison that
+// breaks off is not whole: it is filled up, and ends where it broke off.
+struct Unit {
+    whole: bool,
+    size: usize,
+    bytes: [u8; COMPARISON],
+    at: usize,
+}
+
+// What was read of a condition, where that ended, and whether all of the text was read.
+struct Claim {
+    whole: bool,
+    length: usize,
+    bytes: [u8; MOST],
+    at: usize,
+}
+
+// A text's condition: taken, with its bytes; or refused, with the place where.
+pub struct Conclusion {
+    pub taken: bool,
+    pub at: usize,
+    pub length: usize,
+    pub bytes: [u8; MOST],
+}
+
+// The condition that begins here, in a text of so many lines at most and a program of so many threads: its bytes are read, then judged. It is
+// refused where its first byte stands that cannot stand there.
+pub fn concluded(text: &[u8], at: usize, lines: usize, threads: usize) -> Conclusion
+    ensures { λ r. ⌜ Concludes (now (text .entry)) at lines threads r ⌝ }
+{
+    let all = claimed(text, at, lines, CONDITION_BYTES + 1);
+    let bytes = all.bytes;
+    let length = all.length;
+    match condition::first_bad(token::part(&bytes, 0, length), threads) {
+        Judged::Bad(stop) => refused(text, at, lines, stop),
+        Judged::Ends(stop) => {
+            if stop != length {
+                return refused(text, at, lines, stop);
+            }
+            if !all.whole {
+                return refused(text, at, lines, stop);
+            }
+            Conclusion {
+                taken: true,
+                at,
+                length,
+                bytes,
+            }
+        }
+    }
+}
+
+// A condition that is refused at its byte `stop`.
+fn refused(text: &[u8], at: usize, lines: usize, stop: usize) -> Conclusion
+    ensures { λ r. ⌜ (r .taken ≡ false) × (r .length ≡ 0) × (r .bytes ≡ replicate 1035 0) × (drop (r .at) (now (text .entry)) ≡ rules.claimed lines lines stop [] (drop at (now (text .entry))) .rest) ⌝ }
+{
+    let part = claimed(text, at, lines, stop);
+    Conclusion {
+        taken: false,
+        at: part.at,
+        length: 0,
+        bytes: [0; MOST],
+    }
+}
+
+// The bytes of the condition that begins here, up to the `stop`th.
+fn claimed(text: &[u8], at: usize, lines: usize, stop: usize) -> Claim
+    ensures { λ r. ⌜ Claims (now (text .entry)) lines (rules.claimed lines lines stop [] (drop at (now (text .entry)))) r ⌝ }
+{
+    let mut bytes = [0u8; MOST];
+    let mut length = 0;
+    let mut from = at;
+    let mut left = lines;
+    while 0 < left {
+        let here = token::content(text, from, lines);
+        if text.len() <= here {
+            return claimed_to(bytes, length, here, true);
+        }
+        if stop <= length {
+            return claimed_to(bytes, length, here, false);
+        }
+        let unit = unit_at(text, here, lines);
+        let size = unit.size;
+        let piece = unit.bytes;
+        if size == 0 {
+            return claimed_to(bytes, length, here, false);
+        }
+        if !unit.whole {
+            return claimed_to(
+                appended(bytes, length, piece, size),
+                length + size,
+                unit.at,
+                false,
+            );
+        }
+        if CONDITION_BYTES < length + size {
+            return claimed_to(bytes, length, here, false);
+        }
+        let more = appended(bytes, length, piece, size);
+        bytes = more;
+        length += size;
+        from = unit.at;
+        left -= 1;
+    }
+    claimed_to(bytes, length, token::content(text, from, lines), false)
+}
+
+fn claimed_to(bytes: [u8; MOST], length: usize, at: usize, whole: bool) -> Claim
+    ensures { λ r. ⌜ (r .bytes ≡ bytes) × (r .length ≡ length) × (r .at ≡ at) × (r .whole ≡ whole) ⌝ }
+{
+    Claim {
+        whole,
+        length,
+        bytes,
+        at,
+    }
+}
+
+// Puts the unit's first bytes behind those that are there.
+fn appended(bytes: [u8; MOST], length: usize, unit: [u8; COMPARISON], size: usize) -> [u8; MOST]
+    requires { ⌜ (length + size ≤ 1035) × (size ≤ 11) ⌝ }
+    ensures { λ r. ⌜ r ≡ paste bytes length unit size ⌝ }
+{
+    let mut made = bytes;
+    let mut i = 0;
+    while i < size {
+        made[length + i] = unit[i];
+        i += 1;
+    }
+    made
+}
+
+// The unit that stands here.
+fn unit_at(text: &[u8], at: usize, lines: usize) -> Unit
+    ensures { λ r. ⌜ Stands (now (text .entry)) (rules.unitAt lines (drop at (now (text .entry)))) r ⌝ }
+{
+    let to = token::token_end(text, at);
+    let Found::Value(register) = token::thread_register(text, at, to) else {
+        return mark_at(text, at, to);
+    };
+    sign_behind(text, to, lines, register)
+}
+
+// A bracket, "and" or "or".
+fn mark_at(text: &[u8], at: usize, to: usize) -> Unit
+    ensures { λ r. ⌜ Stands (now (text .entry)) (markAt at to (now (text .entry))) r ⌝ }
+{
+    let Found::Value(mark) = token::mark(text, at, to) else {
+        return none(at);
+    };
+    if mark <= 6 {
+        return none(at);
+    }
+    Unit {
+        whole: true,
+        size: 1,
+        bytes: [mark as u8, 0, 0, 0, 0, 0, 0, 0, 0, 0, 0],
+        at: to,
+    }
+}
+
+fn none(at: usize) -> Unit
+    ensures { λ r. ⌜ (r .size ≡ 0) × (r .bytes ≡ replicate 11 0) ⌝ }
+{
+    Unit {
+        whole: false,
+        size: 0,
+        bytes: [0; COMPARISON],
+        at,
+    }
+}
+
+// Behind "THREAD.rREGISTER".
+fn sign_behind(text: &[u8], from: usize, lines: usize, register: u64) -> Unit
+    requires { ⌜ register < 20 ⌝ }
+    ensures { λ r. ⌜ Stands (now (text .entry)) (rules.signBehind lines register (drop from (now (text .entry)))) r ⌝ }
+{
+    let at = token::content(text, from, lines);
+    let to = token::token_end(text, at);
+    let Found::Value(sign) = token::mark(text, at, to) else {
+        return broken(register, at);
+    };
+    if 6 < sign {
+        return broken(register, at);
+    }
+    number_behind(text, to, lines, register, sign)
+}
+
+// Behind "THREAD.rREGISTER SIGN".
+fn number_behind(text: &[u8], from: usize, lines: usize, register: u64, sign: u64) -> Unit
+    requires { ⌜ (register < 20) × (sign ≤ 6) ⌝ }
+    ensures { λ r. ⌜ Stands (now (text .entry)) (rules.numberBehind lines register sign (drop from (now (text .entry)))) r ⌝ }
+{
+    let at = token::content(text, from, lines);
+    let to = token::token_end(text, at);
+    let Found::Value(n) = token::number(text, at, to) else {
+        return broken(register, at);
+    };
+    Unit {
+        whole: true,
+        size: COMPARISON,
+        bytes: comparison(sign, register, n),
+        at: to,
+    }
+}
+
+// A comparison that breaks off here.
+fn broken(register: u64, at: usize) -> Unit
+    requires { ⌜ register < 20 ⌝ }
+    ensures { λ r. ⌜ r ≡ brokenOf register at ⌝ }
+{
+    Unit {
+        whole: false,
+        size: COMPARISON,
+        bytes: comparison(1, register, 0),
+        at,
+    }
+}
+
+// A comparison's bytes: its sign, the thread, the register, the number's eight, the lowest first.
+fn comparison(sign: u64, register: u64, n: u64) -> [u8; COMPARISON]
+    requires { ⌜ (register < 20) × (sign ≤ 6) ⌝ }
+    ensures { λ r. ⌜ r ≡ rules.comparisonOf sign register n ⌝ }
+{
+    let low = n % 0x1_0000_0000;
+    let high = n / 0x1_0000_0000;
+    [
+        sign as u8,
+        (register / 4) as u8,
+        (register % 4) as u8,
+        (low % 256) as u8,
+        (low / 256 % 256) as u8,
+        (low / 65536 % 256) as u8,
+        (low / 16777216 % 256) as u8,
+        (high % 256) as u8,
+        (high / 256 % 256) as u8,
+        (high / 65536 % 256) as u8,
+        (high / 16777216 % 256) as u8,
+    ]
+}

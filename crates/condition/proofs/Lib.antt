@@ -1,0 +1,3 @@
+mod GroupLaws
+mod ReadLaws
+mod WholeLaws

@@ -1,0 +1,61 @@
+use mathlib.Core.Path.{_∙_}
+use Rattle.exports.proofs.EntryLaws.{entered-bound, entered-exploring, entered-report, entered-run, explored-so}
+use borrow.Author.Needs.{needs}
+use Rattle.exports.proofs.enter.Statement.{statement}
+use Rattle.exports.proofs.enter.Tie as tie
+
+returns : tie.Need-returns
+returns c = entered-bound _ _ _ _ _ _ _ _ _ _ (c .if1 .taken)
+
+returns-2 : tie.Need-returns-2
+returns-2 c = entered-exploring _ _ _ _ _ _ _ _ _ _ (c .before .if1 .left) (c .if2 .taken)
+
+returns-3 : tie.Need-returns-3
+returns-3 c = entered-report _ _ _ _ _ _ _ _ _ _ (c .before .before .if1 .left) (c .before .if2 .left) (c .if3 .taken)
+
+bound-of-requires : tie.Need-bound-of-requires
+bound-of-requires c κs = search needs
+
+explore-requires : tie.Need-explore-requires
+explore-requires c κs = search needs
+
+number-requires : tie.Need-number-requires
+number-requires c κs = search needs
+
+numbers-requires : tie.Need-numbers-requires
+numbers-requires c κs = search needs
+
+write-numbers-requires : tie.Need-write-numbers-requires
+write-numbers-requires c κs = search needs
+
+same-length : tie.Need-same-length
+same-length c = search needs
+
+same-length-2 : tie.Need-same-length-2
+same-length-2 c = search needs
+
+same-length-3 : tie.Need-same-length-3
+same-length-3 c = search needs
+
+returns-4 : tie.Need-returns-4
+returns-4 c =
+    let args = c .before .before .before .before .before .before .before .before .before .before .before .before .before .before .before .before .before .before .before .before .before .before .args in
+    entered-run (args .table .now) (args .condition .now) (args .branches) (args .operations) (args .executions) (args .bound) (args .exploring) (args .path .now) (args .trace .now) (args .report .now)
+    (c .before .before .before .before .before .before .before .before .before .before .before .before .before .before .before .before .if1 .left) (c .before .before .before .before .before .before .before .before .before .before .before .before .before .before .before .if2 .left) (c .before .before .before .before .before .before .before .before .before .before .before .before .before .before .if3 .left) (c .before .before .before .before .before .before .before .before .before .before .explore .result) _ _ (explored-so (args .table .now) (args .condition .now) (args .path .now) (args .trace .now) (args .branches) (args .operations) (args .executions) (args .bound) (args .exploring) (c .before .before .before .before .before .before .before .before .before .before .before .before .before .bound-of .result) (c .before .before .before .before .before .before .before .before .before .before .before .before .before .bound-of .ensures) (c .before .before .before .before .before .before .before .before .before .before .explore .ensures)) (c .before .before .before .before .before .number .ensures) (c .before .before .write-numbers .ensures ∙ c .before .before .before .numbers .ensures)
+
+pub enter-spec : {M : Type 1} → statement M
+enter-spec =
+    tie.close
+    (tie.spec
+    returns
+    returns-2
+    returns-3
+    bound-of-requires
+    explore-requires
+    number-requires
+    numbers-requires
+    write-numbers-requires
+    same-length
+    same-length-2
+    same-length-3
+    returns-4)

@@ -1,0 +1,5 @@
+mod ByteLaws
+mod FollowLaws
+mod LetterLaws
+pub mod RowLaws
+pub mod TriedLaws

@@ -1,0 +1,333 @@
+// One row of a program's text: which form its line has, and what stands for each of the form's letters.
+ghost use mathlib.Core.Path.{_≡_};
+ghost use mathlib.Core.List.{[], _∷_};
+ghost use mathlib.Core.Bool.{false, cond};
+ghost use lib.Dec.{ltb};
+ghost use lib.ListN.{drop, replicate};
+ghost use Rattle.rules.specs.Event.{little};
+ghost use Rattle.rules.specs.Token.{endsLine, nextLine};
+ghost use Rattle.rules.specs.Form as Form;
+ghost use Rattle.rules.specs.Form.{fieldOf, letterIn, valueOf, withField, fits, stuck, follow, mostWords, rowIn, rowBytes};
+ghost use Rattle.token.specs.Places.{part};
+ghost use Rattle.token.specs.Finds.{foundOf};
+ghost use Rattle.form.specs.Rows.{roomOf, Follows, Reads};
+ghost use Rattle.form.specs.Letters.{fieldIn, kindIn, mayBe};
+ghost use Rattle.form.specs.Lines.{coded};
+use token::Found;
+
+// No form has as many words.
+const MOST_WORDS: usize = 10;
+
+// What a row may name: so many threads and cells, and the rows that a jump may lead to.
+pub struct Room {
+    pub threads: u64,
+    pub cells: u64,
+    pub rows: u64,
+}
+
+// A row's fields in the order in which they stand in its bytes: opcode, cell or thread, order, failure order, change kind, register, jump
+// target, a, b.
+pub type Fields = [u64; 9];
+
+// A line that was read: of a form, with its fields and the place of the next line; or of none, with the place of the first token that no
+// form has there.
+pub struct Row {
+    pub fits: bool,
+    pub at: usize,
+    pub fields: Fields,
+}
+
+// The forms, a line for each: its opcode, its change kind and its words. A capital letter stands for a field.
+pub const FORMS: [u8; 876] = *b"\
+\x00\x00R = load C L
+\x01\x00store A to C S
+\x02\x00store R to C S
+\x03\x00R = swap A on C O
+\x03\x01R = add A on C O
+\x03\x02R = sub A on C O
+\x03\x03R = and A on C O
+\x03\x04R = or A on C O
+\x03\x05R = xor A on C O
+\x03\x06R = nand A on C O
+\x03\x07R = max A on C O
+\x03\x08R = min A on C O
+\x03\x09R = signed_max A on C O
+\x03\x0aR = signed_min A on C O
+\x03\x0bR = compare_exchange A B on C O X
+\x03\x0cR = decrement on C O X
+\x04\x00fence F
+\x05\x00R = unsync_load C
+\x06\x00R = with_mut swap A on C
+\x06\x01R = with_mut add A on C
+\x06\x02R = with_mut sub A on C
+\x06\x03R = with_mut and A on C
+\x06\x04R = with_mut or A on C
+\x06\x05R = with_mut xor A on C
+\x06\x06R = with_mut nand A on C
+\x06\x07R = with_mut max A on C
+\x06\x08R = with_mut min A on C
+\x06\x09R = with_mut signed_max A on C
+\x06\x0aR = with_mut signed_min A on C
+\x06\x0bR = with_mut compare_exchange A B on C
+\x06\x0cR = with_mut decrement on C
+\x07\x00yield
+\x08\x00join T
+\x09\x00jump J
+\x0a\x00if R = A jump J
+\x0b\x00if R != A jump J
+\x0c\x00check R = A
+\x0d\x00critical
+\x0e\x00explore_state
+\x0f\x00skip_branch
+\x10\x00R = branch_spurious
+";
+
+// The row that stands in this line. Where it is of no form the fields are zeros.
+pub fn row_in(text: &[u8], at: usize, room: Room) -> Row
+    ensures { λ r. ⌜ Reads (now (text .entry)) at (rowIn (roomOf room) (drop at (now (text .entry)))) r ⌝ }
+{
+    tried(&FORMS, text, at, room)
+}
+
+// A row's bytes: opcode, cell or thread, order, failure order, change kind, register, the jump target's two, and eight of each operand.
+// Of a field that is a byte its lowest eight bits are taken: a text may name more threads than a table has, until it is refused.
+pub fn row_bytes(fields: Fields) -> [u8; 24]
+    ensures { λ r. ⌜ r ≡ rowBytes fields ⌝ }
+{
+    let target = low_bytes(fields[6]);
+    let a = low_bytes(fields[7]);
+    let b = low_bytes(fields[8]);
+    [
+        (fields[0] % 256) as u8,
+        (fields[1] % 256) as u8,
+        (fields[2] % 256) as u8,
+        (fields[3] % 256) as u8,
+        (fields[4] % 256) as u8,
+        (fields[5] % 256) as u8,
+        target[0],
+        target[1],
+        a[0],
+        a[1],
+        a[2],
+        a[3],
+        a[4],
+        a[5],
+        a[6],
+        a[7],
+        b[0],
+        b[1],
+        b[2],
+        b[3],
+        b[4],
+        b[5],
+        b[6],
+        b[7],
+    ]
+}
+
+// A number's bytes, its least first.
+fn low_bytes(value: u64) -> [u8; 8]
+    ensures { λ r. ⌜ r ≡ little 8 value ⌝ }
+{
+    let low = value % 0x1_0000_0000;
+    let high = value / 0x1_0000_0000;
+    [
+        (low % 256) as u8,
+        (low / 256 % 256) as u8,
+        (low / 65536 % 256) as u8,
+        (low / 16777216 % 256) as u8,
+        (high % 256) as u8,
+        (high / 256 % 256) as u8,
+        (high / 65536 % 256) as u8,
+        (high / 16777216 % 256) as u8,
+    ]
+}
+
+// Tries one form after the other, and keeps the furthest place.
+fn tried(forms: &[u8], text: &[u8], at: usize, room: Room) -> Row
+    requires { ⌜ now forms ≡ coded Form.forms ⌝ }
+    ensures { λ r. ⌜ Reads (now (text .entry)) at (rowIn (roomOf room) (drop at (now (text .entry)))) r ⌝ }
+{
+    let mut best = token::skip(text, at);
+    let mut from = 0;
+    while from < forms.len() {
+        let to = token::next_line(forms, from + 2);
+        let words = token::part(forms, from + 2, to - 1);
+        let row = followed(words, blank(forms[from], forms[from + 1]), text, at, room);
+        if row.fits {
+            return row;
+        }
+        best = further(best, row.at);
+        from = to;
+    }
+    Row {
+        fits: false,
+        at: best,
+        fields: [0; 9],
+    }
+}
+
+// The place that lies further on.
+fn further(one: usize, other: usize) -> usize
+    ensures { λ r. ⌜ r ≡ cond (ltb one other) other one ⌝ }
+{
+    if one < other {
+        return other;
+    }
+    one
+}
+
+// The fields of a form before any is read.
+fn blank(opcode: u8, kind: u8) -> Fields
+    ensures { λ r. ⌜ r ≡ opcode ∷ 0 ∷ 0 ∷ 0 ∷ kind ∷ 0 ∷ 0 ∷ 0 ∷ 0 ∷ [] ⌝ }
+{
+    [opcode as u64, 0, 0, 0, kind as u64, 0, 0, 0, 0]
+}
+
+// Follows a form along the line, word by word.
+fn followed(words: &[u8], blank: Fields, text: &[u8], at: usize, room: Room) -> Row
+    ensures { λ r. ⌜ Follows (now (text .entry)) at (follow mostWords (roomOf room) (now (words .entry)) blank (drop at (now (text .entry)))) r ⌝ }
+{
+    let mut fields = blank;
+    let mut from = 0;
+    let mut to = at;
+    let mut left = MOST_WORDS;
+    while 0 < left {
+        let start = token::skip(words, from);
+        let here = token::skip(text, to);
+        if words.len() <= start {
+            return ended(text, here, fields);
+        }
+        from = token::token_end(words, start);
+        to = token::token_end(text, here);
+        let piece = token::part(words, start, from);
+        let Found::Value(value) = value_of(room, piece, text, here, to) else {
+            return stuck(here);
+        };
+        let more = with_field(fields, piece, value);
+        fields = more;
+        left -= 1;
+    }
+    stuck(token::skip(text, to))
+}
+
+// Past the last word nothing else may stand in the line.
+fn ended(text: &[u8], at: usize, fields: Fields) -> Row
+    ensures { λ r. ⌜ Follows (now (text .entry)) at (cond (endsLine (drop at (now (text .entry)))) (fits fields (nextLine (drop at (now (text .entry))))) (stuck (drop at (now (text .entry))))) r ⌝ }
+{
+    if token::ends_line(text, at) {
+        return Row {
+            fits: true,
+            at: token::next_line(text, at),
+            fields,
+        };
+    }
+    stuck(at)
+}
+
+fn stuck(at: usize) -> Row
+    ensures { λ r. ⌜ (r .fits ≡ false) × (r .at ≡ at) × (r .fields ≡ replicate 9 0) ⌝ }
+{
+    Row {
+        fits: false,
+        at,
+        fields: [0; 9],
+    }
+}
+
+// What a token stands for where a form has this piece: a letter alone stands for a field, every other word for itself.
+fn value_of(room: Room, piece: &[u8], text: &[u8], at: usize, to: usize) -> Found
+    ensures { λ r. ⌜ foundOf r ≡ valueOf (roomOf room) (now (piece .entry)) (part at to (now (text .entry))) ⌝ }
+{
+    if field_in(piece) < 9 {
+        return letter_in(room, piece[0], text, at, to);
+    }
+    if token::is_word(text, at, to, piece) {
+        return Found::Value(0);
+    }
+    Found::Nothing
+}
+
+// The fields with this one's value.
+fn with_field(fields: Fields, piece: &[u8], value: u64) -> Fields
+    ensures { λ r. ⌜ r ≡ withField fields (now (piece .entry)) value ⌝ }
+{
+    let mut made = fields;
+    let field = field_in(piece);
+    if field < 9 {
+        made[field] = value;
+    }
+    made
+}
+
+// The field that a piece stands for; 9 is none.
+fn field_in(piece: &[u8]) -> usize
+    ensures { λ r. ⌜ r ≡ fieldIn (now (piece .entry)) ⌝ }
+{
+    if piece.len() != 1 {
+        return 9;
+    }
+    field_of(piece[0])
+}
+
+// The field that a letter stands for; 9 is none.
+pub fn field_of(letter: u8) -> usize
+    ensures { λ r. ⌜ r ≡ fieldOf letter ⌝ }
+{
+    match letter {
+        b'R' => 5,
+        b'C' | b'T' => 1,
+        b'J' => 6,
+        b'A' => 7,
+        b'B' => 8,
+        b'L' | b'S' | b'O' | b'F' => 2,
+        b'X' => 3,
+        _ => 9,
+    }
+}
+
+// What a word stands for where a form has this letter.
+fn letter_in(room: Room, letter: u8, text: &[u8], at: usize, to: usize) -> Found
+    ensures { λ r. ⌜ foundOf r ≡ letterIn (roomOf room) letter (part at to (now (text .entry))) ⌝ }
+{
+    let Found::Value(value) = kind_in(letter, text, at, to) else {
+        return Found::Nothing;
+    };
+    if may_be(room, letter, value) {
+        return Found::Value(value);
+    }
+    Found::Nothing
+}
+
+// The register, number or order that a word is.
+fn kind_in(letter: u8, text: &[u8], at: usize, to: usize) -> Found
+    ensures { λ r. ⌜ foundOf r ≡ kindIn letter (part at to (now (text .entry))) ⌝ }
+{
+    if letter == b'R' {
+        return token::register(text, at, to);
+    }
+    if (letter == b'C')
+        | (letter == b'T')
+        | (letter == b'J')
+        | (letter == b'A')
+        | (letter == b'B')
+    {
+        return token::number(text, at, to);
+    }
+    token::order(text, at, to)
+}
+
+// Whether the field may have this value.
+fn may_be(room: Room, letter: u8, value: u64) -> bool
+    ensures { λ r. ⌜ r ≡ mayBe (roomOf room) letter value ⌝ }
+{
+    match letter {
+        b'C' => value < room.cells,
+        b'T' => value < room.threads,
+        b'J' => value <= room.rows,
+        b'L' | b'X' => (value <= 4) & (value != 1) & (value != 3),
+        b'S' => (value <= 4) & (value != 2) & (value != 3),
+        b'F' => (value <= 4) & (value != 0),
+        _ => true,
+    }
+}

@@ -1,0 +1,2 @@
+mod NumberLaws
+pub mod PutLaws

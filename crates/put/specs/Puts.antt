@@ -1,0 +1,35 @@
+-- Bytes put into a lent buffer as far as there is room, and counted all the same. Assumes nothing.
+--     Puts        what is left in the buffer, and the place behind the bytes
+--     Coming      what is still to be put here, of all that was to be put there
+use Prim.Native.Nat.{ℕ, _+_, _≤_}
+use mathlib.Core.List.{List}
+use mathlib.Core.Bool.{cond}
+use mathlib.Core.Path.{_≡_}
+use lib.Dec.{leb}
+use lib.ListN.{length, drop}
+use lib.Seq.{sets}
+
+-- the last place that is counted: no buffer is longer
+abbrev pub last : ℕ
+last = 18446744073709551615
+
+abbrev pub upToLast : ℕ → ℕ
+upToLast n = cond (leb n last) n last
+
+-- where a byte would stand past the end, `sets` changes nothing
+pub record Puts (entry exit : List ℕ) (at : ℕ) (bytes : List ℕ) (r : ℕ) : Type 0 where
+  pub left : exit ≡ sets entry at bytes
+  pub behind : r ≡ upToLast (at + length bytes)
+
+-- no place or buffer is past the last
+pub record Coming (entry now : List ℕ) (at to : ℕ) (all rest : List ℕ) : Type 0 where
+  pub whole : (exit : List ℕ) (r : ℕ) → Puts now exit to rest r → Puts entry exit at all r
+  pub fits : to ≤ last
+  pub long : length now ≡ length entry
+  pub short : length entry ≤ last
+
+-- the bytes from this one of twenty on
+pub record LastOf (bytes : List ℕ) (from : ℕ) (all : List ℕ) : Type 0 where
+  pub within : from ≤ 20
+  pub long : length bytes ≡ 20
+  pub digits : drop from bytes ≡ all

@@ -1,0 +1,128 @@
+// One row of a table as a line of text.
+ghost use mathlib.Core.Path.{_≡_};
+ghost use Prim.Native.Nat.{_+_, _≤_};
+ghost use lib.ListN.{length, getD};
+ghost use Rattle.rules.specs.Table.{rowBytes, rowFrom, rowAt};
+ghost use Rattle.rules.specs.Form as Form;
+ghost use Rattle.rules.specs.Writer.{formShown, formIn, fieldsOf, rowShown};
+ghost use Rattle.form.specs.Lines.{coded};
+ghost use Rattle.put.specs.Puts.{Puts};
+ghost use Rattle.row_line.specs.Pieces.{pieceShown};
+use form::FORMS;
+use form::Fields;
+use layout::MAX_CELLS;
+use put::put_byte;
+use put::put_bytes;
+use put::put_number;
+use put::put_order;
+use table::limits::ALL_ROWS;
+use table::limits::HEADER;
+use table::limits::ROW;
+use table::limits::VALUE;
+use table::little::u16_at;
+use table::little::u64_at;
+
+// The row of this number among all rows of a table with so many cells.
+pub fn put_row(text: &mut [u8], at: usize, table: &[u8], cells: usize, index: usize) -> usize
+    ensures { λ r. ⌜ Puts (now (text .entry)) (now (text .exit)) at (rowShown (rowAt (now (table .entry)) cells index)) r ⌝ }
+{
+    let fields = fields_at(table, cells, index);
+    let first = put_bytes(text, at, b"  ");
+    let behind = put_form(text, first, &FORMS, fields);
+    put_byte(text, behind, b'\n')
+}
+
+// That row's fields; those of no row where the table does not hold it.
+fn fields_at(table: &[u8], cells: usize, index: usize) -> Fields
+    ensures { λ r. ⌜ r ≡ fieldsOf (rowAt (now (table .entry)) cells index) ⌝ }
+{
+    if cells <= MAX_CELLS {
+        if index < ALL_ROWS {
+            let at = HEADER + VALUE * cells + ROW * index;
+            if at + ROW <= table.len() {
+                return fields_from(table, at);
+            }
+        }
+    }
+    [255, 0, 0, 0, 0, 0, 0, 0, 0]
+}
+
+// The fields of the row whose first byte is this one.
+fn fields_from(table: &[u8], at: usize) -> Fields
+    requires { ⌜ at + rowBytes ≤ length (now table) ⌝ }
+    ensures { λ r. ⌜ r ≡ fieldsOf (rowFrom (now (table .entry)) at) ⌝ }
+{
+    [
+        wide(table[at]),
+        wide(table[at + 1]),
+        wide(table[at + 2]),
+        wide(table[at + 3]),
+        wide(table[at + 4]),
+        wide(table[at + 5]),
+        wide_two(u16_at(table, at + 6)),
+        u64_at(table, at + 8),
+        u64_at(table, at + 16),
+    ]
+}
+
+fn wide(byte: u8) -> u64
+    ensures { λ r. ⌜ r ≡ byte ⌝ }
+{
+    byte as u64
+}
+
+fn wide_two(number: u16) -> u64
+    ensures { λ r. ⌜ r ≡ number ⌝ }
+{
+    number as u64
+}
+
+// The words of the row's form, with its fields. The forms are those of crate form, a line for each.
+fn put_form(text: &mut [u8], at: usize, forms: &[u8], fields: Fields) -> usize
+    requires { ⌜ now forms ≡ coded Form.forms ⌝ }
+    ensures { λ r. ⌜ Puts (now (text .entry)) (now (text .exit)) at (formShown (formIn (getD fields 0 0) (getD fields 4 0) Form.forms .words) fields) r ⌝ }
+{
+    let opcode = fields[0];
+    let kind = fields[4];
+    let mut from = 0;
+    while from < forms.len() {
+        let to = token::next_line(forms, from + 2);
+        if (wide(forms[from]) == opcode) & (wide(forms[from + 1]) == kind) {
+            return put_words(text, at, token::part(forms, from + 2, to - 1), fields);
+        }
+        from = to;
+    }
+    at
+}
+
+// A form's words, with the fields for its letters.
+fn put_words(text: &mut [u8], at: usize, words: &[u8], fields: Fields) -> usize
+    ensures { λ r. ⌜ Puts (now (text .entry)) (now (text .exit)) at (formShown (now (words .entry)) fields) r ⌝ }
+{
+    let mut to = at;
+    let mut i = 0;
+    while i < words.len() {
+        to = put_piece(text, to, words[i], fields);
+        i += 1;
+    }
+    to
+}
+
+// A letter's field, or a byte that stands for itself.
+fn put_piece(text: &mut [u8], at: usize, byte: u8, fields: Fields) -> usize
+    ensures { λ r. ⌜ Puts (now (text .entry)) (now (text .exit)) at (pieceShown byte fields) r ⌝ }
+{
+    let field = form::field_of(byte);
+    if 9 <= field {
+        return put_byte(text, at, byte);
+    }
+    let value = fields[field];
+    if byte == b'R' {
+        let behind = put_byte(text, at, b'r');
+        return put_number(text, behind, value);
+    }
+    if (field == 2) | (field == 3) {
+        return put_order(text, at, value);
+    }
+    put_number(text, at, value)
+}

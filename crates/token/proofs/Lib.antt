@@ -1,0 +1,3 @@
+mod ListLaws
+pub mod PlaceLaws
+mod WordLaws

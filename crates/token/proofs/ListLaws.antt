@@ -1,0 +1,77 @@
+-- A word in a list of words that is written as a line. Assumes nothing.
+--     place-out, place-end     no word is left
+--     place-here, place-on     the next word is this one, or another
+use Prim.Native.Nat.{ℕ, suc, _+_, _-_, _≤_, _<_}
+use mathlib.Core.List.{List, [], _∷_}
+use mathlib.Core.Bool.{Bool, true, false}
+use mathlib.Core.Path.{_≡_, refl, ap, sym, _∙_}
+use native.Mathlib.Omega.{arith}
+use borrow.Author.Tests.{eq-eqb, ne-eqb}
+use lib.ListN.{length, drop, length-drop}
+use Rattle.rules.specs.Vector.{equal}
+use Rattle.rules.specs.Token.{run, endsLine, bytesOf, isEmpty, skip, token, pastToken, tokenLength, Found, nothing, found, placeIn}
+use Rattle.rules.specs.Form.{orders}
+use Rattle.rules.specs.Text.{marks}
+use Rattle.token.specs.Places.{part}
+use Rattle.token.specs.Finds.{wordsIn}
+use Rattle.token.proofs.PlaceLaws.{left-by, part-token}
+
+-- what comes of the words from here on, past blanks
+abbrev further : ℕ → List ℕ → Bool → List (List ℕ)
+further n bs t = elim t [ true ↦ [] | false ↦ token bs ∷ wordsIn n (pastToken bs) ]
+
+further-next : (n : ℕ) (bs : List ℕ) → wordsIn (suc n) bs ≡ further n (skip bs) (isEmpty (skip bs))
+unfolding wordsIn
+further-next n bs = refl
+
+-- what comes of a word, where it is this one or another
+abbrev or-on : ℕ → List ℕ → List (List ℕ) → Bool → Found
+or-on i word ws t = elim t [ true ↦ found i | false ↦ placeIn (i + 1) word ws ]
+
+or-on-next : (i : ℕ) (word w : List ℕ) (ws : List (List ℕ)) → placeIn i word (w ∷ ws) ≡ or-on i word ws (equal word w)
+unfolding placeIn
+or-on-next i word w ws = refl
+
+module _ (word words : List ℕ) (i from left : ℕ) where
+  pub place-out : left ≤ 0 → nothing ≡ placeIn i word (wordsIn left (drop from words))
+  unfolding placeIn wordsIn
+  place-out h = let e : left ≡ 0 = omega arith in rw e
+
+  module _ (at : ℕ) (skipped : drop at words ≡ skip (drop from words)) (more : 0 < left) where
+    one-more : (t : Bool) → isEmpty (drop at words) ≡ t → further (left - 1) (drop at words) t ≡ wordsIn left (drop from words)
+    one-more t e =
+        let s : left ≡ suc (left - 1) = omega arith in
+        ap (further (left - 1) (drop at words)) (sym e)
+        ∙ ap (λ (bs : List ℕ). further (left - 1) bs (isEmpty bs)) skipped
+        ∙ sym (further-next (left - 1) (drop from words))
+        ∙ ap (λ (n : ℕ). wordsIn n (drop from words)) (sym s)
+
+    pub place-end : length words ≤ at → nothing ≡ placeIn i word (wordsIn left (drop from words))
+    unfolding placeIn
+    place-end h = ap (placeIn i word) (one-more true (eq-eqb (length (drop at words)) 0 (omega (arith, length-drop at words))))
+
+    module _ (to : ℕ) (h : at < length words) (long : to ≡ at + tokenLength (drop at words)) where
+      next-word : part at to words ∷ wordsIn (left - 1) (drop to words) ≡ wordsIn left (drop from words)
+      next-word =
+          rw (part-token words at to long, left-by words at to _ long)
+          (one-more false (ne-eqb _ _ (λ (z : length (drop at words) ≡ 0). omega (arith, length-drop at words))))
+
+      place-next : (t : Bool) → equal word (part at to words) ≡ t → or-on i word (wordsIn (left - 1) (drop to words)) t ≡ placeIn i word (wordsIn left (drop from words))
+      place-next t e =
+          ap (or-on i word (wordsIn (left - 1) (drop to words))) (sym e)
+          ∙ sym (or-on-next i word (part at to words) (wordsIn (left - 1) (drop to words)))
+          ∙ ap (placeIn i word) next-word
+
+      pub place-here : equal word (part at to words) ≡ true → found i ≡ placeIn i word (wordsIn left (drop from words))
+      place-here e = place-next true e
+
+      pub place-on : equal word (part at to words) ≡ false → placeIn (i + 1) word (wordsIn (left - 1) (drop to words)) ≡ placeIn i word (wordsIn left (drop from words))
+      place-on e = place-next false e
+
+pub orders-line : wordsIn 37 (bytesOf "relaxed release acquire acqrel seqcst") ≡ orders
+unfolding wordsIn bytesOf run tokenLength endsLine
+orders-line = refl
+
+pub marks-line : wordsIn 25 (bytesOf "= != < <= > >= ( ) and or") ≡ marks
+unfolding wordsIn bytesOf run tokenLength endsLine
+marks-line = refl

@@ -1,0 +1,3 @@
+mod IntoLaws
+mod LengthLaws
+mod TextLaws

@@ -1,0 +1,96 @@
+//! The text: cells, threads with their rows, and the condition.
+
+use crate::cursor::Cursor;
+use crate::row::{row, Room};
+use crate::token::{lines, Line, Token};
+use crate::{condition, Place, Program, Refused, HEADER};
+
+const CELLS: usize = 4;
+const THREADS: usize = 5;
+const ROWS: usize = 32;
+
+/// Reads a text.
+pub fn read(text: &[u8]) -> Result<Program, Refused> {
+    let (lines, end) = lines(text);
+    let (cells, rest) = lines.split_first().ok_or(Refused(end))?;
+    let starts = starts(cells)?;
+    let last = rest.iter().position(|line| line.begins(b"finally")).unwrap_or(rest.len());
+    let (program, claim) = rest.split_at(last);
+    let threads = program.iter().filter(|line| line.begins(b"thread")).count();
+    let (counts, rows) = rows(program, starts.len(), threads)?;
+    if counts.is_empty() {
+        return Err(Refused(claim.first().map_or(end, |line| line.tokens[0].place)));
+    }
+    let condition = match claim.is_empty() {
+        true => Vec::new(),
+        false => claimed(claim, end, threads)?,
+    };
+    Ok(Program { table: table(&starts, &counts, &rows), condition })
+}
+
+impl Line<'_> {
+    fn begins(&self, word: &[u8]) -> bool {
+        self.tokens[0].text == word
+    }
+
+    fn cursor(&self) -> Cursor<'_> {
+        Cursor::new(&self.tokens, self.end)
+    }
+}
+
+/// The line of the start values.
+fn starts(line: &Line<'_>) -> Result<Vec<u64>, Refused> {
+    let mut tokens = line.cursor();
+    tokens.word("cells")?;
+    let mut starts = vec![tokens.number()?];
+    while starts.len() < CELLS && !tokens.is_done() {
+        starts.push(tokens.number()?);
+    }
+    tokens.finish()?;
+    Ok(starts)
+}
+
+/// How many rows each thread has, and the bytes of all.
+fn rows(
+    lines: &[Line<'_>],
+    cells: usize,
+    threads: usize,
+) -> Result<(Vec<usize>, Vec<u8>), Refused> {
+    let (mut counts, mut bytes) = (Vec::new(), Vec::new());
+    let mut room = Room { cells, threads, rows: 0 };
+    for (at, line) in lines.iter().enumerate() {
+        let first = Refused(line.tokens[0].place);
+        if line.begins(b"thread") {
+            if counts.len() == THREADS {
+                return Err(first);
+            }
+            Cursor::new(&line.tokens[1..], line.end).finish()?;
+            let rest = &lines[at + 1..];
+            room.rows = rest.iter().position(|line| line.begins(b"thread")).unwrap_or(rest.len());
+            counts.push(0);
+            continue;
+        }
+        let count = counts.last_mut().ok_or(first)?;
+        if *count == ROWS {
+            return Err(first);
+        }
+        *count += 1;
+        bytes.extend(row(line.cursor(), &room)?);
+    }
+    Ok((counts, bytes))
+}
+
+/// The condition behind `finally`, over all lines that are left.
+fn claimed(lines: &[Line<'_>], end: Place, threads: usize) -> Result<Vec<u8>, Refused> {
+    let tokens: Vec<Token<'_>> = lines.iter().flat_map(|line| line.tokens.clone()).collect();
+    condition::condition(Cursor::new(&tokens[1..], end), threads)
+}
+
+fn table(starts: &[u64], counts: &[usize], rows: &[u8]) -> Vec<u8> {
+    let mut table = vec![counts.len() as u8, starts.len() as u8];
+    table.extend(counts.iter().map(|&count| count as u8));
+    table.resize(HEADER, 0);
+    table.extend(starts.iter().flat_map(|start| start.to_le_bytes()));
+    table.extend_from_slice(rows);
+    table
+}
