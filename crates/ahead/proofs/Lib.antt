@@ -1,1 +1,1 @@
-mod AheadLaws
+pub mod AheadLaws

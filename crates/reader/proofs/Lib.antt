@@ -1,0 +1,5 @@
+mod HeldLaws
+mod LineLaws
+mod OneLaws
+mod ReadLaws
+mod WholeLaws

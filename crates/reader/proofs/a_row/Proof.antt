@@ -1,0 +1,147 @@
+use Prim.Native.Nat.{ℕ, _≤_, _<_}
+use mathlib.Core.Path.{_≡_, ap, sym, _∙_}
+use native.Mathlib.Omega.{arith}
+use borrow.Author.Tests.{not-true, not-false}
+use lib.ListN.{getD, drop}
+use Rattle.rules.specs.Form.{rowIn}
+use Rattle.rules.specs.Text.{rowsSoFar, withRow}
+use Rattle.reader.proofs.HeldLaws.{held-threads, held-cells, within, begun, count-there}
+use Rattle.reader.proofs.LineLaws.{row-early, row-full, row-stuck, row-fits, followed-stuck, followed-fits}
+use borrow.Author.Needs.{needs}
+use Rattle.reader.proofs.a_row.Statement.{statement}
+use Rattle.reader.proofs.a_row.Tie as tie
+
+slice-read-threads : tie.Need-slice-read-threads
+slice-read-threads c =
+    let start = c .before .before .before in
+    let a = start .args in
+    let h = start .pre .held in
+    let t = held-threads (a .table .now) (a .length) (start .pre .made) h in
+    omega (arith, h .room)
+
+cast-threads : tie.Need-cast-threads
+cast-threads c =
+    let start = c .before .before .before in
+    let a = start .args in
+    let h = start .pre .held in
+    let t = held-threads (a .table .now) (a .length) (start .pre .made) h in
+    omega (arith, t, h .threads)
+
+returns : tie.Need-returns
+returns c = record {
+  is = λ m held.
+      let a = c .before .before .before .before .args in
+      row-early (a .all) (a .rows) m (drop (a .from) (a .text .now)) (drop (a .here) (a .text .now)) (omega (arith, c .if1 .taken, held-threads (a .table .now) (a .length) m held));
+}
+
+add-if2 : tie.Need-add-if2
+add-if2 c =
+    let start = c .before .before .before .before in
+    let a = start .args in
+    let h = start .pre .held in
+    let t = held-threads (a .table .now) (a .length) (start .pre .made) h in
+    omega (arith, t, h .threads)
+
+slice-read-if2 : tie.Need-slice-read-if2
+slice-read-if2 c =
+    let start = c .before .before .before .before .before in
+    let a = start .args in
+    let h = start .pre .held in
+    let t = held-threads (a .table .now) (a .length) (start .pre .made) h in
+    omega (arith, t, h .threads, h .room)
+
+returns-2 : tie.Need-returns-2
+returns-2 c = record {
+  is = λ m held.
+      let one = c .before .before in
+      let a = one .before .before .before .before .args in
+      let some : 1 ≤ getD (a .table .now) 0 0 = omega (arith, one .if1 .left) in
+      row-full (a .all) (a .rows) m (drop (a .from) (a .text .now)) (drop (a .here) (a .text .now)) (begun (a .table .now) (a .length) m held some) (omega (arith, c .if2 .taken, count-there (a .table .now) (a .length) m held some));
+}
+
+slice-read-t13 : tie.Need-slice-read-t13
+slice-read-t13 c =
+    let start = c .before .before .before .before .before .before .before in
+    let a = start .args in
+    let h = start .pre .held in
+    let t = held-threads (a .table .now) (a .length) (start .pre .made) h in
+    omega (arith, h .room)
+
+cast-t19 : tie.Need-cast-t19
+cast-t19 c =
+    let start = c .before .before .before .before .before .before .before in
+    let a = start .args in
+    let h = start .pre .held in
+    let t = held-threads (a .table .now) (a .length) (start .pre .made) h in
+    omega (arith, held-cells (a .table .now) (a .length) (start .pre .made) h, h .cells)
+
+row-in-requires : tie.Need-row-in-requires
+row-in-requires c κs = search needs
+
+returns-3 : tie.Need-returns-3
+returns-3 c = record {
+  is = λ m held.
+      let got = c .before .before in
+      let two = got .before .before in
+      let one = two .before .before in
+      let a = one .before .before .before .before .args in
+      let some : 1 ≤ getD (a .table .now) 0 0 = omega (arith, one .if1 .left) in
+      let few : rowsSoFar m < 32 = omega (arith, two .if2 .left, count-there (a .table .now) (a .length) m held some) in
+      let read = ap (λ (k : ℕ). rowIn (record { threads = a .all; cells = k; rows = a .rows }) (drop (a .from) (a .text .now))) (sym (held-cells (a .table .now) (a .length) m held)) ∙ sym (got .row-in .ensures .follows .said) in
+      row-stuck (a .all) (a .rows) m (drop (a .from) (a .text .now)) (drop (a .here) (a .text .now)) (begun (a .table .now) (a .length) m held some) few _ (read ∙ followed-stuck (a .text .now) (got .row-in .result) (not-true _ (c .if3 .taken)));
+}
+
+add-row-requires : tie.Need-add-row-requires
+add-row-requires c κs =
+    let got = c .before .before .before .before in
+    let two = got .before .before in
+    let one = two .before .before in
+    record { holds = one .before .before .before .before .pre; some = omega (arith, one .if1 .left); fewer = two .if2 .left }
+
+add-t15 : tie.Need-add-t15
+add-t15 c =
+    let got = c .before .before .before .before .before .before .before in
+    let start = got .before .before .before .before .before .before .before .before in
+    omega (arith, within (start .args .table .now) (start .args .length) (start .pre .made) (start .pre .held))
+
+same-length : tie.Need-same-length
+same-length c = search needs
+
+returns-4 : tie.Need-returns-4
+returns-4 c = record {
+  is = λ m held.
+      let put = c .before .before in
+      let all = put .before .before .before in
+      let got = all .before .before in
+      let two = got .before .before in
+      let one = two .before .before in
+      let a = one .before .before .before .before .args in
+      let some : 1 ≤ getD (a .table .now) 0 0 = omega (arith, one .if1 .left) in
+      let few : rowsSoFar m < 32 = omega (arith, two .if2 .left, count-there (a .table .now) (a .length) m held some) in
+      let read = ap (λ (k : ℕ). rowIn (record { threads = a .all; cells = k; rows = a .rows }) (drop (a .from) (a .text .now))) (sym (held-cells (a .table .now) (a .length) m held)) ∙ sym (got .row-in .ensures .follows .said) in (
+        withRow m (got .row-in .result .fields),
+        (
+          row-fits (a .all) (a .rows) m (drop (a .from) (a .text .now)) (drop (a .here) (a .text .now)) (begun (a .table .now) (a .length) m held some) few _ _ (read ∙ followed-fits (a .text .now) (got .row-in .result) (not-false _ (all .if3 .left))),
+          put .add-row .ensures m held,
+        ),
+      );
+}
+
+pub a-row-spec : {M : Type 1} → statement M
+a-row-spec =
+    tie.close
+    (tie.spec
+    slice-read-threads
+    cast-threads
+    returns
+    add-if2
+    slice-read-if2
+    returns-2
+    slice-read-t13
+    cast-t19
+    row-in-requires
+    returns-3
+    add-row-requires
+    add-t15
+    same-length
+    returns-4)

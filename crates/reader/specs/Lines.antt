@@ -1,0 +1,80 @@
+-- What the answers of this crate stand for in the definition. Assumes nothing.
+--     Lined       how a line comes out
+--     Steps       the same, from any table that the buffer held
+--     Bare        nothing else in the line
+--     Answered    a whole text
+--     readOf      what is answered, and left in both buffers
+use Prim.Native.Nat.{ℕ}
+use mathlib.Core.List.{List}
+use mathlib.Core.Bool.{cond, _&&_}
+use mathlib.Core.Path.{_≡_}
+use lib.Dec.{ltb, leb}
+use lib.ListN.{length, drop}
+use Rattle.rules.specs.Table.{maxThreads, maxRows}
+use Rattle.rules.specs.Token.{nextLine}
+use Rattle.rules.specs.Form.{rowIn}
+use Rattle.rules.specs.Text as rules
+use Rattle.rules.specs.Text.{Made}
+use Rattle.reader.specs.Tables.{Held}
+use Rattle.reader.specs.declared.Lines.{Lines}
+use Rattle.reader.specs.declared.Lines.the-variants as lines
+use Rattle.reader.specs.declared.ReadText.{ReadText}
+use Rattle.reader.specs.declared.ReadText.the-variants as reads
+use Rattle.reader.specs.declared.Line.{Line}
+use Rattle.reader.specs.declared.Line.the-variants.{GoesOn, Refused, Ended, Concludes}
+
+-- over a buffer that held n bytes before the line
+abbrev pub Lined : List ℕ → List ℕ → ℕ → rules.Line → Line → Type 0
+Lined text table n line (GoesOn rows more at) = (m : Made) × ((line ≡ rules.goesOn rows m (drop at text)) × Held table more m)
+Lined text table n line (Refused at) = line ≡ rules.refusedLine (drop at text)
+Lined text table n line Ended = (m : Made) × ((line ≡ rules.ended m) × Held table n m)
+Lined text table n line (Concludes at) = (m : Made) × ((line ≡ rules.concludes m (drop at text)) × Held table n m)
+
+pub record Steps (text entry exit : List ℕ) (n : ℕ) (r : Line) (line : Made → rules.Line) : Type 0 where
+  pub is : (m : Made) → Held entry n m → Lined text exit n (line m) r
+
+-- nothing else in the line: over any buffer, from any table that it holds
+abbrev pub Bare : List ℕ → ℕ → ℕ → ℕ → Line → Type 0
+Bare text from rows more r = (table : List ℕ) (n : ℕ) (m : Made) → Held table more m → Lined text table n (rules.bareThen rows m (drop from text)) r
+
+-- "thread", by what is left at its place and behind it
+abbrev pub threadLine : ℕ → Made → List ℕ → List ℕ → rules.Line
+threadLine lines m here past =
+    cond (ltb (m .threads) maxThreads) (rules.bareThen (rules.rowsAhead lines (nextLine here)) (rules.withThread m) past) (rules.refusedLine here)
+
+-- a row, by what is left at its line and at its first token
+abbrev pub rowLine : ℕ → ℕ → Made → List ℕ → List ℕ → rules.Line
+rowLine all rows m bs here =
+    cond (leb 1 (m .threads) && ltb (rules.rowsSoFar m) maxRows)
+    (rules.rowLine rows m (rowIn (record { threads = all; cells = m .cells; rows = rows }) bs))
+    (rules.refusedLine here)
+
+-- a whole text: the place where it is refused; or its bytes in both buffers
+pub record Took (table condition : List ℕ) (bytes claimed : ℕ) (read : rules.TextRead) : Type 0 where
+  pub tableIs : List ℕ
+  pub conditionIs : List ℕ
+  pub says : read ≡ rules.accepted tableIs conditionIs
+  pub tableLeft : table ≡ rules.filled (length table) tableIs
+  pub conditionLeft : condition ≡ rules.filled (length condition) conditionIs
+  pub tableLong : bytes ≡ length tableIs
+  pub conditionLong : claimed ≡ length conditionIs
+
+abbrev pub Answered : List ℕ → List ℕ → List ℕ → Lines → rules.TextRead → Type 0
+Answered text table condition (lines.Refused at) read = read ≡ rules.refusedAt (drop at text)
+Answered text table condition (lines.Taken bytes claimed) read = Took table condition bytes claimed read
+
+pub record Answers (text table condition : List ℕ) (r : Lines) (read : rules.TextRead) : Type 0 where
+  pub is : Answered text table condition r read
+
+-- the same, from any table that the buffer holds
+pub record Closes (text table condition : List ℕ) (n : ℕ) (r : Lines) (read : Made → rules.TextRead) : Type 0 where
+  pub is : (m : Made) → Held table n m → Answered text table condition r (read m)
+
+abbrev pub answerOf : ReadText → rules.TextAnswer
+answerOf reads.NoRoom = rules.noRoom
+answerOf (reads.Refused line column) = rules.refused line column
+answerOf (reads.Taken bytes claimed) = rules.taken bytes claimed
+
+-- with what is left in both buffers
+abbrev pub readOf : ReadText → List ℕ → List ℕ → rules.ReadInto
+readOf r table condition = record { answer = answerOf r; table = table; condition = condition }

@@ -1,0 +1,43 @@
+-- A table that grows in a buffer. Assumes nothing.
+--     Held        the buffer is the table so far, then zeros, and the table is within its limits
+--     Holds       it is so for some table
+--     Grows       from any table that it held, one step of the definition
+--     Cleared, Blank      zeros
+use Prim.Native.Nat.{ℕ, _+_, _-_, _*_, _≤_, _<_}
+use mathlib.Core.List.{List}
+use mathlib.Core.Path.{_≡_}
+use lib.ListN.{length, getD, replicate}
+use Rattle.rules.specs.Table.{total}
+use Rattle.rules.specs.Text.{Made, tableOf, filled}
+
+pub record Held (buffer : List ℕ) (n : ℕ) (m : Made) : Type 0 where
+  pub is : buffer ≡ filled (length buffer) (tableOf m)
+  pub room : 3880 ≤ length buffer
+  pub threads : m .threads ≤ 5
+  pub cells : m .cells ≤ 4
+  pub five : length (m .counts) ≡ 5
+  pub few : (i : ℕ) → getD (m .counts) i 0 ≤ 32
+  pub long : n ≡ 8 + length (m .body)
+  pub body : length (m .body) ≡ 8 * m .cells + 24 * total (m .counts)
+
+pub record Holds (buffer : List ℕ) (n : ℕ) : Type 0 where
+  pub made : Made
+  pub held : Held buffer n made
+
+abbrev pub Grows : List ℕ → List ℕ → ℕ → ℕ → (Made → Made) → Type 0
+Grows entry exit n more step = (m : Made) → Held entry n m → Held exit more (step m)
+
+-- a row more has room: there is a thread, and it has less than all its rows
+pub record RowFits (buffer : List ℕ) (n : ℕ) : Type 0 where
+  pub holds : Holds buffer n
+  pub some : 1 ≤ getD buffer 0 0
+  pub fewer : getD buffer (1 + getD buffer 0 0) 0 < 32
+
+pub record Cleared (entry exit : List ℕ) : Type 0 where
+  pub is : exit ≡ replicate (length exit) 0
+  pub long : length exit ≡ length entry
+
+-- zeros, so many at least
+pub record Blank (least : ℕ) (buffer : List ℕ) : Type 0 where
+  pub is : buffer ≡ replicate (length buffer) 0
+  pub room : least ≤ length buffer

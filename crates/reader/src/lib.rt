@@ -1,0 +1,324 @@
+// A program and its final condition read from a text, into two buffers that the caller lends. Each promise is an equation with the
+// definition in rules (Text).
+ghost use mathlib.Core.Path.{_≡_};
+ghost use Prim.Native.Nat.{_+_, _≤_, _<_};
+ghost use lib.ListN.{length, getD, drop};
+ghost use lib.Seq.{paste};
+ghost use Rattle.rules.specs.Event.{little};
+ghost use Rattle.rules.specs.Text as rules;
+ghost use Rattle.reader.specs.Tables.{Holds, RowFits, Grows, Cleared, Blank};
+ghost use Rattle.reader.specs.Lines.{Bare, Steps, Closes, Answers, readOf, threadLine, rowLine};
+use condition::CONDITION_BYTES;
+use form::Fields;
+use form::Room;
+use token::Found;
+
+// The bytes of the largest table.
+pub const TABLE_BYTES: usize = 3880;
+
+const HEADER: usize = 8;
+
+const MAX_THREADS: u8 = 5;
+
+const MAX_CELLS: usize = 4;
+
+const MAX_ROWS: u8 = 32;
+
+// How a text was read: a buffer was too short; refused at a line and column, both from 1; or taken, with the lengths of its table and
+// its condition.
+pub enum ReadText {
+    NoRoom,
+    Refused(usize, usize),
+    Taken(usize, usize),
+}
+
+// The same with a place in the text, once there is room.
+enum Lines {
+    Refused(usize),
+    Taken(usize, usize),
+}
+
+// How a line comes out: the next one follows, in a thread of so many rows, behind a table of so many bytes; it is refused at a place; the
+// text ends; the condition follows.
+enum Line {
+    GoesOn(usize, usize, usize),
+    Refused(usize),
+    Ended,
+    Concludes(usize),
+}
+
+// Reads a text. A refusal leaves zeros in both buffers, and a text that is taken zeros behind its bytes; without room they stay as they
+// are.
+pub fn read(text: &[u8], table: &mut [u8], condition: &mut [u8]) -> ReadText
+    ensures { λ r. ⌜ readOf r (now (table .exit)) (now (condition .exit)) ≡ rules.readInto (now (text .entry)) (now (table .entry)) (now (condition .entry)) ⌝ }
+{
+    if table.len() < TABLE_BYTES {
+        return ReadText::NoRoom;
+    }
+    if condition.len() < CONDITION_BYTES {
+        return ReadText::NoRoom;
+    }
+    clear_all(table);
+    clear_all(condition);
+    match lines_from(text, table, condition) {
+        Lines::Refused(at) => {
+            clear_all(table);
+            clear_all(condition);
+            let place = ahead::place_of(text, at);
+            ReadText::Refused(place.line, place.column)
+        }
+        Lines::Taken(bytes, claimed) => ReadText::Taken(bytes, claimed),
+    }
+}
+
+// All lines, over buffers of zeros.
+fn lines_from(text: &[u8], table: &mut [u8], condition: &mut [u8]) -> Lines
+    requires { ⌜ Blank 3880 (now table) × Blank 1024 (now condition) ⌝ }
+    ensures { λ r. ⌜ Answers (now (text .entry)) (now (table .exit)) (now (condition .exit)) r (rules.readText (now (text .entry))) ⌝ }
+{
+    let lines = text.len() + 1;
+    let all = ahead::threads_ahead(text, 0, lines);
+    let mut from = 0;
+    let mut rows = 0;
+    let mut length = HEADER;
+    let mut left = lines;
+    while 0 < left {
+        match line_of(text, from, lines, all, rows, length, table) {
+            Line::GoesOn(more, long, to) => {
+                rows = more;
+                length = long;
+                from = to;
+            }
+            Line::Refused(at) => return Lines::Refused(at),
+            Line::Ended => return Lines::Taken(length, 0),
+            Line::Concludes(at) => return concluded(text, at, lines, length, table, condition),
+        }
+        left -= 1;
+    }
+    Lines::Refused(from)
+}
+
+// The condition is read and judged, and its bytes are written.
+fn concluded(
+    text: &[u8],
+    at: usize,
+    lines: usize,
+    length: usize,
+    table: &[u8],
+    condition: &mut [u8],
+) -> Lines
+    requires { ⌜ Holds (now table) length × Blank 1024 (now condition) ⌝ }
+    ensures { λ r. ⌜ Closes (now (text .entry)) (now (table .entry)) (now (condition .exit)) length r (λ m. rules.concluded lines m (drop at (now (text .entry)))) ⌝ }
+{
+    let threads = table[0] as usize;
+    let end = claims::concluded(text, at, lines, threads);
+    if !end.taken {
+        return Lines::Refused(end.at);
+    }
+    let bytes = end.bytes;
+    let size = end.length;
+    append(condition, 0, token::part(&bytes, 0, size));
+    Lines::Taken(length, size)
+}
+
+// Sets all bytes to zero.
+fn clear_all(bytes: &mut [u8])
+    ensures { λ _. ⌜ Cleared (now (bytes .entry)) (now (bytes .exit)) ⌝ }
+{
+    let to = bytes.len();
+    trace::clear(bytes, 0, to);
+}
+
+// One line, in a text of so many lines at most and so many threads, in a thread of so many rows.
+fn line_of(
+    text: &[u8],
+    from: usize,
+    lines: usize,
+    all: usize,
+    rows: usize,
+    length: usize,
+    table: &mut [u8],
+) -> Line
+    requires { ⌜ Holds (now table) length ⌝ }
+    ensures { λ r. ⌜ Steps (now (text .entry)) (now (table .entry)) (now (table .exit)) length r (λ m. rules.lineOf lines all rows m (drop from (now (text .entry)))) ⌝ }
+{
+    let here = token::skip(text, from);
+    if text.len() <= here {
+        if table[0] == 0 {
+            return Line::Refused(here);
+        }
+        return Line::Ended;
+    }
+    if token::ends_line(text, here) {
+        return Line::GoesOn(rows, length, token::next_line(text, here));
+    }
+    let to = token::token_end(text, here);
+    if table[1] == 0 {
+        if token::is_word(text, here, to, b"cells") {
+            return cells_line(text, to, length, table);
+        }
+        return Line::Refused(here);
+    }
+    if token::is_word(text, here, to, b"thread") {
+        return a_thread(text, here, to, lines, length, table);
+    }
+    if token::is_word(text, here, to, b"finally") {
+        if 0 < table[0] {
+            return Line::Concludes(to);
+        }
+        return Line::Refused(here);
+    }
+    a_row(text, from, here, all, rows, length, table)
+}
+
+// "thread", and its rows.
+fn a_thread(
+    text: &[u8],
+    here: usize,
+    to: usize,
+    lines: usize,
+    length: usize,
+    table: &mut [u8],
+) -> Line
+    requires { ⌜ Holds (now table) length ⌝ }
+    ensures { λ r. ⌜ Steps (now (text .entry)) (now (table .entry)) (now (table .exit)) length r (λ m. threadLine lines m (drop here (now (text .entry))) (drop to (now (text .entry)))) ⌝ }
+{
+    if MAX_THREADS <= table[0] {
+        return Line::Refused(here);
+    }
+    let rows = ahead::rows_ahead(text, token::next_line(text, here), lines);
+    add_thread(table, length);
+    bare_then(text, to, rows, length)
+}
+
+// A row: only in a thread, and no more than a thread may have.
+fn a_row(
+    text: &[u8],
+    from: usize,
+    here: usize,
+    all: usize,
+    rows: usize,
+    length: usize,
+    table: &mut [u8],
+) -> Line
+    requires { ⌜ Holds (now table) length ⌝ }
+    ensures { λ r. ⌜ Steps (now (text .entry)) (now (table .entry)) (now (table .exit)) length r (λ m. rowLine all rows m (drop from (now (text .entry))) (drop here (now (text .entry)))) ⌝ }
+{
+    let threads = table[0] as usize;
+    if threads == 0 {
+        return Line::Refused(here);
+    }
+    if MAX_ROWS <= table[1 + threads] {
+        return Line::Refused(here);
+    }
+    let room = Room {
+        threads: all as u64,
+        cells: table[1] as u64,
+        rows: rows as u64,
+    };
+    let row = form::row_in(text, from, room);
+    if !row.fits {
+        return Line::Refused(row.at);
+    }
+    let fields = row.fields;
+    add_row(table, length, fields);
+    Line::GoesOn(rows, length + 24, row.at)
+}
+
+// "cells" and one to four start values.
+fn cells_line(text: &[u8], at: usize, length: usize, table: &mut [u8]) -> Line
+    requires { ⌜ Holds (now table) length × (getD (now table) 1 0 ≡ 0) ⌝ }
+    ensures { λ r. ⌜ Steps (now (text .entry)) (now (table .entry)) (now (table .exit)) length r (λ m. rules.cellsLine 4 m (drop at (now (text .entry)))) ⌝ }
+{
+    let mut from = at;
+    let mut long = length;
+    let mut left = MAX_CELLS;
+    while 0 < left {
+        let here = token::skip(text, from);
+        let to = token::token_end(text, here);
+        let Found::Value(value) = token::number(text, here, to) else {
+            if table[1] == 0 {
+                return Line::Refused(here);
+            }
+            return bare_then(text, from, 0, long);
+        };
+        add_cell(table, long, value);
+        long += 8;
+        from = to;
+        left -= 1;
+    }
+    bare_then(text, from, 0, long)
+}
+
+// Nothing else may stand in the line.
+fn bare_then(text: &[u8], from: usize, rows: usize, length: usize) -> Line
+    ensures { λ r. ⌜ Bare (now (text .entry)) from rows length r ⌝ }
+{
+    let here = token::skip(text, from);
+    if token::ends_line(text, here) {
+        return Line::GoesOn(rows, length, token::next_line(text, here));
+    }
+    Line::Refused(here)
+}
+
+// One cell more.
+fn add_cell(table: &mut [u8], length: usize, value: u64)
+    requires { ⌜ Holds (now table) length × (getD (now table) 1 0 < 4) ⌝ }
+    ensures { λ _. ⌜ Grows (now (table .entry)) (now (table .exit)) length (length + 8) (λ m. rules.withCell m value) ⌝ }
+{
+    let bytes = low_bytes(value);
+    append(table, length, &bytes);
+    let cells = table[1];
+    table[1] = cells + 1;
+}
+
+// One thread more.
+fn add_thread(table: &mut [u8], length: usize)
+    requires { ⌜ Holds (now table) length × (getD (now table) 0 0 < 5) ⌝ }
+    ensures { λ _. ⌜ Grows (now (table .entry)) (now (table .exit)) length length rules.withThread ⌝ }
+{
+    let threads = table[0];
+    table[0] = threads + 1;
+}
+
+// One row more, in the thread that was begun last.
+fn add_row(table: &mut [u8], length: usize, fields: Fields)
+    requires { ⌜ RowFits (now table) length ⌝ }
+    ensures { λ _. ⌜ Grows (now (table .entry)) (now (table .exit)) length (length + 24) (λ m. rules.withRow m fields) ⌝ }
+{
+    let bytes = form::row_bytes(fields);
+    append(table, length, &bytes);
+    let thread = table[0] as usize;
+    let rows = table[1 + thread];
+    table[1 + thread] = rows + 1;
+}
+
+// Puts bytes into the buffer from a place on.
+fn append(buffer: &mut [u8], at: usize, bytes: &[u8])
+    requires { ⌜ at + length (now bytes) ≤ length (now buffer) ⌝ }
+    ensures { λ _. ⌜ now (buffer .exit) ≡ paste (now (buffer .entry)) at (now (bytes .entry)) (length (now (bytes .entry))) ⌝ }
+{
+    let mut i = 0;
+    while i < bytes.len() {
+        buffer[at + i] = bytes[i];
+        i += 1;
+    }
+}
+
+// A number's bytes, its least first.
+fn low_bytes(value: u64) -> [u8; 8]
+    ensures { λ r. ⌜ r ≡ little 8 value ⌝ }
+{
+    let low = value % 0x1_0000_0000;
+    let high = value / 0x1_0000_0000;
+    [
+        (low % 256) as u8,
+        (low / 256 % 256) as u8,
+        (low / 65536 % 256) as u8,
+        (low / 16777216 % 256) as u8,
+        (high % 256) as u8,
+        (high / 256 % 256) as u8,
+        (high / 65536 % 256) as u8,
+        (high / 16777216 % 256) as u8,
+    ]
+}
