@@ -43,6 +43,6 @@ fn explore(options: Options) {
 fn explore_table(bytes: &[u8; 3881], n: usize, settings: Settings, whole: bool) {
     let table: &[u8] = bytes;
     if n <= table.len() {
-        run::run(&table[0..n], settings, whole);
+        run::run(&table[0..n], &table[0..0], settings, whole);
     }
 }

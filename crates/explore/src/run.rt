@@ -7,13 +7,14 @@ use report::Answer;
 use report::Report;
 
 // Explores and prints, with as much of the largest buffers as the settings ask for.
-pub fn run(table: &[u8], settings: Settings, whole: bool) {
+pub fn run(table: &[u8], condition: &[u8], settings: Settings, whole: bool) {
     let mut path = [0u8; 16384];
     let mut trace = [0u8; 65536];
     let path_size = bytes(settings.branches, 16384);
     let trace_size = bytes(settings.operations, 65536);
     run_in(
         table,
+        condition,
         settings,
         &mut path[0..path_size],
         &mut trace[0..trace_size],
@@ -32,9 +33,16 @@ fn bytes(records: u64, all: usize) -> usize
 }
 
 // Explores in buffers of the right lengths, and prints.
-fn run_in(table: &[u8], settings: Settings, path: &mut [u8], trace: &mut [u8], whole: bool) {
-    let report = explore(table, &table[..0], settings, path, trace);
-    tell::print_report(table, settings, report, trace, whole);
+fn run_in(
+    table: &[u8],
+    condition: &[u8],
+    settings: Settings,
+    path: &mut [u8],
+    trace: &mut [u8],
+    whole: bool,
+) {
+    let report = explore(table, condition, settings, path, trace);
+    tell::print_report(table, condition, settings, report, trace, whole);
 }
 
 // Explores. The library gives no word before its answer, so a long run is made with budgets that double: one that is spent

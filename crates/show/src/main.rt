@@ -29,8 +29,9 @@ fn main() {
 fn show(table: &[u8]) {
     let mut path = [0u8; 16384];
     let mut trace = [0u8; 65536];
-    let report = explorer::explore(table, &table[..0], settings(), &mut path, &mut trace);
-    tell::print_report(table, settings(), report, &trace, false);
+    let condition = &table[..0];
+    let report = explorer::explore(table, condition, settings(), &mut path, &mut trace);
+    tell::print_report(table, condition, settings(), report, &trace, false);
 }
 
 // The largest limits, no bound, exploring.

@@ -7,12 +7,19 @@ mod summary;
 
 // Prints all of a report; where nothing began, only what is wrong. The execution of a run that a limit ended is shortened,
 // unless it is wanted whole.
-pub fn print_report(table: &[u8], settings: Settings, report: Report, trace: &[u8], whole: bool) {
+pub fn print_report(
+    table: &[u8],
+    condition: &[u8],
+    settings: Settings,
+    report: Report,
+    trace: &[u8],
+    whole: bool,
+) {
     let answer = report.answer;
     let number = report::number(answer);
     let threads = report.threads;
     let is_limit = verdict::is_limit(number);
-    verdict::print(table, settings, report, trace);
+    verdict::print(table, condition, settings, report, trace);
     if report.begun == 0 {
         return;
     }

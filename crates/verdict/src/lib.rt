@@ -11,7 +11,7 @@ mod limit;
 mod race;
 
 // Prints the verdict.
-pub fn print(table: &[u8], settings: Settings, report: Report, trace: &[u8]) {
+pub fn print(table: &[u8], condition: &[u8], settings: Settings, report: Report, trace: &[u8]) {
     let answer = report.answer;
     let number = report::number(answer);
     match number {
