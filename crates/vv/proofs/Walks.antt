@@ -1,22 +1,20 @@
 -- Laws for loops that walk along two vectors: what is left to be asked from place i on. Over every length. Assumes nothing.
 --     left-cons, left-none     whatever is asked of two lists, of what is left of them at i
---     atMost-..                one part more is compared, and what was found so far is kept; the way out
---     equal-.., compared-..    a part that lets the walk go on, and one that ends it
---     ahead-..                 the same; ahead-none: no walk
+--     atMost-.., equal-.., compared-.., ahead-..    a part that lets the walk go on, and one that ends it
 --     join-..                  the parts below i are joined, what is left is still to be
 --     raise-..                 the walk comes to the thread, is elsewhere, is past all
 -- and for functions without a loop: less-told, one-more, no-more
 use Prim.Native.Nat.{ℕ, suc, _+_, _≤_, _<_, max}
 use mathlib.Core.List.{List, [], _∷_, _++_, append-nil}
-use mathlib.Core.Bool.{Bool, true, false, cond, not, _&&_, and-eq-true-iff, true≢false}
+use mathlib.Core.Bool.{Bool, true, false, cond, not, _&&_, true≢false}
 use mathlib.Core.Path.{_≡_, refl, ap, sym, _∙_}
 use mathlib.Core.Logic.{_≢_, _⊎_, inl, inr, ⊎-elim}
-use lib.Dec.{ltb, leb, eqb}
+use lib.Dec.{ltb, eqb}
 use native.Mathlib.Omega.{arith}
 use native.Mathlib.Numerals.{add-one}
 use lib.ListN.{length, getD, set, take, drop, drop-of-length-le, length-set}
 use lib.Seq.{drop-cons, take-suc-set, drop-set-lt, set-getD, set-out, take-all, append-snoc}
-use borrow.Author.Tests.{lt-ltb, le-ltb, le-leb, lt-leb, ne-eqb, eq-eqb, leb-true, ltb-true, ltb-false}
+use borrow.Author.Tests.{lt-ltb, le-ltb, le-leb, lt-leb, ne-eqb, eq-eqb, ltb-true, ltb-false}
 use Rattle.rules.specs.Vector.{largest, atMost, equal, less, joined, oneMore, raised, ahead, next, Whom, nobody, thread}
 use Rattle.rules.proofs.VectorLaws.{atMost-refl, equal-true}
 use Rattle.vv.specs.declared.Ordering.{Ordering}
@@ -35,23 +33,14 @@ flag : (b : Bool) → (b ≡ true) ⊎ (b ≡ false)
 flag true = inl refl
 flag false = inr refl
 
-and-and : (a b c : Bool) → (a && b) && c ≡ a && (b && c)
-and-and true b c = refl
-and-and false b c = refl
-
-module _ (xs ys : List ℕ) (i : ℕ) (h : i < length xs) (k : i < length ys) (so : Bool) where
-  pub atMost-on : (so && leb (getD xs i 0) (getD ys i 0)) && atMost (drop (i + 1) xs) (drop (i + 1) ys) ≡ so && atMost (drop i xs) (drop i ys)
+module _ (xs ys : List ℕ) (i : ℕ) (h : i < length xs) (k : i < length ys) where
+  pub atMost-on : getD xs i 0 ≤ getD ys i 0 → atMost (drop (i + 1) xs) (drop (i + 1) ys) ≡ atMost (drop i xs) (drop i ys)
   unfolding atMost
-  atMost-on = rw (left-cons atMost xs ys i h k) (and-and so _ _)
+  atMost-on l = rw (left-cons atMost xs ys i h k, le-leb (getD xs i 0) (getD ys i 0) l)
 
-  -- a part that is greater, this one or one before it
-  pub atMost-ends : so && leb (getD xs i 0) (getD ys i 0) ≡ false → so && atMost (drop i xs) (drop i ys) ≡ false
-  atMost-ends e = sym atMost-on ∙ ap (λ (b : Bool). b && atMost (drop (i + 1) xs) (drop (i + 1) ys)) e
-
--- with no part left, what was found so far is the answer
-pub so-far : (so : Bool) → so && true ≡ so
-so-far true = refl
-so-far false = refl
+  pub atMost-ends : getD ys i 0 < getD xs i 0 → atMost (drop i xs) (drop i ys) ≡ false
+  unfolding atMost
+  atMost-ends l = rw (left-cons atMost xs ys i h k, lt-leb (getD xs i 0) (getD ys i 0) l)
 
 module _ (xs ys : List ℕ) (i : ℕ) (h : i < length xs) (k : i < length ys) where
   pub equal-on : getD xs i 0 ≡ getD ys i 0 → equal (drop (i + 1) xs) (drop (i + 1) ys) ≡ equal (drop i xs) (drop i ys)
@@ -87,6 +76,10 @@ only-most true false true h = refl
 only-most false false true h = refl
 only-most true false false h = refl
 only-most false false false h = refl
+
+so-far : (so : Bool) → so && true ≡ so
+so-far true = refl
+so-far false = refl
 
 module _ (x y : ℕ) (xs ys : List ℕ) (l : x ≤ y) (so : Bool) where
   past-same : eqb x y ≡ true → after (so && eqb x y) (compared xs ys) ≡ after so (compared (x ∷ xs) (y ∷ ys))
@@ -150,15 +143,6 @@ module _ (xs ys : List ℕ) (i : ℕ) (h : i < length xs) (k : i < length ys) wh
   pub ahead-ends : getD xs i 0 < getD ys i 0 → past i (ahead (drop i xs) (drop i ys)) ≡ thread i
   unfolding ahead
   ahead-ends l = rw (left-cons ahead xs ys i h k, lt-ltb (getD xs i 0) (getD ys i 0) l) (let e : i + 0 ≡ i = omega arith in cc)
-
--- where each part of ys is at most that of xs, no thread is ahead
-pub ahead-none : (xs ys : List ℕ) → length ys ≤ length xs → atMost ys xs ≡ true → ahead xs ys ≡ nobody
-unfolding ahead atMost
-ahead-none xs [] h e = refl
-ahead-none [] (y ∷ ys) h e = absurd (omega arith)
-ahead-none (x ∷ xs) (y ∷ ys) h e =
-    let both = and-eq-true-iff (leb y x) (atMost ys xs) .0 e in
-    rw (le-ltb x y (leb-true y x (both .0)), ahead-none xs ys (omega arith) (both .1))
 
 -- xs with the parts from i on still to be joined with those of ys
 abbrev pub joining : List ℕ → List ℕ → ℕ → List ℕ

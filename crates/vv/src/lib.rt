@@ -8,9 +8,6 @@ use layout::MAX_THREADS;
 // The largest number that a part can be; a mark of this number is unseen, so no version passes it.
 pub const LARGEST: u16 = 65535;
 
-// The part after which `at_most` may end.
-const WAY_OUT: usize = 3;
-
 pub struct VersionVec {
     pub versions: [u16; MAX_THREADS],
 }
@@ -73,21 +70,18 @@ impl VersionVec {
         self
     }
 
-    // Whether each part is at most the other's. The way out is after the fourth part: up to there they are compared at once,
-    // and a way out after each costs more than it saves (docs/SPEED.md).
+    // Whether each part is at most the other's. The first that is greater ends the walk.
     pub fn at_most(self, other: VersionVec) -> bool
         ensures { λ r. ⌜ r ≡ atMost (self .versions) (other .versions) ⌝ }
     {
-        let mut all = true;
         let mut i = 0;
         while i < MAX_THREADS {
-            all = all & (self.versions[i] <= other.versions[i]);
-            if (i == WAY_OUT) & !all {
+            if self.versions[i] > other.versions[i] {
                 return false;
             }
             i += 1;
         }
-        all
+        true
     }
 
     // Whether all parts are equal. The first that is not ends the walk.
@@ -136,13 +130,10 @@ impl VersionVec {
         }
     }
 
-    // The lowest thread whose part in the other vector is greater. Hardly ever is there one, which is asked first.
+    // The lowest thread whose part in the other vector is greater. It ends the walk.
     pub fn ahead(self, other: VersionVec) -> Ahead
         ensures { λ r. ⌜ whom r ≡ ahead (self .versions) (other .versions) ⌝ }
     {
-        if other.at_most(self) {
-            return Ahead::Nobody;
-        }
         let mut i = 0;
         while i < MAX_THREADS {
             if self.versions[i] < other.versions[i] {

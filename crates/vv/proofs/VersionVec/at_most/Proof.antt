@@ -1,22 +1,19 @@
 use borrow.Author.Needs.{needs}
-use borrow.Author.Tests.{not-true}
 use native.Mathlib.Omega.{arith}
 use Prim.Native.Nat.{_≤_, _-_}
-use mathlib.Core.Bool.{Bool, _&&_, and-eq-true-iff}
-use mathlib.Core.Path.{_≡_, refl, sym, ap, _∙_}
-use lib.Dec.{eqb}
+use mathlib.Core.Path.{_≡_, refl, sym, _∙_}
 use lib.ListN.{length, drop}
 use Rattle.rules.specs.Vector.{atMost}
-use Rattle.vv.proofs.Walks.{left-none, atMost-on, atMost-ends, so-far}
+use Rattle.vv.proofs.Walks.{left-none, atMost-on, atMost-ends}
 use Rattle.vv.proofs.VersionVec.at_most.Statement.{statement}
 use Rattle.vv.proofs.VersionVec.at_most.Tie as tie
 
 abbrev Inv-loop : tie.InvT-loop
-Inv-loop self other all₀ i₀ all i =
-    (i ≤ 5) × (all && atMost (drop i (self .versions)) (drop i (other .versions)) ≡ atMost (self .versions) (other .versions))
+Inv-loop self other i₀ i =
+    (i ≤ 5) × (atMost (drop i (self .versions)) (drop i (other .versions)) ≡ atMost (self .versions) (other .versions))
 
 abbrev μ-loop : tie.MeasureT-loop
-μ-loop self other all₀ i₀ all i = 5 - i
+μ-loop self other i₀ i = 5 - i
 
 len1 : (c : tie.Start Inv-loop μ-loop) → length (c .args .t1 .versions) ≡ 5
 len1 c = search needs
@@ -27,23 +24,22 @@ len2 c = search needs
 loop-holds : tie.Need-loop-holds Inv-loop μ-loop
 loop-holds c = (search needs, refl)
 
-mul-all : tie.Need-mul-all Inv-loop μ-loop
-mul-all c = search needs
+mul-if1 : tie.Need-mul-if1 Inv-loop μ-loop
+mul-if1 c = search needs
 
-element-copy-out-all : tie.Need-element-copy-out-all Inv-loop μ-loop
-element-copy-out-all c = search needs
+element-copy-out-if1 : tie.Need-element-copy-out-if1 Inv-loop μ-loop
+element-copy-out-if1 c = search needs
 
-mul-all-2 : tie.Need-mul-all-2 Inv-loop μ-loop
-mul-all-2 c = search needs
+mul-if1-2 : tie.Need-mul-if1-2 Inv-loop μ-loop
+mul-if1-2 c = search needs
 
-element-copy-out-all-2 : tie.Need-element-copy-out-all-2 Inv-loop μ-loop
-element-copy-out-all-2 c = search needs
+element-copy-out-if1-2 : tie.Need-element-copy-out-if1-2 Inv-loop μ-loop
+element-copy-out-if1-2 c = search needs
 
 returns : tie.Need-returns Inv-loop μ-loop
 returns c =
     let at = c .before .before .before .before in
-    let out = and-eq-true-iff (eqb (at .loop .i) 3) _ .0 (c .if1 .taken) in
-    sym (atMost-ends _ _ (at .loop .i) (omega (arith, len1 (at .before))) (omega (arith, len2 (at .before))) (at .loop .all) (not-true _ (out .1))) ∙ at .loop .inv .1
+    sym (atMost-ends _ _ (at .loop .i) (omega (arith, len1 (at .before))) (omega (arith, len2 (at .before))) (c .if1 .taken)) ∙ at .loop .inv .1
 
 add-i : tie.Need-add-i Inv-loop μ-loop
 add-i c = search needs
@@ -55,14 +51,14 @@ loop-again : tie.Need-loop-again Inv-loop μ-loop
 loop-again c =
     let at = c .before .before .before .before in (
       search needs,
-      atMost-on (at .before .args .t1 .versions) (at .before .args .t2 .versions) (at .loop .i) (omega (arith, len1 (at .before))) (omega (arith, len2 (at .before))) (at .loop .all) ∙ at .loop .inv .1,
+      atMost-on _ _ (at .loop .i) (omega (arith, len1 (at .before))) (omega (arith, len2 (at .before))) (c .if1 .left) ∙ at .loop .inv .1,
     )
 
 returns-2 : tie.Need-returns-2 Inv-loop μ-loop
 unfolding atMost
 returns-2 c =
     let at = c .before in
-    sym (so-far _) ∙ sym (ap (λ (b : Bool). at .loop .all && b) (left-none atMost _ _ (at .loop .i) (omega (arith, len1 (at .before))) (omega (arith, len2 (at .before))))) ∙ at .loop .inv .1
+    sym (left-none atMost _ _ (at .loop .i) (omega (arith, len1 (at .before))) (omega (arith, len2 (at .before)))) ∙ at .loop .inv .1
 
 pub at-most-spec : {M : Type 1} → statement M
 at-most-spec =
@@ -71,10 +67,10 @@ at-most-spec =
     Inv-loop
     μ-loop
     loop-holds
-    mul-all
-    element-copy-out-all
-    mul-all-2
-    element-copy-out-all-2
+    mul-if1
+    element-copy-out-if1
+    mul-if1-2
+    element-copy-out-if1-2
     returns
     add-i
     loop-less
