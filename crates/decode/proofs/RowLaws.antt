@@ -3,11 +3,12 @@
 --     fine                                       whether a row says something
 --     meant, told                                what was taken apart
 --     load-made .. spurious-made                 a row of each opcode, its tests as the code groups them
+--     fields-told, rmw-judged                    an RMW's tests alone
 use Prim.Native.Nat.{ℕ, zero, suc, _≤_, _<_, zero-le}
 use native.Mathlib.Omega.{arith}
 use mathlib.Core.Bool.{Bool, true, false, _&&_, and-assoc, and-true}
 use mathlib.Core.List.{[], _∷_}
-use mathlib.Core.Path.{_≡_, _∙_}
+use mathlib.Core.Path.{_≡_, refl, _∙_}
 use lib.Dec.{ltb, leb, eqb}
 use borrow.Author.Tests.{ne-eqb}
 use Rattle.rules.specs.Change as rules
@@ -111,11 +112,29 @@ pub store-register-made : (cells : ℕ) (r : Row) {n o g p q : Bool} {cell regis
     d ≡ storeRegisterRow cells r
 store-register-made cells r h e0 e1 e2 e3 e4 e5 e6 = h ∙ rw (e0, e1, e2, e3, e4, e5, e6) (simp (and-assoc, and-true))
 
-pub rmw-made : (cells : ℕ) (r : Row) {n f g : Bool} {cell register : ℕ} {d : Decoded Op} {w : Decoded rules.Change} {change : rules.Change} →
-    d ≡ onlyIf (n && anyOrder (r .order) && f && g && eqb (r .target) 0) (rmw cell (r .order) (r .failure) change register) →
-    decoded change ≡ w → n ≡ ltb (r .object) cells → f ≡ failureOrder (r .kind) (r .failure) → g ≡ isRegister (r .register) → cell ≡ r .object → register ≡ r .register →
+-- the fields of an RMW beside its change
+abbrev pub rmwFields : ℕ → Row → Bool
+rmwFields cells r = ltb (r .object) cells && anyOrder (r .order) && failureOrder (r .kind) (r .failure) && isRegister (r .register) && eqb (r .target) 0
+
+pub fields-told : (cells : ℕ) (r : Row) {n f g : Bool} →
+    n ≡ ltb (r .object) cells → f ≡ failureOrder (r .kind) (r .failure) → g ≡ isRegister (r .register) →
+    n && anyOrder (r .order) && f && g && eqb (r .target) 0 ≡ rmwFields cells r
+fields-told cells r e0 e1 e2 = rw (e0, e1, e2)
+
+pub rmw-made : (cells : ℕ) (r : Row) {t : Bool} {cell register : ℕ} {d : Decoded Op} {w : Decoded rules.Change} {change : rules.Change} →
+    d ≡ onlyIf t (rmw cell (r .order) (r .failure) change register) →
+    decoded change ≡ w → t ≡ rmwFields cells r → cell ≡ r .object → register ≡ r .register →
     d ≡ rmwRow cells r w
-rmw-made cells r h w e0 e1 e2 e3 e4 = h ∙ rw (e0, e1, e2, e3, e4, ← w) (simp (and-assoc, and-true))
+rmw-made cells r h w e0 e1 e2 = h ∙ rw (e0, e1, e2, ← w) (simp (and-assoc, and-true))
+
+fine-only : (b : Bool) (x : Op) → b ≡ isFine (onlyIf b x)
+fine-only true x = refl
+fine-only false x = refl
+
+pub rmw-judged : (cells : ℕ) (r : Row) {t : Bool} {w : Decoded rules.Change} {change : rules.Change} →
+    decoded change ≡ w → t ≡ rmwFields cells r → t ≡ isFine (rmwRow cells r w)
+rmw-judged cells r {t} {w} {change} e h =
+    h ∙ fine-only (rmwFields cells r) (rmw (r .object) (r .order) (r .failure) change (r .register)) ∙ rw (← e) (simp (and-assoc, and-true))
 
 pub rmw-refused : (cells : ℕ) (r : Row) {w : Decoded rules.Change} → refused ≡ w → refused ≡ rmwRow cells r w
 rmw-refused cells r w = rw (← w)

@@ -1,6 +1,8 @@
 // What a row says: its fields decoded into an enum with those that its opcode uses. A field that the opcode and the change kind
 // do not use is zero, else the row is refused. Each promise is an equation with the definition in rules (Table).
 ghost use mathlib.Core.Path.{_≡_};
+ghost use mathlib.Core.Bool.{_&&_};
+ghost use lib.Dec.{ltb, eqb};
 ghost use Prim.Native.Nat.{ℕ};
 ghost use Rattle.rules.specs.Table as rules;
 ghost use Rattle.decode.specs.Ops.{opOf, decodedOf, rowOf};
@@ -143,7 +145,7 @@ pub fn is_row(row: Row, threads: usize, cells: usize, count: usize) -> bool
         0 => is_decoded(load_row(row, cells)),
         1 => is_decoded(store_row(row, cells)),
         2 => is_decoded(store_register_row(row, cells)),
-        3 => is_decoded(rmw_row(row, cells)),
+        3 => is_rmw(row, cells),
         4 => is_decoded(fence_row(row)),
         5 => is_decoded(unsync_load_row(row, cells)),
         6 => is_decoded(with_mut_row(row, cells)),
@@ -237,11 +239,7 @@ fn rmw_row(row: Row, cells: usize) -> Decoded
         return Decoded::Refused;
     };
     only_if(
-        named(row.object, cells)
-            & (row.order <= SEQ_CST)
-            & failure_order(row.kind, row.failure)
-            & is_register(row.register)
-            & (row.target == 0),
+        rmw_fields(row, cells),
         Op::Rmw {
             cell: wide8(row.object),
             order: row.order,
@@ -250,6 +248,28 @@ fn rmw_row(row: Row, cells: usize) -> Decoded
             register: wide8(row.register),
         },
     )
+}
+
+// Whether a row is an RMW. Judging does not make the row: with one caller, the function that does is compiled into the tick,
+// and no tick writes a row's fields to memory for it.
+fn is_rmw(row: Row, cells: usize) -> bool
+    ensures { λ r. ⌜ r ≡ rules.isFine (rules.rmwRow cells (rowOf row) (rules.changeDecoded (row .kind) (row .a) (row .b))) ⌝ }
+{
+    let ChangeDecoded::Change(_) = change_of(row.kind, row.a, row.b) else {
+        return false;
+    };
+    rmw_fields(row, cells)
+}
+
+// Whether the fields beside its change are those of an RMW.
+fn rmw_fields(row: Row, cells: usize) -> bool
+    ensures { λ r. ⌜ r ≡ (ltb (row .object) cells && rules.anyOrder (row .order) && rules.failureOrder (row .kind) (row .failure) && rules.isRegister (row .register) && eqb (row .target) 0) ⌝ }
+{
+    named(row.object, cells)
+        & (row.order <= SEQ_CST)
+        & failure_order(row.kind, row.failure)
+        & is_register(row.register)
+        & (row.target == 0)
 }
 
 // A fence uses the order.

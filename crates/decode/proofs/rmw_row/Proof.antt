@@ -15,14 +15,8 @@ enum-told c = search needs
 returns : tie.Need-returns
 returns c = rmw-refused _ _ (meant (c .enum-told .given .1) (c .before .before .change-of .ensures))
 
-named-requires : tie.Need-named-requires
-named-requires c κs = search needs
-
-failure-order-requires : tie.Need-failure-order-requires
-failure-order-requires c κs = search needs
-
-is-register-requires : tie.Need-is-register-requires
-is-register-requires c κs = search needs
+rmw-fields-requires : tie.Need-rmw-fields-requires
+rmw-fields-requires c κs = search needs
 
 wide8-requires : tie.Need-wide8-requires
 wide8-requires c κs = search needs
@@ -34,7 +28,9 @@ only-if-requires : tie.Need-only-if-requires
 only-if-requires c κs = search needs
 
 returns-2 : tie.Need-returns-2
-returns-2 c = rmw-made _ _ (c .only-if .ensures) (meant (c .before .before .before .before .before .before .before .before .before .change .given .1) (c .before .before .before .before .before .before .before .before .before .before .before .change-of .ensures)) (c .before .before .before .before .before .before .before .named .ensures) (c .before .before .before .before .before .failure-order .ensures) (c .before .before .before .before .is-register .ensures) (c .before .before .wide8 .ensures .same) (c .before .wide82 .ensures .same)
+returns-2 c =
+    let fields = c .before .before .before in
+    rmw-made _ _ (c .only-if .ensures) (meant (fields .before .before .change .given .1) (fields .before .before .before .before .change-of .ensures)) (fields .rmw-fields .ensures) (c .before .before .wide8 .ensures .same) (c .before .wide82 .ensures .same)
 
 pub rmw-row-spec : {M : Type 1} → statement M
 rmw-row-spec =
@@ -44,9 +40,7 @@ rmw-row-spec =
     enum-known-change
     enum-told
     returns
-    named-requires
-    failure-order-requires
-    is-register-requires
+    rmw-fields-requires
     wide8-requires
     wide8-requires-2
     only-if-requires
