@@ -1,4 +1,5 @@
 -- The laws of first sight, for the functions that answer it. Over every length. Assumes nothing.
+--     known-below, known-last     the latest mark that a part knows
 --     seen-on                     one mark more of a store is asked, and what was found so far is kept
 --     slots-on, slots-all         the stores below i are answered, what is left is still to be
 --     touch-..                    the walk comes to the thread, is elsewhere, is past all
@@ -17,10 +18,14 @@ use native.Mathlib.Numerals.{add-one}
 use lib.Dec.{ltb, leb, eqb}
 use lib.ListN.{length, getD, set, take, drop, drop-of-length-le, length-set, length-map, List·getD-eq-default, List·getD-map}
 use lib.Seq.{drop-cons, take-suc-set, set-out, take-all, append-snoc, set-getD, getD-set-same, getD-set-other}
-use borrow.Author.Tests.{lt-ltb, le-ltb, le-leb, eq-eqb, ne-eqb, ltb-true, ltb-false, leb-true, eqb-true, eqb-false, not-true}
+use borrow.Author.Tests.{lt-ltb, le-ltb, le-leb, lt-leb, eq-eqb, ne-eqb, ltb-true, ltb-false, leb-true, leb-false, eqb-true, eqb-false, not-true}
 use Rattle.rules.specs.Vector.{Whom, nobody, thread, next}
 use Rattle.vv.proofs.Walks.{left-cons}
 use Rattle.rules.specs.Seen.{unseen, markOf, known, seenThrough, someone, seen, seenBeforeYield, touched, touchedAt, seenSlots}
+
+never : (b : Bool) → false ≡ b && false
+never true = refl
+never false = refl
 
 someone-next : (w : Whom) → someone (next w) ≡ someone w
 someone-next nobody = refl
@@ -42,6 +47,27 @@ pub or-or : (a b c : Bool) → (a || b) || c ≡ a || (b || c)
 or-or true b c = refl
 or-or false b c = refl
 
+module _ (m part : ℕ) where
+  -- no mark is as late as a part that is less than unseen
+  pub known-below : part < unseen → leb m part ≡ known m part
+  known-below h =
+      ⊎-elim
+      (λ e. rw (ne-eqb m unseen (λ u. omega (arith, leb-true m part e, u))))
+      (λ e. rw e (never (not (eqb m unseen))))
+      (flag (leb m part))
+
+  not-known : part ≡ unseen → leb m 65534 ≡ false → (eqb m unseen ≡ true) ⊎ (eqb m unseen ≡ false) → false ≡ known m part
+  not-known h e (inl u) = rw u
+  not-known h e (inr u) = rw (u, lt-leb m part (omega (arith, leb-false m 65534 e, eqb-false m unseen u, h)))
+
+  -- a part that is the number of unseen knows every mark, and unseen is none
+  pub known-last : part ≡ unseen → leb m 65534 ≡ known m part
+  known-last h =
+      ⊎-elim
+      (λ e. rw (e, ne-eqb m unseen (λ u. omega (arith, leb-true m 65534 e, u)), le-leb m part (omega (arith, leb-true m 65534 e, h))))
+      (λ e. e ∙ not-known h e (flag (eqb m unseen)))
+      (flag (leb m 65534))
+
 seen-next : (m v : ℕ) (marks vs : List ℕ) → known m v ≡ false → seen (m ∷ marks) (v ∷ vs) ≡ seen marks vs
 unfolding seen seenThrough
 seen-next m v marks vs e = rw e (someone-next (seenThrough marks vs))
@@ -51,9 +77,9 @@ unfolding seen seenThrough
 seen-or m v marks vs =
     ⊎-elim (λ e. rw e) (λ e. rw e (sym (someone-next (seenThrough marks vs)))) (flag (known m v))
 
-module _ (marks vs : List ℕ) (i : ℕ) (h : i < length marks) (k : i < length vs) (so : Bool) where
-  pub seen-on : (so || known (getD marks i 0) (getD vs i 0)) || seen (drop (i + 1) marks) (drop (i + 1) vs) ≡ so || seen (drop i marks) (drop i vs)
-  seen-on = rw (left-cons seen marks vs i h k, ← seen-or) (or-or so _ _)
+module _ (marks vs : List ℕ) (i : ℕ) (h : i < length marks) (k : i < length vs) (so b : Bool) where
+  pub seen-on : b ≡ known (getD marks i 0) (getD vs i 0) → (so || b) || seen (drop (i + 1) marks) (drop (i + 1) vs) ≡ so || seen (drop i marks) (drop i vs)
+  seen-on e = rw (e, left-cons seen marks vs i h k, ← seen-or) (or-or so _ _)
 
 -- with no mark left, what was found so far is the answer
 pub so-far : (so : Bool) → so || false ≡ so
@@ -79,10 +105,6 @@ within : (xs : List ℕ) (i a b : ℕ) → i < length xs → getD xs i a ≡ get
 within [] i a b h = absurd (omega arith)
 within (x ∷ xs) zero a b h = refl
 within (x ∷ xs) (suc i) a b h = within xs i a b (omega arith)
-
-never : (b : Bool) → false ≡ b && false
-never true = refl
-never false = refl
 
 module _ (marks : List ℕ) (t : ℕ) (h : t < length marks) where
   marked : markOf marks t ≡ getD marks t 0

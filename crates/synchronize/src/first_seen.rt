@@ -1,9 +1,10 @@
 // When each thread first saw a store: loom's FirstSeen, and the marks of a cell's seven stores.
 ghost use mathlib.Core.Path.{_≡_};
-ghost use Prim.Native.Nat.{_<_};
+ghost use Prim.Native.Nat.{ℕ, _<_};
 ghost use mathlib.Core.List.{[]};
 ghost use lib.ListN.{getD, set};
-ghost use Rattle.rules.specs.Seen.{unseens, seen, seenBeforeYield, seenSlots, touched};
+ghost use lib.Dec.{leb};
+ghost use Rattle.rules.specs.Seen.{unseens, known, seen, seenBeforeYield, seenSlots, touched};
 use layout::MAX_ATOMIC_HISTORY;
 use layout::MAX_THREADS;
 use layout::Marks;
@@ -41,14 +42,15 @@ impl FirstSeen {
         self
     }
 
-    // Whether some thread's first sight is known to whoever has this causality. No mark ends the walk.
+    // Whether some thread's first sight is known to whoever has this causality. No mark ends the walk. A mark is compared once, with
+    // the latest that its part knows, which a walk over many stores makes once for all of them.
     pub fn is_seen_by_current(self, causality: [u16; MAX_THREADS]) -> bool
         ensures { λ r. ⌜ r ≡ seen (self .versions) causality ⌝ }
     {
         let mut seen = false;
         let mut i = 0;
         while i < MAX_THREADS {
-            seen = seen | ((self.versions[i] != NONE) & (self.versions[i] <= causality[i]));
+            seen = seen | (self.versions[i] <= latest_known(causality[i]));
             i += 1;
         }
         seen
@@ -69,6 +71,13 @@ impl FirstSeen {
         }
         self.versions[thread] <= last_yield
     }
+}
+
+// The latest mark that a part of a causality knows: the part itself, but never NONE, which is no mark.
+fn latest_known(part: u16) -> u16
+    ensures { λ r. ⌜ ((mark : ℕ) → leb mark r ≡ known mark part) ⌝ }
+{
+    if part < NONE { part } else { NONE - 1 }
 }
 
 // Changes the mark of first sight in place, where the thread has none: over the function that hands the marks back.

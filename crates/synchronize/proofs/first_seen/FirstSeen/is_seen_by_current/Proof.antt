@@ -32,17 +32,14 @@ mul-seen c = search needs
 element-copy-out-seen : tie.Need-element-copy-out-seen Inv-loop μ-loop
 element-copy-out-seen c = search needs
 
-mul-seen-2 : tie.Need-mul-seen-2 Inv-loop μ-loop
-mul-seen-2 c = search needs
+mul-latest-known : tie.Need-mul-latest-known Inv-loop μ-loop
+mul-latest-known c = search needs
 
-element-copy-out-seen-2 : tie.Need-element-copy-out-seen-2 Inv-loop μ-loop
-element-copy-out-seen-2 c = search needs
+array-read-latest-known : tie.Need-array-read-latest-known Inv-loop μ-loop
+array-read-latest-known c = search needs
 
-mul-seen-3 : tie.Need-mul-seen-3 Inv-loop μ-loop
-mul-seen-3 c = search needs
-
-array-read-seen : tie.Need-array-read-seen Inv-loop μ-loop
-array-read-seen c = search needs
+latest-known-requires : tie.Need-latest-known-requires Inv-loop μ-loop
+latest-known-requires c κs = search needs
 
 add-i : tie.Need-add-i Inv-loop μ-loop
 add-i c = search needs
@@ -54,7 +51,7 @@ loop-again : tie.Need-loop-again Inv-loop μ-loop
 loop-again c =
     let at = c .before .before .before in (
       search needs,
-      seen-on (at .before .args .t1 .versions) (at .before .args .t2) (at .loop .i) (omega (arith, len1 (at .before))) (omega (arith, len2 (at .before))) (at .loop .seen) ∙ at .loop .inv .1,
+      seen-on (at .before .args .t1 .versions) (at .before .args .t2) (at .loop .i) (omega (arith, len1 (at .before))) (omega (arith, len2 (at .before))) (at .loop .seen) _ (c .latest-known .ensures _) ∙ at .loop .inv .1,
     )
 
 returns : tie.Need-returns Inv-loop μ-loop
@@ -72,10 +69,9 @@ is-seen-by-current-spec =
     loop-holds
     mul-seen
     element-copy-out-seen
-    mul-seen-2
-    element-copy-out-seen-2
-    mul-seen-3
-    array-read-seen
+    mul-latest-known
+    array-read-latest-known
+    latest-known-requires
     add-i
     loop-less
     loop-again
