@@ -1,11 +1,12 @@
 -- What rule (a) marks, thread by thread. Assumes nothing.
---     thread-nowhere, thread-marked         of one thread
---     below-none, below-more, below-all     of those below a thread, and of all
---     mark-other, mark-threads              before a question meets the path
-use Prim.Native.Nat.{ℕ, suc, _+_, _≤_}
+--     thread-nowhere, thread-marked                     of one thread
+--     below-none, turn-marked, turn-same, below-all     of those below a thread, and of all
+--     mark-other, mark-threads                          before a question meets the path
+use Prim.Native.Nat.{ℕ, suc, _+_, _*_, _≤_}
 use mathlib.Core.List.{List, [], _∷_, map}
 use mathlib.Core.Path.{_≡_, refl, ap, sym, subst, _∙_}
 use native.Mathlib.Omega.{arith}
+use lib.ListN.{length}
 use types.Run.{OneOf, miss}
 use denote.Enum.Declared.{tagOf}
 use Rattle.rules.specs.Event as rules
@@ -71,10 +72,23 @@ module _ (clocks : Clocks) (numbers : Numbers) (bound : Bound) where
         opens = omega (arith, next .opens, first .opens);
       }
 
-  pub below-more : {entry mid exit : List ℕ} (n opened r : ℕ) → MarksBelow clocks numbers entry mid bound n opened → MarksThread clocks numbers mid exit bound n r → MarksBelow clocks numbers entry exit bound (n + 1) (opened + r)
+  below-more : {entry mid exit : List ℕ} (n opened r : ℕ) → MarksBelow clocks numbers entry mid bound n opened → MarksThread clocks numbers mid exit bound n r → MarksBelow clocks numbers entry exit bound (n + 1) (opened + r)
   below-more {entry} {mid} {exit} n opened r below more =
       let e : suc n ≡ n + 1 = omega arith in
       subst (λ (k : ℕ). MarksBelow clocks numbers entry exit bound k (opened + r)) e (below-suc n opened r below more)
+
+  -- a turn of the walk: the bytes and the count after it, where the thread is in conflict and where it is not
+  pub turn-marked : {entry mid exit path : List ℕ} (n opened : ℕ) {r total : ℕ} → path ≡ exit → total ≡ opened + r →
+      opened ≤ 10 * n → length mid ≡ length entry → MarksBelow clocks numbers entry mid bound n opened → MarksThread clocks numbers mid exit bound n r →
+      (total ≤ 10 * (n + 1)) × (length path ≡ length entry) × MarksBelow clocks numbers entry path bound (n + 1) total
+  turn-marked n opened {r} e f few keeps below more =
+      rw (e, f) (omega (arith, few, more .few), more .keeps ∙ keeps, below-more n opened r below more)
+
+  pub turn-same : {entry mid path : List ℕ} (n opened : ℕ) {total : ℕ} → path ≡ mid → total ≡ opened →
+      opened ≤ 10 * n → length mid ≡ length entry → MarksBelow clocks numbers entry mid bound n opened → MarksThread clocks numbers mid mid bound n 0 →
+      (total ≤ 10 * (n + 1)) × (length path ≡ length entry) × MarksBelow clocks numbers entry path bound (n + 1) total
+  turn-same n opened e f few keeps below more =
+      let z : opened ≡ opened + 0 = omega arith in turn-marked n opened e (f ∙ z) few keeps below more
 
   all-five : {entry exit : List ℕ} (r : ℕ) → r ≤ 50 → MarksBelow clocks numbers entry exit bound 5 r → MarksThreads clocks numbers entry exit bound r
   unfolding markedBelow allMarked

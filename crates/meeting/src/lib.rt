@@ -7,7 +7,7 @@ ghost use Rattle.rules.specs.Table.{opcodeIn};
 ghost use Rattle.rules.specs.Machine.{isExploring};
 ghost use Rattle.decode.specs.Ops.{decodedOf};
 ghost use Rattle.meeting.specs.Stands.{HereWithin, GoesOn, Stopped};
-ghost use Rattle.meeting.specs.Branches.{Marks, MarksThread, MarksThreads, Reaches, addedAt, reachedAt, pushedFew, addedTo, RepliesBy};
+ghost use Rattle.meeting.specs.Branches.{Marks, MarksThreads, Reaches, addedAt, reachedAt, pushedFew, addedTo, RepliesBy};
 ghost use Rattle.meeting.specs.Entries.{Lands, notedAt, completedAt, concludedAt};
 use decode::Decoded;
 use event::Choice;
@@ -86,34 +86,19 @@ pub fn mark(
     cursor
 }
 
-// The choices that rule (a) opens.
+// The choices that rule (a) opens: a thread's branch is backtracked from, if its pending operation is in conflict with one.
 fn mark_threads(clocks: &Clocks, numbers: &Numbers, path: &mut [u8], bound: Bound) -> u64
     ensures { λ r. ⌜ MarksThreads (now (clocks .entry)) (now (numbers .entry)) (now (path .entry)) (now (path .exit)) bound r ⌝ }
 {
     let mut opened = 0;
     let mut t = 0;
     while t < MAX_THREADS {
-        opened += mark_thread(clocks, numbers, path, bound, t);
+        if let Place::Branch(point) = scheduling::conflict(clocks, numbers, t) {
+            opened += path::backtrack(path, wide16(point), t, bound);
+        }
         t += 1;
     }
     opened
-}
-
-// Those of one thread: its branch is backtracked from, if its pending operation is in conflict with one.
-fn mark_thread(
-    clocks: &Clocks,
-    numbers: &Numbers,
-    path: &mut [u8],
-    bound: Bound,
-    thread: usize,
-) -> u64
-    requires { ⌜ thread < 5 ⌝ }
-    ensures { λ r. ⌜ MarksThread (now (clocks .entry)) (now (numbers .entry)) (now (path .entry)) (now (path .exit)) bound thread r ⌝ }
-{
-    let Place::Branch(point) = scheduling::conflict(clocks, numbers, thread) else {
-        return 0;
-    };
-    path::backtrack(path, wide16(point), thread, bound)
 }
 
 // Where the known path has been gone through, a question adds a branch.

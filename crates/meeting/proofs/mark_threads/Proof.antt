@@ -1,8 +1,9 @@
 use Prim.Native.Nat.{_≤_, _*_, _-_}
+use mathlib.Core.Logic.{⊎-elim}
 use mathlib.Core.Path.{_≡_}
 use lib.ListN.{length}
 use Rattle.meeting.specs.Branches.{MarksBelow}
-use Rattle.meeting.proofs.MarkedLaws.{below-none, below-more, below-all}
+use Rattle.meeting.proofs.MarkedLaws.{thread-nowhere, thread-marked, below-none, turn-marked, turn-same, below-all}
 use borrow.Author.Needs.{needs}
 use Rattle.meeting.proofs.mark_threads.Statement.{statement}
 use Rattle.meeting.proofs.mark_threads.Tie as tie
@@ -17,11 +18,23 @@ loop-holds : tie.Need-loop-holds Inv-loop μ-loop
 loop-holds c =
     (search needs, search needs, search needs, below-none _ _ (c .before .args .bound) (c .before .args .path .now))
 
-mark-thread-requires : tie.Need-mark-thread-requires Inv-loop μ-loop
-mark-thread-requires c κs = search needs
+conflict-requires : tie.Need-conflict-requires Inv-loop μ-loop
+conflict-requires c κs = search needs
+
+enum-known-point : tie.Need-enum-known-point Inv-loop μ-loop
+enum-known-point c = search needs
+
+wide16-requires : tie.Need-wide16-requires Inv-loop μ-loop
+wide16-requires c κs = search needs
+
+backtrack-requires : tie.Need-backtrack-requires Inv-loop μ-loop
+backtrack-requires c κs = search needs
 
 add-opened : tie.Need-add-opened Inv-loop μ-loop
 add-opened c = search needs
+
+enum-told : tie.Need-enum-told Inv-loop μ-loop
+enum-told c = search needs
 
 add-t : tie.Need-add-t Inv-loop μ-loop
 add-t c = search needs
@@ -31,8 +44,22 @@ loop-less c = search needs
 
 loop-again : tie.Need-loop-again Inv-loop μ-loop
 loop-again c =
-    let call = c .before .before in
-    (search needs, search needs, search needs, below-more _ _ (c .before .before .before .before .before .before .before .args .bound) (c .before .before .before .before .before .loop .t) (c .before .before .before .before .before .loop .opened) _ (c .before .before .before .before .before .loop .inv .3) (call .mark-thread .ensures))
+    let call = c .before .conflict in
+    let at = c .before .before .before in
+    let bound = at .before .before .args .bound in
+    let t = at .loop .t in
+    ⊎-elim
+    (λ w.
+    let turn =
+    turn-marked _ _ bound t (at .loop .opened) (w .8) (w .9) (at .loop .inv .1) (at .loop .inv .2) (at .loop .inv .3)
+    (thread-marked _ _ bound t (call .result) (call .ensures) _ (w .1 .given .1) (w .4 .ensures .same) (w .5 .ensures)) in
+    (search needs, turn .0, turn .1, turn .2))
+    (λ w.
+    let turn =
+    turn-same _ _ bound t (at .loop .opened) (w .2) (w .3) (at .loop .inv .1) (at .loop .inv .2) (at .loop .inv .3)
+    (thread-nowhere _ _ bound t (call .result) (call .ensures) (w .1 .given .1) _) in
+    (search needs, turn .0, turn .1, turn .2))
+    (c .match .came)
 
 same-length : tie.Need-same-length Inv-loop μ-loop
 same-length c = search needs
@@ -48,8 +75,12 @@ mark-threads-spec =
     Inv-loop
     μ-loop
     loop-holds
-    mark-thread-requires
+    conflict-requires
+    enum-known-point
+    wide16-requires
+    backtrack-requires
     add-opened
+    enum-told
     add-t
     loop-less
     loop-again
