@@ -18,7 +18,7 @@ use Rattle.rules.specs.Event.{Entry}
 use Rattle.rules.specs.Explorer as explorer
 use Rattle.rules.specs.Explorer.{Walk, Ledger, Execution, executionOf, Tick, After, stopsHere, goesOn, Stop, stop, nextLedger, after}
 use Rattle.rules.specs.Explored as rules
-use Rattle.rules.specs.Explored.{stopOf, ran, reported, noted}
+use Rattle.rules.specs.Explored.{Settings, limitsOf, stopOf, ran, reported, noted}
 use Rattle.ledger.specs.History.{leftBy}
 use Rattle.ledger.proofs.Ledgers.{never-goes, execution-begun}
 use Rattle.layout.specs.Tables.{state}
@@ -34,13 +34,16 @@ use Rattle.report.proofs.AnswerLaws.{ran-reported}
 use Rattle.meeting.specs.Stands.{Lent, Stands, Comes}
 use Rattle.meeting.specs.declared.Cursor.{Cursor}
 use Rattle.meeting.specs.declared.Ticked.{Ticked}
-use Rattle.explorer.specs.Explores.{Ready, settingsOf, exploredOf}
-use Rattle.explorer.specs.Runs.{mostOpened, Greater, Shaped, Knows, Executes, metBy, judgedAs, Continues, Judges, Running, Finished, Empty, Ran, machineOf, limitsOf}
-use Rattle.explorer.specs.declared.Settings.{Settings}
-use Rattle.explorer.specs.declared.run.Verdict.{Verdict}
-use Rattle.explorer.specs.declared.run.Verdict.the-variants as verdict
+use Rattle.iteration.specs.Executes.{mostOpened, machineOf, Ready, Shaped, Given, Knows, Executes}
+use Rattle.iteration.specs.declared.Terms.{Terms}
+use Rattle.ending.specs.Ends.{metBy, judgedAs, Continues, Judges, Finished}
+use Rattle.ending.specs.declared.Verdict.{Verdict}
+use Rattle.ending.specs.declared.Verdict.the-variants as verdict
+use Rattle.ending.proofs.JudgeLaws.{stops-with, goes-with, left-stands}
+use Rattle.explorer.specs.Explores.{exploredOf}
+use Rattle.explorer.specs.Runs.{Greater, Further, Running, Stepped, Stopped, Empty, Ran}
+use Rattle.explorer.specs.declared.run.Progress.{Progress}
 use Rattle.explorer.proofs.RunLaws.{goes-on, greater-within}
-use Rattle.explorer.proofs.JudgeLaws.{stops-with, goes-with, left-stands}
 
 zeros-only : (bytes : List ℕ) → Empty bytes → bytes ≡ replicate (length bytes) 0
 zeros-only bytes h =
@@ -74,7 +77,7 @@ front-left {entry} {exit} es c e front =
 
 module _ (table condition : List ℕ) (s : Settings) where
   abbrev whole : Stop State
-  whole = stopOf table condition (settingsOf s)
+  whole = stopOf table condition s
 
   abbrev from : ℕ → Ledger → List Execution → Stop State
   from n l past = explorer.runFrom (machineOf table condition s) (limitsOf s) n l past
@@ -117,13 +120,14 @@ module _ (table condition : List ℕ) (s : Settings) where
   pub ran-cleared : {n m k l : ℕ} {x : rules.Explored} → x ≡ ran k l whole → k ≡ n → l ≡ m → x ≡ ran n m whole
   ran-cleared h e f = h ∙ (cc (e, f))
 
-  pub running-none : (path trace : List ℕ) (c : Cursor) → Ready table s path trace → Empty path → Empty trace → c .len ≡ 0 → c .opened ≡ 0 → 0 < s .executions → Running table condition s path trace c 0 0
-  running-none path trace c ready none empty len opened more =
+  pub running-none : (path trace : List ℕ) (p : Progress) → Ready table s path trace → Empty path → Empty trace
+      → (p .cursor .len ≡ 0) × (p .cursor .opened ≡ 0) × (p .longest ≡ 0) × (p .begun ≡ 0) → 0 < s .executions → Running table condition s path trace p
+  running-none path trace p ready none empty (len, opened, longest, begun) more =
       record {
-        allowed = more;
+        allowed = omega (arith, more, begun);
         within = omega (arith, len);
         few = omega (arith, opened);
-        room = omega arith;
+        room = omega (arith, longest);
         ready = ready;
         clean = λ i h. empty i;
         coming = record {
@@ -134,16 +138,17 @@ module _ (table condition : List ℕ) (s : Settings) where
             is-len = sym len;
             is-opened = sym opened;
           };
-          is-begun = refl;
-          rest = whole-from;
+          is-begun = sym begun;
+          rest = whole-from ∙ ap (λ (n : ℕ). from (s .executions - n) explorer.empty []) (sym begun);
         };
       }
 
   -- an execution more
-  module _ {path trace : List ℕ} {c : Cursor} {longest begun : ℕ} (run : Running table condition s path trace c longest begun)
-      {shape : List ℕ} (is-shape : shape ≡ shapeOf table)
-      (entry exit : Lent) (same-path : entry .path ≡ path) (same-trace : entry .trace ≡ trace) (r : Ticked) (does : Executes entry exit table shape s c r)
-      (v : Verdict) (judges : Judges (exit .path) (metBy table condition (exit .values)) (r .outcome) (r .cursor .len) (eqb (begun + 1) (s .executions)) v) where
+  module _ {path trace : List ℕ} {p : Progress} (run : Running table condition s path trace p)
+      {shape : List ℕ} (is-shape : shape ≡ shapeOf table) {t : Terms} (given : Given s t)
+      (entry exit : Lent) (same-path : entry .path ≡ path) (same-trace : entry .trace ≡ trace) (r : Ticked) (does : Executes entry exit table shape t (p .cursor) r)
+      (q : Progress) (further : Further p r q)
+      (v : Verdict) (judges : Judges (exit .path) (metBy table condition (exit .values)) (r .outcome) (r .cursor .len) (eqb (q .begun) (s .executions)) v) where
     abbrev ledger : Ledger
     ledger = run .coming .ledger
 
@@ -152,14 +157,14 @@ module _ (table condition : List ℕ) (s : Settings) where
 
     -- how many may come after it
     abbrev after-it : ℕ
-    after-it = s .executions - (begun + 1)
+    after-it = s .executions - q .begun
 
     abbrev its-last : Bool
-    its-last = eqb (begun + 1) (s .executions)
+    its-last = eqb (q .begun) (s .executions)
 
     comes : Comes (r .outcome) (r .cursor) exit (execution ledger)
     comes =
-        does .comes condition ledger
+        does .comes condition s ledger given
         (record { ready = rw (sym same-path, sym same-trace) at (run .ready); is-shape = is-shape })
         (rw (sym same-path) at (run .coming .knows))
 
@@ -174,75 +179,89 @@ module _ (table condition : List ℕ) (s : Settings) where
     judged = judges .is (leftBy (execution ledger) .ledger .path) (stands .holds) (stands .is-len)
 
     last-is : its-last ≡ eqb after-it 0
-    last-is = same-tests (begun + 1) (s .executions) after-it (omega (arith, run .allowed))
+    last-is = same-tests (q .begun) (s .executions) after-it (omega (arith, run .allowed, further .more))
 
     rest-is : whole ≡ from (suc after-it) ledger past
-    rest-is = run .coming .rest ∙ ap (λ (n : ℕ). from n ledger past) (omega (arith, run .allowed))
+    rest-is = run .coming .rest ∙ ap (λ (n : ℕ). from n ledger past) (omega (arith, run .allowed, further .more))
 
-    begun-is : leftBy (execution ledger) .ledger .begun ≡ begun + 1
-    begun-is = execution-begun (machineOf table condition s) (limitsOf s) ledger ∙ ap (λ (n : ℕ). n + 1) (run .coming .is-begun)
+    begun-is : leftBy (execution ledger) .ledger .begun ≡ q .begun
+    begun-is =
+        execution-begun (machineOf table condition s) (limitsOf s) ledger ∙ ap (λ (n : ℕ). n + 1) (run .coming .is-begun) ∙ sym (further .more)
 
-    clean-beyond : (i : ℕ) → 16 * longest ≤ i → 16 * r .cursor .entries ≤ i → getD (exit .trace) i 0 ≡ 0
+    clean-beyond : (i : ℕ) → 16 * p .longest ≤ i → 16 * r .cursor .entries ≤ i → getD (exit .trace) i 0 ≡ 0
     clean-beyond i h k = does .beyond i k ∙ ap (λ (b : List ℕ). getD b i 0) same-trace ∙ run .clean i h
 
+    clean-past : (i : ℕ) → 16 * q .longest ≤ i → getD (exit .trace) i 0 ≡ 0
+    clean-past i h = clean-beyond i (omega (arith, further .longer .left)) (omega (arith, further .longer .right))
+
+    same-len : q .cursor .len ≡ r .cursor .len
+    same-len = ap (λ (c : Cursor). c .len) (further .same-cursor)
+
+    same-opened : q .cursor .opened ≡ r .cursor .opened
+    same-opened = ap (λ (c : Cursor). c .opened) (further .same-cursor)
+
     -- after which the run goes on
-    pub running-more : v ≡ verdict.GoesOn → {path' : List ℕ} {len : ℕ} → Steps (exit .path) path' (r .cursor .len) len
-        → (d : Cursor) → d .len ≡ len → d .opened ≡ r .cursor .opened → {m : ℕ} → Greater longest (r .cursor .entries) m
+    pub running-more : v ≡ verdict.GoesOn → {path' : List ℕ} (d : Progress) → Stepped (exit .path) path' q d
         → length (exit .path) ≡ length path → length (exit .trace) ≡ length trace
-        → Running table condition s path' (exit .trace) d m (begun + 1)
-    running-more e {path'} {len} steps d same-len same-opened {m} greater long traced =
+        → Running table condition s path' (exit .trace) d
+    running-more e {path'} d next long traced =
         let g = goes-with final exit (r .cursor) its-last past (metBy table condition (exit .values)) is-met (r .outcome) (execution ledger) (never-goes (machineOf table condition s) (limitsOf s) ledger) comes (sym e ∙ judged) in
         let w : Walk State = g .walk in
-        let allowed : begun + 1 < s .executions = omega (arith, run .allowed, goes-on v (begun + 1) (s .executions) e (judges .continues)) in
+        let steps : Steps (exit .path) path' (q .cursor .len) (d .cursor .len) = next .steps in
+        let its-len : length (w .ledger .path) ≡ q .cursor .len = g .stands .is-len ∙ sym same-len in
+        let allowed : q .begun < s .executions = omega (arith, run .allowed, further .more, goes-on v (q .begun) (s .executions) e (judges .continues)) in
         record {
-          allowed = allowed;
-          within = omega (arith, steps .fits, steps .keeps, same-len);
-          few = omega (arith, does .gone .few, run .few, same-opened);
-          room = greater-within greater (run .room) (does .gone .placed .noted) (sym traced);
+          allowed = omega (arith, allowed, next .same-begun);
+          within = omega (arith, steps .fits, steps .keeps);
+          few = omega (arith, does .gone .few, run .few, next .same-opened, same-opened, next .same-begun, further .more);
+          room = omega (arith, greater-within (further .longer) (run .room) (does .gone .placed .noted) (sym traced), next .same-longest);
           ready = ready-kept (run .ready) (steps .keeps ∙ long) traced;
-          clean = λ i h. clean-beyond i (omega (arith, greater .left)) (omega (arith, greater .right));
+          clean = λ i h. clean-past i (omega (arith, next .same-longest));
           coming = record {
             ledger = nextLedger (w .ledger);
             past = past ++ (executionOf w ∷ []);
             knows = record {
-              holds = steps .holds (w .ledger .path) (g .stands .holds) (g .stands .is-len);
-              is-len = sym (same-len ∙ steps .left (w .ledger .path) (g .stands .holds) (g .stands .is-len));
-              is-opened = g .stands .is-opened ∙ sym same-opened;
+              holds = steps .holds (w .ledger .path) (g .stands .holds) its-len;
+              is-len = sym (steps .left (w .ledger .path) (g .stands .holds) its-len);
+              is-opened = g .stands .is-opened ∙ sym same-opened ∙ sym (next .same-opened);
             };
-            is-begun = ap (λ (u : Walk State). u .ledger .begun) (sym (g .left)) ∙ begun-is;
-            rest = rest-is ∙ from-goes after-it ledger past (nextLedger (w .ledger)) (past ++ (executionOf w ∷ [])) (rw (sym last-is) (g .is));
+            is-begun = ap (λ (u : Walk State). u .ledger .begun) (sym (g .left)) ∙ begun-is ∙ sym (next .same-begun);
+            rest = rest-is
+                ∙ from-goes after-it ledger past (nextLedger (w .ledger)) (past ++ (executionOf w ∷ [])) (rw (sym last-is) (g .is))
+                ∙ ap (λ (n : ℕ). from (s .executions - n) (nextLedger (w .ledger)) (past ++ (executionOf w ∷ []))) (sym (next .same-begun));
           };
         }
 
-    zero-past : (i : ℕ) → 16 * r .cursor .entries ≤ i → {trace' : List ℕ} {m : ℕ} → Greater longest (r .cursor .entries) m
-        → Cleared (exit .trace) trace' (16 * r .cursor .entries) (16 * m) → getD trace' i 0 ≡ 0
-    zero-past i h {trace'} {m} greater cleared = go (ltb i (16 * m)) refl
+    zero-past : (i : ℕ) → 16 * r .cursor .entries ≤ i → {trace' : List ℕ}
+        → Cleared (exit .trace) trace' (16 * r .cursor .entries) (16 * q .longest) → getD trace' i 0 ≡ 0
+    zero-past i h {trace'} cleared = go (ltb i (16 * q .longest)) refl
       where
-        go : (b : Bool) → ltb i (16 * m) ≡ b → getD trace' i 0 ≡ 0
-        go true l = cleared .zero i h (ltb-true i (16 * m) l)
+        go : (b : Bool) → ltb i (16 * q .longest) ≡ b → getD trace' i 0 ≡ 0
+        go true l = cleared .zero i h (ltb-true i (16 * q .longest) l)
         go false l =
-            let past-all : 16 * m ≤ i = omega (arith, ltb-false i (16 * m) l) in
-            cleared .above i past-all ∙ clean-beyond i (omega (arith, greater .left)) (omega (arith, greater .right))
+            let past-all : 16 * q .longest ≤ i = omega (arith, ltb-false i (16 * q .longest) l) in
+            cleared .above i past-all ∙ clean-past i past-all
 
     -- with which it stops
-    pub ran-out : (a : Answer) → v ≡ verdict.Answers a → {trace' : List ℕ} {m : ℕ} → Greater longest (r .cursor .entries) m
-        → Cleared (exit .trace) trace' (16 * r .cursor .entries) (16 * m)
-        → (report : Report) → Finished (exit .clocks) (exit .numbers) (exit .path) a (begun + 1) (r .cursor) report
+    pub ran-out : (a : Answer) → v ≡ verdict.Answers a → {trace' : List ℕ} (report : Report)
+        → Stopped (exit .clocks) (exit .numbers) (exit .path) (exit .trace) trace' a q report
         → length (exit .path) ≡ length path → length (exit .trace) ≡ length trace
         → Ran table condition s path trace report (exit .path) trace'
-    ran-out a e {trace'} {m} greater cleared report finished long traced =
+    ran-out a e {trace'} report stops long traced =
         let g = stops-with final exit (r .cursor) its-last past (metBy table condition (exit .values)) is-met (r .outcome) (execution ledger) a (never-goes (machineOf table condition s) (limitsOf s) ledger) comes (sym e ∙ judged) in
         let w : Walk State = g .walk in
+        let cleared : Cleared (exit .trace) trace' (16 * r .cursor .entries) (16 * q .longest) =
+        subst (λ (c : Cursor). Cleared (exit .trace) trace' (16 * c .entries) (16 * q .longest)) (further .same-cursor) (stops .cleared) in
         let stopped : Stop State = stop (g .verdict) w past in
         let is : whole ≡ stopped = rest-is ∙ from-stops after-it ledger past stopped (rw (sym last-is) (g .is)) in
-        let its-begun : w .ledger .begun ≡ begun + 1 = ap (λ (u : Walk State). u .ledger .begun) (sym (g .left)) ∙ begun-is in
+        let its-begun : w .ledger .begun ≡ q .begun = ap (λ (u : Walk State). u .ledger .begun) (sym (g .left)) ∙ begun-is in
         let reports : reportOf report ≡ reported stopped =
-        finished (w .ledger .path) (exit .marks) (exit .values) (g .stands .holds) (g .stands .is-len)
-        ∙ (cc (g .stands .is-opened, g .stands .is-state, its-begun, ran-reported a stopped (g .fits))) in
+        stops .finished (w .ledger .path) (exit .marks) (exit .values) (g .stands .holds) (g .stands .is-len ∙ sym same-len)
+        ∙ (cc (g .stands .is-opened, same-opened, g .stands .is-state, its-begun, ran-reported a stopped (g .fits))) in
         let from : 16 * length (w .trace) ≡ 16 * r .cursor .entries = omega (arith, g .stands .is-entries) in
         let traces : trace' ≡ noted (length trace') (w .trace) =
         front-noted trace' (w .trace) (front-left (w .trace) cleared from (g .stands .front))
-        (λ i h. zero-past i (omega (arith, from)) greater cleared) in
+        (λ i h. zero-past i (omega (arith, from)) cleared) in
         ran-made path trace stopped is report reports
         (g .stands .holds .same ∙ ap (λ (n : ℕ). written n (w .ledger .path)) long)
         (traces ∙ ap (λ (n : ℕ). noted n (w .trace)) (cleared .long ∙ traced))

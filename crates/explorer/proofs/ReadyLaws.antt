@@ -1,22 +1,17 @@
--- What a run may take for granted: the settings are in range, and so is the shape of an accepted table. Assumes nothing.
+-- The tests of the settings, and what a run may take for granted of them. Assumes nothing.
 --     settings-made, within-both, within-not      the tests of the settings
 --     holds-both, holds-not                       the tests of a buffer's length
---     no-threads                                  a table of no bytes
---     ready-shape, ready-header, ready-threads, ready-cells, ready-executions      what follows for a run
+--     ready-operations, ready-executions          what follows for a run
 use Prim.Native.Nat.{ℕ, _*_, _/_, _%_, _≤_, _<_}
-use mathlib.Core.List.{List, [], _∷_}
+use mathlib.Core.List.{List}
 use mathlib.Core.Bool.{Bool, true, false, _&&_, and-eq-true-iff}
 use mathlib.Core.Path.{_≡_, refl, sym, _∙_}
 use native.Mathlib.Omega.{arith}
 use lib.Dec.{leb, eqb}
-use lib.ListN.{length, getD}
 use borrow.Author.Tests.{le-leb, lt-leb, leb-true, eq-eqb, ne-eqb, eqb-true}
-use Rattle.rules.specs.Table.{headerBytes, threadsOf, cellsOf, headerFine, shapeOf}
 use Rattle.rules.specs.Explored as rules
 use Rattle.rules.specs.Explored.{settingsFine, within}
-use Rattle.rules.proofs.MeasureAccepted.{good-header}
-use Rattle.explorer.specs.declared.Settings.{Settings}
-use Rattle.explorer.specs.Explores.{Ready, settingsOf}
+use Rattle.iteration.specs.Executes.{Ready}
 
 pub settings-made : (s : rules.Settings) {a b c : Bool} → a ≡ within (s .branches) 1024 → b ≡ within (s .operations) 4096 → c ≡ within (s .executions) 65535 → a && b && c ≡ settingsFine s
 unfolding settingsFine
@@ -44,40 +39,12 @@ pub holds-not : (bytes records : ℕ) → (bytes % 16 ≡ 0 → ⊥) → eqb (by
 holds-not bytes records h =
     ne-eqb (bytes % 16) 0 h ∙ sym (ne-eqb bytes (16 * records) (λ (e : bytes ≡ 16 * records). h (omega arith)))
 
-pub no-threads : (table : List ℕ) → length table ≡ 0 → 0 ≡ threadsOf table
-no-threads [] e = refl
-no-threads (b ∷ table) e = absurd (omega arith)
-
-header-within : (table : List ℕ) → headerFine table ≡ true → (headerBytes ≤ length table) × (threadsOf table ≤ 5) × (cellsOf table ≤ 4)
-unfolding headerFine
-header-within table e = let f = simp and-eq-true-iff at e in omega (arith, leb-true)
-
-module _ (table : List ℕ) (long : headerBytes ≤ length table) where
-  shape-threads : getD (shapeOf table) 0 0 ≡ threadsOf table
-  unfolding shapeOf
-  shape-threads = rw (shapeOf, le-leb headerBytes (length table) long)
-
-  shape-cells : getD (shapeOf table) 1 0 ≡ cellsOf table
-  unfolding shapeOf
-  shape-cells = rw (shapeOf, le-leb headerBytes (length table) long)
-
-module _ {table : List ℕ} {s : Settings} {path trace : List ℕ} (ready : Ready table s path trace) where
-  -- "threads 1..5, cells 1..4"
-  pub ready-shape : {shape : List ℕ} → shape ≡ shapeOf table → (getD shape 0 0 ≤ 5) × (getD shape 1 0 ≤ 4)
-  ready-shape e =
-      let h = header-within table (good-header table (ready .accepted)) in
-      rw e (omega (arith, shape-threads table (h .0), shape-cells table (h .0)))
-
-  pub ready-header : headerBytes ≤ length table
-  ready-header = header-within table (good-header table (ready .accepted)) .0
-
-  pub ready-threads : {shape : List ℕ} → shape ≡ shapeOf table → getD shape 0 0 ≡ threadsOf table
-  ready-threads e = rw e (shape-threads table ready-header)
-
-  pub ready-cells : {shape : List ℕ} → shape ≡ shapeOf table → getD shape 1 0 ≡ cellsOf table
-  ready-cells e = rw e (shape-cells table ready-header)
-
+module _ {table : List ℕ} {s : rules.Settings} {path trace : List ℕ} (ready : Ready table s path trace) where
   -- "execution budget N 1..65,535"
   pub ready-executions : (1 ≤ s .executions) × (s .executions ≤ 65535)
   unfolding settingsFine
   ready-executions = let f = simp and-eq-true-iff at (ready .in-range) in omega (arith, leb-true)
+
+  pub ready-operations : s .operations < 65536
+  unfolding settingsFine
+  ready-operations = let f = simp and-eq-true-iff at (ready .in-range) in omega (arith, leb-true)

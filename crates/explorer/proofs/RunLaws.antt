@@ -1,9 +1,8 @@
--- How far the executions of a run take the cursor. Assumes nothing.
---     gone-more, stopped-gone      a tick more, and a fault
+-- Small facts of a run. Assumes nothing.
 --     goes-on                      a run that goes on is not at its last execution
 --     cleared-all                  all of a buffer is cleared
 --     greater-within               the greater of two counts is within the trace
-use Prim.Native.Nat.{ℕ, _+_, _*_, _/_, _≤_}
+use Prim.Native.Nat.{ℕ, _*_, _/_, _≤_}
 use mathlib.Core.List.{List}
 use mathlib.Core.Bool.{Bool, true, false}
 use mathlib.Core.Path.{_≡_, refl, subst}
@@ -12,29 +11,10 @@ use lib.Dec.{ltb, eqb}
 use lib.ListN.{length, getD, List·getD-eq-default}
 use borrow.Author.Tests.{eqb-false, ltb-true, ltb-false}
 use Rattle.trace.specs.Entries.{Cleared}
-use Rattle.event.specs.declared.Fault.{Fault}
-use Rattle.event.specs.declared.Site.{Site}
-use Rattle.meeting.specs.Stands.{Stopped}
-use Rattle.meeting.specs.declared.Cursor.{Cursor}
-use Rattle.meeting.specs.declared.Ticked.{Ticked}
-use Rattle.walk.specs.Walks.{Gone}
-use Rattle.explorer.specs.Runs.{Greater, Continues, Empty}
-use Rattle.explorer.specs.declared.run.Verdict.{Verdict}
-use Rattle.explorer.specs.declared.run.Verdict.the-variants as verdict
-
-pub gone-more : {c d e : Cursor} {n m most : ℕ} {path trace path' trace' : List ℕ} → Gone c d n path trace → Gone d e m path' trace' → n + m ≤ most → Gone c e most path' trace'
-gone-more g h l = record { placed = h .placed; few = omega (arith, g .few, h .few) }
-
-pub stopped-gone : {f : Fault} {at : Site} {c d : Cursor} {r : Ticked} {n most : ℕ} {path trace : List ℕ} → Gone c d n path trace → Stopped f at d r → n ≤ most → Gone c (r .cursor) most path trace
-stopped-gone g s l =
-    record {
-      placed = record {
-        passed = omega (arith, g .placed .passed, s .stays .same-pos, s .stays .same-len);
-        within = omega (arith, g .placed .within, s .stays .same-len);
-        noted = omega (arith, g .placed .noted, s .stays .same-entries);
-      };
-      few = omega (arith, g .few, s .stays .same-opened);
-    }
+use Rattle.ending.specs.Ends.{Continues}
+use Rattle.ending.specs.declared.Verdict.{Verdict}
+use Rattle.ending.specs.declared.Verdict.the-variants as verdict
+use Rattle.explorer.specs.Runs.{Greater, Empty}
 
 pub goes-on : (v : Verdict) (begun executions : ℕ) → v ≡ verdict.GoesOn → Continues v (eqb begun executions) → begun ≡ executions → ⊥
 goes-on v begun executions e h =

@@ -2,10 +2,9 @@
 ghost use mathlib.Core.Path.{_≡_};
 ghost use Prim.Native.Nat.{_*_};
 ghost use lib.Dec.{eqb};
-ghost use Rattle.rules.specs.Table.{threadsOf};
 ghost use Rattle.rules.specs.Explored as rules;
 ghost use Rattle.explorer.specs.Explores.{settingsOf, exploredOf};
-use layout::wide8;
+use ending::threads_of;
 use path::Bound;
 use report::Answer;
 use report::Report;
@@ -65,16 +64,6 @@ pub fn explore(
         }),
         Judged::Row { thread, row } => report::refused(Answer::BadTable { thread, row }),
     }
-}
-
-// How many threads the table has, by its first byte.
-fn threads_of(table: &[u8]) -> usize
-    ensures { λ r. ⌜ r ≡ threadsOf (now (table .entry)) ⌝ }
-{
-    if table.len() == 0 {
-        return 0;
-    }
-    wide8(table[0])
 }
 
 // Whether B, L and N are in range.

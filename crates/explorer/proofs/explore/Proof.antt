@@ -7,7 +7,8 @@ use borrow.Author.Tests.{not-true, not-false}
 use Rattle.rules.specs.Table.{threadsOf}
 use Rattle.rules.specs.Condition.{isCondition}
 use Rattle.rules.specs.Explored.{settingsFine}
-use Rattle.explorer.specs.Explores.{Ready, settingsOf}
+use Rattle.iteration.specs.Executes.{Ready}
+use Rattle.explorer.specs.Explores.{settingsOf}
 use Rattle.explorer.proofs.RefuseLaws.{refuse-settings, refuse-path, refuse-trace, refuse-header, refuse-row, refuse-condition, judged-by, ready-made, ran-ready}
 use borrow.Author.Needs.{needs}
 use Rattle.explorer.proofs.explore.Statement.{statement}
@@ -24,11 +25,11 @@ trace-held : (c : tie.Else3) → eqb (length (c .before .before .before .before 
 trace-held c = sym (c .before .holds2 .ensures) ∙ not-false _ (c .if3 .left)
 
 -- and check 5
-ready : (c : tie.After-enum-told) → Ready (c .before .before .before .before .before .before .before .before .before .before .before .before .before .args .table .now) (c .before .before .before .before .before .before .before .before .before .before .before .before .before .args .settings) (c .before .before .before .before .before .before .before .before .before .before .before .before .before .args .path .now) (c .before .before .before .before .before .before .before .before .before .before .before .before .before .args .trace .now)
+ready : (c : tie.After-enum-told) → Ready (c .before .before .before .before .before .before .before .before .before .before .before .before .before .args .table .now) (settingsOf (c .before .before .before .before .before .before .before .before .before .before .before .before .before .args .settings)) (c .before .before .before .before .before .before .before .before .before .before .before .before .before .args .path .now) (c .before .before .before .before .before .before .before .before .before .before .before .before .before .args .trace .now)
 ready c =
     let judge = c .before .before in
     let held = judge .before in
-    ready-made _ _ _ _ (fine (held .before .before .before .before)) (path-held (held .before .before)) (trace-held held) _ (judge .judge .ensures) (c .enum-told .given .1)
+    ready-made _ (held .before .before .before .before .before .before .before .before .before .before .args .settings) _ _ (fine (held .before .before .before .before)) (path-held (held .before .before)) (trace-held held) _ (judge .judge .ensures) (c .enum-told .given .1)
 
 settings-fine-requires : tie.Need-settings-fine-requires
 settings-fine-requires c κs = search needs

@@ -1,4 +1,5 @@
 use native.Mathlib.Omega.{arith}
+use Rattle.explorer.specs.Explores.{settingsOf}
 use Rattle.explorer.proofs.EndLaws.{ready-kept, ran-cleared}
 use borrow.Author.Needs.{needs}
 use Rattle.explorer.proofs.run.run.Statement.{statement}
@@ -27,7 +28,7 @@ returns : tie.Need-returns
 returns c =
     let run = c .before .before .before .before in
     let args = c .before .before .before .before .before .before .before .before .before .before .before .before .before .before .before .before .before .before .before .args in
-    ran-cleared (args .table .now) (args .condition .now) (args .settings) (run .executions .ensures) (omega (arith, c .before .before .before .before .before .before .before .before .before .before .before .before .before .clear-all .kept)) (omega (arith, c .before .before .before .before .before .before .before .before .before .clear-all2 .kept))
+    ran-cleared (args .table .now) (args .condition .now) (settingsOf (args .settings)) (run .executions .ensures) (omega (arith, c .before .before .before .before .before .before .before .before .before .before .before .before .before .clear-all .kept)) (omega (arith, c .before .before .before .before .before .before .before .before .before .clear-all2 .kept))
 
 pub run-spec : {M : Type 1} → statement M
 run-spec =

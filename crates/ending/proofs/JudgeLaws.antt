@@ -1,0 +1,193 @@
+-- The end of an execution. Assumes nothing.
+--     no-threads                                                 a table of no bytes
+--     held-by                                                    the condition is judged with the table's threads
+--     judge-fault, judge-unmet, judge-exhausted, judge-spent, judge-more      what it says of the run, by what it came to, whether
+--                                                                the final condition is met and what is open
+--     stops-with, goes-with                                      what comes after it, by the definition
+--     left-stands                                                the walk that it leaves
+use Prim.Native.Nat.{ℕ}
+use mathlib.Core.List.{List, [], _∷_, _++_}
+use mathlib.Core.Bool.{Bool, true, false, cond, not}
+use mathlib.Core.Path.{_≡_, refl, sym, ap, _∙_}
+use native.Mathlib.Omega.{arith}
+use types.Run.{OneOf, miss}
+use denote.Enum.Declared.{tagOf}
+use lib.Dec.{eqb}
+use lib.ListN.{length}
+use borrow.Author.Tests.{eq-eqb, ne-eqb, ltb-true, ltb-false}
+use Rattle.rules.specs.State.{State, Values}
+use Rattle.rules.specs.Table.{threadsOf}
+use Rattle.rules.specs.Condition as claims
+use Rattle.rules.specs.Path.{Branch, openIn}
+use Rattle.rules.specs.Explorer as explorer
+use Rattle.rules.specs.Explorer.{Walk, Execution, executionOf, Tick, goes, over, faulted, stopsHere, goesOn, stop, nextLedger, after}
+use Rattle.ledger.specs.History.{leftBy}
+use Rattle.layout.specs.Tables.{state}
+use Rattle.condition.specs.Reads.{registerIn}
+use Rattle.path.specs.Holds.{Holds}
+use Rattle.path.specs.Steps.{AnyOpen}
+use Rattle.event.specs.declared.Fault.{Fault}
+use Rattle.event.specs.declared.Site.{Site}
+use Rattle.report.specs.Answers.{answerFits}
+use Rattle.report.specs.declared.Answer.{Answer}
+use Rattle.report.specs.declared.Answer.the-variants as answer
+use Rattle.meeting.specs.Stands.{Lent, Stands, Comes}
+use Rattle.meeting.specs.declared.Cursor.{Cursor}
+use Rattle.meeting.specs.declared.Outcome.{Outcome}
+use Rattle.meeting.specs.declared.Outcome.the-variants as code
+use Rattle.meeting.proofs.Outcome.{the-type as outcomes}
+use Rattle.ending.specs.Ends.{metBy, endedAs, judgedAs, Judges}
+use Rattle.ending.specs.declared.Verdict.{Verdict}
+use Rattle.ending.specs.declared.Verdict.the-variants as verdict
+
+pub no-threads : (table : List ℕ) → length table ≡ 0 → 0 ≡ threadsOf table
+no-threads [] e = refl
+no-threads (b ∷ table) e = absurd (omega arith)
+
+-- The end of an execution
+
+pub held-by : (table condition : List ℕ) (values : Values) {threads : ℕ} {held : Bool} → threads ≡ threadsOf table → held ≡ claims.holds threads (registerIn values) condition → held ≡ metBy table condition values
+held-by table condition values e h = rw e at h
+
+no-fault : (met : Bool) (o : Outcome) → OneOf (0 ∷ 1 ∷ []) (tagOf outcomes o) → (n : ℕ) (last : Bool) → judgedAs met o n last ≡ endedAs met n last
+no-fault met code.Goes k n last = refl
+no-fault met code.Ends k n last = refl
+no-fault met (code.Stops f s) k n last = absurd (miss (0 ∷ 1 ∷ []) 2 tt k)
+
+module _ (path : List ℕ) (met : Bool) (o : Outcome) (len : ℕ) (last : Bool) where
+  pub judge-fault : {f : Fault} {s : Site} → o ≡ code.Stops f s → Judges path met o len last (verdict.Answers (answer.Stopped f s))
+  judge-fault e = record { continues = tt; is = λ bs h l. ap (λ (y : Outcome). judgedAs met y (openIn bs) last) (sym e) }
+
+  module _ (k : OneOf (0 ∷ 1 ∷ []) (tagOf outcomes o)) {held : Bool} (q : held ≡ met) where
+    pub judge-unmet : held ≡ false → Judges path met o len last (verdict.Answers answer.Unmet)
+    judge-unmet e =
+        record { continues = tt; is = λ bs h l. sym (no-fault met o k (openIn bs) last ∙ ap (λ (y : Bool). endedAs y (openIn bs) last) (sym q ∙ e)) }
+
+    -- the condition is met
+    module _ (held-so : held ≡ true) {any : Bool} (a : AnyOpen path len any) where
+      as-open : {none : Bool} (bs : List Branch) → eqb (openIn bs) 0 ≡ none → judgedAs met o (openIn bs) last ≡ cond none (verdict.Answers answer.Exhausted) (cond last (verdict.Answers answer.Spent) verdict.GoesOn)
+      as-open bs z =
+          no-fault met o k (openIn bs) last ∙ ap (λ (y : Bool). endedAs y (openIn bs) last) (sym q ∙ held-so)
+          ∙ ap (λ (y : Bool). cond y (verdict.Answers answer.Exhausted) (cond last (verdict.Answers answer.Spent) verdict.GoesOn)) z
+
+      pub judge-exhausted : any ≡ false → Judges path met o len last (verdict.Answers answer.Exhausted)
+      judge-exhausted e =
+          record {
+            continues = tt;
+            is = λ bs h l. sym (as-open bs (eq-eqb (openIn bs) 0 (omega (arith, ltb-false 0 (openIn bs) (sym (a .is bs h l) ∙ e)))));
+          }
+
+      some-open : any ≡ true → (bs : List Branch) → Holds path bs → length bs ≡ len → judgedAs met o (openIn bs) last ≡ cond last (verdict.Answers answer.Spent) verdict.GoesOn
+      some-open e bs h l =
+          as-open bs (ne-eqb (openIn bs) 0 (λ (y : openIn bs ≡ 0). omega (arith, ltb-true 0 (openIn bs) (sym (a .is bs h l) ∙ e))))
+
+      pub judge-spent : any ≡ true → last ≡ true → Judges path met o len last (verdict.Answers answer.Spent)
+      judge-spent e f =
+          record {
+            continues = tt;
+            is = λ bs h l. sym (some-open e bs h l ∙ ap (λ (y : Bool). cond y (verdict.Answers answer.Spent) verdict.GoesOn) f);
+          }
+
+      pub judge-more : any ≡ true → last ≡ false → Judges path met o len last verdict.GoesOn
+      judge-more e f =
+          record {
+            continues = f;
+            is = λ bs h l. sym (some-open e bs h l ∙ ap (λ (y : Bool). cond y (verdict.Answers answer.Spent) verdict.GoesOn) f);
+          }
+
+-- What comes after it, by the definition
+
+pub record StopsWith (final : State → Bool) (x : Lent) (c : Cursor) (last : Bool) (past : List Execution) (t : Tick State) (a : Answer) : Type 0 where
+  pub verdict : explorer.Verdict
+  pub walk : Walk State
+  pub is : after final last past t ≡ stopsHere (stop verdict walk past)
+  pub fits : answerFits a verdict
+  pub stands : Stands x c walk
+  pub left : leftBy t ≡ walk
+
+pub record GoesWith (final : State → Bool) (x : Lent) (c : Cursor) (last : Bool) (past : List Execution) (t : Tick State) : Type 0 where
+  pub walk : Walk State
+  pub is : after final last past t ≡ goesOn (nextLedger (walk .ledger)) (past ++ (executionOf walk ∷ []))
+  pub stands : Stands x c walk
+  pub left : leftBy t ≡ walk
+
+abbrev goingOn : Verdict → ℕ
+goingOn verdict.GoesOn = 1
+goingOn (verdict.Answers a) = 0
+
+answers-not : (a : Answer) → verdict.Answers a ≡ verdict.GoesOn → ⊥
+answers-not a e = let z : _≡_ {A = ℕ} 0 1 = ap goingOn e in omega arith
+
+answers-same : (a b : Answer) → verdict.Answers a ≡ verdict.Answers b → a ≡ b
+answers-same a b e = cc
+
+module _ (final : State → Bool) (x : Lent) (c : Cursor) (last : Bool) (past : List Execution) (met : Bool)
+    (is-met : final (state (x .clocks) (x .marks) (x .values) (x .numbers)) ≡ met) where
+  met-by : (w : Walk State) → Stands x c w → final (w .state) ≡ met
+  met-by w stands = ap final (stands .is-state) ∙ is-met
+
+  over-stops : (w : Walk State) (a : Answer) (held none ends : Bool) → final (w .state) ≡ held → eqb (openIn (w .ledger .path)) 0 ≡ none → last ≡ ends
+      → verdict.Answers a ≡ cond (not held) (verdict.Answers answer.Unmet) (cond none (verdict.Answers answer.Exhausted) (cond ends (verdict.Answers answer.Spent) verdict.GoesOn))
+      → Stands x c w → StopsWith final x c last past (over w) a
+  unfolding after
+  over-stops w a false none ends q n l e stands =
+      record { verdict = explorer.unmet; walk = w; is = rw q refl; fits = rw (answers-same a answer.Unmet e) refl; stands = stands; left = refl }
+  over-stops w a true true ends q n l e stands =
+      record { verdict = explorer.exhausted; walk = w; is = rw (q, n) refl; fits = rw (answers-same a answer.Exhausted e) refl; stands = stands; left = refl }
+  over-stops w a true false true q n l e stands =
+      record { verdict = explorer.spent; walk = w; is = rw (q, n, l) refl; fits = rw (answers-same a answer.Spent e) refl; stands = stands; left = refl }
+  over-stops w a true false false q n l e stands = absurd (answers-not a e)
+
+  over-goes : (w : Walk State) (held none ends : Bool) → final (w .state) ≡ held → eqb (openIn (w .ledger .path)) 0 ≡ none → last ≡ ends
+      → verdict.GoesOn ≡ cond (not held) (verdict.Answers answer.Unmet) (cond none (verdict.Answers answer.Exhausted) (cond ends (verdict.Answers answer.Spent) verdict.GoesOn))
+      → Stands x c w → GoesWith final x c last past (over w)
+  unfolding after
+  over-goes w false none ends q n l e stands = absurd (answers-not answer.Unmet (sym e))
+  over-goes w true true ends q n l e stands = absurd (answers-not answer.Exhausted (sym e))
+  over-goes w true false true q n l e stands = absurd (answers-not answer.Spent (sym e))
+  over-goes w true false false q n l e stands = record { walk = w; is = rw (q, n, l) refl; stands = stands; left = refl }
+
+  pub stops-with : (o : Outcome) (t : Tick State) (a : Answer) → ((w : Walk State) → t ≡ goes w → ⊥) → Comes o c x t
+      → verdict.Answers a ≡ judgedAs met o (openIn (leftBy t .ledger .path)) last → StopsWith final x c last past t a
+  unfolding after
+  stops-with code.Goes (goes w) a never h e = absurd (never w refl)
+  stops-with code.Goes (over w) a never h e = absurd h
+  stops-with code.Goes (faulted g s w) a never h e = absurd h
+  stops-with code.Ends (goes w) a never h e = absurd h
+  stops-with code.Ends (over w) a never h e = over-stops w a met (eqb (openIn (w .ledger .path)) 0) last (met-by w h) refl refl e h
+  stops-with code.Ends (faulted g s w) a never h e = absurd h
+  stops-with (code.Stops f s) (goes w) a never h e = absurd h
+  stops-with (code.Stops f s) (over w) a never h e = absurd h
+  stops-with (code.Stops f s) (faulted g there w) a never h e =
+      record {
+        verdict = explorer.stopped g there;
+        walk = w;
+        is = refl;
+        fits = rw (answers-same a (answer.Stopped f s) e) (cc (h .is-fault, h .is-site));
+        stands = h .stands;
+        left = refl;
+      }
+
+  pub goes-with : (o : Outcome) (t : Tick State) → ((w : Walk State) → t ≡ goes w → ⊥) → Comes o c x t
+      → verdict.GoesOn ≡ judgedAs met o (openIn (leftBy t .ledger .path)) last → GoesWith final x c last past t
+  goes-with code.Goes (goes w) never h e = absurd (never w refl)
+  goes-with code.Goes (over w) never h e = absurd h
+  goes-with code.Goes (faulted g s w) never h e = absurd h
+  goes-with code.Ends (goes w) never h e = absurd h
+  goes-with code.Ends (over w) never h e = over-goes w met (eqb (openIn (w .ledger .path)) 0) last (met-by w h) refl refl e h
+  goes-with code.Ends (faulted g s w) never h e = absurd h
+  goes-with (code.Stops f s) (goes w) never h e = absurd h
+  goes-with (code.Stops f s) (over w) never h e = absurd h
+  goes-with (code.Stops f s) (faulted g there w) never h e = absurd (answers-not (answer.Stopped f s) (sym e))
+
+-- the walk that an outcome leaves stands for the tables and bytes
+pub left-stands : (x : Lent) (c : Cursor) (o : Outcome) (t : Tick State) → Comes o c x t → Stands x c (leftBy t)
+left-stands x c code.Goes (goes w) h = h
+left-stands x c code.Goes (over w) h = absurd h
+left-stands x c code.Goes (faulted g s w) h = absurd h
+left-stands x c code.Ends (goes w) h = absurd h
+left-stands x c code.Ends (over w) h = h
+left-stands x c code.Ends (faulted g s w) h = absurd h
+left-stands x c (code.Stops f s) (goes w) h = absurd h
+left-stands x c (code.Stops f s) (over w) h = absurd h
+left-stands x c (code.Stops f s) (faulted g there w) h = h .stands

@@ -1,0 +1,4 @@
+pub mod ReadyLaws
+pub mod GoneLaws
+pub mod WalkedLaws
+pub mod ExecuteLaws
