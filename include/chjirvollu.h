@@ -1,6 +1,6 @@
 /* The explorer's entries for C. Link target/staticlib/libexports.a, which 'rt staticlib exports' proves and writes (x86-64).
    docs/FORMAT.md has the bytes of a table, of a path and of a trace, and says what each number means; docs/GRAMMAR.md has those of a
-   final condition. */
+   final condition, and the grammar of texts. */
 #ifndef CHJIRVOLLU_H
 #define CHJIRVOLLU_H
 
@@ -20,6 +20,10 @@ extern "C" {
 /* A path record and a trace entry have this many bytes. */
 #define CHJIRVOLLU_RECORD 16
 
+/* The buffers into which a text is read have at least this many bytes. */
+#define CHJIRVOLLU_TABLE_BYTES 3880
+#define CHJIRVOLLU_CONDITION_BYTES 1024
+
 /* The numbers of a report, by their places; four for each of the five threads from CHJIRVOLLU_THREADS on. */
 enum {
     CHJIRVOLLU_ANSWER = 0,
@@ -35,7 +39,8 @@ enum {
     CHJIRVOLLU_NUMBERS = 29
 };
 
-/* The answers. 255 is none of them: it is returned, and nothing written, where bound, exploring or report_length is wrong. */
+/* The answers. 255 is none of them: it is returned, and nothing written, where bound, exploring or report_length is wrong, or, with
+   texts, numbers_length. */
 enum {
     CHJIRVOLLU_EXHAUSTED = 0,
     CHJIRVOLLU_BUDGET_SPENT = 1,
@@ -77,6 +82,48 @@ uint64_t chjirvollu_explore_condition(
     uint8_t *path, size_t path_length,
     uint8_t *trace, size_t trace_length,
     uint64_t *report, size_t report_length);
+
+/* The numbers of a text that is read, by their places. The first says how it went (below). The lengths are those of the table and of the
+   condition, and where there is no room those that the buffers need; line and column are the place of a refusal, both from 1. What does
+   not apply is 0. */
+enum {
+    CHJIRVOLLU_READ = 0,
+    CHJIRVOLLU_READ_TABLE_LENGTH = 1,
+    CHJIRVOLLU_READ_CONDITION_LENGTH = 2,
+    CHJIRVOLLU_READ_LINE = 3,
+    CHJIRVOLLU_READ_COLUMN = 4,
+    CHJIRVOLLU_READ_NUMBERS = 5
+};
+
+/* Those of one that is written: how it went, and the text's length, where there is no room the one that it needs. */
+enum {
+    CHJIRVOLLU_WRITTEN = 0,
+    CHJIRVOLLU_WRITTEN_LENGTH = 1,
+    CHJIRVOLLU_WRITTEN_NUMBERS = 2
+};
+
+/* How it went. */
+enum {
+    CHJIRVOLLU_TEXT_DONE = 0,
+    CHJIRVOLLU_TEXT_REFUSED = 1,
+    CHJIRVOLLU_TEXT_NO_ROOM = 2
+};
+
+/* Reads a text into a table and a condition, and returns how it went. Bytes behind those that were read are zero; where the text is refused
+   all are, and where there is no room both buffers stay as they are. */
+uint64_t chjirvollu_read(
+    const uint8_t *text, size_t text_length,
+    uint8_t *table, size_t table_length,          /* 3880 bytes at least, else no room */
+    uint8_t *condition, size_t condition_length,  /* 1024 bytes at least, else no room */
+    uint64_t *numbers, size_t numbers_length);    /* exactly 5 numbers, else 255 */
+
+/* Writes a table and a condition as a text, which is read back as they are, and returns how it went. Bytes behind the text are zero;
+   where the table is not accepted or the condition is none of its threads', or there is no room, the buffer stays as it is. */
+uint64_t chjirvollu_write(
+    const uint8_t *table, size_t table_length,
+    const uint8_t *condition, size_t condition_length,  /* no bytes are no condition */
+    uint8_t *text, size_t text_length,
+    uint64_t *numbers, size_t numbers_length);          /* exactly 2 numbers, else 255 */
 
 #ifdef __cplusplus
 }

@@ -1,11 +1,14 @@
-/* Explores the table in a file through the C entry, and prints the answer, the last execution and its path: main TABLE */
+/* Reads the text in a file and explores it through the C entries, and prints the answer, the last execution and its path: main TEXT */
 #include "chjirvollu.h"
 
 #include <stdio.h>
 
-enum { BRANCHES = 64, OPERATIONS = 64, EXECUTIONS = 1000, LARGEST = 3880 };
+enum { BRANCHES = 64, OPERATIONS = 64, EXECUTIONS = 1000, LONGEST = 65536 };
 
-static uint8_t table[LARGEST + 1];
+static uint8_t text[LONGEST + 1];
+static uint8_t table[CHJIRVOLLU_TABLE_BYTES];
+static uint8_t condition[CHJIRVOLLU_CONDITION_BYTES];
+static uint64_t numbers[CHJIRVOLLU_READ_NUMBERS];
 static uint8_t path[CHJIRVOLLU_RECORD * BRANCHES];
 static uint8_t trace[CHJIRVOLLU_RECORD * OPERATIONS];
 static uint64_t report[CHJIRVOLLU_NUMBERS];
@@ -38,7 +41,7 @@ static void print_record(const uint8_t *record) {
 
 int main(int count, char **words) {
     if (count != 2) {
-        fprintf(stderr, "usage: main TABLE\n");
+        fprintf(stderr, "usage: main TEXT\n");
         return 3;
     }
     FILE *file = fopen(words[1], "rb");
@@ -46,11 +49,22 @@ int main(int count, char **words) {
         perror(words[1]);
         return 3;
     }
-    size_t length = fread(table, 1, sizeof table, file);
+    size_t length = fread(text, 1, sizeof text, file);
     fclose(file);
+    if (length > LONGEST) {
+        fprintf(stderr, "%s: longer than %d bytes\n", words[1], LONGEST);
+        return 3;
+    }
+    if (chjirvollu_read(text, length, table, sizeof table, condition, sizeof condition, numbers, CHJIRVOLLU_READ_NUMBERS)
+        != CHJIRVOLLU_TEXT_DONE) {
+        fprintf(stderr, "%s: refused at line %d, column %d\n", words[1],
+                (int)numbers[CHJIRVOLLU_READ_LINE], (int)numbers[CHJIRVOLLU_READ_COLUMN]);
+        return 3;
+    }
 
-    uint64_t answer = chjirvollu_explore(
-        table, length, BRANCHES, OPERATIONS, EXECUTIONS, CHJIRVOLLU_UNBOUNDED, 1,
+    uint64_t answer = chjirvollu_explore_condition(
+        table, numbers[CHJIRVOLLU_READ_TABLE_LENGTH], condition, numbers[CHJIRVOLLU_READ_CONDITION_LENGTH],
+        BRANCHES, OPERATIONS, EXECUTIONS, CHJIRVOLLU_UNBOUNDED, 1,
         path, sizeof path, trace, sizeof trace, report, CHJIRVOLLU_NUMBERS);
 
     printf("answer %d after %d executions\n", (int)answer, (int)report[CHJIRVOLLU_EXECUTIONS_BEGUN]);

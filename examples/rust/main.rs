@@ -1,4 +1,4 @@
-//! Explores the table in a file through the C entry, and prints the answer, the last execution and its path: main TABLE
+//! Reads the text in a file and explores it through the C entries, and prints the answer, the last execution and its path: main TEXT
 
 use std::process::ExitCode;
 
@@ -9,13 +9,29 @@ const EXECUTIONS: u64 = 1000;
 const UNBOUNDED: u64 = 256;
 /// A path record and a trace entry have this many bytes.
 const RECORD: usize = 16;
+/// The buffers into which a text is read have at least this many bytes.
+const TABLE_BYTES: usize = 3880;
+const CONDITION_BYTES: usize = 1024;
 const CHECK_FAILED: u64 = 15;
 
 // A slice goes as its address, then its length in elements.
 extern "C" {
-    fn chjirvollu_explore(
+    fn chjirvollu_read(
+        text: *const u8,
+        text_length: usize,
+        table: *mut u8,
+        table_length: usize,
+        condition: *mut u8,
+        condition_length: usize,
+        numbers: *mut u64,
+        numbers_length: usize,
+    ) -> u64;
+
+    fn chjirvollu_explore_condition(
         table: *const u8,
         table_length: usize,
+        condition: *const u8,
+        condition_length: usize,
         branches: u64,
         operations: u64,
         executions: u64,
@@ -30,16 +46,45 @@ extern "C" {
     ) -> u64;
 }
 
+/// Reads a text: its table and its condition, or the line and column at which it is refused.
+fn read(text: &[u8]) -> Result<(Vec<u8>, Vec<u8>), (u64, u64)> {
+    let mut table = vec![0; TABLE_BYTES];
+    let mut condition = vec![0; CONDITION_BYTES];
+    let mut numbers = [0; 5];
+    // SAFETY: each address goes with the length of its own slice, and no two overlap.
+    let how = unsafe {
+        chjirvollu_read(
+            text.as_ptr(),
+            text.len(),
+            table.as_mut_ptr(),
+            table.len(),
+            condition.as_mut_ptr(),
+            condition.len(),
+            numbers.as_mut_ptr(),
+            numbers.len(),
+        )
+    };
+    let [_, table_length, condition_length, line, column] = numbers;
+    if how != 0 {
+        return Err((line, column));
+    }
+    table.truncate(table_length as usize);
+    condition.truncate(condition_length as usize);
+    Ok((table, condition))
+}
+
 /// Explores; the report's numbers, and path and trace of the last execution.
-fn explore(table: &[u8]) -> ([u64; 29], Vec<u8>, Vec<u8>) {
+fn explore(table: &[u8], condition: &[u8]) -> ([u64; 29], Vec<u8>, Vec<u8>) {
     let mut path = vec![0; RECORD * BRANCHES];
     let mut trace = vec![0; RECORD * OPERATIONS];
     let mut report = [0; 29];
-    // SAFETY: each address goes with the length of its own slice, and no two overlap.
+    // SAFETY: as above.
     unsafe {
-        chjirvollu_explore(
+        chjirvollu_explore_condition(
             table.as_ptr(),
             table.len(),
+            condition.as_ptr(),
+            condition.len(),
             BRANCHES as u64,
             OPERATIONS as u64,
             EXECUTIONS,
@@ -74,17 +119,24 @@ fn print_record(record: &[u8]) {
 
 fn main() -> ExitCode {
     let Some(name) = std::env::args().nth(1) else {
-        eprintln!("usage: main TABLE");
+        eprintln!("usage: main TEXT");
         return ExitCode::from(3);
     };
-    let table = match std::fs::read(&name) {
-        Ok(table) => table,
+    let text = match std::fs::read(&name) {
+        Ok(text) => text,
         Err(why) => {
             eprintln!("{name}: {why}");
             return ExitCode::from(3);
         }
     };
-    let (report, path, trace) = explore(&table);
+    let (table, condition) = match read(&text) {
+        Ok(program) => program,
+        Err((line, column)) => {
+            eprintln!("{name}: refused at line {line}, column {column}");
+            return ExitCode::from(3);
+        }
+    };
+    let (report, path, trace) = explore(&table, &condition);
     let [answer, executions, _, _, _, thread, row, ..] = report;
     println!("answer {answer} after {executions} executions");
     // Past the last entry all is zero; an entry of opcode 0, a load, has at least one offer.

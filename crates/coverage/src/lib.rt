@@ -1,6 +1,7 @@
 // Answer 0: nothing failed, and what that covers.
 use explorer::Settings;
 use layout::MAX_ATOMIC_HISTORY;
+use layout::MAX_CELLS;
 use line::Line;
 use path::Bound;
 use search::Place;
@@ -117,7 +118,7 @@ fn bounded(bound: Bound) {
 // Warns of each cell that has more stores than are kept.
 fn old_stores(table: &[u8]) {
     let mut cell = 0;
-    while cell < 4 {
+    while cell < MAX_CELLS as u64 {
         let stores = search::stores(table, cell);
         if KEPT <= stores {
             line::say(

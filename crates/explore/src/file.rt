@@ -1,8 +1,9 @@
-// The table's file.
+// The bytes of a file.
 use libc::STDERR_FILENO;
+use source::FILE_BYTES;
 
-// One byte more than the largest table has.
-pub const ROOM: usize = 3881;
+// One byte more than is taken of a text or table.
+pub const ROOM: usize = FILE_BYTES + 1;
 
 // A file's bytes, by their count, or a read that failed.
 pub enum Got {
@@ -10,30 +11,30 @@ pub enum Got {
     Failed,
 }
 
-// Reads the whole file, if it is no longer than a table can be.
-pub fn read_table(name: &[u8], table: &mut [u8; 3881]) -> Got {
+// Reads the whole file, or as much of it as there is room for. Where it cannot be read, one line says why.
+pub fn read(name: &[u8], buffer: &mut [u8]) -> Got {
     let fd = os::open_read(name);
     if fd < 0 {
         unreadable(name);
         return Got::Failed;
     }
-    let got = read_all(fd, table);
+    let got = read_all(fd, buffer);
     let Got::Bytes(n) = got else {
         unreadable(name);
         libc::close(fd);
         return Got::Failed;
     };
     libc::close(fd);
-    if n == ROOM {
-        io::write_all(STDERR_FILENO, b"explore: ");
-        io::write_all(STDERR_FILENO, name);
-        io::write_all(
-            STDERR_FILENO,
-            b": larger than the largest table, which has 3880 bytes\n",
-        );
-        return Got::Failed;
-    }
     got
+}
+
+// Says that a file is longer than a text or table may be.
+pub fn too_long(name: &[u8]) {
+    io::write_all(STDERR_FILENO, b"explore: ");
+    io::write_all(STDERR_FILENO, name);
+    io::write_all(STDERR_FILENO, b": more than ");
+    io::print_decimal(STDERR_FILENO, FILE_BYTES as u64);
+    io::write_all(STDERR_FILENO, b" bytes, which no text or table may have\n");
 }
 
 // Says why the file cannot be read.
@@ -47,7 +48,7 @@ fn unreadable(name: &[u8]) {
 fn read_all(fd: i32, buffer: &mut [u8]) -> Got {
     let mut n = 0;
     let mut reads = 0;
-    while reads <= ROOM {
+    while reads <= buffer.len() {
         if buffer.len() <= n {
             return Got::Bytes(n);
         }

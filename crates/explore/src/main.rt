@@ -1,20 +1,28 @@
-// Explores a program that is a table in a file, and prints what happened, the counts, the threads' summaries and the last
-// execution.
-use explorer::Settings;
+// Explores the program in a file, a text or a table, and prints what happened, the counts, the threads' summaries and the last
+// execution; or writes the program as text, or its bytes.
+use condition::CONDITION_BYTES;
 use file::Got;
+use file::ROOM;
 use libc::STDERR_FILENO;
 use libc::STDOUT_FILENO;
 use options::Asked;
 use options::Options;
+use options::Task;
+use reader::ReadText;
+use reader::TABLE_BYTES;
 
 mod file;
 mod options;
 mod run;
+mod writing;
+
+// One byte more than a condition has at most: what is longer is then none.
+const CONDITION_ROOM: usize = CONDITION_BYTES + 1;
 
 fn main() {
     let asked = options::read();
     match asked {
-        Asked::For(options) => explore(options),
+        Asked::For(options) => answer(options),
         Asked::Usage => usage(STDOUT_FILENO),
         Asked::Refused => usage(STDERR_FILENO),
     }
@@ -24,25 +32,89 @@ fn main() {
 fn usage(fd: i32) {
     io::write_all(
         fd,
-        b"usage: explore TABLE [--branches B] [--operations L] [--executions N] [--bound K] [--not-exploring] [--all-rows]\n",
+        b"usage: explore FILE [--branches B] [--operations L] [--executions N] [--bound K] [--not-exploring] [--all-rows]\n",
+    );
+    io::write_all(
+        fd,
+        b"       explore FILE --to-text | --to-table | --to-condition\n",
+    );
+    io::write_all(
+        fd,
+        b"FILE is a text (docs/GRAMMAR.md) or a table (docs/FORMAT.md) of at most ",
+    );
+    io::print_decimal(fd, source::FILE_BYTES as u64);
+    io::write_all(
+        fd,
+        b" bytes; beside a table, --condition FILE has the bytes of a final condition\n",
     );
 }
 
-// Explores the table in the file that is named; where it cannot be read, one line has said why.
-fn explore(options: Options) {
+// Reads the file that is named, and does what is asked; where it cannot be read, one line has said why.
+fn answer(options: Options) {
     let mut name = io::buffer();
-    let length = os::arg(options.table, &mut name);
-    let mut table = [0u8; 3881];
-    let Got::Bytes(n) = file::read_table(&name[..length], &mut table) else {
+    let length = os::arg(options.file, &mut name);
+    let mut bytes = [0u8; ROOM];
+    let Got::Bytes(n) = file::read(token::part(&name, 0, length), &mut bytes) else {
         return;
     };
-    explore_table(&table, n, options.settings(), options.whole);
+    if n == ROOM {
+        file::too_long(token::part(&name, 0, length));
+        return;
+    }
+    take(
+        options,
+        token::part(&name, 0, length),
+        token::part(&bytes, 0, n),
+    );
 }
 
-// Explores the table that the first `n` bytes are.
-fn explore_table(bytes: &[u8; 3881], n: usize, settings: Settings, whole: bool) {
-    let table: &[u8] = bytes;
-    if n <= table.len() {
-        run::run(&table[0..n], &table[0..0], settings, whole);
+// A table as it is; a text once it is read.
+fn take(options: Options, name: &[u8], bytes: &[u8]) {
+    if source::is_table(bytes) {
+        beside(options, bytes);
+        return;
+    }
+    if options.condition != 0 {
+        io::write_all(
+            STDERR_FILENO,
+            b"explore: --condition is for a table; a text has its own, behind `finally`\n",
+        );
+        return;
+    }
+    let mut table = [0u8; TABLE_BYTES];
+    let mut condition = [0u8; CONDITION_BYTES];
+    match reader::read(bytes, &mut table, &mut condition) {
+        ReadText::NoRoom => {}
+        ReadText::Refused(line, column) => excerpt::print(name, bytes, line, column),
+        ReadText::Taken(n, claimed) => perform(
+            options,
+            token::part(&table, 0, n),
+            token::part(&condition, 0, claimed),
+        ),
+    }
+}
+
+// A table, with the condition in the file that is named for it, if one is.
+fn beside(options: Options, table: &[u8]) {
+    if options.condition == 0 {
+        perform(options, table, b"");
+        return;
+    }
+    let mut word = io::buffer();
+    let length = os::arg(options.condition, &mut word);
+    let mut condition = [0u8; CONDITION_ROOM];
+    let name = token::part(&word, options.behind, length);
+    let Got::Bytes(n) = file::read(name, &mut condition) else {
+        return;
+    };
+    perform(options, table, token::part(&condition, 0, n));
+}
+
+// Does what is asked with the program.
+fn perform(options: Options, table: &[u8], condition: &[u8]) {
+    let task = options.task;
+    match task {
+        Task::Explore => run::run(table, condition, options.settings(), options.whole),
+        _ => writing::write(task, table, condition, options.settings()),
     }
 }

@@ -1,4 +1,4 @@
-// The words of the command line: the table's name and the settings.
+// The words of the command line: the file's name, what is asked of it, and the settings.
 use decimal::Parsed;
 use explorer::MAX_BRANCHES;
 use explorer::MAX_EXECUTIONS;
@@ -7,18 +7,34 @@ use explorer::Settings;
 use libc::STDERR_FILENO;
 use path::Bound;
 
-// An option that takes a number, which is the next word.
+// A bound is a byte.
+const MAX_BOUND: u64 = 255;
+
+// An option that takes a number or a name, which is the next word.
 pub enum Awaited {
     Nothing,
     Branches,
     Operations,
     Executions,
     Bound,
+    Condition,
 }
 
-// What was asked so far. `table` is the place of the table's name among the words, 0 for none.
+// What is asked of the program in the file: to explore it, or to write it as text, its table, or its condition.
+pub enum Task {
+    Explore,
+    ToText,
+    ToTable,
+    ToCondition,
+}
+
+// What was asked so far. `file` is the place of the file's name among the words, 0 for none; `condition` that of a condition's, which
+// begins `behind` so many bytes of that word.
 pub struct Options {
-    pub table: usize,
+    pub file: usize,
+    pub condition: usize,
+    pub behind: usize,
+    pub task: Task,
     pub awaited: Awaited,
     pub branches: u64,
     pub operations: u64,
@@ -39,7 +55,10 @@ impl Options {
     // Nothing is asked: the largest limits, no bound, exploring, long executions shortened.
     pub fn new() -> Self {
         Options {
-            table: 0,
+            file: 0,
+            condition: 0,
+            behind: 0,
+            task: Task::Explore,
             awaited: Awaited::Nothing,
             branches: MAX_BRANCHES,
             operations: MAX_OPERATIONS,
@@ -85,8 +104,8 @@ fn complete(options: Options) -> Asked {
     let Awaited::Nothing = awaited else {
         return no_number(awaited);
     };
-    if options.table == 0 {
-        return refuse(b"TABLE is missing", b"");
+    if options.file == 0 {
+        return refuse(b"FILE is missing", b"");
     }
     Asked::For(options)
 }
@@ -101,41 +120,50 @@ fn read_word(options: Options, place: usize) -> Asked {
     take(options, place, &word[..length])
 }
 
-// Takes a word: the number that is awaited, or a free word.
+// Takes a word: what is awaited, or a free word.
 fn take(options: Options, place: usize, word: &[u8]) -> Asked {
     let awaited = options.awaited;
     let Awaited::Nothing = awaited else {
-        return take_number(options, word);
+        return take_awaited(options, place, 0, word);
     };
     if is_option(word) {
-        return take_option(options, word);
+        return take_option(options, place, word);
     }
-    take_table(options, place, word)
+    take_file(options, place, word)
 }
 
-// The number of the option that awaits one.
-fn take_number(options: Options, word: &[u8]) -> Asked {
+// What the option that awaits something takes; it stands behind so many bytes of the word at this place.
+fn take_awaited(options: Options, place: usize, behind: usize, word: &[u8]) -> Asked {
     let awaited = options.awaited;
     match awaited {
-        Awaited::Nothing => refuse(b"only an option that takes a number has a `=`", b""),
+        Awaited::Nothing => refuse(b"only an option that takes something has a `=`", b""),
         Awaited::Branches => take_branches(options, word),
         Awaited::Operations => take_operations(options, word),
         Awaited::Executions => take_executions(options, word),
         Awaited::Bound => take_bound(options, word),
+        Awaited::Condition => take_condition(options, place, behind),
     }
 }
 
-// The table's name.
-fn take_table(mut options: Options, place: usize, word: &[u8]) -> Asked {
-    if options.table != 0 {
-        return refuse(b"more than one TABLE: ", word);
+// The file's name.
+fn take_file(mut options: Options, place: usize, word: &[u8]) -> Asked {
+    if options.file != 0 {
+        return refuse(b"more than one FILE: ", word);
     }
-    options.table = place;
+    options.file = place;
     Asked::For(options)
 }
 
-// An option, which may have its number behind a `=`.
-fn take_option(options: Options, word: &[u8]) -> Asked {
+// The name of the condition's file.
+fn take_condition(options: Options, place: usize, behind: usize) -> Asked {
+    let mut next = awaiting(options, Awaited::Nothing);
+    next.condition = place;
+    next.behind = behind;
+    Asked::For(next)
+}
+
+// An option, which may have what it takes behind a `=`.
+fn take_option(options: Options, place: usize, word: &[u8]) -> Asked {
     let end = equals(word);
     if word.len() <= end {
         return named(options, word);
@@ -144,7 +172,7 @@ fn take_option(options: Options, word: &[u8]) -> Asked {
     let Asked::For(next) = asked else {
         return asked;
     };
-    take_number(next, &word[end + 1..])
+    take_awaited(next, place, end + 1, &word[end + 1..])
 }
 
 // Where a word has its first `=`, or its length.
@@ -172,6 +200,20 @@ fn named(mut options: Options, word: &[u8]) -> Asked {
         options.whole = true;
         return Asked::For(options);
     }
+    if same(word, b"--to-text") {
+        return Asked::For(asking(options, Task::ToText));
+    }
+    if same(word, b"--to-table") {
+        return Asked::For(asking(options, Task::ToTable));
+    }
+    if same(word, b"--to-condition") {
+        return Asked::For(asking(options, Task::ToCondition));
+    }
+    named_with(options, word)
+}
+
+// The option of this name, of those that take something.
+fn named_with(options: Options, word: &[u8]) -> Asked {
     if same(word, b"--branches") {
         return Asked::For(awaiting(options, Awaited::Branches));
     }
@@ -184,19 +226,32 @@ fn named(mut options: Options, word: &[u8]) -> Asked {
     if same(word, b"--bound") {
         return Asked::For(awaiting(options, Awaited::Bound));
     }
+    if same(word, b"--condition") {
+        return Asked::For(awaiting(options, Awaited::Condition));
+    }
     refuse(b"unknown option ", word)
 }
 
-// The options as they are, with this number awaited next.
+// The options as they are, with this awaited next.
 fn awaiting(options: Options, awaited: Awaited) -> Options {
     let bound = options.bound;
-    with_bound(options, bound, awaited)
+    let task = options.task;
+    with(options, bound, task, awaited)
 }
 
-// The same with another bound.
-fn with_bound(options: Options, bound: Bound, awaited: Awaited) -> Options {
+// The options as they are, with this asked.
+fn asking(options: Options, task: Task) -> Options {
+    let bound = options.bound;
+    with(options, bound, task, Awaited::Nothing)
+}
+
+// The same with another bound, task and awaited word.
+fn with(options: Options, bound: Bound, task: Task, awaited: Awaited) -> Options {
     Options {
-        table: options.table,
+        file: options.file,
+        condition: options.condition,
+        behind: options.behind,
+        task,
         awaited,
         branches: options.branches,
         operations: options.operations,
@@ -239,11 +294,12 @@ fn take_executions(options: Options, word: &[u8]) -> Asked {
 
 // The number of `--bound`.
 fn take_bound(options: Options, word: &[u8]) -> Asked {
-    let Parsed::Number(n) = decimal::number_between(word, 0, 255) else {
+    let Parsed::Number(n) = decimal::number_between(word, 0, MAX_BOUND) else {
         return no_number(Awaited::Bound);
     };
+    let task = options.task;
     let bound = Bound::AtMost((n % 256) as u8);
-    Asked::For(with_bound(options, bound, Awaited::Nothing))
+    Asked::For(with(options, bound, task, Awaited::Nothing))
 }
 
 // Whether a word begins with a dash.
@@ -278,13 +334,26 @@ fn refuse(what: &[u8], word: &[u8]) -> Asked {
     Asked::Refused
 }
 
-// An option's number is missing, no number, or out of range.
+// What an option takes is missing; or it is no number, or one out of range.
 fn no_number(awaited: Awaited) -> Asked {
     match awaited {
-        Awaited::Branches => refuse(b"--branches takes a number from 1 to 1024", b""),
-        Awaited::Operations => refuse(b"--operations takes a number from 1 to 4096", b""),
-        Awaited::Executions => refuse(b"--executions takes a number from 1 to 65535", b""),
-        Awaited::Bound => refuse(b"--bound takes a number from 0 to 255", b""),
+        Awaited::Branches => out_of_range(b"--branches", 1, MAX_BRANCHES),
+        Awaited::Operations => out_of_range(b"--operations", 1, MAX_OPERATIONS),
+        Awaited::Executions => out_of_range(b"--executions", 1, MAX_EXECUTIONS),
+        Awaited::Bound => out_of_range(b"--bound", 0, MAX_BOUND),
+        Awaited::Condition => refuse(b"--condition takes a file", b""),
         Awaited::Nothing => Asked::Refused,
     }
+}
+
+// Names the numbers that an option takes.
+fn out_of_range(option: &[u8], least: u64, most: u64) -> Asked {
+    io::write_all(STDERR_FILENO, b"explore: ");
+    io::write_all(STDERR_FILENO, option);
+    io::write_all(STDERR_FILENO, b" takes a number from ");
+    io::print_decimal(STDERR_FILENO, least);
+    io::write_all(STDERR_FILENO, b" to ");
+    io::print_decimal(STDERR_FILENO, most);
+    io::write_all(STDERR_FILENO, b"\n");
+    Asked::Refused
 }

@@ -1,17 +1,26 @@
 // A run: the buffers, the exploration and what is printed of it.
 ghost use Prim.Native.Nat.{_≤_};
+use explorer::MAX_BRANCHES;
 use explorer::MAX_EXECUTIONS;
+use explorer::MAX_OPERATIONS;
 use explorer::Settings;
 use libc::STDERR_FILENO;
 use report::Answer;
 use report::Report;
 
+// Bytes of a choice, and of a trace entry.
+const RECORD: usize = 16;
+
+const PATH_BYTES: usize = RECORD * MAX_BRANCHES as usize;
+
+const TRACE_BYTES: usize = RECORD * MAX_OPERATIONS as usize;
+
 // Explores and prints, with as much of the largest buffers as the settings ask for.
 pub fn run(table: &[u8], condition: &[u8], settings: Settings, whole: bool) {
-    let mut path = [0u8; 16384];
-    let mut trace = [0u8; 65536];
-    let path_size = bytes(settings.branches, 16384);
-    let trace_size = bytes(settings.operations, 65536);
+    let mut path = [0u8; PATH_BYTES];
+    let mut trace = [0u8; TRACE_BYTES];
+    let path_size = bytes(settings.branches, PATH_BYTES);
+    let trace_size = bytes(settings.operations, TRACE_BYTES);
     run_in(
         table,
         condition,
@@ -22,12 +31,12 @@ pub fn run(table: &[u8], condition: &[u8], settings: Settings, whole: bool) {
     );
 }
 
-// The bytes of this many records of 16, or all that there are if those are fewer.
+// The bytes of this many records, or all that there are if those are fewer.
 fn bytes(records: u64, all: usize) -> usize
     ensures { λ r. ⌜ r ≤ all ⌝ }
 {
-    if records <= (all / 16) as u64 {
-        return 16 * records as usize;
+    if records <= (all / RECORD) as u64 {
+        return RECORD * records as usize;
     }
     all
 }

@@ -10,6 +10,8 @@ use path::Bound;
 use report::Report;
 use report::ThreadRecord;
 
+pub mod text;
+
 // How many numbers a report has: nine, and four for each of the five threads.
 pub const NUMBERS: usize = 29;
 
@@ -112,7 +114,8 @@ fn enter(
     let done = explorer::explore(table, condition, settings, path, trace);
     let answer = done.answer;
     let number = report::number(answer);
-    write_numbers(report, numbers(done));
+    let all = numbers(done);
+    write_numbers(report, &all);
     number
 }
 
@@ -212,12 +215,13 @@ fn summary(thread: ThreadRecord) -> [u64; 4]
     ]
 }
 
-fn write_numbers(report: &mut [u64], numbers: [u64; NUMBERS])
-    requires { ⌜ length (now report) ≡ 29 ⌝ }
-    ensures { λ _. ⌜ now (report .exit) ≡ numbers ⌝ }
+// Puts the numbers into a caller's buffer that takes as many.
+fn write_numbers(report: &mut [u64], numbers: &[u64])
+    requires { ⌜ length (now report) ≡ length (now numbers) ⌝ }
+    ensures { λ _. ⌜ now (report .exit) ≡ now (numbers .entry) ⌝ }
 {
     let mut i = 0;
-    while i < NUMBERS {
+    while i < numbers.len() {
         report[i] = numbers[i];
         i += 1;
     }

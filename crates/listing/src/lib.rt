@@ -1,10 +1,10 @@
-// The last execution as text, a step a line: which thread did what by which row, and what came of it.
+// The last execution as text, a step a line: which thread did what by which row, as the row stands in a text, and what came of it.
 ghost use Prim.Native.Nat.{_<_};
 use line::Line;
 use steps::held;
 use steps::held::Held;
 
-mod outcome;
+mod came;
 
 // How many steps are shown at either end of an execution that is shortened.
 const SHOWN: usize = 10;
@@ -28,7 +28,7 @@ pub fn print(table: &[u8], trace: &[u8], whole: bool) {
     }
 }
 
-// The length of the longest operation among the steps, and at least that of its heading.
+// The length of the longest row among the steps, and at least that of its heading.
 fn widest(table: &[u8], trace: &[u8], n: usize) -> usize {
     let mut most = 9;
     let mut i = 0;
@@ -42,10 +42,21 @@ fn widest(table: &[u8], trace: &[u8], n: usize) -> usize {
     most
 }
 
-// How long the operation of a step is in words.
+// How long the row of a step is.
 fn operation_width(table: &[u8], trace: &[u8], i: usize) -> usize {
     let mut line = [0u8; 256];
-    words::put_row(&mut line, 0, steps::operation(table, trace, i))
+    put_operation(&mut line, 0, table, trace, i)
+}
+
+// Puts the row of a step as it stands in a text.
+fn put_operation(line: &mut Line, at: usize, table: &[u8], trace: &[u8], i: usize) -> usize {
+    row_text::put(
+        line,
+        at,
+        table,
+        steps::thread(trace, i),
+        steps::row(trace, i),
+    )
 }
 
 // The column where the operations begin.
@@ -106,29 +117,20 @@ fn between(n: usize) {
 
 // Writes step `i`.
 fn entry(table: &[u8], trace: &[u8], held: &Held, i: usize, width: usize) {
-    let thread = steps::thread(trace, i);
-    let row = steps::operation(table, trace, i);
-    let slot = steps::slot(trace, i);
     let end = column(width);
+    let offered = end + 8;
+    let came = end + 23;
     let mut line = [0u8; 256];
     let to = line::put_right(&mut line, 0, 4, i as u64 % 65536 + 1);
-    let to = line::put_right(&mut line, to, 12, thread as u64);
+    let to = line::put_right(&mut line, to, 12, steps::thread(trace, i) as u64);
     let to = line::put_right(&mut line, to, 17, steps::row(trace, i) as u64);
     let to = line::pad(&mut line, to, OPERATION);
-    let to = words::put_row(&mut line, to, row);
-    let to = put_slot(&mut line, to, end, slot);
-    let to = line::pad(&mut line, to, end + 8);
+    let to = put_operation(&mut line, to, table, trace, i);
+    let to = put_slot(&mut line, to, end, steps::slot(trace, i));
+    let to = line::pad(&mut line, to, offered);
     let to = put_offers(&mut line, to, steps::mask(trace, i));
-    let to = line::pad(&mut line, to, end + 23);
-    let to = outcome::put(
-        &mut line,
-        to,
-        row,
-        thread,
-        slot,
-        steps::value(trace, i),
-        held,
-    );
+    let to = line::pad(&mut line, to, came);
+    let to = came::put(&mut line, to, outcome::of_step(table, trace, held, i));
     line::end(&mut line, to);
 }
 

@@ -1,6 +1,11 @@
-// What is wrong with a field of a row, in words.
+// Which field of a refused row is wrong, and what it may be. The library's own decode judges: a row that it accepts gets the fields
+// of the bad one, one after the other, and the first with which it is refused is the one that is wrong.
+ghost use mathlib.Core.Path.{_≡_};
+ghost use mathlib.Core.Bool.{cond};
+ghost use Rattle.decode.specs.Ops.{rowOf};
+ghost use Rattle.reasons.specs.Wrong.{blankOrder, firstFields, isFit, wrongIn, hasCell, isJump, hasRegister, isChange, mayObject, mayOrder, mayFailure, mayBe};
 use decode::Row;
-use line::Line;
+use decode::is_row;
 
 // The fields of a row, in the order in which they are judged.
 pub enum Field {
@@ -15,6 +20,22 @@ pub enum Field {
     B,
 }
 
+// What a field may be: one of those that there are, or zero, where the opcode or the change kind does not use it.
+pub enum May {
+    AnyOpcode,
+    AnyCell,
+    AnyThread,
+    AnyOrder,
+    LoadOrder,
+    StoreOrder,
+    FenceOrder,
+    AnyKind,
+    AnyRegister,
+    AnyTarget,
+    ZeroByOpcode,
+    ZeroByKind,
+}
+
 // What a row may name: so many threads, cells and rows of its thread.
 pub struct Room {
     pub threads: usize,
@@ -22,209 +43,175 @@ pub struct Room {
     pub count: usize,
 }
 
-// Puts what is wrong with this field of this row.
-pub fn put(line: &mut Line, at: usize, field: Field, row: Row, room: Room) -> usize {
-    let opcode = row.opcode;
-    match field {
-        Field::Opcode => line::fill(
-            line,
-            at,
-            b"opcode # is none: there are 0 to 16",
-            opcode as u64,
-            0,
-            0,
-        ),
-        Field::Object => put_object(line, at, opcode, row.object as u64, room),
-        Field::Order => put_order(line, at, opcode, row.order as u64),
-        Field::Kind => put_kind(line, at, opcode, row.kind as u64),
-        Field::Failure => put_failure(line, at, row),
-        Field::Register => put_register(line, at, opcode, row.register as u64),
-        Field::Target => put_target(line, at, opcode, row.target as u64, room.count as u64),
-        Field::A => put_operand(line, at, b"operand a", row, row.a),
-        Field::B => put_operand(line, at, b"operand b", row, row.b),
+// The field that is wrong first.
+pub fn wrong(row: Row, room: Room) -> Field
+    ensures { λ r. ⌜ r ≡ wrongIn (room .threads) (room .cells) (room .count) (rowOf row) ⌝ }
+{
+    if !is_fit(row, room, 0) {
+        return Field::Opcode;
     }
+    if !is_fit(row, room, 1) {
+        return Field::Object;
+    }
+    if !is_fit(row, room, 2) {
+        return Field::Order;
+    }
+    if !is_fit(row, room, 3) {
+        return Field::Kind;
+    }
+    if !is_fit(row, room, 4) {
+        return Field::Failure;
+    }
+    if !is_fit(row, room, 5) {
+        return Field::Register;
+    }
+    if !is_fit(row, room, 6) {
+        return Field::Target;
+    }
+    if !is_fit(row, room, 7) {
+        return Field::A;
+    }
+    Field::B
+}
+
+// Whether the library takes a row with the first `n` fields of this one.
+fn is_fit(row: Row, room: Room, n: usize) -> bool
+    ensures { λ r. ⌜ r ≡ isFit (room .threads) (room .cells) (room .count) (rowOf row) n ⌝ }
+{
+    is_row(first_fields(row, n), room.threads, room.cells, room.count)
+}
+
+// The row's opcode and its first `n` fields, on a row that is accepted, if there is one of this opcode.
+fn first_fields(row: Row, n: usize) -> Row
+    ensures { λ r. ⌜ rowOf r ≡ firstFields (rowOf row) n ⌝ }
+{
+    Row {
+        opcode: row.opcode,
+        object: byte_if(0 < n, row.object, 0),
+        order: byte_if(1 < n, row.order, blank_order(row.opcode)),
+        failure: byte_if(3 < n, row.failure, 0),
+        kind: byte_if(2 < n, row.kind, 0),
+        register: byte_if(4 < n, row.register, 0),
+        target: target_if(5 < n, row.target),
+        a: operand_if(6 < n, row.a),
+        b: operand_if(7 < n, row.b),
+    }
+}
+
+// A fence must have an order.
+fn blank_order(opcode: u8) -> u8
+    ensures { λ r. ⌜ r ≡ blankOrder opcode ⌝ }
+{
+    byte_if(opcode == 4, 1, 0)
+}
+
+fn byte_if(looked: bool, byte: u8, other: u8) -> u8
+    ensures { λ r. ⌜ r ≡ cond looked byte other ⌝ }
+{
+    if looked {
+        return byte;
+    }
+    other
+}
+
+fn target_if(looked: bool, target: u16) -> u16
+    ensures { λ r. ⌜ r ≡ cond looked target 0 ⌝ }
+{
+    if looked {
+        return target;
+    }
+    0
+}
+
+fn operand_if(looked: bool, operand: u64) -> u64
+    ensures { λ r. ⌜ r ≡ cond looked operand 0 ⌝ }
+{
+    if looked {
+        return operand;
+    }
+    0
+}
+
+// What this field may be in a row of this opcode and change kind.
+pub fn may_be(field: Field, opcode: u8, kind: u8) -> May
+    ensures { λ r. ⌜ r ≡ mayBe field opcode kind ⌝ }
+{
+    match field {
+        Field::Opcode => May::AnyOpcode,
+        Field::Object => object_may(opcode),
+        Field::Order => order_may(opcode),
+        Field::Kind => may_if(is_change(opcode), May::AnyKind, May::ZeroByOpcode),
+        Field::Failure => failure_may(opcode, kind),
+        Field::Register => may_if(has_register(opcode), May::AnyRegister, May::ZeroByOpcode),
+        Field::Target => may_if(is_jump(opcode), May::AnyTarget, May::ZeroByOpcode),
+        Field::A => may_if(is_change(opcode), May::ZeroByKind, May::ZeroByOpcode),
+        Field::B => may_if(is_change(opcode), May::ZeroByKind, May::ZeroByOpcode),
+    }
+}
+
+fn may_if(test: bool, may: May, other: May) -> May
+    ensures { λ r. ⌜ r ≡ cond test may other ⌝ }
+{
+    if test {
+        return may;
+    }
+    other
 }
 
 // The cell or the thread.
-fn put_object(line: &mut Line, at: usize, opcode: u8, object: u64, room: Room) -> usize {
-    match opcode {
-        0 | 1 | 2 | 3 | 5 | 6 => line::fill(
-            line,
-            at,
-            b"cell # is none: they count from 0, and the table has #",
-            object,
-            room.cells as u64,
-            0,
-        ),
-        8 => line::fill(
-            line,
-            at,
-            b"thread # is none: they count from 0, and the table has #",
-            object,
-            room.threads as u64,
-            0,
-        ),
-        _ => put_unused(line, at, b"the cell or thread", object, opcode),
-    }
+fn object_may(opcode: u8) -> May
+    ensures { λ r. ⌜ r ≡ mayObject opcode ⌝ }
+{
+    let other = may_if(opcode == 8, May::AnyThread, May::ZeroByOpcode);
+    may_if(has_cell(opcode), May::AnyCell, other)
 }
 
 // The order, by what opcode may have which.
-fn put_order(line: &mut Line, at: usize, opcode: u8, order: u64) -> usize {
-    match opcode {
-        0 => line::fill(
-            line,
-            at,
-            b"order # is none that a load may have (0, 2 or 4)",
-            order,
-            0,
-            0,
-        ),
-        1 | 2 => line::fill(
-            line,
-            at,
-            b"order # is none that a store may have (0, 1 or 4)",
-            order,
-            0,
-            0,
-        ),
-        3 => line::fill(line, at, b"order # is none: there are 0 to 4", order, 0, 0),
-        4 => line::fill(
-            line,
-            at,
-            b"order # is none that a fence may have (1 to 4)",
-            order,
-            0,
-            0,
-        ),
-        _ => put_unused(line, at, b"order", order, opcode),
-    }
-}
-
-// The change kind.
-fn put_kind(line: &mut Line, at: usize, opcode: u8, kind: u64) -> usize {
-    match opcode {
-        3 | 6 => line::fill(
-            line,
-            at,
-            b"change kind # is none: there are 0 to 12",
-            kind,
-            0,
-            0,
-        ),
-        _ => put_unused(line, at, b"change kind", kind, opcode),
-    }
+fn order_may(opcode: u8) -> May
+    ensures { λ r. ⌜ r ≡ mayOrder opcode ⌝ }
+{
+    let fence = may_if(opcode == 4, May::FenceOrder, May::ZeroByOpcode);
+    let change = may_if(opcode == 3, May::AnyOrder, fence);
+    let store = may_if((opcode == 1) | (opcode == 2), May::StoreOrder, change);
+    may_if(opcode == 0, May::LoadOrder, store)
 }
 
 // The order of a change that fails.
-fn put_failure(line: &mut Line, at: usize, row: Row) -> usize {
-    let failure = row.failure as u64;
-    if row.opcode != 3 {
-        return put_unused(line, at, b"failure order", failure, row.opcode);
-    }
-    let kind = row.kind;
-    match kind {
-        11 | 12 => line::fill(
-            line,
-            at,
-            b"failure order # is none that a load may have (0, 2 or 4)",
-            failure,
-            0,
-            0,
-        ),
-        _ => put_unused_by(line, at, b"failure order", failure, kind as u64),
-    }
+fn failure_may(opcode: u8, kind: u8) -> May
+    ensures { λ r. ⌜ r ≡ mayFailure opcode kind ⌝ }
+{
+    let used = may_if((kind == 11) | (kind == 12), May::LoadOrder, May::ZeroByKind);
+    may_if(opcode == 3, used, May::ZeroByOpcode)
 }
 
-// The register.
-fn put_register(line: &mut Line, at: usize, opcode: u8, register: u64) -> usize {
-    if has_register(opcode) {
-        return line::fill(
-            line,
-            at,
-            b"register # is none: there are 0 to 3",
-            register,
-            0,
-            0,
-        );
-    }
-    put_unused(line, at, b"register", register, opcode)
+fn has_cell(opcode: u8) -> bool
+    ensures { λ r. ⌜ r ≡ hasCell opcode ⌝ }
+{
+    (opcode <= 3) | (opcode == 5) | (opcode == 6)
 }
 
-// Whether a row of this opcode has one.
-fn has_register(opcode: u8) -> bool {
-    match opcode {
-        0 | 2 | 3 | 5 | 6 | 10 | 11 | 12 | 16 => true,
-        _ => false,
-    }
+fn is_jump(opcode: u8) -> bool
+    ensures { λ r. ⌜ r ≡ isJump opcode ⌝ }
+{
+    (opcode == 9) | (opcode == 10) | (opcode == 11)
 }
 
-// The row that a jump leads to.
-fn put_target(line: &mut Line, at: usize, opcode: u8, target: u64, count: u64) -> usize {
-    match opcode {
-        9 | 10 | 11 => line::fill(
-            line,
-            at,
-            b"jump target # is none: it may be up to #, the thread's end",
-            target,
-            count,
-            0,
-        ),
-        _ => put_unused(line, at, b"jump target", target, opcode),
-    }
+fn has_register(opcode: u8) -> bool
+    ensures { λ r. ⌜ r ≡ hasRegister opcode ⌝ }
+{
+    (opcode == 0)
+        | (opcode == 2)
+        | (opcode == 3)
+        | (opcode == 5)
+        | (opcode == 6)
+        | (opcode == 10)
+        | (opcode == 11)
+        | (opcode == 12)
+        | (opcode == 16)
 }
 
-// An operand, which is refused only where it is not used.
-fn put_operand(line: &mut Line, at: usize, name: &[u8], row: Row, value: u64) -> usize {
-    let opcode = row.opcode;
-    match opcode {
-        3 | 6 => put_unused_by(line, at, name, value, row.kind as u64),
-        _ => put_unused(line, at, name, value, opcode),
-    }
-}
-
-// A field that the change kind does not use.
-fn put_unused_by(line: &mut Line, at: usize, name: &[u8], value: u64, kind: u64) -> usize {
-    let to = line::put(line, at, name);
-    line::fill(
-        line,
-        to,
-        b" is #, and change kind # does not use it: it must be 0",
-        value,
-        kind,
-        0,
-    )
-}
-
-// A field that the opcode does not use.
-fn put_unused(line: &mut Line, at: usize, name: &[u8], value: u64, opcode: u8) -> usize {
-    let to = line::put(line, at, name);
-    let to = line::fill(line, to, b" is #, and opcode # (", value, opcode as u64, 0);
-    let to = put_name(line, to, opcode);
-    line::put(line, to, b") does not use it: it must be 0")
-}
-
-// The name of an opcode, by its number.
-fn put_name(line: &mut Line, at: usize, opcode: u8) -> usize {
-    put_nth(
-        line,
-        at,
-        b"load,store,store of a register,change,fence,unsynchronised load,exclusive change,yield,join,jump,jump if equal,jump if not equal,check,critical,explore_state,skip_branch,branch_spurious",
-        opcode as usize,
-    )
-}
-
-// Puts the part of a list that stands past so many commas.
-fn put_nth(line: &mut Line, at: usize, list: &[u8], n: usize) -> usize {
-    let mut to = at;
-    let mut past = 0;
-    let mut i = 0;
-    while i < list.len() {
-        if list[i] == b',' {
-            past += 1;
-        } else if past == n {
-            to = line::put(line, to, &list[i..i + 1]);
-        }
-        i += 1;
-    }
-    to
+fn is_change(opcode: u8) -> bool
+    ensures { λ r. ⌜ r ≡ isChange opcode ⌝ }
+{
+    (opcode == 3) | (opcode == 6)
 }

@@ -20,9 +20,9 @@ const ZERO: usize = 7;
 pub fn print(table: &[u8]) {
     if table.len() < HEADER {
         line::say(
-            b"answer 5: refused: the table has # bytes, and its header alone has 8",
+            b"answer 5: refused: the table has # bytes, and its header alone has #",
             table.len() as u64,
-            0,
+            HEADER as u64,
             0,
         );
         return;
@@ -34,9 +34,9 @@ pub fn print(table: &[u8]) {
     }
     if zero != 0 {
         line::say(
-            b"answer 5: refused: byte 7, the last of the header, is #: it must be 0",
+            b"answer 5: refused: byte #, the last of the header, is #: it must be 0",
+            ZERO as u64,
             zero as u64,
-            0,
             0,
         );
         return;
@@ -62,18 +62,18 @@ fn named(shape: &Shape) -> bool {
     let cells = wide16(shape[CELLS]);
     if threads == 0 || MAX_THREADS < threads {
         line::say(
-            b"answer 5: refused: byte 0 says # threads: there may be 1 to 5",
+            b"answer 5: refused: byte 0 says # threads: there may be 1 to #",
             threads as u64,
-            0,
+            MAX_THREADS as u64,
             0,
         );
         return true;
     }
     if cells == 0 || MAX_CELLS < cells {
         line::say(
-            b"answer 5: refused: byte 1 says # cells: there may be 1 to 4",
+            b"answer 5: refused: byte 1 says # cells: there may be 1 to #",
             cells as u64,
-            0,
+            MAX_CELLS as u64,
             0,
         );
         return true;
@@ -102,19 +102,24 @@ fn counted(shape: &Shape, threads: usize) -> bool {
 
 // A thread has more rows than there may be.
 fn too_many(thread: usize, count: usize) {
-    line::say(
-        b"answer 5: refused: byte # says that thread # has # rows: there may be 0 to 32",
-        thread as u64 % 5 + 2,
+    let mut line = [0u8; 256];
+    let to = line::fill(
+        &mut line,
+        0,
+        b"answer 5: refused: byte # says that thread # has # rows",
+        thread as u64 % 256 + COUNTS as u64,
         thread as u64,
         count as u64,
     );
+    let to = line::put_with(&mut line, to, b": there may be 0 to ", MAX_ROWS as u64);
+    line::end(&mut line, to);
 }
 
 // A thread that is absent has rows.
 fn absent(thread: usize, count: usize) {
     line::say(
         b"answer 5: refused: byte # says that thread # has # rows, and there is no such thread: it must be 0",
-        thread as u64 % 5 + 2,
+        thread as u64 % 256 + COUNTS as u64,
         thread as u64,
         count as u64,
     );

@@ -1,12 +1,22 @@
-// Why a table is refused: which field of the header, or of the first bad row, is wrong, and what it may be.
+// Why a table or a condition is refused: which field of the header, or of the first bad row, or which byte of the condition is wrong,
+// and what it may be.
+use table::Judged;
+
+mod conditions;
 mod header;
 mod row;
+mod words;
 
-// Says it, in one line: what is wrong with the header or the length where no row is named, else with this row.
-pub fn print(table: &[u8], thread: u64, number: u64) {
-    if thread == 255 {
-        header::print(table);
+// Says it, in one line: what is wrong with this row; or, where no row is named, with the header or the length; or else with the
+// condition, which is judged behind the table.
+pub fn print(table: &[u8], condition: &[u8], thread: u64, number: u64) {
+    if thread != 255 {
+        row::print(table, (thread % 256) as u8, (number % 256) as u8);
         return;
     }
-    row::print(table, (thread % 256) as u8, (number % 256) as u8);
+    if let Judged::Accepted = table::judge(table) {
+        conditions::print(table, condition);
+        return;
+    }
+    header::print(table);
 }

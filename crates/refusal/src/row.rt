@@ -1,12 +1,9 @@
-// What is wrong with a row. The library's own decode judges: a row that it accepts gets the fields of the bad one, one after
-// the other, and the first that it then refuses is the one that is wrong.
-use decode::Decoded;
+// What is wrong with a row: which of its fields, by crate reasons.
+use crate::words;
 use decode::Row;
-use decode::row_decoded;
 use layout::MAX_THREADS;
 use layout::wide8;
 use layout::wide16;
-use reasons::Field;
 use reasons::Room;
 use table::CELLS;
 use table::COUNTS;
@@ -40,17 +37,17 @@ pub fn print(table: &[u8], thread: u8, number: u8) {
         number as u64,
         0,
     );
-    let to = reasons::put(&mut line, to, wrong(row, room), row, room);
+    let to = words::put(&mut line, to, reasons::wrong(row, room), row, room);
     line::end(&mut line, to);
 }
 
 // The fields of the row whose first byte is this one; all zero where the table does not hold it.
 fn fields(table: &[u8], at: usize) -> Row {
     if table.len() < ROW {
-        return blank(0);
+        return zeros();
     }
     if table.len() - ROW < at {
-        return blank(0);
+        return zeros();
     }
     Row {
         opcode: table[at],
@@ -65,73 +62,16 @@ fn fields(table: &[u8], at: usize) -> Row {
     }
 }
 
-// A row that is accepted, if there is one of this opcode. A fence must have an order.
-fn blank(opcode: u8) -> Row {
-    let mut order = 0;
-    if opcode == 4 {
-        order = 1;
-    }
+fn zeros() -> Row {
     Row {
-        opcode,
+        opcode: 0,
         object: 0,
-        order,
+        order: 0,
         failure: 0,
         kind: 0,
         register: 0,
         target: 0,
         a: 0,
         b: 0,
-    }
-}
-
-// The field that is wrong first.
-fn wrong(row: Row, room: Room) -> Field {
-    let mut tried = blank(row.opcode);
-    if !accepted(tried, room) {
-        return Field::Opcode;
-    }
-    tried.object = row.object;
-    if !accepted(tried, room) {
-        return Field::Object;
-    }
-    tried.order = row.order;
-    if !accepted(tried, room) {
-        return Field::Order;
-    }
-    tried.kind = row.kind;
-    if !accepted(tried, room) {
-        return Field::Kind;
-    }
-    wrong_later(row, tried, room)
-}
-
-// The same among the fields behind the change kind.
-fn wrong_later(row: Row, accepted_so_far: Row, room: Room) -> Field {
-    let mut tried = accepted_so_far;
-    tried.failure = row.failure;
-    if !accepted(tried, room) {
-        return Field::Failure;
-    }
-    tried.register = row.register;
-    if !accepted(tried, room) {
-        return Field::Register;
-    }
-    tried.target = row.target;
-    if !accepted(tried, room) {
-        return Field::Target;
-    }
-    tried.a = row.a;
-    if !accepted(tried, room) {
-        return Field::A;
-    }
-    Field::B
-}
-
-// Whether the library takes this row.
-fn accepted(row: Row, room: Room) -> bool {
-    if let Decoded::Row(_) = row_decoded(row, room.threads, room.cells, room.count) {
-        true
-    } else {
-        false
     }
 }

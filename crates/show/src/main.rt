@@ -1,5 +1,6 @@
-// Explores the table on standard input with the largest settings, and prints of it what the program explore prints. It needs
+// Explores the text or table on standard input with the largest settings, and prints of it what the program explore prints. It needs
 // neither words nor files, so it runs unproved too, within seconds (examples/first).
+use condition::CONDITION_BYTES;
 use explorer::MAX_BRANCHES;
 use explorer::MAX_EXECUTIONS;
 use explorer::MAX_OPERATIONS;
@@ -7,29 +8,55 @@ use explorer::Settings;
 use libc::STDERR_FILENO;
 use libc::STDIN_FILENO;
 use path::Bound;
+use reader::ReadText;
+use reader::TABLE_BYTES;
+use source::FILE_BYTES;
 
-// One byte more than the largest table has.
-const ROOM: usize = 3881;
+// One byte more than is taken.
+const ROOM: usize = FILE_BYTES + 1;
 
-// A read that fails counts as the input's end: the table is then refused, for its length.
+// Bytes of a choice, and of a trace entry.
+const RECORD: usize = 16;
+
+const PATH_BYTES: usize = RECORD * MAX_BRANCHES as usize;
+
+const TRACE_BYTES: usize = RECORD * MAX_OPERATIONS as usize;
+
+// A read that fails counts as the input's end: what there is, is then refused.
 fn main() {
-    let mut table = [0u8; 3881];
-    let n = io::read_full(STDIN_FILENO, &mut table);
+    let mut bytes = [0u8; ROOM];
+    let n = io::read_full(STDIN_FILENO, &mut bytes);
     if n == ROOM {
-        io::write_all(
-            STDERR_FILENO,
-            b"show: the input is larger than the largest table, which has 3880 bytes\n",
-        );
+        io::write_all(STDERR_FILENO, b"show: the input has more than ");
+        io::print_decimal(STDERR_FILENO, FILE_BYTES as u64);
+        io::write_all(STDERR_FILENO, b" bytes, which no text or table may have\n");
         return;
     }
-    show(&table[..n]);
+    take(&bytes[..n]);
+}
+
+// Shows a table, or reads a text and shows that.
+fn take(bytes: &[u8]) {
+    if source::is_table(bytes) {
+        show(bytes, &bytes[..0]);
+        return;
+    }
+    let mut table = [0u8; TABLE_BYTES];
+    let mut condition = [0u8; CONDITION_BYTES];
+    match reader::read(bytes, &mut table, &mut condition) {
+        ReadText::NoRoom => {}
+        ReadText::Refused(line, column) => excerpt::print(b"", bytes, line, column),
+        ReadText::Taken(n, claimed) => show(
+            token::part(&table, 0, n),
+            token::part(&condition, 0, claimed),
+        ),
+    }
 }
 
 // Explores and prints.
-fn show(table: &[u8]) {
-    let mut path = [0u8; 16384];
-    let mut trace = [0u8; 65536];
-    let condition = &table[..0];
+fn show(table: &[u8], condition: &[u8]) {
+    let mut path = [0u8; PATH_BYTES];
+    let mut trace = [0u8; TRACE_BYTES];
     let report = explorer::explore(table, condition, settings(), &mut path, &mut trace);
     tell::print_report(table, condition, settings(), report, &trace, false);
 }

@@ -10,6 +10,7 @@ use mathlib.Core.Path.{_≡_, refl}
 use native.Mathlib.Omega.{arith}
 use lib.Dec.{eqb}
 use borrow.Author.Tests.{le-leb, lt-leb}
+use Rattle.rules.specs.Table.{maxRows}
 use Rattle.steps.specs.Loops.{firstOf, every, some, least, sameRow, repeatsIn, periodOf, isYield, yieldsIn}
 
 module _ {A : Type 0} (test : ℕ → Bool) (found : ℕ → A) (none : A) (end i : ℕ) where
@@ -56,7 +57,7 @@ module _ (trace : List ℕ) (n p : ℕ) where
 
 -- the lengths of a loop that are left at p, and the steps that are left at i
 abbrev pub periodLeft : List ℕ → ℕ → ℕ → ℕ
-periodLeft trace n p = least (repeatsIn trace n) (33 - p) p
+periodLeft trace n p = least (repeatsIn trace n) (suc maxRows - p) p
 
 pub period-from : (trace : List ℕ) (n : ℕ) → periodLeft trace n 1 ≡ periodOf trace n
 unfolding periodOf

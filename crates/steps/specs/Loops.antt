@@ -5,6 +5,7 @@ use Prim.Native.Nat.{ℕ, zero, suc, _+_, _-_, _*_}
 use mathlib.Core.List.{List}
 use mathlib.Core.Bool.{Bool, true, false, cond, not, _&&_}
 use lib.Dec.{leb, eqb}
+use Rattle.rules.specs.Table.{maxRows}
 use Rattle.steps.specs.Entries.{entryAt}
 
 -- what is found at the first of the n numbers from i on that passes the test, or what stands for none
@@ -31,9 +32,9 @@ sameRow trace i j =
 unfoldable pub repeatsIn : List ℕ → ℕ → ℕ → Bool
 repeatsIn trace n p = leb (3 * p) n && every (λ (i : ℕ). sameRow trace i (i - p)) (2 * p) (n - 2 * p)
 
--- the least such p up to 32, or 0
+-- the least such p up to the most rows that a thread may have, or 0
 unfoldable pub periodOf : List ℕ → ℕ → ℕ
-periodOf trace n = least (repeatsIn trace n) 32 1
+periodOf trace n = least (repeatsIn trace n) maxRows 1
 
 -- "7 yield"
 abbrev pub isYield : List ℕ → ℕ → Bool

@@ -2,14 +2,15 @@
 ghost use mathlib.Core.Path.{_≡_};
 ghost use Prim.Native.Nat.{_-_};
 ghost use Rattle.steps.specs.Loops.{sameRow, repeatsIn, periodOf, isYield, yieldsIn};
+use table::limits::MAX_ROWS;
 
 const YIELD: u8 = 7;
 
 // The longest loop that is looked for.
-const LONGEST: usize = 32;
+const LONGEST: usize = MAX_ROWS;
 
 // Over how many steps the last of the first `n` repeat those before them, three times at least; 0 where they do not, or where a
-// loop would have more than 32.
+// loop would have more steps than a thread may have rows.
 pub fn period(trace: &[u8], n: usize) -> usize
     ensures { λ r. ⌜ r ≡ periodOf (now (trace .entry)) n ⌝ }
 {

@@ -1,13 +1,15 @@
 // Where the last execution stopped: the row at fault, or whom each blocked thread waits for.
+use layout::MAX_THREADS;
 use report::ThreadRecord;
 use steps::held::Held;
+use table::limits::MAX_ROWS;
 
 // A thread's state that is blocked, in its summary.
 const BLOCKED: u16 = 2;
 
 // Writes the row that failed, or at which a limit stopped the run, if there is one; a thread past its last row was ending.
 pub fn place(table: &[u8], thread: u64, number: u64, is_limit: bool) {
-    if 5 <= thread || 33 <= number {
+    if MAX_THREADS as u64 <= thread || (MAX_ROWS as u64) < number {
         return;
     }
     let mut line = [0u8; 256];
@@ -38,7 +40,7 @@ pub fn place(table: &[u8], thread: u64, number: u64, is_limit: bool) {
         line::end(&mut line, to);
         return;
     }
-    let to = words::put_row(&mut line, to, steps::row_of(table, t, n));
+    let to = row_text::put(&mut line, to, table, t, n);
     line::end(&mut line, to);
 }
 
@@ -46,7 +48,7 @@ pub fn place(table: &[u8], thread: u64, number: u64, is_limit: bool) {
 pub fn waiting(table: &[u8], trace: &[u8], threads: [ThreadRecord; 5]) {
     let held = steps::held::after(table, trace, steps::count(trace));
     let mut t = 0;
-    while t < 5 {
+    while t < MAX_THREADS {
         let record = threads[t];
         waits(table, &held, t, record);
         t += 1;
@@ -69,10 +71,6 @@ fn waits(table: &[u8], held: &Held, t: usize, record: ThreadRecord) {
         number,
         0,
     );
-    let to = words::put_row(
-        &mut line,
-        to,
-        steps::row_of(table, thread, (number % 256) as u8),
-    );
+    let to = row_text::put(&mut line, to, table, thread, (number % 256) as u8);
     line::end(&mut line, to);
 }

@@ -1,4 +1,5 @@
 // The counts of a run and the summaries of its threads.
+use layout::MAX_THREADS;
 use line::Line;
 use report::Report;
 use report::ThreadRecord;
@@ -32,7 +33,7 @@ fn count(name: &[u8], n: u64) {
 pub fn threads(threads: [ThreadRecord; 5]) {
     line::write(b"thread  state     rows begun  yields  version");
     let mut t = 0;
-    while t < 5 {
+    while t < MAX_THREADS {
         let record = threads[t];
         thread(t, record);
         t += 1;

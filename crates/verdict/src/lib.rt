@@ -7,6 +7,7 @@ use decode::Op;
 use explorer::Settings;
 use report::Report;
 
+mod finally;
 mod limit;
 mod race;
 
@@ -15,9 +16,9 @@ pub fn print(table: &[u8], condition: &[u8], settings: Settings, report: Report,
     let answer = report.answer;
     let number = report::number(answer);
     match number {
-        0 => coverage::print(table, settings, report.begun),
+        0 => passed(table, condition, settings, report.begun),
         1 | 11 | 12 | 17 => limit::print(number, settings, report, trace),
-        2 | 3 | 4 | 5 => refused(number, table, report.thread, report.row),
+        2 | 3 | 4 | 5 => refused(number, table, condition, report.thread, report.row),
         14 => race::print(
             table,
             trace,
@@ -26,7 +27,16 @@ pub fn print(table: &[u8], condition: &[u8], settings: Settings, report: Report,
             report::other_thread(answer),
         ),
         15 => check(table, trace, report.thread, report.row),
+        18 => finally::print(table, condition, trace),
         _ => failed(number, report.thread, report.row),
+    }
+}
+
+// Nothing failed: what was covered, and that the final condition was true, where there is one.
+fn passed(table: &[u8], condition: &[u8], settings: Settings, begun: u64) {
+    coverage::print(table, settings, begun);
+    if 0 < condition.len() {
+        line::write(b"the final condition was true at the end of every execution");
     }
 }
 
@@ -38,12 +48,12 @@ pub fn is_limit(number: u64) -> bool
 }
 
 // What is wrong with what was given.
-fn refused(number: u64, table: &[u8], thread: u64, row: u64) {
+fn refused(number: u64, table: &[u8], condition: &[u8], thread: u64, row: u64) {
     match number {
         2 => line::write(b"answer 2: refused: the settings are out of range"),
         3 => line::write(b"answer 3: refused: the path buffer has the wrong length"),
         4 => line::write(b"answer 4: refused: the trace buffer has the wrong length"),
-        _ => refusal::print(table, thread, row),
+        _ => refusal::print(table, condition, thread, row),
     }
 }
 
@@ -97,9 +107,6 @@ fn failed(number: u64, thread: u64, row: u64) {
             thread,
             row,
             0,
-        ),
-        18 => line::write(
-            b"answer 18: failed: every thread has ended, and the final condition is false",
         ),
         _ => line::say(
             b"answer #: stopped by a mistake of the explorer itself, at thread #, row #: please report it",

@@ -1,10 +1,14 @@
 //! Texts for the readers: those that the writer writes for generated programs, the same with blanks,
 //! comments and line ends of all kinds, and damaged ones.
 
+mod large;
+
 use crate::claims;
 use crate::condition::{self, Word};
 use crate::generate;
 use crate::random::Random;
+
+pub use large::large;
 
 /// The text of this seed and index, the same on every machine.
 pub fn text(seed: u64, index: u64) -> Vec<u8> {

@@ -1,10 +1,11 @@
 //! The generated texts, and the reader and writer over generated programs.
 
+use cases::condition::{depth, words, DEEPEST, LONGEST};
 use cases::format::Case;
 use cases::run::by_oracle;
-use cases::texts::text;
+use cases::texts::{large, text};
 use std::collections::HashMap;
-use text::{read, write, Program, Refused};
+use text::{read, write, Program, Refused, CELLS, ROWS, THREADS};
 
 const TEXTS: u64 = 10_000;
 
@@ -25,6 +26,27 @@ fn both_kinds_come_up() {
     assert!(claimed > TEXTS / 8, "{claimed}");
     // Refused at the first line, further on, and far down.
     assert!((1..=20).all(|line| lines.get(&line) >= Some(&20)), "{lines:?}");
+}
+
+/// The large ones come up to each limit, and past it.
+#[test]
+fn the_limits_are_met() {
+    let (mut taken, mut full, mut longest, mut deepest, mut rows) = (0, 0, 0, 0, 0);
+    for index in 0..TEXTS {
+        let Ok(program) = read(&large(1, index)) else {
+            continue;
+        };
+        taken += 1;
+        full += u64::from(program.table.len() == 8 + 8 * CELLS + 24 * THREADS * ROWS);
+        rows += u64::from(usize::from(program.table[2]) == ROWS);
+        // A condition has an odd number of bytes.
+        longest += u64::from(program.condition.len() == LONGEST - 1);
+        let words = words(&program.condition).expect("words");
+        deepest += u64::from(depth(&words) == DEEPEST);
+    }
+    assert!(taken > TEXTS / 4 && taken < TEXTS * 3 / 4, "{taken}");
+    assert!(full > 10 && rows > 1_000, "{full} {rows}");
+    assert!(longest > 100 && deepest > 100, "{longest} {deepest}");
 }
 
 #[test]

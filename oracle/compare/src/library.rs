@@ -4,7 +4,7 @@ use crate::guarded::Guarded;
 use cases::run::pattern;
 use terms::{Settings, NUMBERS};
 
-/// What the entry returns for arguments that are none: another bound, exploring or report length.
+/// What an entry returns for arguments that are none: another bound, exploring, or number of numbers.
 pub const NO_ARGUMENTS: u64 = 255;
 /// How the entry is told that there is no preemption bound.
 pub const UNBOUNDED: u64 = 256;
@@ -44,6 +44,28 @@ mod entry {
             trace_length: usize,
             report: *mut u64,
             report_length: usize,
+        ) -> u64;
+
+        pub fn chjirvollu_read(
+            text: *const u8,
+            text_length: usize,
+            table: *mut u8,
+            table_length: usize,
+            condition: *mut u8,
+            condition_length: usize,
+            numbers: *mut u64,
+            numbers_length: usize,
+        ) -> u64;
+
+        pub fn chjirvollu_write(
+            table: *const u8,
+            table_length: usize,
+            condition: *const u8,
+            condition_length: usize,
+            text: *mut u8,
+            text_length: usize,
+            numbers: *mut u64,
+            numbers_length: usize,
         ) -> u64;
     }
 }
@@ -126,6 +148,40 @@ pub fn explore_condition(
             trace.len(),
             report.as_mut_ptr(),
             report.len(),
+        )
+    }
+}
+
+/// Calls the entry that reads a text.
+pub fn read(text: &[u8], table: &mut [u8], condition: &mut [u8], numbers: &mut [u64]) -> u64 {
+    // SAFETY: as above.
+    unsafe {
+        entry::chjirvollu_read(
+            text.as_ptr(),
+            text.len(),
+            table.as_mut_ptr(),
+            table.len(),
+            condition.as_mut_ptr(),
+            condition.len(),
+            numbers.as_mut_ptr(),
+            numbers.len(),
+        )
+    }
+}
+
+/// Calls the entry that writes one.
+pub fn write(table: &[u8], condition: &[u8], text: &mut [u8], numbers: &mut [u64]) -> u64 {
+    // SAFETY: as above.
+    unsafe {
+        entry::chjirvollu_write(
+            table.as_ptr(),
+            table.len(),
+            condition.as_ptr(),
+            condition.len(),
+            text.as_mut_ptr(),
+            text.len(),
+            numbers.as_mut_ptr(),
+            numbers.len(),
         )
     }
 }

@@ -7,6 +7,7 @@ mod guarded;
 mod judge;
 mod library;
 mod speed;
+mod texts;
 #[cfg(feature = "vectors")]
 mod vectors;
 
@@ -18,10 +19,12 @@ use std::fmt::Display;
 use std::io::{self, Write};
 use std::process::ExitCode;
 use std::time::Duration;
+use texts::{Counts, Wrong};
 
 const USAGE: &str = "\
 usage: compare cases SEED COUNT   compare library and oracle over COUNT generated cases
        compare bytes SEED COUNT   call the library COUNT times with bytes and numbers at random
+       compare texts SEED COUNT   read and write COUNT texts and tables by the library and in Rust
        compare limits             compare library and oracle over the hand-built cases
        compare speed [ROUNDS]     time library and plain explorer on the fifty programs
        compare fifty              print the fifty programs
@@ -47,6 +50,7 @@ fn run(arguments: &[String], out: &mut impl Write) -> Outcome {
         }
         ["cases", seed, count] => compare_cases(number(seed)?, number(count)?, out),
         ["bytes", seed, count] => compare_bytes(number(seed)?, number(count)?, out),
+        ["texts", seed, count] => compare_texts(number(seed)?, number(count)?, out),
         ["limits"] => compare_limits(out),
         ["speed"] => compare_speed(ROUNDS, out),
         ["speed", rounds] => match number(rounds)? {
@@ -128,6 +132,25 @@ fn compare_bytes(seed: u64, count: u64, out: &mut impl Write) -> Outcome {
         tally.take(&drawn, answer, &wrongs, out)?;
     }
     tally.end("calls", out)
+}
+
+/// Stops at the first difference.
+fn compare_texts(seed: u64, count: u64, out: &mut impl Write) -> Outcome {
+    let mut counts = Counts::default();
+    for index in 0..count {
+        match texts::round(seed, index, shift(index), &mut counts) {
+            Ok(()) => {}
+            Err(Wrong::Fault(what)) => return Err(Stop::Explorer(what)),
+            Err(Wrong::Differs(what)) => {
+                write!(out, "t{seed}.{index}: {what}{counts}")?;
+                writeln!(out, "{index} texts and tables agree, the next differs")?;
+                return Ok(false);
+            }
+        }
+    }
+    write!(out, "{counts}")?;
+    writeln!(out, "{count} texts and tables agree, 0 differ")?;
+    Ok(true)
 }
 
 /// The hand-built cases have the limits among them: no rows and 32, five threads of 32 rows, the

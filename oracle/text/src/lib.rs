@@ -10,7 +10,7 @@ mod row;
 mod token;
 mod write;
 
-pub use read::read;
+pub use read::{read, CELLS, ROWS, THREADS};
 pub use write::write;
 
 /// What a text stands for: the bytes of a table, and those of a final condition, none where it has none.

@@ -5,9 +5,10 @@ use crate::row::{row, Room};
 use crate::token::{lines, Line, Token};
 use crate::{condition, Place, Program, Refused, HEADER};
 
-const CELLS: usize = 4;
-const THREADS: usize = 5;
-const ROWS: usize = 32;
+/// Cells, threads and rows of a thread that a text has at most.
+pub const CELLS: usize = 4;
+pub const THREADS: usize = 5;
+pub const ROWS: usize = 32;
 
 /// Reads a text.
 pub fn read(text: &[u8]) -> Result<Program, Refused> {

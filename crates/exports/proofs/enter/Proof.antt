@@ -25,6 +25,9 @@ number-requires c κs = search needs
 numbers-requires : tie.Need-numbers-requires
 numbers-requires c κs = search needs
 
+slice-aggregate-write-numbers : tie.Need-slice-aggregate-write-numbers
+slice-aggregate-write-numbers c = search needs
+
 write-numbers-requires : tie.Need-write-numbers-requires
 write-numbers-requires c κs = search needs
 
@@ -39,9 +42,18 @@ same-length-3 c = search needs
 
 returns-4 : tie.Need-returns-4
 returns-4 c =
-    let args = c .before .before .before .before .before .before .before .before .before .before .before .before .before .before .before .before .before .before .before .before .before .before .args in
-    entered-run (args .table .now) (args .condition .now) (args .branches) (args .operations) (args .executions) (args .bound) (args .exploring) (args .path .now) (args .trace .now) (args .report .now)
-    (c .before .before .before .before .before .before .before .before .before .before .before .before .before .before .before .before .if1 .left) (c .before .before .before .before .before .before .before .before .before .before .before .before .before .before .before .if2 .left) (c .before .before .before .before .before .before .before .before .before .before .before .before .before .before .if3 .left) (c .before .before .before .before .before .before .before .before .before .before .explore .result) _ _ (explored-so (args .table .now) (args .condition .now) (args .path .now) (args .trace .now) (args .branches) (args .operations) (args .executions) (args .bound) (args .exploring) (c .before .before .before .before .before .before .before .before .before .before .before .before .before .bound-of .result) (c .before .before .before .before .before .before .before .before .before .before .before .before .before .bound-of .ensures) (c .before .before .before .before .before .before .before .before .before .before .explore .ensures)) (c .before .before .before .before .before .number .ensures) (c .before .before .write-numbers .ensures ∙ c .before .before .before .numbers .ensures)
+    let all = c .before .before .before .before .before in
+    let number = all .before in
+    let run = number .before .before .before .before .before in
+    let bound = run .before .before .before in
+    let three = bound .before in
+    let two = three .before in
+    let one = two .before in
+    let a = one .before .before .before .before .before .before .args in
+    entered-run (a .table .now) (a .condition .now) (a .branches) (a .operations) (a .executions) (a .bound) (a .exploring) (a .path .now) (a .trace .now) (a .report .now)
+    (one .if1 .left) (two .if2 .left) (three .if3 .left) (run .explore .result) _ _
+    (explored-so (a .table .now) (a .condition .now) (a .path .now) (a .trace .now) (a .branches) (a .operations) (a .executions) (a .bound) (a .exploring) (bound .bound-of .result) (bound .bound-of .ensures) (run .explore .ensures))
+    (number .number .ensures) (c .before .before .write-numbers .ensures ∙ all .numbers .ensures)
 
 pub enter-spec : {M : Type 1} → statement M
 enter-spec =
@@ -54,6 +66,7 @@ enter-spec =
     explore-requires
     number-requires
     numbers-requires
+    slice-aggregate-write-numbers
     write-numbers-requires
     same-length
     same-length-2

@@ -8,10 +8,10 @@ use Rattle.exports.proofs.write_numbers.Statement.{statement}
 use Rattle.exports.proofs.write_numbers.Tie as tie
 
 abbrev Inv-loop : tie.InvT-loop
-Inv-loop report₀ numbers i₀ report i = (i ≤ 29) × (length report ≡ length report₀) × Begins report numbers i
+Inv-loop report₀ numbers i₀ report i = (i ≤ length numbers) × (length report ≡ length report₀) × Begins report numbers i
 
 abbrev μ-loop : tie.MeasureT-loop
-μ-loop report₀ numbers i₀ report i = 29 - i
+μ-loop report₀ numbers i₀ report i = length numbers - i
 
 loop-holds : tie.Need-loop-holds Inv-loop μ-loop
 loop-holds c = (omega arith, refl, λ j h. absurd (omega (arith, h)))
@@ -19,8 +19,8 @@ loop-holds c = (omega arith, refl, λ j h. absurd (omega (arith, h)))
 mul-report : tie.Need-mul-report Inv-loop μ-loop
 mul-report c = search needs
 
-array-read-report : tie.Need-array-read-report Inv-loop μ-loop
-array-read-report c = search needs
+shared-slice-read-report : tie.Need-shared-slice-read-report Inv-loop μ-loop
+shared-slice-read-report c = search needs
 
 mul-report-2 : tie.Need-mul-report-2 Inv-loop μ-loop
 mul-report-2 c = search needs
@@ -36,18 +36,21 @@ loop-less c = search needs
 
 loop-again : tie.Need-loop-again Inv-loop μ-loop
 loop-again c =
-    let inv = c .before .loop .inv in
-    (omega (arith, c .loop-test .taken), simp length-set (inv .1), copied-more (c .before .loop .report) (c .before .before .args .t2) (c .before .loop .i) (omega (arith, c .loop-test .taken, inv .1, c .before .before .pre)) (inv .2))
+    let at = c .before .before in
+    let a = at .before .args in
+    let inv = at .loop .inv in
+    (omega (arith, c .before .loop-test .taken), simp length-set (inv .1), copied-more (at .loop .report) (a .numbers .now) (at .loop .i) (omega (arith, c .before .loop-test .taken, inv .1, at .before .pre)) (inv .2))
 
 same-length : tie.Need-same-length Inv-loop μ-loop
 same-length c = search needs
 
 returns : tie.Need-returns Inv-loop μ-loop
 returns c =
-    let inv = c .before .loop .inv in
-    let n : c .before .loop .i ≡ 29 = omega (arith, inv .0, c .loop-test .left) in
-    let long : length (c .before .before .args .t2) ≡ 29 = search needs in
-    copied-all _ _ 29 (omega (arith, inv .1, c .before .before .pre)) long (subst (λ (k : ℕ). Begins (c .before .loop .report) (c .before .before .args .t2) k) n (inv .2))
+    let at = c .before in
+    let a = at .before .args in
+    let inv = at .loop .inv in
+    let n : at .loop .i ≡ length (a .numbers .now) = omega (arith, inv .0, c .loop-test .left) in
+    copied-all _ _ (length (a .numbers .now)) (omega (arith, inv .1, at .before .pre)) refl (subst (λ (k : ℕ). Begins (at .loop .report) (a .numbers .now) k) n (inv .2))
 
 pub write-numbers-spec : {M : Type 1} → statement M
 write-numbers-spec =
@@ -57,7 +60,7 @@ write-numbers-spec =
     μ-loop
     loop-holds
     mul-report
-    array-read-report
+    shared-slice-read-report
     mul-report-2
     slice-write-report
     add-i

@@ -1,4 +1,4 @@
-use Prim.Native.Nat.{_≤_, _-_}
+use Prim.Native.Nat.{_+_, _≤_, _-_}
 use lib.ListN.{length}
 use mathlib.Core.Path.{_≡_}
 use borrow.Author.Needs.{needs}
@@ -9,7 +9,7 @@ abbrev Inv-loop : tie.InvT-loop
 Inv-loop fd buffer₀ n₀ reads₀ buffer n reads = (n ≤ length buffer₀) × (length buffer ≡ length buffer₀)
 
 abbrev μ-loop : tie.MeasureT-loop
-μ-loop fd buffer₀ n₀ reads₀ buffer n reads = 3882 - reads
+μ-loop fd buffer₀ n₀ reads₀ buffer n reads = (length buffer₀ + 1) - reads
 
 loop-holds : tie.Need-loop-holds Inv-loop μ-loop
 loop-holds c = search needs

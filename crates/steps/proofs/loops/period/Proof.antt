@@ -1,6 +1,7 @@
-use Prim.Native.Nat.{_≤_, _-_}
+use Prim.Native.Nat.{suc, _≤_, _-_}
 use mathlib.Core.Path.{_≡_, sym, _∙_}
 use native.Mathlib.Omega.{arith}
+use Rattle.rules.specs.Table.{maxRows}
 use Rattle.steps.specs.Loops.{repeatsIn, periodOf}
 use Rattle.steps.proofs.LoopLaws.{periodLeft, period-from, first-on, first-found, first-none}
 use borrow.Author.Needs.{needs}
@@ -8,10 +9,10 @@ use Rattle.steps.proofs.loops.period.Statement.{statement}
 use Rattle.steps.proofs.loops.period.Tie as tie
 
 abbrev Inv-loop : tie.InvT-loop
-Inv-loop trace n p₀ p = (p ≤ 33) × (periodLeft trace n p ≡ periodOf trace n)
+Inv-loop trace n p₀ p = (p ≤ suc maxRows) × (periodLeft trace n p ≡ periodOf trace n)
 
 abbrev μ-loop : tie.MeasureT-loop
-μ-loop trace n p₀ p = 33 - p
+μ-loop trace n p₀ p = suc maxRows - p
 
 loop-holds : tie.Need-loop-holds Inv-loop μ-loop
 loop-holds c = (search needs, period-from _ _)
@@ -23,7 +24,7 @@ returns : tie.Need-returns Inv-loop μ-loop
 returns c =
     let turn = c .before .before in
     let at = turn .before in
-    sym (first-found (repeatsIn _ _) _ _ 33 (at .loop .p) (omega arith) (sym (c .before .repeats .ensures) ∙ c .if1 .taken)) ∙ at .loop .inv .1
+    sym (first-found (repeatsIn _ _) _ _ (suc maxRows) (at .loop .p) (omega arith) (sym (c .before .repeats .ensures) ∙ c .if1 .taken)) ∙ at .loop .inv .1
 
 add-p : tie.Need-add-p Inv-loop μ-loop
 add-p c = search needs
@@ -35,10 +36,10 @@ loop-again : tie.Need-loop-again Inv-loop μ-loop
 loop-again c =
     let turn = c .before .before in
     let at = turn .before in
-    (search needs, first-on (repeatsIn _ _) _ _ 33 (at .loop .p) (omega arith) (sym (c .before .repeats .ensures) ∙ c .if1 .left) ∙ at .loop .inv .1)
+    (search needs, first-on (repeatsIn _ _) _ _ (suc maxRows) (at .loop .p) (omega arith) (sym (c .before .repeats .ensures) ∙ c .if1 .left) ∙ at .loop .inv .1)
 
 returns-2 : tie.Need-returns-2 Inv-loop μ-loop
-returns-2 c = sym (first-none (repeatsIn _ _) _ _ 33 (c .before .loop .p) (omega arith)) ∙ c .before .loop .inv .1
+returns-2 c = sym (first-none (repeatsIn _ _) _ _ (suc maxRows) (c .before .loop .p) (omega arith)) ∙ c .before .loop .inv .1
 
 pub period-spec : {M : Type 1} → statement M
 period-spec =

@@ -1,0 +1,3 @@
+mod BeforeLaws
+mod LineLaws
+mod SeenLaws

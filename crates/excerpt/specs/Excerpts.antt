@@ -1,0 +1,78 @@
+-- A line of a text around a place, and a caret below it. Assumes nothing.
+--     beginOf             where a line begins
+--     shownLength         how long it is without its end
+--     placeFrom           the place of a column
+--     tokenBefore         the last token before a place
+--     lineShown           the line, or what is shown of a long one
+--     caretShown          the caret below it
+use Prim.Native.Nat.{ℕ, zero, suc, _+_, _-_}
+use mathlib.Core.List.{List, [], _∷_, _++_, map}
+use mathlib.Core.Bool.{Bool, true, false, cond, _&&_, _||_}
+use lib.Dec.{ltb, leb, eqb}
+use lib.ListN.{getD, drop}
+use Rattle.rules.specs.Token.{lineFeed, isBlank, run, tokenLength, lineLength, nextLine, bytesOf}
+use Rattle.token.specs.Places.{part}
+
+-- behind so many lines
+unfoldable pub behind : ℕ → List ℕ → ℕ
+behind zero bs = 0
+behind (suc n) bs = lineLength bs + behind n (nextLine bs)
+
+-- lines count from 1
+abbrev pub beginOf : ℕ → List ℕ → ℕ
+beginOf line text = behind (line - 1) text
+
+-- "A line ends at a line feed, or at a carriage return with a line feed behind it"
+unfoldable pub feeds : List ℕ → Bool
+feeds [] = false
+feeds (b ∷ bs) = eqb b lineFeed || (eqb b 13 && eqb (getD bs 0 0) lineFeed)
+
+-- what the line still has before that, comments too
+unfoldable pub shownLength : List ℕ → ℕ
+shownLength [] = 0
+shownLength (b ∷ bs) = cond (feeds (b ∷ bs)) 0 (suc (shownLength bs))
+
+-- columns count from 1; the line's end where it has fewer
+abbrev pub placeFrom : ℕ → ℕ → ℕ → ℕ
+placeFrom begin end column = cond (leb column (end - begin)) (begin + (column - 1)) end
+
+-- the place past blanks
+abbrev pub skipped : List ℕ → ℕ → ℕ
+skipped text from = from + run isBlank (drop from text)
+
+-- the last token that begins before a place, of those from here on, n at most; the one found so far, where none is left
+unfoldable pub tokenBefore : List ℕ → ℕ → ℕ → ℕ → ℕ → ℕ
+tokenBefore text at zero found from = found
+tokenBefore text at (suc n) found from =
+    cond (leb at (skipped text from)) found
+    (tokenBefore text at n (skipped text from) (skipped text from + tokenLength (drop (skipped text from) text)))
+
+-- at most 100 bytes before a place, and 200 in all
+abbrev pub firstShown : ℕ → ℕ → ℕ
+firstShown begin at = cond (leb begin (at - 100)) (at - 100) begin
+
+abbrev pub lastShown : ℕ → ℕ → ℕ
+lastShown from end = cond (leb (end - from) 200) end (from + 200)
+
+-- a tab stays one, also below a tab; below any other byte is a blank; what would steer a terminal is '?'
+abbrev pub seenAs : Bool → ℕ → ℕ
+seenAs below b = cond (eqb b 9) 9 (cond below 32 (cond (ltb b 32 || eqb b 127) 63 b))
+
+-- three such bytes, where the first place is before the second
+abbrev pub dots : ℕ → ℕ → ℕ → List ℕ
+dots from to b = cond (ltb from to) (b ∷ b ∷ b ∷ []) []
+
+abbrev pub lineShown : List ℕ → ℕ → ℕ → ℕ → List ℕ
+lineShown text begin end at =
+    bytesOf "  "
+    ++ (dots begin (firstShown begin at) 46
+    ++ (map (seenAs false) (part (firstShown begin at) (lastShown (firstShown begin at) end) text)
+    ++ (dots (lastShown (firstShown begin at) end) end 46
+    ++ (lineFeed ∷ []))))
+
+abbrev pub caretShown : List ℕ → ℕ → ℕ → List ℕ
+caretShown text begin at =
+    bytesOf "  "
+    ++ (dots begin (firstShown begin at) 32
+    ++ (map (seenAs true) (part (firstShown begin at) at text)
+    ++ (bytesOf "^" ++ (lineFeed ∷ []))))

@@ -1,0 +1,212 @@
+// A line of a text, with a caret under one of its bytes: for a person whose text is refused. A long line is cut around the caret.
+ghost use mathlib.Core.Path.{_≡_};
+ghost use mathlib.Core.List.{map};
+ghost use Prim.Native.Nat.{_+_};
+ghost use lib.ListN.{length, drop};
+ghost use Rattle.put.specs.Puts.{Puts};
+ghost use Rattle.excerpt.specs.Excerpts.{beginOf, shownLength, feeds, placeFrom, tokenBefore, firstShown, lastShown, seenAs, dots, lineShown, caretShown};
+use libc::STDOUT_FILENO;
+use put::put_byte;
+use put::put_bytes;
+
+mod saying;
+
+// How many bytes of a line are shown at most, and how many of them before the caret.
+const WIDEST: usize = 200;
+
+const BEFORE: usize = 100;
+
+// Says that a text is refused at a line and column: what stands there, the line, and a caret. The name of the text's file comes first,
+// where there is one.
+pub fn print(name: &[u8], text: &[u8], line: usize, column: usize) {
+    let begin = line_begin(text, line);
+    let end = line_end(text, begin);
+    let at = place_in(begin, end, column);
+    saying::place(name, line, column);
+    saying::what(text, token_before(text, begin, at), at);
+    let mut lines = [0u8; 512];
+    let behind = put_line(&mut lines, 0, text, begin, end, at);
+    let all = put_caret(&mut lines, behind, text, begin, at);
+    io::write_all(STDOUT_FILENO, token::part(&lines, 0, all));
+}
+
+// Where a line begins, the first being 1; the text's end where it has fewer.
+pub fn line_begin(text: &[u8], line: usize) -> usize
+    ensures { λ r. ⌜ r ≡ beginOf line (now (text .entry)) ⌝ }
+{
+    let mut at = 0;
+    let mut left = line;
+    while 1 < left {
+        at = token::next_line(text, at);
+        left -= 1;
+    }
+    at
+}
+
+// Where the line that goes on here ends: at a line feed, at a carriage return before one, or at the text's end. A comment is a part of it.
+pub fn line_end(text: &[u8], at: usize) -> usize
+    ensures { λ r. ⌜ r ≡ at + shownLength (drop at (now (text .entry))) ⌝ }
+{
+    let mut to = at;
+    while to < text.len() {
+        if is_feed(text, to) {
+            return to;
+        }
+        to += 1;
+    }
+    to
+}
+
+// Whether a line feed stands here, or a carriage return before one.
+fn is_feed(text: &[u8], at: usize) -> bool
+    ensures { λ r. ⌜ r ≡ feeds (drop at (now (text .entry))) ⌝ }
+{
+    if text.len() <= at {
+        return false;
+    }
+    if text[at] == b'\n' {
+        return true;
+    }
+    if text[at] != b'\r' {
+        return false;
+    }
+    if text.len() <= at + 1 {
+        return false;
+    }
+    text[at + 1] == b'\n'
+}
+
+// The place of a column in the line between two places; its end where the line is shorter.
+pub fn place_in(begin: usize, end: usize, column: usize) -> usize
+    ensures { λ r. ⌜ r ≡ placeFrom begin end column ⌝ }
+{
+    if column == 0 {
+        return begin;
+    }
+    if end <= begin {
+        return end;
+    }
+    if end - begin < column {
+        return end;
+    }
+    begin + (column - 1)
+}
+
+// Where the last token before a place begins, of those from here on in its line; here, where there is none.
+pub fn token_before(text: &[u8], begin: usize, at: usize) -> usize
+    ensures { λ r. ⌜ r ≡ tokenBefore (now (text .entry)) at (length (now (text .entry))) begin begin ⌝ }
+{
+    let mut found = begin;
+    let mut from = begin;
+    let mut left = text.len();
+    while 0 < left {
+        let here = token::skip(text, from);
+        if at <= here {
+            return found;
+        }
+        found = here;
+        from = token::token_end(text, here);
+        left -= 1;
+    }
+    found
+}
+
+// Puts the line between two places, set in by two; of a long one what is around a place.
+pub fn put_line(
+    out: &mut [u8],
+    to: usize,
+    text: &[u8],
+    begin: usize,
+    end: usize,
+    at: usize,
+) -> usize
+    ensures { λ r. ⌜ Puts (now (out .entry)) (now (out .exit)) to (lineShown (now (text .entry)) begin end at) r ⌝ }
+{
+    let from = first_shown(begin, at);
+    let last = last_shown(from, end);
+    let indent = put_bytes(out, to, b"  ");
+    let cut = put_dots(out, indent, begin, from, b'.');
+    let seen = put_seen(out, cut, token::part(text, from, last), false);
+    let rest = put_dots(out, seen, last, end, b'.');
+    put_byte(out, rest, b'\n')
+}
+
+// Puts a caret below that line, under the byte at this place.
+pub fn put_caret(out: &mut [u8], to: usize, text: &[u8], begin: usize, at: usize) -> usize
+    ensures { λ r. ⌜ Puts (now (out .entry)) (now (out .exit)) to (caretShown (now (text .entry)) begin at) r ⌝ }
+{
+    let from = first_shown(begin, at);
+    let indent = put_bytes(out, to, b"  ");
+    let cut = put_dots(out, indent, begin, from, b' ');
+    let under = put_seen(out, cut, token::part(text, from, at), true);
+    put_bytes(out, under, b"^\n")
+}
+
+// The first byte that is shown of a line that begins here, around a place.
+fn first_shown(begin: usize, at: usize) -> usize
+    ensures { λ r. ⌜ r ≡ firstShown begin at ⌝ }
+{
+    if at < BEFORE {
+        return begin;
+    }
+    if at - BEFORE < begin {
+        return begin;
+    }
+    at - BEFORE
+}
+
+// Behind the last byte that is shown, from the first one on, of a line that ends here.
+fn last_shown(from: usize, end: usize) -> usize
+    ensures { λ r. ⌜ r ≡ lastShown from end ⌝ }
+{
+    if end <= from {
+        return end;
+    }
+    if end - from <= WIDEST {
+        return end;
+    }
+    from + WIDEST
+}
+
+// Three dots, or blanks below them, where one place is before the other.
+fn put_dots(out: &mut [u8], to: usize, a: usize, b: usize, byte: u8) -> usize
+    ensures { λ r. ⌜ Puts (now (out .entry)) (now (out .exit)) to (dots a b byte) r ⌝ }
+{
+    if b <= a {
+        return to;
+    }
+    put_bytes(out, to, &[byte, byte, byte])
+}
+
+// Puts bytes as they are seen, or the blanks to stand below them.
+fn put_seen(out: &mut [u8], at: usize, bytes: &[u8], below: bool) -> usize
+    ensures { λ r. ⌜ Puts (now (out .entry)) (now (out .exit)) at (map (seenAs below) (now (bytes .entry))) r ⌝ }
+{
+    let mut to = at;
+    let mut i = 0;
+    while i < bytes.len() {
+        to = put_byte(out, to, seen_as(bytes[i], below));
+        i += 1;
+    }
+    to
+}
+
+// A byte as it is seen: one that would steer a terminal is a question mark. Below it a blank, which is a tab below a tab, so that the
+// caret stands right.
+fn seen_as(byte: u8, below: bool) -> u8
+    ensures { λ r. ⌜ r ≡ seenAs below byte ⌝ }
+{
+    if byte == b'\t' {
+        return byte;
+    }
+    if below {
+        return b' ';
+    }
+    if byte < 32 {
+        return b'?';
+    }
+    if byte == 127 {
+        return b'?';
+    }
+    byte
+}

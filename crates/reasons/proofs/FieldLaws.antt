@@ -1,0 +1,111 @@
+-- Which field is wrong, and what it may be, put together from the tests. Assumes nothing.
+--     test-as                      a choice by a test that equals another
+--     object-made, order-made, failure-made      what these fields may be
+--     told                         of a field that was found to be this one
+--     fields-as, fit-as            a row of the first fields, and whether it is one
+--     wrong-0 .. wrong-8           the first of the tests that fails
+use Prim.Native.Nat.{ℕ}
+use mathlib.Core.Bool.{Bool, true, false, cond, _||_}
+use mathlib.Core.Path.{_≡_, refl, ap, sym, _∙_}
+use lib.Dec.{ltb, eqb}
+use Rattle.rules.specs.Table.{Row, rowDecoded, isFine}
+use Rattle.reasons.specs.declared.Field.{Field}
+use Rattle.reasons.specs.declared.Field.the-variants.{Opcode, Object, Order, Kind, Failure, Register, Target, A, B}
+use Rattle.reasons.specs.declared.May.{May}
+use Rattle.reasons.specs.declared.May.the-variants as may
+use Rattle.reasons.specs.Wrong.{blankOrder, firstFields, isFit, wrongIn, hasCell, mayObject, mayOrder, mayFailure, mayBe}
+
+module _ {T : Type 0} (r x y : T) where
+  pub test-as : (t u : Bool) → r ≡ cond t x y → t ≡ u → r ≡ cond u x y
+  test-as t u e h = e ∙ ap (λ (b : Bool). cond b x y) h
+
+pub object-made : (opcode : ℕ) (cell : Bool) (other r : May) →
+    other ≡ cond (eqb opcode 8) may.AnyThread may.ZeroByOpcode → cell ≡ hasCell opcode → r ≡ cond cell may.AnyCell other →
+    r ≡ mayObject opcode
+object-made opcode cell other r o c e = rw (e, c, o)
+
+pub order-made : (opcode : ℕ) (fence change store r : May) →
+    fence ≡ cond (eqb opcode 4) may.FenceOrder may.ZeroByOpcode →
+    change ≡ cond (eqb opcode 3) may.AnyOrder fence →
+    store ≡ cond (eqb opcode 1 || eqb opcode 2) may.StoreOrder change →
+    r ≡ cond (eqb opcode 0) may.LoadOrder store →
+    r ≡ mayOrder opcode
+order-made opcode fence change store r f c s e = rw (e, s, c, f)
+
+pub failure-made : (opcode kind : ℕ) (used r : May) →
+    used ≡ cond (eqb kind 11 || eqb kind 12) may.LoadOrder may.ZeroByKind →
+    r ≡ cond (eqb opcode 3) used may.ZeroByOpcode →
+    r ≡ mayFailure opcode kind
+failure-made opcode kind used r u e = rw (e, u)
+
+pub told : (f g : Field) (o k : ℕ) (r : May) → f ≡ g → r ≡ mayBe g o k → r ≡ mayBe f o k
+told f g o k r e h = h ∙ sym (ap (λ (x : Field). mayBe x o k) e)
+
+abbrev rowMade : ℕ → ℕ → ℕ → ℕ → ℕ → ℕ → ℕ → ℕ → ℕ → Row
+rowMade opcode object order failure kind register target a b = record {
+  opcode = opcode;
+  object = object;
+  order = order;
+  failure = failure;
+  kind = kind;
+  register = register;
+  target = target;
+  a = a;
+  b = b;
+}
+
+pub fields-as : (r : Row) (n object blank order failure kind register target a b : ℕ) →
+    object ≡ cond (ltb 0 n) (r .object) 0 →
+    blank ≡ blankOrder (r .opcode) →
+    order ≡ cond (ltb 1 n) (r .order) blank →
+    failure ≡ cond (ltb 3 n) (r .failure) 0 →
+    kind ≡ cond (ltb 2 n) (r .kind) 0 →
+    register ≡ cond (ltb 4 n) (r .register) 0 →
+    target ≡ cond (ltb 5 n) (r .target) 0 →
+    a ≡ cond (ltb 6 n) (r .a) 0 →
+    b ≡ cond (ltb 7 n) (r .b) 0 →
+    rowMade (r .opcode) object order failure kind register target a b ≡ firstFields r n
+unfolding firstFields
+fields-as r n object blank order failure kind register target a b e1 e2 e3 e4 e5 e6 e7 e8 e9 =
+    rw (e1, e3, e2, e4, e5, e6, e7, e8, e9)
+
+module _ (threads cells count : ℕ) (r : Row) where
+  pub fit-as : (n : ℕ) (x : Row) (is : Bool) → is ≡ isFine (rowDecoded threads cells count x) → x ≡ firstFields r n → is ≡ isFit threads cells count r n
+  unfolding isFit
+  fit-as n x is e h = e ∙ ap (λ (y : Row). isFine (rowDecoded threads cells count y)) h
+
+  pub wrong-0 : isFit threads cells count r 0 ≡ false → Opcode ≡ wrongIn threads cells count r
+  unfolding wrongIn
+  wrong-0 e0 = rw (e0)
+
+  pub wrong-1 : isFit threads cells count r 0 ≡ true → isFit threads cells count r 1 ≡ false → Object ≡ wrongIn threads cells count r
+  unfolding wrongIn
+  wrong-1 e0 e1 = rw (e0, e1)
+
+  pub wrong-2 : isFit threads cells count r 0 ≡ true → isFit threads cells count r 1 ≡ true → isFit threads cells count r 2 ≡ false → Order ≡ wrongIn threads cells count r
+  unfolding wrongIn
+  wrong-2 e0 e1 e2 = rw (e0, e1, e2)
+
+  pub wrong-3 : isFit threads cells count r 0 ≡ true → isFit threads cells count r 1 ≡ true → isFit threads cells count r 2 ≡ true → isFit threads cells count r 3 ≡ false → Kind ≡ wrongIn threads cells count r
+  unfolding wrongIn
+  wrong-3 e0 e1 e2 e3 = rw (e0, e1, e2, e3)
+
+  pub wrong-4 : isFit threads cells count r 0 ≡ true → isFit threads cells count r 1 ≡ true → isFit threads cells count r 2 ≡ true → isFit threads cells count r 3 ≡ true → isFit threads cells count r 4 ≡ false → Failure ≡ wrongIn threads cells count r
+  unfolding wrongIn
+  wrong-4 e0 e1 e2 e3 e4 = rw (e0, e1, e2, e3, e4)
+
+  pub wrong-5 : isFit threads cells count r 0 ≡ true → isFit threads cells count r 1 ≡ true → isFit threads cells count r 2 ≡ true → isFit threads cells count r 3 ≡ true → isFit threads cells count r 4 ≡ true → isFit threads cells count r 5 ≡ false → Register ≡ wrongIn threads cells count r
+  unfolding wrongIn
+  wrong-5 e0 e1 e2 e3 e4 e5 = rw (e0, e1, e2, e3, e4, e5)
+
+  pub wrong-6 : isFit threads cells count r 0 ≡ true → isFit threads cells count r 1 ≡ true → isFit threads cells count r 2 ≡ true → isFit threads cells count r 3 ≡ true → isFit threads cells count r 4 ≡ true → isFit threads cells count r 5 ≡ true → isFit threads cells count r 6 ≡ false → Target ≡ wrongIn threads cells count r
+  unfolding wrongIn
+  wrong-6 e0 e1 e2 e3 e4 e5 e6 = rw (e0, e1, e2, e3, e4, e5, e6)
+
+  pub wrong-7 : isFit threads cells count r 0 ≡ true → isFit threads cells count r 1 ≡ true → isFit threads cells count r 2 ≡ true → isFit threads cells count r 3 ≡ true → isFit threads cells count r 4 ≡ true → isFit threads cells count r 5 ≡ true → isFit threads cells count r 6 ≡ true → isFit threads cells count r 7 ≡ false → A ≡ wrongIn threads cells count r
+  unfolding wrongIn
+  wrong-7 e0 e1 e2 e3 e4 e5 e6 e7 = rw (e0, e1, e2, e3, e4, e5, e6, e7)
+
+  pub wrong-8 : isFit threads cells count r 0 ≡ true → isFit threads cells count r 1 ≡ true → isFit threads cells count r 2 ≡ true → isFit threads cells count r 3 ≡ true → isFit threads cells count r 4 ≡ true → isFit threads cells count r 5 ≡ true → isFit threads cells count r 6 ≡ true → isFit threads cells count r 7 ≡ true → B ≡ wrongIn threads cells count r
+  unfolding wrongIn
+  wrong-8 e0 e1 e2 e3 e4 e5 e6 e7 = rw (e0, e1, e2, e3, e4, e5, e6, e7)

@@ -1,0 +1,98 @@
+-- Which field of a refused row is wrong, and what it may be. Assumes nothing.
+--     firstFields        a row of which only the first fields are looked at
+--     wrongIn      the first field with which a row is refused
+--     mayBe        what that field may be
+use Prim.Native.Nat.{ℕ}
+use mathlib.Core.Bool.{Bool, cond, _||_}
+use lib.Dec.{ltb, leb, eqb}
+use Rattle.rules.specs.Table.{Row, rowDecoded, isFine}
+use Rattle.reasons.specs.declared.Field.{Field}
+use Rattle.reasons.specs.declared.Field.the-variants.{Opcode, Object, Order, Kind, Failure, Register, Target, A, B}
+use Rattle.reasons.specs.declared.May.{May}
+use Rattle.reasons.specs.declared.May.the-variants as may
+
+-- "fence 0" is refused: a fence has order 1 in a row of which the order is not looked at
+abbrev pub blankOrder : ℕ → ℕ
+blankOrder opcode = cond (eqb opcode 4) 1 0
+
+-- the opcode and so many fields behind it, in the order in which they are judged: cell or thread, order, change kind, failure order,
+-- register, jump target, operands a and b. The others are as if they were not used
+unfoldable pub firstFields : Row → ℕ → Row
+firstFields r n = record {
+  opcode = r .opcode;
+  object = cond (ltb 0 n) (r .object) 0;
+  order = cond (ltb 1 n) (r .order) (blankOrder (r .opcode));
+  kind = cond (ltb 2 n) (r .kind) 0;
+  failure = cond (ltb 3 n) (r .failure) 0;
+  register = cond (ltb 4 n) (r .register) 0;
+  target = cond (ltb 5 n) (r .target) 0;
+  a = cond (ltb 6 n) (r .a) 0;
+  b = cond (ltb 7 n) (r .b) 0;
+}
+
+-- whether such a row is one, in a table of so many threads and cells, in a thread of so many rows
+unfoldable pub isFit : ℕ → ℕ → ℕ → Row → ℕ → Bool
+isFit threads cells count r n = isFine (rowDecoded threads cells count (firstFields r n))
+
+-- the field with which it is refused first. Where all before it are fine it is operand b
+unfoldable pub wrongIn : ℕ → ℕ → ℕ → Row → Field
+wrongIn threads cells count r =
+    cond (isFit threads cells count r 0)
+    (cond (isFit threads cells count r 1)
+    (cond (isFit threads cells count r 2)
+    (cond (isFit threads cells count r 3)
+    (cond (isFit threads cells count r 4)
+    (cond (isFit threads cells count r 5)
+    (cond (isFit threads cells count r 6)
+    (cond (isFit threads cells count r 7) B A)
+    Target)
+    Register)
+    Failure)
+    Kind)
+    Order)
+    Object)
+    Opcode
+
+-- the opcodes that name a cell, that have a register, that jump, that change
+abbrev pub hasCell : ℕ → Bool
+hasCell opcode = leb opcode 3 || eqb opcode 5 || eqb opcode 6
+
+abbrev pub isJump : ℕ → Bool
+isJump opcode = eqb opcode 9 || eqb opcode 10 || eqb opcode 11
+
+abbrev pub hasRegister : ℕ → Bool
+hasRegister opcode =
+    eqb opcode 0 || eqb opcode 2 || eqb opcode 3 || eqb opcode 5 || eqb opcode 6
+    || eqb opcode 10 || eqb opcode 11 || eqb opcode 12 || eqb opcode 16
+
+abbrev pub isChange : ℕ → Bool
+isChange opcode = eqb opcode 3 || eqb opcode 6
+
+abbrev pub mayObject : ℕ → May
+mayObject opcode = cond (hasCell opcode) may.AnyCell (cond (eqb opcode 8) may.AnyThread may.ZeroByOpcode)
+
+-- "Refused: load or failure order 1 or 3, store order 2 or 3, fence 0."
+abbrev pub mayOrder : ℕ → May
+mayOrder opcode =
+    cond (eqb opcode 0) may.LoadOrder
+    (cond (eqb opcode 1 || eqb opcode 2) may.StoreOrder
+    (cond (eqb opcode 3) may.AnyOrder
+    (cond (eqb opcode 4) may.FenceOrder
+    may.ZeroByOpcode)))
+
+-- "Only kinds 11 and 12 may fail, and only they, in RMW, use a failure order."
+abbrev pub mayFailure : ℕ → ℕ → May
+mayFailure opcode kind =
+    cond (eqb opcode 3) (cond (eqb kind 11 || eqb kind 12) may.LoadOrder may.ZeroByKind) may.ZeroByOpcode
+
+-- "A cell or thread named must exist. Fields that the opcode or change kind doesn't use are zero"
+unfoldable pub mayBe : Field → ℕ → ℕ → May
+mayBe Opcode opcode kind = may.AnyOpcode
+mayBe Object opcode kind = mayObject opcode
+mayBe Order opcode kind = mayOrder opcode
+mayBe Kind opcode kind = cond (isChange opcode) may.AnyKind may.ZeroByOpcode
+mayBe Failure opcode kind = mayFailure opcode kind
+mayBe Register opcode kind = cond (hasRegister opcode) may.AnyRegister may.ZeroByOpcode
+mayBe Target opcode kind = cond (isJump opcode) may.AnyTarget may.ZeroByOpcode
+mayBe A opcode kind = cond (isChange opcode) may.ZeroByKind may.ZeroByOpcode
+mayBe B opcode kind = cond (isChange opcode) may.ZeroByKind may.ZeroByOpcode

@@ -1,0 +1,68 @@
+use Prim.Native.Nat.{_≤_, _-_}
+use mathlib.Core.Logic.{⊎-elim}
+use native.Mathlib.Omega.{arith}
+use lib.ListN.{length}
+use borrow.Author.Needs.{needs}
+use Rattle.refusal.proofs.words.put_nth.Statement.{statement}
+use Rattle.refusal.proofs.words.put_nth.Tie as tie
+
+abbrev Inv-loop : tie.InvT-loop
+Inv-loop line₀ at list n to₀ past₀ i₀ line to past i = (i ≤ length list) × (past ≤ i)
+
+abbrev μ-loop : tie.MeasureT-loop
+μ-loop line₀ at list n to₀ past₀ i₀ line to past i = length list - i
+
+loop-holds : tie.Need-loop-holds Inv-loop μ-loop
+loop-holds c = search needs
+
+shared-slice-read-if1 : tie.Need-shared-slice-read-if1 Inv-loop μ-loop
+shared-slice-read-if1 c = search needs
+
+add-past : tie.Need-add-past Inv-loop μ-loop
+add-past c = search needs
+
+add-put : tie.Need-add-put Inv-loop μ-loop
+add-put c = search needs
+
+sub-put : tie.Need-sub-put Inv-loop μ-loop
+sub-put c = search needs
+
+part-put-start : tie.Need-part-put-start Inv-loop μ-loop
+part-put-start c = search needs
+
+part-put-end : tie.Need-part-put-end Inv-loop μ-loop
+part-put-end c = search needs
+
+put-requires : tie.Need-put-requires Inv-loop μ-loop
+put-requires c κs = search needs
+
+add-i : tie.Need-add-i Inv-loop μ-loop
+add-i c = search needs
+
+loop-less : tie.Need-loop-less Inv-loop μ-loop
+loop-less c = search needs
+
+loop-again : tie.Need-loop-again Inv-loop μ-loop
+loop-again c = (search needs, ⊎-elim (λ w. omega arith) (λ w. ⊎-elim (λ v. omega arith) (λ v. omega arith) w) (c .if1 .came))
+
+returns : tie.Need-returns Inv-loop μ-loop
+returns c = search needs
+
+pub put-nth-spec : {M : Type 1} → statement M
+put-nth-spec =
+    tie.close
+    (tie.spec
+    Inv-loop
+    μ-loop
+    loop-holds
+    shared-slice-read-if1
+    add-past
+    add-put
+    sub-put
+    part-put-start
+    part-put-end
+    put-requires
+    add-i
+    loop-less
+    loop-again
+    returns)

@@ -1,0 +1,137 @@
+// What is wrong with a field of a row, in words.
+use decode::Row;
+use line::Line;
+use reasons::Field;
+use reasons::May;
+use reasons::Room;
+
+// Puts the field, what it is and what it may be.
+pub fn put(line: &mut Line, at: usize, field: Field, row: Row, room: Room) -> usize {
+    let opcode = row.opcode;
+    let kind = row.kind;
+    let value = value_of(field, row);
+    let to = put_field(line, at, field, opcode);
+    match reasons::may_be(field, opcode, kind) {
+        May::ZeroByOpcode => put_unused(line, to, value, opcode),
+        May::ZeroByKind => line::fill(
+            line,
+            to,
+            b" is #, and change kind # does not use it: it must be 0",
+            value,
+            kind as u64,
+            0,
+        ),
+        may => {
+            let to = line::fill(line, to, b" # is none", value, 0, 0);
+            put_may(line, to, may, room)
+        }
+    }
+}
+
+// The number that stands in this field.
+fn value_of(field: Field, row: Row) -> u64 {
+    match field {
+        Field::Opcode => row.opcode as u64,
+        Field::Object => row.object as u64,
+        Field::Order => row.order as u64,
+        Field::Kind => row.kind as u64,
+        Field::Failure => row.failure as u64,
+        Field::Register => row.register as u64,
+        Field::Target => row.target as u64,
+        Field::A => row.a,
+        Field::B => row.b,
+    }
+}
+
+// The field's name.
+fn put_field(line: &mut Line, at: usize, field: Field, opcode: u8) -> usize {
+    match field {
+        Field::Opcode => line::put(line, at, b"opcode"),
+        Field::Object => put_object(line, at, opcode),
+        Field::Order => line::put(line, at, b"order"),
+        Field::Kind => line::put(line, at, b"change kind"),
+        Field::Failure => line::put(line, at, b"failure order"),
+        Field::Register => line::put(line, at, b"register"),
+        Field::Target => line::put(line, at, b"jump target"),
+        Field::A => line::put(line, at, b"operand a"),
+        Field::B => line::put(line, at, b"operand b"),
+    }
+}
+
+// A row names a cell, or a thread, or neither.
+fn put_object(line: &mut Line, at: usize, opcode: u8) -> usize {
+    match reasons::may_be(Field::Object, opcode, 0) {
+        May::AnyCell => line::put(line, at, b"cell"),
+        May::AnyThread => line::put(line, at, b"thread"),
+        _ => line::put(line, at, b"the cell or thread"),
+    }
+}
+
+// What it may be, where it is used.
+fn put_may(line: &mut Line, at: usize, may: May, room: Room) -> usize {
+    match may {
+        May::AnyOpcode => line::put(line, at, b": there are 0 to 16"),
+        May::AnyCell => put_count(line, at, room.cells),
+        May::AnyThread => put_count(line, at, room.threads),
+        May::AnyOrder => line::put(line, at, b": there are 0 to 4"),
+        May::LoadOrder => line::put(line, at, b" that a load may have (0, 2 or 4)"),
+        May::StoreOrder => line::put(line, at, b" that a store may have (0, 1 or 4)"),
+        May::FenceOrder => line::put(line, at, b" that a fence may have (1 to 4)"),
+        May::AnyKind => line::put(line, at, b": there are 0 to 12"),
+        May::AnyRegister => line::put(line, at, b": there are 0 to 3"),
+        May::AnyTarget => line::fill(
+            line,
+            at,
+            b": it may be up to #, the thread's end",
+            room.count as u64,
+            0,
+            0,
+        ),
+        _ => at,
+    }
+}
+
+// How many of them the table has.
+fn put_count(line: &mut Line, at: usize, count: usize) -> usize {
+    line::fill(
+        line,
+        at,
+        b": they count from 0, and the table has #",
+        count as u64,
+        0,
+        0,
+    )
+}
+
+// A field that the opcode does not use.
+fn put_unused(line: &mut Line, at: usize, value: u64, opcode: u8) -> usize {
+    let to = line::fill(line, at, b" is #, and opcode # (", value, opcode as u64, 0);
+    let to = put_name(line, to, opcode);
+    line::put(line, to, b") does not use it: it must be 0")
+}
+
+// The name of an opcode, by its number.
+fn put_name(line: &mut Line, at: usize, opcode: u8) -> usize {
+    put_nth(
+        line,
+        at,
+        b"load,store,store of a register,change,fence,unsync_load,with_mut,yield,join,jump,jump if equal,jump if not equal,check,critical,explore_state,skip_branch,branch_spurious",
+        opcode as usize,
+    )
+}
+
+// Puts the part of a list that stands past so many commas.
+fn put_nth(line: &mut Line, at: usize, list: &[u8], n: usize) -> usize {
+    let mut to = at;
+    let mut past = 0;
+    let mut i = 0;
+    while i < list.len() {
+        if list[i] == b',' {
+            past += 1;
+        } else if past == n {
+            to = line::put(line, to, &list[i..i + 1]);
+        }
+        i += 1;
+    }
+    to
+}

@@ -1,0 +1,44 @@
+// A row of a table in a line of output, as it stands in a text.
+ghost use mathlib.Core.Path.{_≡_};
+ghost use Rattle.rules.specs.Table.{rowAt};
+ghost use Rattle.line.specs.Lines.{ended, putText};
+ghost use Rattle.row_text.specs.Rows.{rowWords, rowSaid};
+use layout::MAX_THREADS;
+use layout::wide8;
+use layout::wide16;
+use line::Line;
+use line::WIDTH;
+use table::CELLS;
+use table::FIRSTS;
+
+// How many blanks a text has before a row.
+const BLANKS: usize = 2;
+
+// Puts the row of this number of a thread; nothing for a thread that no table has.
+pub fn put(line: &mut Line, at: usize, table: &[u8], thread: u8, number: u8) -> usize
+    ensures { λ r. ⌜ ended (now (line .exit)) r ≡ putText (ended (now (line .entry)) at) (rowSaid (now (table .entry)) thread number) ⌝ }
+{
+    let t = wide8(thread);
+    if MAX_THREADS <= t {
+        return at;
+    }
+    let shape = table::shape(table);
+    let cells = wide16(shape[CELLS]);
+    let first = wide16(shape[FIRSTS + t]);
+    put_at(line, at, table, cells, first + wide8(number))
+}
+
+// The row of this number among all rows of a table with so many cells.
+fn put_at(line: &mut Line, at: usize, table: &[u8], cells: usize, index: usize) -> usize
+    ensures { λ r. ⌜ ended (now (line .exit)) r ≡ putText (ended (now (line .entry)) at) (rowWords (rowAt (now (table .entry)) cells index)) ⌝ }
+{
+    let mut text = [0u8; WIDTH];
+    let to = row_line::put_row(&mut text, 0, table, cells, index);
+    if WIDTH < to {
+        return at;
+    }
+    if to <= BLANKS {
+        return at;
+    }
+    line::put(line, at, &text[BLANKS..to - 1])
+}

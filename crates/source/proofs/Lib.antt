@@ -1,0 +1,2 @@
+mod TellLaws
+pub mod Told
