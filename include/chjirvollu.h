@@ -12,7 +12,7 @@ extern "C" {
 #endif
 
 /* The largest settings, and the bound that is none. */
-#define CHJIRVOLLU_MAX_BRANCHES 1024
+#define CHJIRVOLLU_MAX_BRANCHES 4096
 #define CHJIRVOLLU_MAX_OPERATIONS 4096
 #define CHJIRVOLLU_MAX_EXECUTIONS 65535
 #define CHJIRVOLLU_UNBOUNDED 256
@@ -21,7 +21,7 @@ extern "C" {
 #define CHJIRVOLLU_RECORD 16
 
 /* The buffers into which a text is read have at least this many bytes. */
-#define CHJIRVOLLU_TABLE_BYTES 3880
+#define CHJIRVOLLU_TABLE_BYTES 7720
 #define CHJIRVOLLU_CONDITION_BYTES 1024
 
 /* The numbers of a report, by their places; four for each of the five threads from CHJIRVOLLU_THREADS on. */
@@ -64,7 +64,7 @@ enum {
    answer. Lengths count elements. No address is kept, and no other memory is used. What is lent must not overlap. */
 uint64_t chjirvollu_explore(
     const uint8_t *table, size_t table_length,
-    uint64_t branches,                        /* 1 to 1024, else answer 2 */
+    uint64_t branches,                        /* 1 to 4096, else answer 2 */
     uint64_t operations,                      /* 1 to 4096, else answer 2 */
     uint64_t executions,                      /* 1 to 65535, else answer 2 */
     uint64_t bound,                           /* 0 to 255 preemptions, or 256 for no bound, else 255 */
@@ -113,7 +113,7 @@ enum {
    all are, and where there is no room both buffers stay as they are. */
 uint64_t chjirvollu_read(
     const uint8_t *text, size_t text_length,
-    uint8_t *table, size_t table_length,          /* 3880 bytes at least, else no room */
+    uint8_t *table, size_t table_length,          /* 7720 bytes at least, else no room */
     uint8_t *condition, size_t condition_length,  /* 1024 bytes at least, else no room */
     uint64_t *numbers, size_t numbers_length);    /* exactly 5 numbers, else 255 */
 

@@ -4,6 +4,7 @@
 use crate::condition::Condition;
 use crate::guard;
 use crate::interpreter::{Fault, Interpreter, Lane};
+use crate::limits::{MAX_BRANCHES, MAX_EXECUTIONS, MAX_OPERATIONS};
 use crate::rt::thread::{self, State};
 use crate::rt::{self, Execution, Installed, Path, MAX_THREADS};
 use crate::table::{Bad, Program};
@@ -63,9 +64,9 @@ pub(crate) fn accept(
     settings: &Settings,
     (path, trace, list): (usize, usize, Option<usize>),
 ) -> Result<(Program, Condition), Refusal> {
-    let in_range = (1..=1024).contains(&settings.branches)
-        && (1..=4096).contains(&settings.operations)
-        && (1..=65535).contains(&settings.executions);
+    let in_range = (1..=MAX_BRANCHES).contains(&settings.branches)
+        && (1..=MAX_OPERATIONS).contains(&settings.operations)
+        && (1..=MAX_EXECUTIONS).contains(&settings.executions);
     if !in_range {
         return Err(Refusal::new(2));
     }

@@ -7,6 +7,7 @@ mod entry;
 mod explorer;
 mod guard;
 mod interpreter;
+pub mod limits;
 mod rt;
 mod table;
 

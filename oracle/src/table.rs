@@ -1,5 +1,6 @@
 //! The table: which bytes are accepted, and the rows they hold. Document 01, "Table".
 
+use crate::limits::MAX_ROWS;
 use crate::rt::MAX_THREADS;
 
 use std::sync::atomic::Ordering;
@@ -67,7 +68,7 @@ impl Program {
         let [threads, cells, counts @ .., zero] = *header;
         let (threads, cells) = (usize::from(threads), usize::from(cells));
         let named = (1..=MAX_THREADS).contains(&threads) && (1..=4).contains(&cells) && zero == 0;
-        if !named || counts.iter().any(|&count| count > 32) {
+        if !named || counts.iter().any(|&count| usize::from(count) > MAX_ROWS) {
             return None;
         }
         if counts[threads..].iter().any(|&count| count != 0) {

@@ -2,42 +2,45 @@
 
 mod common;
 use common::*;
+use oracle::limits::{MAX_BRANCHES, MAX_OPERATIONS};
 use terms::Summary;
 
-/// A load in a loop adds two records each time round.
+/// Two loads in a loop add four records each time round, with three rows.
 fn spin() -> Vec<u8> {
-    table(&[0], &[&[load(0, RELAXED, 0), jump(0)]])
+    table(&[0], &[&[load(0, RELAXED, 0), load(0, RELAXED, 1), jump(0)]])
 }
 
 #[test]
-fn b_1024_is_filled() {
-    let ran = run(&spin(), &settings(1024, 4096, 1));
-    // 512 loads have both their records; the 513th has begun and finds no place.
+fn the_greatest_b_is_filled() {
+    let ran = run(&spin(), &settings(MAX_BRANCHES, MAX_OPERATIONS, 1));
+    let rounds = MAX_BRANCHES / 4;
+    // Every load before has both its records; the next has begun and finds no place.
     assert_eq!(ran.fault(), [11, 0, 0]);
     assert_eq!(ran.counts(), [11, 1, 0, 0]);
-    assert_eq!(ran.report.rows, 2 * 512 + 1);
-    assert_eq!(ran.last_path().len(), 16 * 1024);
-    assert_eq!(entries(ran.last_trace()).len(), 2 * 512);
+    assert_eq!(ran.report.rows, 3 * rounds + 1);
+    assert_eq!(ran.last_path().len() as u64, 16 * MAX_BRANCHES);
+    assert_eq!(entries(ran.last_trace()).len() as u64, 3 * rounds);
     let summary = Summary {
         state: 1,
-        rows: 1025,
+        rows: 3 * rounds + 1,
         yields: 0,
-        version: 2 + 512,
+        version: 2 + 2 * rounds,
     };
     assert_eq!(ran.report.threads[0], summary);
-    // prev is a position among all records, little-endian: 1,020 is 0x03fc.
-    let last = &ran.last_path()[16 * 1022..16 * 1023];
-    assert_eq!(last[9..11], [0xfc, 0x03]);
+    // prev is a position among all records, little-endian: that of the load before.
+    let last = MAX_BRANCHES as usize - 2;
+    let record = &ran.last_path()[16 * last..16 * (last + 1)];
+    assert_eq!(record[9..11], (last as u16 - 2).to_le_bytes());
 }
 
 #[test]
-fn l_4096_is_filled() {
-    let ran = run(&table(&[0], &[&[jump(0)]]), &settings(1, 4096, 1));
+fn the_greatest_l_is_filled() {
+    let ran = run(&table(&[0], &[&[jump(0)]]), &settings(1, MAX_OPERATIONS, 1));
     assert_eq!(ran.fault(), [12, 0, 0]);
-    assert_eq!(ran.report.rows, 4096);
+    assert_eq!(ran.report.rows, MAX_OPERATIONS);
     assert_eq!(ran.last_path(), []);
     let trace = entries(ran.last_trace());
-    assert_eq!(trace.len(), 4096);
+    assert_eq!(trace.len() as u64, MAX_OPERATIONS);
     let jump = Entry {
         thread: 0,
         row: 0,

@@ -2,6 +2,7 @@
 
 mod common;
 use common::*;
+use oracle::limits::{MAX_BRANCHES, MAX_EXECUTIONS, MAX_OPERATIONS, MAX_ROWS};
 use terms::{Report, Settings, Summary};
 
 const MARK: Summary = Summary {
@@ -57,11 +58,11 @@ fn settings_out_of_range() {
     let refusal = Report::refusal(2, 255, 255);
     let wrong = [
         settings(0, 1, 1),
-        settings(1025, 1, 1),
+        settings(MAX_BRANCHES + 1, 1, 1),
         settings(1, 0, 1),
-        settings(1, 4097, 1),
+        settings(1, MAX_OPERATIONS + 1, 1),
         settings(1, 1, 0),
-        settings(1, 1, 65536),
+        settings(1, 1, MAX_EXECUTIONS + 1),
     ];
     for settings in wrong {
         let report = refused(&good(), &settings, fitting(&settings));
@@ -148,13 +149,14 @@ fn header_and_length() {
     bad_header(&[good.clone(), vec![0; 24]].concat());
     // Byte 4 is the count of thread 2, which is absent.
     let edits = [(0, 0), (0, 6), (0, 255), (1, 0), (1, 5), (4, 1), (6, 1)];
-    for (at, value) in edits.into_iter().chain([(7, 1), (7, 255), (2, 33)]) {
+    let many = MAX_ROWS as u8 + 1;
+    for (at, value) in edits.into_iter().chain([(7, 1), (7, 255), (2, many)]) {
         let mut bad = good.clone();
         bad[at] = value;
         bad_header(&bad);
     }
-    // 33 rows, with the bytes for them.
-    bad_header(&table(&[0], &[&[yields(); 33]]));
+    // A row too many, with the bytes for it.
+    bad_header(&table(&[0], &[&[yields(); MAX_ROWS + 1]]));
     // An absent thread with rows, with the bytes for them.
     let mut absent = table(&[0], &[&[yields()], &[yields()]]);
     absent[0] = 1;
@@ -181,7 +183,7 @@ fn the_first_bad_row_is_named() {
     let ok = yields();
     let rows: [&[Row]; 4] = [&[ok, ok], &[], &[ok, ok, bad, bad], &[bad]];
     assert_eq!(judged(&table(&[0], &rows)), Report::refusal(5, 2, 2));
-    let late: [&[Row]; 2] = [&[ok; 32], &[bad]];
+    let late: [&[Row]; 2] = [&[ok; MAX_ROWS], &[bad]];
     assert_eq!(judged(&table(&[0], &late)), Report::refusal(5, 1, 0));
 }
 

@@ -14,7 +14,7 @@ use Rattle.rules.specs.Condition.{conditionBytes, Read, bad, read, conditionAt,
 use Rattle.rules.specs.Token.{isEmpty, content}
 use Rattle.rules.specs.Text.{unitAt, claimed, claimedTo, Claimed}
 use Rattle.rules.specs.Text as rules
-use Rattle.claims.specs.Units.{Stands, Claims, unitOf}
+use Rattle.claims.specs.Units.{mostClaimed, Stands, Claims, unitOf}
 use Rattle.claims.specs.declared.Claim.{Claim}
 use Rattle.claims.specs.declared.Unit.{Unit}
 
@@ -109,12 +109,12 @@ module _ (text : List ℕ) (lines left stop : ℕ) (made : List ℕ) (from here 
                 ∙ ap (unitThen lines (left - 1) stop made (drop here text)) (sym whole-is)
                 ∙ one-unit
 
-            pub claim-long : 1024 < length made + u .size → claimedTo lines made (drop here text) false ≡ claimed lines left stop made (drop from text)
-            claim-long h = one-room false (lt-leb (length made + u .size) 1024 h)
+            pub claim-long : conditionBytes < length made + u .size → claimedTo lines made (drop here text) false ≡ claimed lines left stop made (drop from text)
+            claim-long h = one-room false (lt-leb (length made + u .size) conditionBytes h)
 
-            pub claim-on : length made + u .size ≤ 1024
+            pub claim-on : length made + u .size ≤ conditionBytes
                 → claimed lines (left - 1) stop (made ++ take (u .size) (u .bytes)) (drop (u .at) text) ≡ claimed lines left stop made (drop from text)
-            claim-on h = one-room true (le-leb (length made + u .size) 1024 h)
+            claim-on h = one-room true (le-leb (length made + u .size) conditionBytes h)
 
 -- bytes put behind those that are there
 pub taken-on : (bytes piece : List ℕ) (at size : ℕ) → at ≤ length bytes → size ≤ length piece → take (at + size) (paste bytes at piece size) ≡ take at bytes ++ take size piece
@@ -123,7 +123,7 @@ taken-on bytes piece at size h l = take-paste bytes at piece size h l
 -- an answer by its parts
 pub claims-to : (text : List ℕ) (lines : ℕ) (claim : Claimed lines) (r : Claim) (bytes : List ℕ) (n at : ℕ) (w : Bool)
     → (r .bytes ≡ bytes) × (r .length ≡ n) × (r .at ≡ at) × (r .whole ≡ w)
-    → claimedTo lines (take n bytes) (drop at text) w ≡ claim → n ≤ 1035 → (w ≡ true → n ≤ 1024) → length bytes ≡ 1035 → Claims text lines claim r
+    → claimedTo lines (take n bytes) (drop at text) w ≡ claim → n ≤ mostClaimed → (w ≡ true → n ≤ conditionBytes) → length bytes ≡ mostClaimed → Claims text lines claim r
 claims-to text lines claim r bytes n at w e is most whole long = record {
   is = rw (e .0, e .1, e .2, e .3) is;
   most = rw (e .1) most;

@@ -15,7 +15,7 @@ use Rattle.rules.specs.Text.{Made, Claimed, claimed, TextRead, refusedAt, accep
 use Rattle.token.specs.Places.{part}
 use Rattle.condition.specs.Reads.{foundIn}
 use Rattle.condition.specs.declared.Found.the-variants.{Bad, Ends}
-use Rattle.claims.specs.Units.{Claims, Concludes, concludedOf}
+use Rattle.claims.specs.Units.{mostClaimed, Claims, Concludes, concludedOf}
 use Rattle.claims.specs.declared.Claim.{Claim}
 use Rattle.claims.specs.declared.Conclusion.{Conclusion}
 
@@ -85,7 +85,7 @@ module _ (text : List ℕ) (lines at threads : ℕ) (c : Claim) (claims : Claims
 
   module _ (stop : ℕ) where
     -- a refusal
-    module _ (r : Conclusion) (says : (r .taken ≡ false) × (r .length ≡ 0) × (r .bytes ≡ replicate 1035 0) × (drop (r .at) text ≡ claimed lines lines stop [] (drop at text) .rest)) where
+    module _ (r : Conclusion) (says : (r .taken ≡ false) × (r .length ≡ 0) × (r .bytes ≡ replicate mostClaimed 0) × (drop (r .at) text ≡ claimed lines lines stop [] (drop at text) .rest)) where
       refused-is : (table : List ℕ) → concludedOf table text r ≡ refusedBy lines (drop at text) table stop
       refused-is table = rw (says .0) (ap refusedAt (says .3))
 
@@ -96,7 +96,7 @@ module _ (text : List ℕ) (lines at threads : ℕ) (c : Claim) (claims : Claims
       so-refused h = record {
         is = λ m t. refused-is (tableOf m) ∙ h (tableOf m) ∙ all-is m t;
         most = omega (arith, says .1);
-        long = ap length (says .2) ∙ length-replicate {A = ℕ} 1035 0;
+        long = ap length (says .2) ∙ length-replicate {A = ℕ} mostClaimed 0;
       }
 
       pub bad-refused : Bad stop ≡ foundIn (length piece) (judged threads piece) → Concludes text at lines threads r

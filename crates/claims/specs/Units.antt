@@ -1,15 +1,16 @@
 -- What the answers of this crate stand for in the definition. Assumes nothing.
+--     mostClaimed     the longest condition, and a comparison that broke off behind it
 --     Stands          what stands at a place
 --     markAt          a bracket, "and" or "or"
 --     Claims          what was read of a condition
 --     Concludes       a text's condition, taken or refused
-use Prim.Native.Nat.{ℕ, _≤_, _<_}
+use Prim.Native.Nat.{ℕ, _+_, _≤_, _<_}
 use mathlib.Core.List.{List, [], _∷_}
 use mathlib.Core.Bool.{Bool, true, false, cond, not}
 use mathlib.Core.Path.{_≡_}
 use lib.Dec.{eqb}
 use lib.ListN.{length, take, drop}
-use Rattle.rules.specs.Condition.{isSign}
+use Rattle.rules.specs.Condition.{isSign, conditionBytes, comparisonBytes}
 use Rattle.rules.specs.Token.{Found, nothing, found, only}
 use Rattle.rules.specs.Text as rules
 use Rattle.rules.specs.Text.{markIn, comparisonOf}
@@ -17,6 +18,9 @@ use Rattle.token.specs.Places.{part}
 use Rattle.claims.specs.declared.Unit.{Unit}
 use Rattle.claims.specs.declared.Claim.{Claim}
 use Rattle.claims.specs.declared.Conclusion.{Conclusion}
+
+abbrev pub mostClaimed : ℕ
+mostClaimed = conditionBytes + comparisonBytes
 
 -- with no byte it is nothing that a condition has
 abbrev pub unitOf : List ℕ → Unit → rules.Unit
@@ -45,9 +49,9 @@ claimedOf lines text c = rules.claimedTo lines (take (c .length) (c .bytes)) (dr
 
 pub record Claims (text : List ℕ) (lines : ℕ) (claimed : rules.Claimed lines) (c : Claim) : Type 0 where
   pub is : claimedOf lines text c ≡ claimed
-  pub most : c .length ≤ 1035
-  pub whole : c .whole ≡ true → c .length ≤ 1024
-  pub long : length (c .bytes) ≡ 1035
+  pub most : c .length ≤ mostClaimed
+  pub whole : c .whole ≡ true → c .length ≤ conditionBytes
+  pub long : length (c .bytes) ≡ mostClaimed
 
 -- beside any table of so many threads
 abbrev pub concludedOf : List ℕ → List ℕ → Conclusion → rules.TextRead
@@ -56,5 +60,5 @@ concludedOf table text c =
 
 pub record Concludes (text : List ℕ) (at lines threads : ℕ) (c : Conclusion) : Type 0 where
   pub is : (m : rules.Made) → m .threads ≡ threads → concludedOf (rules.tableOf m) text c ≡ rules.concluded lines m (drop at text)
-  pub most : c .length ≤ 1024
-  pub long : length (c .bytes) ≡ 1035
+  pub most : c .length ≤ conditionBytes
+  pub long : length (c .bytes) ≡ mostClaimed

@@ -7,14 +7,14 @@ ghost use Prim.Native.Nat.{_+_, _≤_, _<_};
 ghost use lib.ListN.{drop, replicate};
 ghost use lib.Seq.{paste};
 ghost use Rattle.rules.specs.Text as rules;
-ghost use Rattle.claims.specs.Units.{Stands, Claims, Concludes, markAt, brokenOf};
+ghost use Rattle.claims.specs.Units.{mostClaimed, Stands, Claims, Concludes, markAt, brokenOf};
 use condition::COMPARISON;
 use condition::CONDITION_BYTES;
 use condition::Found as Judged;
 use token::Found;
 
 // The longest condition, and a comparison that broke off behind it.
-pub const MOST: usize = 1035;
+pub const MOST: usize = CONDITION_BYTES + COMPARISON;
 
 // What stands at a place: so many bytes of a condition and where they end, or, with none, nothing that a condition has. A comparison that
 // breaks off is not whole: it is filled up, and ends where it broke off.
@@ -70,7 +70,7 @@ pub fn concluded(text: &[u8], at: usize, lines: usize, threads: usize) -> Conclu
 
 // A condition that is refused at its byte `stop`.
 fn refused(text: &[u8], at: usize, lines: usize, stop: usize) -> Conclusion
-    ensures { λ r. ⌜ (r .taken ≡ false) × (r .length ≡ 0) × (r .bytes ≡ replicate 1035 0) × (drop (r .at) (now (text .entry)) ≡ rules.claimed lines lines stop [] (drop at (now (text .entry))) .rest) ⌝ }
+    ensures { λ r. ⌜ (r .taken ≡ false) × (r .length ≡ 0) × (r .bytes ≡ replicate mostClaimed 0) × (drop (r .at) (now (text .entry)) ≡ rules.claimed lines lines stop [] (drop at (now (text .entry))) .rest) ⌝ }
 {
     let part = claimed(text, at, lines, stop);
     Conclusion {
@@ -136,7 +136,7 @@ fn claimed_to(bytes: [u8; MOST], length: usize, at: usize, whole: bool) -> Claim
 
 // Puts the unit's first bytes behind those that are there.
 fn appended(bytes: [u8; MOST], length: usize, unit: [u8; COMPARISON], size: usize) -> [u8; MOST]
-    requires { ⌜ (length + size ≤ 1035) × (size ≤ 11) ⌝ }
+    requires { ⌜ (length + size ≤ mostClaimed) × (size ≤ 11) ⌝ }
     ensures { λ r. ⌜ r ≡ paste bytes length unit size ⌝ }
 {
     let mut made = bytes;

@@ -84,11 +84,11 @@ module _ (threads : ℕ) where
   none-fine (b ∷ bytes) e = absurd (omega arith)
 
   module _ (bytes : List ℕ) where
-    pub long-bad : 1024 < length bytes → false ≡ isCondition threads bytes
+    pub long-bad : rules.conditionBytes < length bytes → false ≡ isCondition threads bytes
     unfolding isCondition
     long-bad l = rw (lt-leb _ _ l)
 
-    module _ (l : length bytes ≤ 1024) (d : length bytes ≡ 0 → ⊥) {r : Found}
+    module _ (l : length bytes ≤ rules.conditionBytes) (d : length bytes ≡ 0 → ⊥) {r : Found}
         (h : r ≡ foundIn (length bytes) (conditionAt threads (λ (t r : ℕ). 0) groupsDeep bytes)) where
       pub bad-bad : {at : ℕ} → r ≡ found.Bad at → false ≡ isCondition threads bytes
       unfolding isCondition

@@ -1,20 +1,21 @@
 -- Demand 3, and all of it, by citing. Assumes nothing.
 --     demanded      the page
-use Prim.Native.Nat.{ℕ, _≤_}
+use Prim.Native.Nat.{ℕ, _+_, _≤_}
 use mathlib.Core.List.{List, [], _∷_, Perm}
-use mathlib.Core.Bool.{true, false, and-eq-true-iff}
+use mathlib.Core.Bool.{true, false}
 use mathlib.Core.Path.{_≡_, refl, sym, ap, subst, _∙_}
 use native.Mathlib.Omega.{arith}
 use lib.ListN.{length, length-map}
-use borrow.Author.Tests.{leb-true}
+use Rattle.rules.specs.Vector.{largest}
 use Rattle.rules.specs.Path.{openIn}
 use Rattle.rules.specs.Event.{Machine, Fault, Site, impossible}
 use Rattle.rules.specs.State.{State}
 use Rattle.rules.specs.Machine.{Program, machine, final}
 use Rattle.rules.specs.Explorer as explorer
 use Rattle.rules.specs.Explorer.{Limits, Ledger, Walk, Tick, over, faulted, Stop, Verdict, exhausted, spent, unmet, stopped, execution, empty}
-use Rattle.rules.specs.Explored.{Settings, Explored, ran, reported, settingsFine, stopOf, programOf, limitsOf, verdictNumber, verdictSite}
+use Rattle.rules.specs.Explored.{Settings, Explored, ran, reported, stopOf, programOf, limitsOf, verdictNumber, verdictSite}
 use Rattle.ledger.specs.History as history
+use Rattle.rules.proofs.LimitLaws.{operations-most, executions-most, operations-fit}
 use Rattle.rules.proofs.MeasureAccepted.{good-header}
 use Rattle.ledger.specs.History.{end, Every, Course, courseOf, Made, Told, Real, executed}
 use Rattle.ledger.specs.Balance.{Balance, Balanced, Begun}
@@ -135,8 +136,7 @@ module _ (table condition : List ℕ) (s : Settings) (path trace : List ℕ) (r 
   itself = theMachine right table condition s path trace
 
   allowed : 1 ≤ s .executions
-  unfolding settingsFine
-  allowed = let f = simp and-eq-true-iff at (r .range) in omega (arith, leb-true)
+  allowed = executions-most s (r .range) .0
 
   -- the report is that of the run's stop
   begun-is : report right table condition s path trace .begun ≡ whole .walk .ledger .begun
@@ -317,9 +317,8 @@ module _ (table condition : List ℕ) (s : Settings) (path trace : List ℕ) (r 
 
   -- What is offered
 
-  few-rows : s .operations ≤ 4096
-  unfolding settingsFine
-  few-rows = let f = simp and-eq-true-iff at (r .range) in omega (arith, leb-true)
+  few-rows : s .operations + 4 ≤ largest
+  few-rows = omega (arith, operations-most s (r .range), operations-fit)
 
   pub offered : Demands.Offered right table condition s path trace
   unfolding Offers Seen

@@ -11,9 +11,10 @@ use lib.Dec.{leb, eqb}
 use borrow.Author.Tests.{le-leb, lt-leb, leb-true, eq-eqb, ne-eqb, eqb-true}
 use Rattle.rules.specs.Explored as rules
 use Rattle.rules.specs.Explored.{settingsFine, within}
+use Rattle.rules.proofs.LimitLaws.{operations-most, executions-most, operations-fit}
 use Rattle.iteration.specs.Executes.{Ready}
 
-pub settings-made : (s : rules.Settings) {a b c : Bool} → a ≡ within (s .branches) 1024 → b ≡ within (s .operations) 4096 → c ≡ within (s .executions) 65535 → a && b && c ≡ settingsFine s
+pub settings-made : (s : rules.Settings) {a b c : Bool} → a ≡ within (s .branches) rules.maxBranches → b ≡ within (s .operations) rules.maxOperations → c ≡ within (s .executions) rules.maxExecutions → a && b && c ≡ settingsFine s
 unfolding settingsFine
 settings-made s p q r = rw (p, q, r)
 
@@ -40,11 +41,9 @@ holds-not bytes records h =
     ne-eqb (bytes % 16) 0 h ∙ sym (ne-eqb bytes (16 * records) (λ (e : bytes ≡ 16 * records). h (omega arith)))
 
 module _ {table : List ℕ} {s : rules.Settings} {path trace : List ℕ} (ready : Ready table s path trace) where
-  -- "execution budget N 1..65,535"
-  pub ready-executions : (1 ≤ s .executions) × (s .executions ≤ 65535)
-  unfolding settingsFine
-  ready-executions = let f = simp and-eq-true-iff at (ready .in-range) in omega (arith, leb-true)
+  pub ready-executions : (1 ≤ s .executions) × (s .executions ≤ rules.maxExecutions)
+  ready-executions = executions-most s (ready .in-range)
 
+  -- it has room in a u16
   pub ready-operations : s .operations < 65536
-  unfolding settingsFine
-  ready-operations = let f = simp and-eq-true-iff at (ready .in-range) in omega (arith, leb-true)
+  ready-operations = let n = operations-most s (ready .in-range) in omega (arith, operations-fit)

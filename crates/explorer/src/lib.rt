@@ -21,8 +21,8 @@ pub struct Settings {
     pub exploring: bool,
 }
 
-// The largest settings, by document 01.
-pub const MAX_BRANCHES: u64 = 1024;
+// The largest settings, by document 01, and that of branches by document 02, §4.
+pub const MAX_BRANCHES: u64 = 4096;
 
 pub const MAX_OPERATIONS: u64 = 4096;
 

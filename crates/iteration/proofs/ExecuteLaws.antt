@@ -3,17 +3,19 @@
 --     executed      the ticks from there are the definition's execution
 use Prim.Native.Nat.{ℕ, _+_, _*_, _≤_, _<_}
 use mathlib.Core.List.{List, []}
-use mathlib.Core.Bool.{Bool, true, and-eq-true-iff}
+use mathlib.Core.Bool.{Bool}
 use mathlib.Core.Path.{_≡_, refl, sym, ap, subst, _∙_}
 use native.Mathlib.Omega.{arith}
 use lib.ListN.{length, getD}
-use borrow.Author.Tests.{leb-true}
+use Rattle.rules.specs.Vector.{largest}
+use Rattle.rules.specs.Path.{positions}
 use Rattle.rules.specs.State.{State, Clocks, Marks, Values, Numbers}
 use Rattle.rules.specs.Table.{threadsOf, cellsOf}
 use Rattle.rules.specs.Machine as machine
 use Rattle.rules.specs.Explorer as explorer
 use Rattle.rules.specs.Explorer.{Walk, Ledger, Tick}
-use Rattle.rules.specs.Explored.{Settings, ticksOf, programOf, limitsOf, settingsFine}
+use Rattle.rules.specs.Explored.{Settings, ticksOf, programOf, limitsOf}
+use Rattle.rules.proofs.LimitLaws.{branches-most, operations-most, branches-fit, operations-fit}
 use Rattle.layout.specs.Tables.{state}
 use Rattle.trace.proofs.FrontLaws.{front-none}
 use Rattle.meeting.specs.Stands.{Lent, lent, Stands, Comes}
@@ -34,9 +36,11 @@ started clocks marks values numbers table shape exploring threads cells e f h co
     (sym (f ∙ ready-cells (shaped .ready) (shaped .is-shape)))
 
 module _ (table condition shape : List ℕ) (s : Settings) (path trace : List ℕ) (shaped : Shaped table shape s path trace) where
-  in-range : (s .branches ≤ 1024) × (s .operations ≤ 4096)
-  unfolding settingsFine
-  in-range = let f = simp and-eq-true-iff at (shaped .ready .in-range) in omega (arith, leb-true)
+  in-range : (s .branches ≤ positions) × (s .operations < largest)
+  in-range =
+      let b = branches-most s (shaped .ready .in-range) in
+      let n = operations-most s (shaped .ready .in-range) in
+      (omega (arith, branches-fit), omega (arith, operations-fit))
 
   runs-so : {t : Terms} → Given s t → Runs (programOf table condition s) (limitsOf s) table shape (t .limits) path trace
   runs-so given =

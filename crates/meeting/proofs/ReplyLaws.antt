@@ -12,7 +12,7 @@ use lib.ListN.{length, getD}
 use Rattle.rules.specs.Event as rules
 use Rattle.rules.specs.Vector.{Whom, nobody, thread}
 use Rattle.rules.specs.Path as paths
-use Rattle.rules.specs.Path.{Branch, noBranch}
+use Rattle.rules.specs.Path.{Branch, noBranch, positions}
 use Rattle.rules.specs.Machine.{maskOf}
 use Rattle.rules.specs.Explorer as explorer
 use Rattle.rules.specs.Explorer.{says, unexpected}
@@ -56,7 +56,7 @@ module _ (path : List ℕ) (pos : ℕ) (q : Question) (e : q ≡ question.Thread
   chosen-there bs holds = h .says bs holds
 
   thread-replies : (a : Reply) → replyWithin a
-      → ((x : explorer.Reply) → pos < 65536 → ThreadSaid pos r x → AnswersBy a x) → RepliesBy path pos q a
+      → ((x : explorer.Reply) → pos < positions → ThreadSaid pos r x → AnswersBy a x) → RepliesBy path pos q a
   thread-replies a within f =
       subst (λ (k : Question). RepliesBy path pos k a) (sym e)
       (record {
@@ -67,7 +67,7 @@ module _ (path : List ℕ) (pos : ℕ) (q : Question) (e : q ≡ question.Thread
             (thread-said pos (getD bs pos noBranch) _ _ _));
       })
 
-  pub thread-chosen : {t branch : ℕ} → r ≡ chosen.Thread t → branch ≡ pos % 65536 → RepliesBy path pos q (code.Says (choice.Thread t branch))
+  pub thread-chosen : {t branch : ℕ} → r ≡ chosen.Thread t → branch ≡ pos % positions → RepliesBy path pos q (code.Says (choice.Thread t branch))
   thread-chosen {t} {branch} g at =
       thread-replies (code.Says (choice.Thread t branch)) tt
       (λ x small s.

@@ -16,7 +16,7 @@ use Rattle.rules.specs.Vector.{nobody, thread}
 use Rattle.rules.specs.State.{State, Clocks, Marks as MarkTable, Values, Numbers}
 use Rattle.rules.specs.Table.{Op, Decoded}
 use Rattle.rules.specs.Machine.{conflict, everyThread, initial, standing, isExploring, maskOf}
-use Rattle.rules.specs.Path.{Branch, noBranch}
+use Rattle.rules.specs.Path.{Branch, noBranch, positions}
 use Rattle.rules.specs.Explorer as explorer
 use Rattle.rules.specs.Explorer.{Walk, Ledger, Tick, goes, faulted, pushes, faults, says, unexpected}
 use Rattle.layout.specs.Tables.{state}
@@ -125,7 +125,7 @@ pub record Met (c : Cursor) (r : Ticked) (path : List ℕ) : Type 0 where
 -- the limit of branches is that of the path's bytes
 pub record Holding (L : explorer.Limits) (path : List ℕ) : Type 0 where
   pub branches : 16 * L .branches ≡ length path
-  pub few : L .branches ≤ 65536
+  pub few : L .branches ≤ positions
 
 -- what a function promises that adds a branch where there is none
 pub record Reaches (c : Cursor) (r : Ticked) (clocks : Clocks) (marks : MarkTable) (numbers : Numbers) (entry exit : List ℕ) (out : explorer.Limits → Walk State → Tick State) : Type 0 where
@@ -187,5 +187,5 @@ AnswersBy reply.Unexpected unexpected = Unit
 pub record RepliesBy (path : List ℕ) (pos : ℕ) (q : Question) (r : Reply) : Type 0 where
   pub within : replyWithin r
   pub is :
-      (bs : List Branch) → Holds path bs → pos < 65536 → (st : State) (t : ℕ) (row : Decoded Op)
+      (bs : List Branch) → Holds path bs → pos < positions → (st : State) (t : ℕ) (row : Decoded Op)
       → AnswersBy r (explorer.reply pos (getD bs pos noBranch) (questionOf q st t row))

@@ -1,7 +1,7 @@
 -- What a thread has read or written counts as seen by it, in every execution of every run.
 --     ticks-seen                    the ticks of an execution
 --     all-seen, seen-in-runs        the statements
-use Prim.Native.Nat.{ℕ, zero, suc, _≤_, _<_}
+use Prim.Native.Nat.{ℕ, zero, suc, _+_, _≤_, _<_}
 use mathlib.Core.List.{List, [], _∷_}
 use mathlib.Core.Bool.{true, and-eq-true-iff}
 use mathlib.Core.Path.{_≡_, refl}
@@ -15,6 +15,7 @@ use Rattle.rules.specs.State.{State, threads, cells}
 use Rattle.rules.specs.Machine.{Program, machine, final}
 use Rattle.rules.specs.Explorer.{Limits, Ledger, Walk, Tick, goes, over, faulted, tick, Execution, execution, After, after, stopsHere, goesOn, empty}
 use Rattle.rules.specs.Explored.{Settings, settingsFine, programOf, limitsOf}
+use Rattle.rules.proofs.LimitLaws.{operations-most, operations-fit}
 use Rattle.rules.proofs.MeasureStart.{start-ready}
 use Rattle.rules.proofs.MeasureAccepted.{good-header}
 use Rattle.ledger.specs.History.{Every, ticksFrom, starting, courseOf, coursesFrom, courses}
@@ -45,7 +46,7 @@ lasting-on w ws k l = (λ t c i h b e u s. go t c i h b e ws k l u s, l)
           | inr f ↦ absurd (n f)
         ]
 
-module _ (p : Program) (limits : Limits) (limited : p .operations ≤ largest) (room : limits .operations ≤ 65531) where
+module _ (p : Program) (limits : Limits) (limited : p .operations ≤ largest) (room : limits .operations + 4 ≤ largest) where
   record Both (ws : List (Walk State)) : Type 0 where
     all-watched : Every (Watching p limits) ws
     lasts : Lasting ws
@@ -127,14 +128,9 @@ unfolding Seen Replay courses
 all-seen p limits n header limited room =
     courses-seen p limits limited room header n empty [] (replay (machine p) limits n)
 
--- "operation limit L 1..4,096"
-operations-few : (settings : Settings) → settingsFine settings ≡ true → settings .operations ≤ 4096
-unfolding settingsFine
-operations-few settings e = let f = simp and-eq-true-iff at e in omega (arith, leb-true)
-
 pub seen-in-runs : SeenInRuns
 unfolding SeenInRuns Seen
 seen-in-runs table condition settings fine accepted =
-    let few = operations-few settings fine in
+    let few : settings .operations + 4 ≤ largest = omega (arith, operations-most settings fine, operations-fit) in
     all-seen (programOf table condition settings) (limitsOf settings) (settings .executions) (good-header table accepted) (omega arith)
     (omega arith)

@@ -267,7 +267,7 @@ module _ (p : Program) (limits : Limits) where
           count-on c l (inl k) = omega (arith, h .counts c l, count-most _ _ _ (went .steps) c l)
           count-on c l (inr q) = omega (arith, h .counts c l, q .counts c l, went .longer)
 
-module _ (p : Program) (limits : Limits) (limited : p .operations ≤ largest) (room : limits .operations ≤ 65531)
+module _ (p : Program) (limits : Limits) (limited : p .operations ≤ largest) (room : limits .operations + 4 ≤ largest)
     (w v : Walk State)
     (h : Holds p limits w) (g : tick (machine p) limits w ≡ goes v) (answered : Answered (machine p) limits w) where
   went-on : Went p limits w v
@@ -325,7 +325,7 @@ module _ (p : Program) (limits : Limits) (limited : p .operations ≤ largest) (
   }
 
 -- What a load or an RMW is never offered
-module _ (p : Program) (limits : Limits) (limited : p .operations ≤ largest) (room : limits .operations ≤ 65531) (w : Walk State)
+module _ (p : Program) (limits : Limits) (limited : p .operations ≤ largest) (room : limits .operations + 4 ≤ largest) (w : Walk State)
     (h : Holds p limits w) where
   never-offered : (s : State) (es : List Entry) (x : Bool) (m : Matched) →
       Machine.next p (w .state) .move ≡ asks s es x (whichSlot m) →

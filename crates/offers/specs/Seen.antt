@@ -75,7 +75,7 @@ pub record Seeing (p : Program) (limits : Limits) (c : Course State) : Type 0 wh
 -- "no version can reach it within L": the limit is below the number that stands for unseen, as every limit of a run is
 unfoldable pub Seen : Type 0
 Seen =
-    (p : Program) (limits : Limits) (n : ℕ) → headerFine (p .table) ≡ true → p .operations ≤ largest → limits .operations ≤ 65531
+    (p : Program) (limits : Limits) (n : ℕ) → headerFine (p .table) ≡ true → p .operations ≤ largest → limits .operations + 4 ≤ largest
     → Every (Seeing p limits) (courses (machine p) limits n)
 
 -- of an accepted table, within settings that are not refused

@@ -12,7 +12,7 @@ use lib.Dec.{leb, ltb, eqb}
 use lib.ListN.{length, set, replicate, length-append, length-set}
 use lib.Seq.{take-at, drop-at}
 use Rattle.rules.specs.Path as rules
-use Rattle.rules.specs.Path.{Branch, Schedule, Last, schedule, none, at, encoded, flag, activeIn, activeOf, orNone, toggled, lastSchedule, preemptionsAfter, initialAfter, prevOf, newSchedule, threadAdded, openAt, pendings, noThread}
+use Rattle.rules.specs.Path.{Branch, Schedule, Last, schedule, none, at, encoded, flag, activeIn, activeOf, orNone, toggled, lastSchedule, preemptionsAfter, initialAfter, prevOf, newSchedule, threadAdded, openAt, pendings, noThread, positions}
 use Rattle.rules.specs.Records.{recordAt, withRecord}
 use Rattle.rules.proofs.RecordLaws.{record-now, record-again, record-other}
 use Rattle.record.specs.Fields.{withField, begun, statesIn, withStatesIn, statesAt, withStatesAt}
@@ -213,7 +213,7 @@ module _ (bytes : List ℕ) (len : ℕ) (exploring : Bool) (seed : List ℕ) (ro
         position-now : positionOf prev ≡ prevOf last
         position-now = ap positionOf prev-is ∙ position-is last
 
-        prev-small : (l : Last) → foundBelow len (foundOf l) → len ≤ 65536 → prevOf l / 256 % 256 ≡ prevOf l / 256
+        prev-small : (l : Last) → foundBelow len (foundOf l) → len ≤ positions → prevOf l / 256 % 256 ≡ prevOf l / 256
         prev-small none b z = refl
         prev-small (at k s) b z = omega arith
 
@@ -241,7 +241,7 @@ module _ (bytes : List ℕ) (len : ℕ) (exploring : Bool) (seed : List ℕ) (ro
             ∙ ap statesIn (record-now bytes len room (1 ∷ flag exploring ∷ (toggledSeed ++ r)) w)
             ∙ take-at toggledSeed r 5 five-toggled
 
-        all-written : len ≤ 65536 → b₆ ≡ withRecord bytes len (encoded (schedule new))
+        all-written : len ≤ positions → b₆ ≡ withRecord bytes len (encoded (schedule new))
         unfolding encoded
         all-written z =
             cut-written
@@ -252,7 +252,7 @@ module _ (bytes : List ℕ) (len : ℕ) (exploring : Bool) (seed : List ℕ) (ro
             let m : p ≡ preemptionsAfter last = before-is bytes len exploring seed room prev found p many h same in
             as-added bytes len exploring seed bs (rw same (has-room bytes len room)) (le-ltb 255 (preemptionsAfter last) (omega arith))
 
-        holds-new : len ≤ 65536 → Holds b₆ (bs ++ (schedule new ∷ []))
+        holds-new : len ≤ positions → Holds b₆ (bs ++ (schedule new ∷ []))
         holds-new z =
             let fits : 16 * length bs + 16 ≤ length bytes = omega arith in
             rw (all-written z, ← same) (holds-added h fits (schedule new) (eq-eqb (length toggledSeed) 5 five-toggled) its-prev)

@@ -33,14 +33,14 @@ pub record Pushes (entry exit : List ℕ) (len most : ℕ) (answer : ℕ → Lis
   pub says : (bs : List rules.Branch) → Holds entry bs → length bs ≡ len → r ≡ pushedOf (answer (recordsOf entry) bs)
   pub holds : (bs : List rules.Branch) → Holds entry bs → length bs ≡ len → Holds exit (grown bs (answer (recordsOf entry) bs))
 
--- A schedule added. Two bytes say the position of the last one, so the path has at most 65536 branches.
+-- A schedule added. Two bytes say the position of the last one, so the path has at most as many branches as there are positions.
 pub record PushesThread (entry exit : List ℕ) (len : ℕ) (exploring : Bool) (seed : List ℕ) (r : Pushed) : Type 0 where
   pub within : pushedWithin entry exit len 5 r
   pub full : length entry < 16 * len + 16 → r ≡ Full
   pub keeps : length exit ≡ length entry
   pub says : (bs : List rules.Branch) → Holds entry bs → length bs ≡ len → r ≡ pushedOf (rules.threadAdded (recordsOf entry) bs exploring seed)
   pub holds :
-      (bs : List rules.Branch) → Holds entry bs → length bs ≡ len → len ≤ 65536
+      (bs : List rules.Branch) → Holds entry bs → length bs ≡ len → len ≤ rules.positions
       → Holds exit (grown bs (rules.threadAdded (recordsOf entry) bs exploring seed))
 
 pub record Seven (n r : ℕ) : Type 0 where

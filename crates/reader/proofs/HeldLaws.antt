@@ -12,10 +12,10 @@ use mathlib.Core.Logic.{_≢_}
 use lib.ListN.{length, getD, set, take, drop, replicate, length-append, length-set, length-replicate, getD-replicate, List·getD-append}
 use lib.Seq.{paste, take-all, take-at, drop-at, drop-append-add, getD-set-same, getD-set-other, set-append-left, ext-getD, length-paste}
 use Rattle.trace.specs.Entries as trace
-use Rattle.rules.specs.Table.{total}
+use Rattle.rules.specs.Table.{maxRows, total}
 use Rattle.rules.specs.Event.{little}
 use Rattle.rules.specs.Form.{rowBytes}
-use Rattle.rules.specs.Text.{Made, tableOf, filled, withCell, withThread, withRow, rowsSoFar}
+use Rattle.rules.specs.Text.{Made, tableOf, filled, withCell, withThread, withRow, rowsSoFar, tableBytes}
 use Rattle.claims.proofs.ByteLaws.{length-little}
 use Rattle.reader.specs.Tables.{Held, Cleared}
 
@@ -55,7 +55,7 @@ total-set [] i v h = absurd (omega arith)
 total-set (c ∷ cs) zero v h = omega arith
 total-set (c ∷ cs) (suc i) v h = omega (arith, total-set cs i v (omega arith))
 
-pub total-most : (cs : List ℕ) → ((i : ℕ) → getD cs i 0 ≤ 32) → total cs ≤ 32 * length cs
+pub total-most : (cs : List ℕ) → ((i : ℕ) → getD cs i 0 ≤ maxRows) → total cs ≤ maxRows * length cs
 unfolding total
 total-most [] h = omega arith
 total-most (c ∷ cs) h = omega (arith, h 0, total-most cs (λ i. h (suc i)))
@@ -65,8 +65,8 @@ length-tableOf m h = simp length-append (omega arith)
 
 -- What a buffer holds
 
-pub so-held : (exit : List ℕ) (room n : ℕ) (m : Made) → exit ≡ filled room (tableOf m) → 3880 ≤ room → m .threads ≤ 5 → m .cells ≤ 4
-    → length (m .counts) ≡ 5 → ((i : ℕ) → getD (m .counts) i 0 ≤ 32) → n ≡ 8 + length (m .body) → length (m .body) ≡ 8 * m .cells + 24 * total (m .counts)
+pub so-held : (exit : List ℕ) (room n : ℕ) (m : Made) → exit ≡ filled room (tableOf m) → tableBytes ≤ room → m .threads ≤ 5 → m .cells ≤ 4
+    → length (m .counts) ≡ 5 → ((i : ℕ) → getD (m .counts) i 0 ≤ maxRows) → n ≡ 8 + length (m .body) → length (m .body) ≡ 8 * m .cells + 24 * total (m .counts)
     → Held exit n m
 so-held exit room n m e r threads cells five few long body =
     let most = total-most (m .counts) few in
@@ -100,7 +100,7 @@ module _ (b : List ℕ) (n : ℕ) (m : Made) (held : Held b n m) where
   table-long : length (tableOf m) ≡ n
   table-long = length-tableOf m (held .five) ∙ sym (held .long)
 
-  pub within : n ≤ 3880
+  pub within : n ≤ tableBytes
   within = omega (arith, held .long, held .body, held .cells, held .five, total-most (m .counts) (held .few))
 
   grown-held : (bytes : List ℕ) → n + length bytes ≤ length b → paste b n bytes (length bytes) ≡ filled (length b) (tableOf (grown m bytes))
@@ -194,20 +194,20 @@ module _ (b : List ℕ) (n : ℕ) (m : Made) (held : Held b n m) (some : 1 ≤ g
       ∙ ap (λ (x : List ℕ). getD x (suc (suc (m .threads - 1))) 0) (held .is)
       ∙ get-count (length b) m (m .threads - 1) last
 
-module _ (b : List ℕ) (n : ℕ) (m : Made) (held : Held b n m) (some : 1 ≤ getD b 0 0) (fewer : getD b (1 + getD b 0 0) 0 < 32) where
+module _ (b : List ℕ) (n : ℕ) (m : Made) (held : Held b n m) (some : 1 ≤ getD b 0 0) (fewer : getD b (1 + getD b 0 0) 0 < maxRows) where
   row-some : 1 ≤ m .threads
   row-some = begun b n m held some
 
   inside : m .threads - 1 < length (m .counts)
   inside = last b n m held some
 
-  pub row-fewer : rowsSoFar m < 32
+  pub row-fewer : rowsSoFar m < maxRows
   row-fewer = omega (arith, count-there b n m held some)
 
-  other : (i : ℕ) → i ≢ m .threads - 1 → getD (set (m .counts) (m .threads - 1) (rowsSoFar m + 1)) i 0 ≤ 32
+  other : (i : ℕ) → i ≢ m .threads - 1 → getD (set (m .counts) (m .threads - 1) (rowsSoFar m + 1)) i 0 ≤ maxRows
   other i n = omega (arith, getD-set-other (m .counts) (m .threads - 1) i (rowsSoFar m + 1) 0 n, held .few i)
 
-  few-more : (i : ℕ) → getD (set (m .counts) (m .threads - 1) (rowsSoFar m + 1)) i 0 ≤ 32
+  few-more : (i : ℕ) → getD (set (m .counts) (m .threads - 1) (rowsSoFar m + 1)) i 0 ≤ maxRows
   few-more i =
       elim (decLt i (m .threads - 1)) [
         | yes l ↦ other i (λ (z : i ≡ m .threads - 1). omega arith)

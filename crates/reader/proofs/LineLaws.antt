@@ -11,6 +11,7 @@ use native.Mathlib.Omega.{arith}
 use borrow.Author.Tests.{lt-ltb, le-ltb, le-leb, lt-leb}
 use lib.Dec.{ltb, leb}
 use lib.ListN.{drop}
+use Rattle.rules.specs.Table.{maxRows}
 use Rattle.rules.specs.Token.{Found, nothing, found, endsLine, skip, token, pastToken, tokenLength, nextLine, numberIn}
 use Rattle.rules.specs.Form.{Followed, stuck, fits, rowIn}
 use Rattle.rules.specs.Text as rules
@@ -112,25 +113,25 @@ module _ (all rows : ℕ) (m : Made) (bs here : List ℕ) where
   abbrev rowBy : Bool → Bool → Followed → rules.Line
   rowBy s t f = cond (s && t) (rules.rowLine rows m f) (rules.refusedLine here)
 
-  row-by : (s t : Bool) → leb 1 (m .threads) ≡ s → ltb (rowsSoFar m) 32 ≡ t → (f : Followed) → rowIn (record { threads = all; cells = m .cells; rows = rows }) bs ≡ f
+  row-by : (s t : Bool) → leb 1 (m .threads) ≡ s → ltb (rowsSoFar m) maxRows ≡ t → (f : Followed) → rowIn (record { threads = all; cells = m .cells; rows = rows }) bs ≡ f
       → rowLine all rows m bs here ≡ rowBy s t f
   row-by s t e d f g =
-      ap (λ (b : Bool). rowBy b (ltb (rowsSoFar m) 32) (rowIn (record { threads = all; cells = m .cells; rows = rows }) bs)) e
+      ap (λ (b : Bool). rowBy b (ltb (rowsSoFar m) maxRows) (rowIn (record { threads = all; cells = m .cells; rows = rows }) bs)) e
       ∙ ap (λ (b : Bool). rowBy s b (rowIn (record { threads = all; cells = m .cells; rows = rows }) bs)) d
       ∙ ap (rowBy s t) g
 
   pub row-early : m .threads < 1 → rowLine all rows m bs here ≡ rules.refusedLine here
   row-early h = row-by false _ (lt-leb 1 (m .threads) h) refl _ refl
 
-  pub row-full : 1 ≤ m .threads → 32 ≤ rowsSoFar m → rowLine all rows m bs here ≡ rules.refusedLine here
-  row-full h l = row-by true false (le-leb 1 (m .threads) h) (le-ltb (rowsSoFar m) 32 l) _ refl
+  pub row-full : 1 ≤ m .threads → maxRows ≤ rowsSoFar m → rowLine all rows m bs here ≡ rules.refusedLine here
+  row-full h l = row-by true false (le-leb 1 (m .threads) h) (le-ltb (rowsSoFar m) maxRows l) _ refl
 
-  pub row-stuck : 1 ≤ m .threads → rowsSoFar m < 32 → (rest : List ℕ) → rowIn (record { threads = all; cells = m .cells; rows = rows }) bs ≡ stuck rest → rowLine all rows m bs here ≡ rules.refusedLine rest
-  row-stuck h l rest e = row-by true true (le-leb 1 (m .threads) h) (lt-ltb (rowsSoFar m) 32 l) (stuck rest) e
+  pub row-stuck : 1 ≤ m .threads → rowsSoFar m < maxRows → (rest : List ℕ) → rowIn (record { threads = all; cells = m .cells; rows = rows }) bs ≡ stuck rest → rowLine all rows m bs here ≡ rules.refusedLine rest
+  row-stuck h l rest e = row-by true true (le-leb 1 (m .threads) h) (lt-ltb (rowsSoFar m) maxRows l) (stuck rest) e
 
-  pub row-fits : 1 ≤ m .threads → rowsSoFar m < 32 → (fields rest : List ℕ) → rowIn (record { threads = all; cells = m .cells; rows = rows }) bs ≡ fits fields rest
+  pub row-fits : 1 ≤ m .threads → rowsSoFar m < maxRows → (fields rest : List ℕ) → rowIn (record { threads = all; cells = m .cells; rows = rows }) bs ≡ fits fields rest
       → rowLine all rows m bs here ≡ rules.goesOn rows (withRow m fields) rest
-  row-fits h l fields rest e = row-by true true (le-leb 1 (m .threads) h) (lt-ltb (rowsSoFar m) 32 l) (fits fields rest) e
+  row-fits h l fields rest e = row-by true true (le-leb 1 (m .threads) h) (lt-ltb (rowsSoFar m) maxRows l) (fits fields rest) e
 
 pub followed-stuck : (text : List ℕ) (r : Row) → r .fits ≡ false → followedOf text r ≡ stuck (drop (r .at) text)
 followed-stuck text r e = rw e

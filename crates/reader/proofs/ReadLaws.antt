@@ -49,16 +49,16 @@ module _ (text table condition : List ℕ) where
   read-by : (s t : Bool) → leb tableBytes (length table) ≡ s → leb conditionBytes (length condition) ≡ t → roomBy (s && t) ≡ readInto text table condition
   read-by s t e f = sym (read-next ∙ ap (λ (b : Bool). roomBy (b && leb conditionBytes (length condition))) e ∙ ap (λ (b : Bool). roomBy (s && b)) f)
 
-  pub no-table : length table < 3880 → readOf NoRoom table condition ≡ readInto text table condition
-  no-table h = read-by false _ (lt-leb 3880 (length table) h) refl
+  pub no-table : length table < tableBytes → readOf NoRoom table condition ≡ readInto text table condition
+  no-table h = read-by false _ (lt-leb tableBytes (length table) h) refl
 
-  module _ (h : 3880 ≤ length table) where
-    pub no-condition : length condition < 1024 → readOf NoRoom table condition ≡ readInto text table condition
-    no-condition l = read-by true false (le-leb 3880 (length table) h) (lt-leb 1024 (length condition) l)
+  module _ (h : tableBytes ≤ length table) where
+    pub no-condition : length condition < conditionBytes → readOf NoRoom table condition ≡ readInto text table condition
+    no-condition l = read-by true false (le-leb tableBytes (length table) h) (lt-leb conditionBytes (length condition) l)
 
-    module _ (l : 1024 ≤ length condition) where
+    module _ (l : conditionBytes ≤ length condition) where
       room : textBy (readText text) ≡ readInto text table condition
-      room = read-by true true (le-leb 3880 (length table) h) (le-leb 1024 (length condition) l)
+      room = read-by true true (le-leb tableBytes (length table) h) (le-leb conditionBytes (length condition) l)
 
       -- what was said of the text, by its answer
       pub said-refused : (t c : List ℕ) (r : Lines) (at : ℕ) → Answers text t c r (readText text) → r ≡ lines.Refused at → readText text ≡ refusedAt (drop at text)

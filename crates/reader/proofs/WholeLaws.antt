@@ -9,9 +9,10 @@ use mathlib.Core.Path.{_≡_, refl, ap, sym, _∙_, subst}
 use native.Mathlib.Omega.{arith}
 use lib.ListN.{length, getD, take, drop, replicate, length-take}
 use lib.Seq.{paste, length-take-le}
-use Rattle.rules.specs.Table.{total}
+use Rattle.rules.specs.Table.{maxRows, total}
+use Rattle.rules.specs.Condition.{conditionBytes}
 use Rattle.rules.specs.Text as rules
-use Rattle.rules.specs.Text.{Made, nothingMade, tableOf, filled, TextRead, refusedAt, accepted, linesFrom, linesIn, lineOf, readText, threadsAhead}
+use Rattle.rules.specs.Text.{Made, nothingMade, tableOf, filled, TextRead, refusedAt, accepted, linesFrom, linesIn, lineOf, readText, threadsAhead, tableBytes}
 use Rattle.token.specs.Places.{part}
 use Rattle.claims.specs.Units.{Concludes, concludedOf}
 use Rattle.claims.specs.declared.Conclusion.{Conclusion}
@@ -28,7 +29,7 @@ pub record Going (text table : List ℕ) (lines all n rows from left : ℕ) (who
   pub held : Held table n made
   pub same : linesFrom left lines all rows made (drop from text) ≡ whole
 
-none-most : (i : ℕ) → getD (replicate 5 0) i 0 ≤ 32
+none-most : (i : ℕ) → getD (replicate 5 0) i 0 ≤ maxRows
 none-most zero = omega arith
 none-most (suc zero) = omega arith
 none-most (suc (suc zero)) = omega arith
@@ -40,7 +41,7 @@ none-total : total (replicate 5 0) ≡ 0
 unfolding total
 none-total = refl
 
-blank-table : (table : List ℕ) → Blank 3880 table → Held table 8 nothingMade
+blank-table : (table : List ℕ) → Blank tableBytes table → Held table 8 nothingMade
 blank-table table b =
     let e : length table ≡ suc (suc (suc (suc (suc (suc (suc (suc (length table - 8)))))))) = omega (arith, b .room) in
     so-held table (length table) 8 nothingMade (b .is ∙ ap (λ (n : ℕ). replicate n 0) e) (b .room) (omega arith) (omega arith) refl none-most refl (omega (arith, none-total))
@@ -52,7 +53,7 @@ whole-is : (text : List ℕ) (all : ℕ) → all ≡ threadsAhead (linesIn text)
 unfolding readText
 whole-is text all e = ap (λ (k : ℕ). linesFrom (linesIn text) (linesIn text) k 0 nothingMade text) e
 
-pub going-start : (text table : List ℕ) (all : ℕ) → Blank 3880 table → all ≡ threadsAhead (length text + 1) (drop 0 text) → Going text table (length text + 1) all 8 0 0 (length text + 1) (readText text)
+pub going-start : (text table : List ℕ) (all : ℕ) → Blank tableBytes table → all ≡ threadsAhead (length text + 1) (drop 0 text) → Going text table (length text + 1) all 8 0 0 (length text + 1) (readText text)
 going-start text table all b e = record { made = nothingMade; held = blank-table table b; same = whole-is text all e }
 
 abbrev linesBy : ℕ → ℕ → ℕ → rules.Line → TextRead
@@ -131,14 +132,14 @@ module _ (text table : List ℕ) (at lines threads n : ℕ) (c : Conclusion) (cl
   long-taken : length (take (c .length) (c .bytes)) ≡ c .length
   long-taken = length-take-le (c .length) (c .bytes) (omega (arith, closes .most, closes .long))
 
-  pub closes-taken : c .taken ≡ true → (entry exit piece : List ℕ) → Blank 1024 entry → piece ≡ part 0 (c .length) (c .bytes)
+  pub closes-taken : c .taken ≡ true → (entry exit piece : List ℕ) → Blank conditionBytes entry → piece ≡ part 0 (c .length) (c .bytes)
       → exit ≡ paste entry 0 piece (length piece) → Took table exit n (c .length) (rules.concluded lines m (drop at text))
   closes-taken e entry exit piece b p x =
       let z : c .length - 0 ≡ c .length = omega arith in
       let q : piece ≡ take (c .length) (c .bytes) = p ∙ ap (λ (k : ℕ). take k (c .bytes)) z in
       let l : length piece ≡ c .length = ap length q ∙ long-taken in
       let put : exit ≡ filled (length entry) piece =
-      x ∙ ap (λ (y : List ℕ). paste y 0 piece (length piece)) (blank-filled 1024 entry b) ∙ filled-on (length entry) [] piece (omega (arith, b .room, closes .most)) in
+      x ∙ ap (λ (y : List ℕ). paste y 0 piece (length piece)) (blank-filled conditionBytes entry b) ∙ filled-on (length entry) [] piece (omega (arith, b .room, closes .most)) in
       let same : length exit ≡ length entry = ap length put ∙ length-filled (length entry) piece (omega (arith, b .room, closes .most)) in
       record {
         tableIs = tableOf m;

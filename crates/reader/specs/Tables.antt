@@ -7,18 +7,18 @@ use Prim.Native.Nat.{ℕ, _+_, _-_, _*_, _≤_, _<_}
 use mathlib.Core.List.{List}
 use mathlib.Core.Path.{_≡_}
 use lib.ListN.{length, getD, replicate}
-use Rattle.rules.specs.Table.{total}
-use Rattle.rules.specs.Text.{Made, tableOf, filled}
+use Rattle.rules.specs.Table.{maxThreads, maxCells, maxRows, headerBytes, valueBytes, rowBytes, total}
+use Rattle.rules.specs.Text.{Made, tableOf, filled, tableBytes}
 
 pub record Held (buffer : List ℕ) (n : ℕ) (m : Made) : Type 0 where
   pub is : buffer ≡ filled (length buffer) (tableOf m)
-  pub room : 3880 ≤ length buffer
-  pub threads : m .threads ≤ 5
-  pub cells : m .cells ≤ 4
-  pub five : length (m .counts) ≡ 5
-  pub few : (i : ℕ) → getD (m .counts) i 0 ≤ 32
-  pub long : n ≡ 8 + length (m .body)
-  pub body : length (m .body) ≡ 8 * m .cells + 24 * total (m .counts)
+  pub room : tableBytes ≤ length buffer
+  pub threads : m .threads ≤ maxThreads
+  pub cells : m .cells ≤ maxCells
+  pub five : length (m .counts) ≡ maxThreads
+  pub few : (i : ℕ) → getD (m .counts) i 0 ≤ maxRows
+  pub long : n ≡ headerBytes + length (m .body)
+  pub body : length (m .body) ≡ valueBytes * m .cells + rowBytes * total (m .counts)
 
 pub record Holds (buffer : List ℕ) (n : ℕ) : Type 0 where
   pub made : Made
@@ -31,7 +31,7 @@ Grows entry exit n more step = (m : Made) → Held entry n m → Held exit more 
 pub record RowFits (buffer : List ℕ) (n : ℕ) : Type 0 where
   pub holds : Holds buffer n
   pub some : 1 ≤ getD buffer 0 0
-  pub fewer : getD buffer (1 + getD buffer 0 0) 0 < 32
+  pub fewer : getD buffer (1 + getD buffer 0 0) 0 < maxRows
 
 pub record Cleared (entry exit : List ℕ) : Type 0 where
   pub is : exit ≡ replicate (length exit) 0

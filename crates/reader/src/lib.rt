@@ -4,6 +4,7 @@ ghost use mathlib.Core.Path.{_≡_};
 ghost use Prim.Native.Nat.{_+_, _≤_, _<_};
 ghost use lib.ListN.{length, getD, drop};
 ghost use lib.Seq.{paste};
+ghost use Rattle.rules.specs.Condition.{conditionBytes};
 ghost use Rattle.rules.specs.Event.{little};
 ghost use Rattle.rules.specs.Text as rules;
 ghost use Rattle.reader.specs.Tables.{Holds, RowFits, Grows, Cleared, Blank};
@@ -11,18 +12,14 @@ ghost use Rattle.reader.specs.Lines.{Bare, Steps, Closes, Answers, readO
 use condition::CONDITION_BYTES;
 use form::Fields;
 use form::Room;
+use layout::MAX_CELLS;
+use layout::MAX_THREADS;
+use table::limits::HEADER;
+use table::limits::MAX_ROWS;
+use table::limits::ROW;
+pub use table::limits::TABLE_BYTES;
+use table::limits::VALUE;
 use token::Found;
-
-// The bytes of the largest table.
-pub const TABLE_BYTES: usize = 3880;
-
-const HEADER: usize = 8;
-
-const MAX_THREADS: u8 = 5;
-
-const MAX_CELLS: usize = 4;
-
-const MAX_ROWS: u8 = 32;
 
 // How a text was read: a buffer was too short; refused at a line and column, both from 1; or taken, with the lengths of its table and
 // its condition.
@@ -73,7 +70,7 @@ pub fn read(text: &[u8], table: &mut [u8], condition: &mut [u8]) -> ReadText
 
 // All lines, over buffers of zeros.
 fn lines_from(text: &[u8], table: &mut [u8], condition: &mut [u8]) -> Lines
-    requires { ⌜ Blank 3880 (now table) × Blank 1024 (now condition) ⌝ }
+    requires { ⌜ Blank rules.tableBytes (now table) × Blank conditionBytes (now condition) ⌝ }
     ensures { λ r. ⌜ Answers (now (text .entry)) (now (table .exit)) (now (condition .exit)) r (rules.readText (now (text .entry))) ⌝ }
 {
     let lines = text.len() + 1;
@@ -107,7 +104,7 @@ fn concluded(
     table: &[u8],
     condition: &mut [u8],
 ) -> Lines
-    requires { ⌜ Holds (now table) length × Blank 1024 (now condition) ⌝ }
+    requires { ⌜ Holds (now table) length × Blank conditionBytes (now condition) ⌝ }
     ensures { λ r. ⌜ Closes (now (text .entry)) (now (table .entry)) (now (condition .exit)) length r (λ m. rules.concluded lines m (drop at (now (text .entry)))) ⌝ }
 {
     let threads = table[0] as usize;
@@ -183,7 +180,8 @@ fn a_thread(
     requires { ⌜ Holds (now table) length ⌝ }
     ensures { λ r. ⌜ Steps (now (text .entry)) (now (table .entry)) (now (table .exit)) length r (λ m. threadLine lines m (drop here (now (text .entry))) (drop to (now (text .entry)))) ⌝ }
 {
-    if MAX_THREADS <= table[0] {
+    let threads = table[0] as usize;
+    if MAX_THREADS <= threads {
         return Line::Refused(here);
     }
     let rows = ahead::rows_ahead(text, token::next_line(text, here), lines);
@@ -208,7 +206,8 @@ fn a_row(
     if threads == 0 {
         return Line::Refused(here);
     }
-    if MAX_ROWS <= table[1 + threads] {
+    let before = table[1 + threads] as usize;
+    if MAX_ROWS <= before {
         return Line::Refused(here);
     }
     let room = Room {
@@ -222,7 +221,7 @@ fn a_row(
     }
     let fields = row.fields;
     add_row(table, length, fields);
-    Line::GoesOn(rows, length + 24, row.at)
+    Line::GoesOn(rows, length + ROW, row.at)
 }
 
 // "cells" and one to four start values.
@@ -243,7 +242,7 @@ fn cells_line(text: &[u8], at: usize, length: usize, table: &mut [u8]) -> Line
             return bare_then(text, from, 0, long);
         };
         add_cell(table, long, value);
-        long += 8;
+        long += VALUE;
         from = to;
         left -= 1;
     }

@@ -39,8 +39,8 @@ pub const TRACE_LEFT: usize = 42;
 // Where a case has a condition, it stands behind the answer.
 pub const CONDITION: usize = 43;
 
-// The longest table that a line may hold; the longest that is accepted has 3,880 bytes.
-pub const MOST_TABLE: usize = 4096;
+// The longest table that a line may hold, longer than any that is accepted.
+pub const MOST_TABLE: usize = 8192;
 
 // The number in each field that has one.
 pub type Numbers = [u64; 43];
@@ -132,8 +132,8 @@ pub fn list_is_wrong(numbers: &Numbers) -> bool {
     list != NOT_GIVEN && list != 5
 }
 
-// Writes a table's or a condition's bytes; answers how many there are, or more than 4,096 if they do not fit.
-pub fn read_table(text: &[u8], table: &mut [u8; 4096]) -> usize {
+// Writes a table's or a condition's bytes; answers how many there are, or more than fit.
+pub fn read_table(text: &[u8], table: &mut [u8; MOST_TABLE]) -> usize {
     if fields::is_byte(text, b'-') {
         return 0;
     }

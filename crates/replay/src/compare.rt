@@ -2,6 +2,7 @@
 use crate::buffers;
 use crate::buffers::Compared;
 use crate::case;
+use crate::case::MOST_TABLE;
 use crate::case::Numbers;
 use crate::fields;
 use crate::fields::FIELDS;
@@ -53,7 +54,7 @@ pub fn replay_line(line: &[u8], path: &mut [u8], trace: &mut [u8]) -> Outcome {
     if count != FIELDS && !fields::is_hex(condition_text(line, &starts)) {
         return Outcome::Field(case::CONDITION);
     }
-    let mut table = [0u8; 4096];
+    let mut table = [0u8; MOST_TABLE];
     let size = case::read_table(
         fields::text(line, starts[case::TABLE], starts[case::TABLE + 1]),
         &mut table,
@@ -80,7 +81,7 @@ fn condition_text<'a>(line: &'a [u8], starts: &Starts) -> &'a [u8] {
 }
 
 // The first `n` bytes, or all if there are fewer.
-fn first_bytes(bytes: &[u8; 4096], n: usize) -> &[u8] {
+fn first_bytes(bytes: &[u8; MOST_TABLE], n: usize) -> &[u8] {
     let all: &[u8] = bytes;
     if n <= all.len() {
         return &all[0..n];
@@ -93,7 +94,7 @@ fn run_case(
     line: &[u8],
     starts: &Starts,
     numbers: &Numbers,
-    table: &[u8; 4096],
+    table: &[u8; MOST_TABLE],
     size: usize,
     path: &mut [u8],
     trace: &mut [u8],
@@ -102,9 +103,9 @@ fn run_case(
     if bytes.len() < size {
         return Outcome::Field(case::TABLE);
     }
-    let mut condition = [0u8; 4096];
+    let mut condition = [0u8; MOST_TABLE];
     let claimed = case::read_table(condition_text(line, starts), &mut condition);
-    if case::MOST_TABLE < claimed {
+    if MOST_TABLE < claimed {
         return Outcome::Field(case::CONDITION);
     }
     let claim = first_bytes(&condition, claimed);

@@ -66,7 +66,7 @@ so-end threads i t [] e h = refl
 so-end threads i zero (c ∷ cs) e h = so-start (c ∷ cs) ∙ zeros-past threads i (c ∷ cs) (omega arith) h
 so-end threads i (suc t) (c ∷ cs) e h = ap (λ (l : List ℕ). c ∷ l) (so-end threads (i + 1) t cs (omega arith) (count-on threads i c cs h))
 
--- "row counts 0..32"
+-- "five row counts"
 pub count-few : (threads i : ℕ) (cs : List ℕ) → countsFine threads i cs ≡ true → (t : ℕ) → getD cs t 0 ≤ maxRows
 unfolding countsFine
 count-few threads i [] h t = omega arith

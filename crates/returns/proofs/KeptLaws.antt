@@ -12,7 +12,7 @@ use native.Mathlib.Decide.{ℕ-discrete}
 use lib.ListN.{length, getD, take, replicate, length-append, length-set}
 use lib.Seq.{getD-set-same, getD-set-other, take-set-le}
 use Rattle.rules.specs.Event.{little}
-use Rattle.rules.specs.Table.{total, isFine, rowDecoded, rowFrom, Row}
+use Rattle.rules.specs.Table.{maxRows, total, isFine, rowDecoded, rowFrom, Row}
 use Rattle.rules.specs.Form.{rowBytes}
 use Rattle.rules.specs.Text.{Made, nothingMade, withCell, withThread, withRow, rowsSoFar}
 use Rattle.returns.proofs.ByteLaws.{bytes-append, little-bytes, row-is-bytes}
@@ -24,7 +24,7 @@ use Rattle.returns.proofs.MadeLaws.{RowFits, Kept}
 
 -- One row more
 
-module _ (allThreads rows : ℕ) (m : Made) (h : Kept allThreads rows m) (some : 1 ≤ m .threads) (few : rowsSoFar m < 32)
+module _ (allThreads rows : ℕ) (m : Made) (h : Kept allThreads rows m) (some : 1 ≤ m .threads) (few : rowsSoFar m < maxRows)
     (bs fields rest : List ℕ) (r : RowRead (roomFor allThreads rows m) bs fields rest) where
   -- the last thread
   last : ℕ

@@ -12,7 +12,7 @@ use native.Mathlib.Decide.{ℕ-discrete, decLt}
 use lib.ListN.{length, getD, take, length-append}
 use lib.Seq.{take-at, getD-at}
 use borrow.Author.Tests.{le-leb, lt-ltb}
-use Rattle.rules.specs.Table.{countsOf, countsFine, total, sizeOf, judged, good, isFine, rowDecoded, rowFrom, rowAt, opAt, Row}
+use Rattle.rules.specs.Table.{maxCells, maxRows, allRows, countsOf, countsFine, total, sizeOf, judged, good, isFine, rowDecoded, rowFrom, rowAt, opAt, Row}
 use Rattle.rules.specs.ConditionTree.{AllBytes}
 use Rattle.rules.specs.Text.{Made, tableOf, rowsSoFar}
 use Rattle.returns.proofs.ByteLaws.{bytes-append}
@@ -23,7 +23,7 @@ use Rattle.returns.proofs.AppendLaws.{row-behind}
 -- row i of thread k in these bytes is fine, if there are not too many threads and rows
 abbrev pub RowFits : (allThreads rows : ℕ) → (cells : ℕ) (counts body : List ℕ) → (k i : ℕ) → Type 0
 RowFits allThreads rows cells counts body k i =
-    allThreads ≤ 5 → rows ≤ 32 → isFine (rowDecoded allThreads cells rows (rowFrom body (8 * cells + 24 * (total (take k counts) + i)))) ≡ true
+    allThreads ≤ 5 → rows ≤ maxRows → isFine (rowDecoded allThreads cells rows (rowFrom body (8 * cells + 24 * (total (take k counts) + i)))) ≡ true
 
 pub record Kept (allThreads rows : ℕ) (m : Made) : Type 0 where
   pub five : length (m .counts) ≡ 5
@@ -31,14 +31,14 @@ pub record Kept (allThreads rows : ℕ) (m : Made) : Type 0 where
   pub threads-few : m .threads ≤ 5
   pub some : 1 ≤ m .threads → 1 ≤ m .cells
   pub past : (k : ℕ) → m .threads ≤ k → getD (m .counts) k 0 ≡ 0
-  pub few : (k : ℕ) → getD (m .counts) k 0 ≤ 32
+  pub few : (k : ℕ) → getD (m .counts) k 0 ≤ maxRows
   pub size : length (m .body) ≡ 8 * m .cells + 24 * total (m .counts)
   pub bytes : AllBytes (m .body)
   -- the threads before the last have as many rows as they were to have, and the last so far
   pub earlier : (k : ℕ) → suc k < m .threads → (i : ℕ) → i < getD (m .counts) k 0 → RowFits allThreads (getD (m .counts) k 0) (m .cells) (m .counts) (m .body) k i
   pub current : (k : ℕ) → suc k ≡ m .threads → (i : ℕ) → i < getD (m .counts) k 0 → RowFits allThreads rows (m .cells) (m .counts) (m .body) k i
 
-few-bytes : (cs : List ℕ) → ((k : ℕ) → getD cs k 0 ≤ 32) → AllBytes cs
+few-bytes : (cs : List ℕ) → ((k : ℕ) → getD cs k 0 ≤ maxRows) → AllBytes cs
 few-bytes [] h = tt
 few-bytes (c ∷ cs) h = (omega (arith, h 0), few-bytes cs (λ k. h (suc k)))
 
@@ -97,7 +97,7 @@ module _ (allThreads rows : ℕ) (m : Made) (h : Kept allThreads rows m) (some :
       let cells = h .cells-few in
       let five = h .five in
       let e : sizeOf (m .cells) j ≡ 8 + (8 * m .cells + 24 * (total (take k (m .counts)) + i)) = omega arith in
-      rw (le-leb (m .cells) 4 cells, lt-ltb j 160 (omega arith), le-leb (sizeOf (m .cells) j + 24) (length t) (omega (arith, long, h .size)))
+      rw (le-leb (m .cells) maxCells cells, lt-ltb j allRows (omega arith), le-leb (sizeOf (m .cells) j + 24) (length t) (omega (arith, long, h .size)))
       (ap (rowFrom t) e
       ∙ ap (λ (l : List ℕ). rowFrom l (8 + (8 * m .cells + 24 * (total (take k (m .counts)) + i)))) behind-head
       ∙ row-behind head (m .body) 8 (8 * m .cells + 24 * (total (take k (m .counts)) + i)) head-long)

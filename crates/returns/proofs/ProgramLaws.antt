@@ -10,7 +10,7 @@ use native.Mathlib.Omega.{arith}
 use native.Mathlib.Numerals.{add-one}
 use lib.ListN.{length, getD, set, take, drop, length-append, length-take, length-drop}
 use Rattle.rules.specs.ConditionTree.{AllBytes}
-use Rattle.rules.specs.Table.{threadsOf, cellsOf, countsOf, sizeOf, total, firstRows, Row, rowAt}
+use Rattle.rules.specs.Table.{maxRows, threadsOf, cellsOf, countsOf, sizeOf, total, firstRows, Row, rowAt}
 use Rattle.rules.specs.Form.{Room, rowBytes}
 use Rattle.rules.specs.Token.{bytesOf, lineFeed}
 use Rattle.rules.specs.Text.{Made, withRow, withThread, TextRead, linesFrom}
@@ -72,7 +72,7 @@ module _ (t : List ℕ) (bytes : AllBytes t) (fine : Fine t) where
       ap (λ (x : List ℕ). take n (drop 8 t) ++ x) rowed ∙ sym (parts t bytes n 24 8) ∙ ap (λ (x : ℕ). take x (drop 8 t)) g in
       λ i. record { cells = cellsOf t; threads = k + 1; counts = more i; body = body i }
 
-  few-rows : (k j : ℕ) → k < 5 → j < getD counts k 0 → getD (soFar counts k j) (k + 1 - 1) 0 < 32
+  few-rows : (k j : ℕ) → k < 5 → j < getD counts k 0 → getD (soFar counts k j) (k + 1 - 1) 0 < maxRows
   few-rows k j h l =
       let e : k + 1 - 1 ≡ k = omega arith in
       rw (e, so-at counts k j (omega (arith, counts-five))) (omega (arith, count-few (threadsOf t) 0 counts (fine .header .counts) k))

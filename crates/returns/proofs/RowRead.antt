@@ -12,7 +12,7 @@ use lib.ListN.{length, getD}
 use lib.Seq.{ext-getD}
 use borrow.Author.Tests.{eqb-true, ltb-true, leb-true, lt-ltb, not-true}
 use Rattle.rules.specs.Vector.{equal}
-use Rattle.rules.specs.Table.{Row, isFine, rowDecoded}
+use Rattle.rules.specs.Table.{maxRows, Row, isFine, rowDecoded}
 use Rattle.rules.specs.Token.{bytesOf, run, tokenLength, endsLine, skip, nextLine}
 use Rattle.rules.specs.Form.{Room, Form, forms, fieldOf, blankFields, mostWords, Followed, stuck, fits, follow, tried, further, rowIn}
 use Rattle.rules.specs.Writer.{formIn, fieldsOf}
@@ -82,7 +82,7 @@ fields-back fields e =
 abbrev pub limitAt : ℕ → ℕ
 limitAt i = cond (ltb i 6) 256 (cond (eqb i 6) 65536 (2 ^ 64))
 
-letter-limit : (room : Room) (v : ℕ) → room .cells ≤ 4 → room .threads ≤ 5 → room .rows ≤ 32 → v < 2 ^ 64 → (b : ℕ) → ltb (fieldOf b) 9 ≡ true → inRange room b v ≡ true → v < limitAt (fieldOf b)
+letter-limit : (room : Room) (v : ℕ) → room .cells ≤ 4 → room .threads ≤ 5 → room .rows ≤ maxRows → v < 2 ^ 64 → (b : ℕ) → ltb (fieldOf b) 9 ≡ true → inRange room b v ≡ true → v < limitAt (fieldOf b)
 unfolding fieldOf inRange
 letter-limit room v c t r s b h =
     letter-cases (λ (x : ℕ). inRange room x v ≡ true → v < limitAt (fieldOf x)) b h
@@ -147,7 +147,7 @@ sound-so f e =
 
 pub record RowRead (room : Room) (bs fields rest : List ℕ) : Type 0 where
   pub fine : isFine (rowDecoded (room .threads) (room .cells) (room .rows) (rowWith fields)) ≡ true
-  pub within : room .cells ≤ 4 → room .threads ≤ 5 → room .rows ≤ 32 → (i : ℕ) → i < 9 → getD fields i 0 < limitAt i
+  pub within : room .cells ≤ 4 → room .threads ≤ 5 → room .rows ≤ maxRows → (i : ℕ) → i < 9 → getD fields i 0 < limitAt i
   pub long : length fields ≡ 9
   pub next : rest ≡ nextLine bs
 
@@ -175,7 +175,7 @@ module _ (room : Room) (f : Form) (s : Sound f) (p : Pieces f) (fields : List �
       ∙ ap (λ (g : Form). rowFine room g fields) (s .own)
       ∙ fine-by
 
-  limits : room .cells ≤ 4 → room .threads ≤ 5 → room .rows ≤ 32 → (i : ℕ) → i < 9 → getD fields i 0 < limitAt i
+  limits : room .cells ≤ 4 → room .threads ≤ 5 → room .rows ≤ maxRows → (i : ℕ) → i < 9 → getD fields i 0 < limitAt i
   limits c t r i l = by (names (lettersOn (piecesOf f)) i) refl
     where
       by : (x : Bool) → names (lettersOn (piecesOf f)) i ≡ x → getD fields i 0 < limitAt i

@@ -12,7 +12,7 @@ use lib.ListN.{length, getD, set}
 use lib.Seq.{getD-set-same}
 use borrow.Author.Tests.{eqb-true, eqb-false, leb-true, leb-false, ltb-true}
 use Rattle.rules.specs.Vector.{equal}
-use Rattle.rules.specs.Table.{judged, good}
+use Rattle.rules.specs.Table.{maxRows, judged, good}
 use Rattle.rules.specs.ConditionTree.{AllBytes}
 use Rattle.rules.specs.Token.{bytesOf, tokenLength, isEmpty, skip, token, pastToken, nextLine, Found, nothing, found, numberIn}
 use Rattle.rules.specs.Form.{Followed, stuck, fits, rowIn}
@@ -165,7 +165,7 @@ module _ (l allThreads : ℕ) where
           fresh : getD (m .counts) (m .threads + 1 - 1) 0 ≡ 0
           fresh = h .past (m .threads + 1 - 1) (omega arith)
 
-      row-after : 1 ≤ m .threads → rowsSoFar m < 32 → isBare bs ≡ false → says "thread" bs ≡ false → (r : Followed) → rowIn (roomFor allThreads rows m) bs ≡ r → After (rowLine rows m r)
+      row-after : 1 ≤ m .threads → rowsSoFar m < maxRows → isBare bs ≡ false → says "thread" bs ≡ false → (r : Followed) → rowIn (roomFor allThreads rows m) bs ≡ r → After (rowLine rows m r)
       row-after s f b t (stuck rest) e = tt
       row-after s f b t (fits fields rest) e =
           let read = row-read (roomFor allThreads rows m) bs fields rest e in
@@ -197,9 +197,9 @@ module _ (l allThreads : ℕ) where
 
     one-row : isEmpty (skip bs) ≡ false → isBare bs ≡ false → says "thread" bs ≡ false → says "finally" bs ≡ false → After (aRow allThreads rows m bs)
     one-row full b t f =
-        pick After (leb 1 (m .threads) && ltb (rowsSoFar m) 32)
+        pick After (leb 1 (m .threads) && ltb (rowsSoFar m) maxRows)
         (λ s.
-        row-after full f (leb-true 1 (m .threads) (both-left (leb 1 (m .threads)) _ s)) (ltb-true (rowsSoFar m) 32 (both-right (leb 1 (m .threads)) _ s)) b t
+        row-after full f (leb-true 1 (m .threads) (both-left (leb 1 (m .threads)) _ s)) (ltb-true (rowsSoFar m) maxRows (both-right (leb 1 (m .threads)) _ s)) b t
         (rowIn (roomFor allThreads rows m) bs) refl)
         (λ s. tt)
 

@@ -14,7 +14,7 @@ use lib.Dec.{ltb, leb, eqb}
 use lib.ListN.{length, getD, take, drop, take-append-drop}
 use lib.Seq.{drop-cons, drop-drop}
 use borrow.Author.Tests.{ltb-false, leb-true, eqb-true, le-ltb, le-leb, eq-eqb}
-use Rattle.rules.specs.Table.{maxThreads, maxCells, sizeOf, threadsOf, cellsOf, countsOf, countsFine, total, headerFine, good, badHeader, badRow, judged, rowsJudged, firstBad, firstNot, isFine, opAt, rowAt, rowFrom, rowDecoded, noRow, refused}
+use Rattle.rules.specs.Table.{maxThreads, maxCells, allRows, sizeOf, threadsOf, cellsOf, countsOf, countsFine, total, headerFine, good, badHeader, badRow, judged, rowsJudged, firstBad, firstNot, isFine, opAt, rowAt, rowFrom, rowDecoded, noRow, refused}
 use Rattle.rules.proofs.MeasureRows.{both-left, both-right}
 use Rattle.rules.proofs.MeasureAccepted.{good-header}
 use Rattle.returns.proofs.TokenLaws.{also}
@@ -97,7 +97,7 @@ module _ (t : List ℕ) (threads cells : ℕ) where
   unfolding opAt rowAt rowDecoded
   row-there count i h = record {
     is = ap (λ (x : Bool). cond x (rowFrom t (sizeOf cells i)) noRow) e;
-    within = leb-true (sizeOf cells i + 24) (length t) (both-right (leb cells maxCells && ltb i 160) _ e);
+    within = leb-true (sizeOf cells i + 24) (length t) (both-right (leb cells maxCells && ltb i allRows) _ e);
     fine = f;
   }
     where
@@ -112,7 +112,7 @@ module _ (t : List ℕ) (threads cells : ℕ) where
       held true k = refl
       held false k = absurd (true≢false (sym k))
 
-      e : (leb cells maxCells && ltb i 160 && leb (sizeOf cells i + 24) (length t)) ≡ true
+      e : (leb cells maxCells && ltb i allRows && leb (sizeOf cells i + 24) (length t)) ≡ true
       e = held _ f
 
 -- The header

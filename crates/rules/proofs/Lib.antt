@@ -1,6 +1,7 @@
 pub mod AccessLaws
 pub mod ConditionLaws
 pub mod ExploredLaws
+pub mod LimitLaws
 pub mod MarkLaws
 pub mod Measure
 pub mod MeasureAccepted

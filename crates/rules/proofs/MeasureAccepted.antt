@@ -16,6 +16,7 @@ use Rattle.rules.specs.Machine.{Program, machine}
 use Rattle.rules.specs.Explorer.{Ledger, Walk, tick, walked, fresh, oneBegun, execution}
 use Rattle.rules.specs.Explored.{Settings, settingsFine, programOf, limitsOf, ticksOf}
 use Rattle.rules.specs.Measure.{Ready}
+use Rattle.rules.proofs.LimitLaws.{operations-most, operations-fit}
 use Rattle.rules.proofs.MeasureStart.{start-ready, start-measure}
 use Rattle.rules.proofs.MeasureWalk.{ticks-enough, last-tick}
 
@@ -32,10 +33,8 @@ pub header-within : (table : List ℕ) → headerFine table ≡ true → (1 ≤ 
 unfolding headerFine
 header-within table e = let f = simp and-eq-true-iff at e in omega (arith, leb-true)
 
--- "operation limit L 1..4,096"
 pub operations-within : (s : Settings) → settingsFine s ≡ true → s .operations ≤ largest
-unfolding settingsFine
-operations-within s e = let f = simp and-eq-true-iff at e in omega (arith, leb-true)
+operations-within s e = omega (arith, operations-most s e, operations-fit)
 
 module _ (table condition : List ℕ) (s : Settings) (header : headerFine table ≡ true) (settings : settingsFine s ≡ true) (l : Ledger) where
   abbrev p : Program

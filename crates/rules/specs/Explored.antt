@@ -164,12 +164,23 @@ ran pathBytes traceBytes r = record {
   trace = noted traceBytes (r .walk .trace);
 }
 
--- "Branch limit B 1..1,024; operation limit L 1..4,096; execution budget N 1..65,535"
+-- "operation limit L 1..4,096; execution budget N 1..65,535", and of B "branches from 1,024 to 4,096" (document 02, §4): each limit
+-- here alone. What proofs need of their size is in proofs/LimitLaws
+abbrev pub maxBranches : ℕ
+maxBranches = 4096
+
+abbrev pub maxOperations : ℕ
+maxOperations = 4096
+
+abbrev pub maxExecutions : ℕ
+maxExecutions = 65535
+
 abbrev pub within : ℕ → ℕ → Bool
 within n most = leb 1 n && leb n most
 
 unfoldable pub settingsFine : Settings → Bool
-settingsFine s = within (s .branches) 1024 && within (s .operations) 4096 && within (s .executions) 65535
+settingsFine s =
+    within (s .branches) maxBranches && within (s .operations) maxOperations && within (s .executions) maxExecutions
 
 -- "2 B, L or N out of range; 3 path buffer length wrong; 4 trace buffer .. length wrong; 5 table refused". "The path buffer has
 -- exactly 16·B bytes, the trace buffer 16·L." And of the condition's bytes (docs/GRAMMAR.md): "those that are no condition .. are

@@ -41,6 +41,10 @@ noThread = 255
 abbrev pub noPrev : ℕ
 noPrev = 65535
 
+-- "prev u16": so many positions can be told apart in it, and in an access's branch
+abbrev pub positions : ℕ
+positions = 65536
+
 -- "schedule: five states .., preemptions, initial active or 255, prev u16 or 65535"
 pub record Schedule : Type 0 where
   pub exploring : Bool

@@ -22,9 +22,9 @@ maxThreads = 5
 abbrev pub maxCells : ℕ
 maxCells = 4
 
--- "five row counts 0..32"
+-- "Raise rows for each thread from 32 to 64" (document 02, §4)
 abbrev pub maxRows : ℕ
-maxRows = 32
+maxRows = 64
 
 -- the rows of the largest table
 abbrev pub allRows : ℕ
@@ -70,7 +70,7 @@ cellsOf t = getD t 1 0
 unfoldable pub countsOf : List ℕ → List ℕ
 countsOf t = take maxThreads (drop 2 t)
 
--- "five row counts 0..32 (0 past the thread count)"
+-- "five row counts .. (0 past the thread count)"
 abbrev pub countFine : ℕ → ℕ → ℕ → Bool
 countFine threads i c = cond (ltb i threads) (leb c maxRows) (eqb c 0)
 
@@ -88,7 +88,7 @@ total (c ∷ cs) = c + total cs
 abbrev pub sizeOf : ℕ → ℕ → ℕ
 sizeOf cells rows = headerBytes + valueBytes * cells + rowBytes * rows
 
--- "Header of 8 bytes: threads 1..5, cells 1..4, five row counts 0..32 (0 past the thread count), a zero.", and the length [Q14]
+-- "Header of 8 bytes: threads 1..5, cells 1..4, five row counts .. (0 past the thread count), a zero.", and the length [Q14]
 unfoldable pub headerFine : List ℕ → Bool
 headerFine t =
     leb headerBytes (length t)

@@ -78,7 +78,6 @@ module _ (table condition : List ℕ) (s : Settings) (accepted : judged table �
   within : (1 ≤ threadsOf table) × (threadsOf table ≤ threads) × (cellsOf table ≤ cells)
   within = header-within table (good-header table accepted)
 
-  -- "operation limit L 1..4,096"
   limited : s .operations ≤ largest
   limited = operations-within s fine
 

@@ -8,7 +8,7 @@ use lib.Dec.{ltb, leb, eqb}
 use lib.ListN.{length}
 use borrow.Author.Tests.{ltb-true, leb-true}
 use Rattle.rules.specs.Change.{Change}
-use Rattle.rules.specs.Table.{Row, Op, Decoded, refused, decoded, onlyIf, isRegister, fenceOrder, load, store, storeRegister, rmw, fence, unsyncLoad, exclusive, yield, join, jump, jumpIf, jumpUnless, check, critical, exploreState, skipBranch, spurious, loadRow, storeRow, storeRegisterRow, rmwRow, fenceRow, unsyncLoadRow, exclusiveRow, bareRow, joinRow, jumpRow, jumpOnRow, checkRow, spuriousRow, changeDecoded, rowDecoded, sizeOf, rowFrom, noRow, rowAt, opAt}
+use Rattle.rules.specs.Table.{maxThreads, maxCells, allRows, rowBytes, Row, Op, Decoded, refused, decoded, onlyIf, isRegister, fenceOrder, load, store, storeRegister, rmw, fence, unsyncLoad, exclusive, yield, join, jump, jumpIf, jumpUnless, check, critical, exploreState, skipBranch, spurious, loadRow, storeRow, storeRegisterRow, rmwRow, fenceRow, unsyncLoadRow, exclusiveRow, bareRow, joinRow, jumpRow, jumpOnRow, checkRow, spuriousRow, changeDecoded, rowDecoded, sizeOf, rowFrom, noRow, rowAt, opAt}
 use Rattle.decode.specs.declared.Decoded as row
 use Rattle.decode.specs.declared.Decoded.the-variants as rows
 use Rattle.decode.specs.declared.Op as code
@@ -130,14 +130,14 @@ unfolding rowDecoded
 no-row threads cells count = none
 
 module _ (t : List ℕ) (threads cells count index : ℕ) where
-  held : threads ≤ 5 → (b : Bool) → b ≡ (leb cells 4 && ltb index 160 && leb (sizeOf cells index + 24) (length t)) →
+  held : threads ≤ maxThreads → (b : Bool) → b ≡ (leb cells maxCells && ltb index allRows && leb (sizeOf cells index + rowBytes) (length t)) →
       In (rowDecoded threads cells count (cond b (rowFrom t (sizeOf cells index)) noRow))
-  held few true e = row-in _ _ _ _ few (leb-true cells 4 (first _ _ (first _ _ (sym e))))
+  held few true e = row-in _ _ _ _ few (leb-true cells maxCells (first _ _ (first _ _ (sym e))))
   held few false e = no-row _ _ _
 
-  asked : (b : Bool) → b ≡ leb threads 5 → In (cond b (rowDecoded threads cells count (rowAt t cells index)) refused)
+  asked : (b : Bool) → b ≡ leb threads maxThreads → In (cond b (rowDecoded threads cells count (rowAt t cells index)) refused)
   unfolding rowAt
-  asked true e = held (leb-true threads 5 (sym e)) _ refl
+  asked true e = held (leb-true threads maxThreads (sym e)) _ refl
   asked false e = none
 
   op-in : allInRange (opAt t threads cells count index)

@@ -1,8 +1,9 @@
 // The sizes of a table, here alone. Threads and cells have their limits in crate layout.
+use layout::MAX_CELLS;
 use layout::MAX_THREADS;
 
 // The rows of one thread, and of the largest table.
-pub const MAX_ROWS: usize = 32;
+pub const MAX_ROWS: usize = 64;
 
 pub const ALL_ROWS: usize = MAX_THREADS * MAX_ROWS;
 
@@ -12,3 +13,6 @@ pub const HEADER: usize = 8;
 pub const VALUE: usize = 8;
 
 pub const ROW: usize = 24;
+
+// The bytes of the largest table.
+pub const TABLE_BYTES: usize = HEADER + VALUE * MAX_CELLS + ROW * ALL_ROWS;

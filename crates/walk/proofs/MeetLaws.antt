@@ -20,7 +20,7 @@ use Rattle.rules.specs.Vector.{nobody, thread}
 use Rattle.rules.specs.State.{State, Clocks, Marks as MarkTable, Values, Numbers}
 use Rattle.rules.specs.Table.{Op, Decoded}
 use Rattle.rules.specs.Path as paths
-use Rattle.rules.specs.Path.{Branch, noBranch}
+use Rattle.rules.specs.Path.{Branch, noBranch, positions}
 use Rattle.rules.specs.Machine.{Program, machine, scheduled, readFrom, bitTaken, maskOf, active, activeRow, rowOf, answered, isExploring}
 use Rattle.rules.specs.Explorer as explorer
 use Rattle.rules.specs.Explorer.{Walk, Tick, goes, over, faulted, pushes, faults, says, unexpected}
@@ -191,7 +191,7 @@ module _ (c : Cursor) (m : Ticked) (h : Here) (q : Question) (clocks : Clocks) (
       }
 
   module _ (goes-on : m .outcome ≡ code.Goes) (long : length there ≡ length path) (a : Reply) (ans : RepliesBy there (m .cursor .pos) q a) (r : Ticked) (exit : Lent) where
-    small : (L : explorer.Limits) → Holding L path → m .cursor .pos < 65536
+    small : (L : explorer.Limits) → Holding L path → m .cursor .pos < positions
     small L room = omega (arith, met-ahead (reach .met) goes-on, reach .met .within, long, room .branches, room .few)
 
     answers : (p : Program) (L : explorer.Limits) (w v : Walk State) → Holding L path → Stands reaching (m .cursor) v → AnswersBy a (explorer.reply (v .pos) (getD (v .ledger .path) (v .pos) noBranch) (askedAt q h (w .state)))

@@ -8,6 +8,7 @@ use mathlib.Core.List.{List}
 use mathlib.Core.Path.{_≡_}
 use lib.ListN.{length, getD}
 use Rattle.rules.specs.State.{State}
+use Rattle.rules.specs.Path.{positions}
 use Rattle.rules.specs.Table.{shapeOf, headerBytes}
 use Rattle.rules.specs.Machine.{Program, machine}
 use Rattle.rules.specs.Explorer as explorer
@@ -44,7 +45,7 @@ pub record Runs (p : Program) (L : explorer.Limits) (table shape : List ℕ) (li
   pub operations : p .operations ≡ limits .operations
   pub rows : L .operations ≡ limits .operations
   pub branches : 16 * L .branches ≡ length path
-  pub few : L .branches ≤ 65536
+  pub few : L .branches ≤ positions
   pub room : 16 * L .operations ≡ length trace
   pub is-bound : L .bound ≡ boundOf (limits .bound)
 

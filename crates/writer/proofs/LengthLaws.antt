@@ -11,7 +11,7 @@ use lib.Dec.{ltb, leb, eqb}
 use lib.ListN.{length, getD, take, drop, length-append, length-take, List·getD-eq-default}
 use lib.Seq.{getD-drop, getD-take}
 use Rattle.rules.specs.Table.{Row, u64At, rowAt, cellsOf, threadsOf, countsOf, firstRows, startValue}
-use Rattle.rules.specs.Condition.{isSign, opens, closes}
+use Rattle.rules.specs.Condition.{conditionBytes, isSign, opens, closes}
 use Rattle.rules.specs.Token.{bytesOf, space}
 use Rattle.rules.specs.Form.{Form, forms, fieldOf}
 use Rattle.rules.specs.Text.{marks}
@@ -169,7 +169,7 @@ condition-short [] = omega arith
 condition-short (b ∷ bs) =
     omega (arith, length-append (unitsShown (suc (length bs)) false (b ∷ bs)) (10 ∷ []), units-short (suc (length bs)) false (b ∷ bs))
 
-pub text-short : (t c : List ℕ) → ((i : ℕ) → getD t i 0 ≤ 255) → length c ≤ 1024 → length (writtenText t c) ≤ last
+pub text-short : (t c : List ℕ) → ((i : ℕ) → getD t i 0 ≤ 255) → length c ≤ conditionBytes → length (writtenText t c) ≤ last
 unfolding writtenText bytesOf
 text-short t c bytes h =
     let values = values-short t (cellsOf t) 0 in

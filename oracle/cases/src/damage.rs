@@ -5,6 +5,7 @@ use crate::draw::{any_row, Room};
 use crate::format::Case;
 use crate::random::Random;
 use crate::table::*;
+use oracle::limits::{MAX_BRANCHES, MAX_EXECUTIONS, MAX_OPERATIONS, MAX_ROWS};
 
 /// Spoils the case. `program` is what its table was made from.
 pub fn spoil(r: &mut Random, case: &mut Case, program: &Program) {
@@ -26,14 +27,14 @@ fn spoil_setting(r: &mut Random, case: &mut Case) {
     let far = u64::MAX - r.below(2);
     match r.below(3) {
         0 => {
-            case.settings.branches = r.pick(&[0, 1_025, 1 << 60, far]);
-            case.path = r.pick(&[case.path, 0, 16, 16_400]);
+            case.settings.branches = r.pick(&[0, MAX_BRANCHES + 1, 1 << 60, far]);
+            case.path = r.pick(&[case.path, 0, 16, 16 * (MAX_BRANCHES as usize + 1)]);
         }
         1 => {
-            case.settings.operations = r.pick(&[0, 4_097, 1 << 60, far]);
+            case.settings.operations = r.pick(&[0, MAX_OPERATIONS + 1, 1 << 60, far]);
             case.trace = r.pick(&[case.trace, 0, 16]);
         }
-        _ => case.settings.executions = r.pick(&[0, 65_536, 1 << 32, far]),
+        _ => case.settings.executions = r.pick(&[0, MAX_EXECUTIONS + 1, 1 << 32, far]),
     }
 }
 
@@ -61,7 +62,7 @@ fn spoil_header(r: &mut Random, table: &mut [u8]) {
     match r.below(6) {
         0 => table[0] = r.pick(&[0, 6, 255, threads as u8 % 5 + 1]),
         1 => table[1] = r.pick(&[0, 5, 255, cells % 4 + 1]),
-        2 => table[2 + r.position(threads)] = r.pick(&[33, 255]),
+        2 => table[2 + r.position(threads)] = r.pick(&[MAX_ROWS as u8 + 1, 255]),
         3 => table[2 + r.position(threads)] ^= 1,
         4 if threads < 5 => table[r.between(2 + threads as u64, 6) as usize] = 1,
         _ => table[7] = r.between(1, 255) as u8,

@@ -4,6 +4,7 @@
 use crate::draw::*;
 use crate::random::Random;
 use crate::table::*;
+use oracle::limits::MAX_ROWS;
 
 /// Makes one random change.
 pub fn once(r: &mut Random, program: &mut Program) {
@@ -93,7 +94,7 @@ fn insert_any(r: &mut Random, program: &mut Program) {
 /// Puts a row in; jumps past the place go on meaning the same row.
 pub fn insert_somewhere(r: &mut Random, program: &mut Program, thread: usize, row: Row) {
     let rows = &mut program.threads[thread];
-    if rows.len() >= 32 {
+    if rows.len() >= MAX_ROWS {
         return;
     }
     let at = r.position(rows.len() + 1);

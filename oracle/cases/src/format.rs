@@ -15,10 +15,10 @@ pub const LONGEST_NAME: usize = 64;
 pub const LONGEST_BUFFER: u64 = 1_000_000;
 /// A thread list has at most this many places.
 pub const LONGEST_LIST: u64 = 1_000;
-/// A table has at most this many bytes; the longest that is accepted has 3,880.
-pub const LONGEST_TABLE: usize = 4_096;
+/// A table has at most this many bytes, more than any that is accepted.
+pub const LONGEST_TABLE: usize = 8_192;
 /// A condition has at most this many bytes; the longest that is accepted has 1,023.
-pub const LONGEST_CONDITION: usize = 4_096;
+pub const LONGEST_CONDITION: usize = 8_192;
 
 /// Everything that a run is given.
 #[derive(Clone, Debug, PartialEq, Eq)]

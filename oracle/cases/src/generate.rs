@@ -5,6 +5,7 @@ use crate::random::Random;
 use crate::recipes::Recipe;
 use crate::table::{critical, explore_state, skip_branch, Program};
 use crate::{claims, damage, edit, recipes};
+use oracle::limits::{MAX_BRANCHES, MAX_OPERATIONS};
 use terms::Settings;
 
 /// The case of this seed and index, the same on every machine.
@@ -57,8 +58,8 @@ fn edited(r: &mut Random, recipe: Recipe) -> (Program, Settings) {
 /// Limits far enough for more preemptions than a byte counts, or nearly.
 fn far_settings(r: &mut Random) -> Settings {
     Settings {
-        branches: r.pick(&[1_024, 1_024, 800, 500]),
-        operations: r.pick(&[4_096, 4_096, 2_000, 500]),
+        branches: r.pick(&[MAX_BRANCHES, 1_024, 800, 500]),
+        operations: r.pick(&[MAX_OPERATIONS, MAX_OPERATIONS, 2_000, 500]),
         executions: r.between(250, 400),
         bound: r.pick(&[None, None, Some(255), Some(254)]),
         exploring: true,

@@ -7,6 +7,7 @@ use crate::claims;
 use crate::condition::{self, Word};
 use crate::generate;
 use crate::random::Random;
+use oracle::limits::MAX_ROWS;
 
 pub use large::large;
 
@@ -203,7 +204,7 @@ const WORDS: [&str; 64] = [
     "2",
     "4",
     "5",
-    "33",
+    "65",
     "=",
     "!=",
     "<",
@@ -262,7 +263,7 @@ fn spoil(r: &mut Random, pieces: &mut Vec<Piece>) {
         9 => remove_line(r, pieces),
         10 => repeat_line(r, pieces, 1),
         11 => {
-            let times = r.pick(&[4, 5, 6, 31, 32, 33]);
+            let times = r.pick(&[4, 5, 6, MAX_ROWS - 1, MAX_ROWS, MAX_ROWS + 1]);
             repeat_line(r, pieces, times);
         }
         12..=13 => reclaim(r, pieces),

@@ -1,7 +1,7 @@
 //! The text of cases and answers: what is written reads back, what is damaged is refused.
 
 use cases::format::{
-    answered, read_answered, read_case, Answer, Case, Left, ListLeft, LONGEST_LINE,
+    answered, read_answered, read_case, Answer, Case, Left, ListLeft, LONGEST_LINE, LONGEST_TABLE,
 };
 use cases::lines::Lines;
 use cases::run::by_oracle;
@@ -62,7 +62,7 @@ fn said(line: &str) -> String {
 #[test]
 fn damaged_fields_are_refused() {
     let long_name = "n".repeat(65);
-    let long_table = "00".repeat(4_097);
+    let long_table = "00".repeat(LONGEST_TABLE + 1);
     let damaged = [
         (1, "a/b", "field 1 (NAME) has a character other than"),
         (1, "\u{e9}", "field 1 (NAME) has a character other than"),
@@ -80,7 +80,7 @@ fn damaged_fields_are_refused() {
         (10, "010", "field 10 (TABLE) has an odd number of hex digits"),
         (10, "0G", "field 10 (TABLE) is not lowercase hex"),
         (10, "0A", "field 10 (TABLE) is not lowercase hex"),
-        (10, &long_table, "field 10 (TABLE) has more than 4096 bytes"),
+        (10, &long_table, "field 10 (TABLE) has more than 8192 bytes"),
         (11, "zero", "field 11 (answer) is not a decimal number"),
         (24, "1.", "field 24 (thread 1 state) is not a decimal number"),
         (39, "99999999999999999999", "field 39 (thread 4 own version) does not fit 64 bits"),
@@ -124,8 +124,8 @@ fn damaged_lines_are_refused() {
         let start = format!("some.txt: line 4: {wanted}");
         assert!(said.starts_with(&start), "said: {said}\nwanted: {start}");
     }
-    let claimed = format!("{line} {}", "00".repeat(4_097));
-    assert!(said(&claimed).ends_with("field 44 (CONDITION) has more than 4096 bytes"));
+    let claimed = format!("{line} {}", "00".repeat(LONGEST_TABLE + 1));
+    assert!(said(&claimed).ends_with("field 44 (CONDITION) has more than 8192 bytes"));
     let listed = with(9, "5");
     assert!(said(&listed).ends_with("(LIST') is neither '=' nor '+', though a list is passed"));
 }

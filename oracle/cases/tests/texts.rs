@@ -4,6 +4,7 @@ use cases::condition::{depth, words, DEEPEST, LONGEST};
 use cases::format::Case;
 use cases::run::by_oracle;
 use cases::texts::{large, text};
+use oracle::limits::MAX_ROWS;
 use std::collections::HashMap;
 use text::{read, write, Program, Refused, CELLS, ROWS, THREADS};
 
@@ -59,7 +60,7 @@ fn what_is_read_is_written_and_read_again() {
         let written = write(&program.table, &program.condition).expect("a text");
         assert_eq!(read(&written).as_ref(), Ok(&program));
         let lines = written.iter().filter(|&&byte| byte == b'\n').count();
-        assert!(lines <= 1 + 5 + 5 * 32 + 1);
+        assert!(lines <= 1 + 5 + 5 * MAX_ROWS + 1);
     }
 }
 

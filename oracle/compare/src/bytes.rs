@@ -8,6 +8,7 @@ use cases::random::Random;
 use cases::run::pattern;
 use cases::table::{Program, HEADER, ROW};
 use cases::{claims, condition};
+use oracle::limits::{MAX_BRANCHES, MAX_EXECUTIONS, MAX_OPERATIONS, MAX_ROWS};
 use std::fmt;
 use terms::{Settings, NUMBERS};
 
@@ -30,11 +31,11 @@ impl fmt::Display for Drawn {
 pub fn draw(seed: u64, index: u64) -> Drawn {
     // Apart from the stream that the case of the same seed and index is drawn from.
     let r = &mut Random::new(!seed, index);
-    let (branches, path) = limit_and_length(r, 1_024);
-    let (operations, trace) = limit_and_length(r, 4_096);
+    let (branches, path) = limit_and_length(r, MAX_BRANCHES);
+    let (operations, trace) = limit_and_length(r, MAX_OPERATIONS);
     let executions = match r.below(2_000) {
-        0 => 65_535,
-        1..=100 => r.pick(&[0, 65_536, 1 << 32, u64::MAX, r.clone().number()]),
+        0 => MAX_EXECUTIONS,
+        1..=100 => r.pick(&[0, MAX_EXECUTIONS + 1, 1 << 32, u64::MAX, r.clone().number()]),
         _ => r.between(1, 60),
     };
     let bound = match r.below(24) {
@@ -104,7 +105,7 @@ fn likely_rows(r: &mut Random) -> Vec<u8> {
     let mut table = vec![threads as u8, cells as u8, 0, 0, 0, 0, 0, 0];
     let mut rows = 0;
     for thread in 0..threads as usize {
-        let count = r.pick(&[0, 1, 1, 2, 3, 32]);
+        let count = r.pick(&[0, 1, 1, 2, 3, MAX_ROWS]);
         table[2 + thread] = count as u8;
         rows += count;
     }

@@ -153,7 +153,7 @@ fn compare_texts(seed: u64, count: u64, out: &mut impl Write) -> Outcome {
     Ok(true)
 }
 
-/// The hand-built cases have the limits among them: no rows and 32, five threads of 32 rows, the
+/// The hand-built cases have the limits among them: no rows and all, five threads of all their rows, the
 /// greatest B, L and N used up, conditions of 1,023 to 1,025 bytes and of eight and nine groups in each
 /// other.
 fn compare_limits(out: &mut impl Write) -> Outcome {

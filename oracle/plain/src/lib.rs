@@ -22,16 +22,17 @@ use execution::Execution;
 use fault::{Fault, Race};
 use path::Path;
 use table::Program;
+pub use table::MAX_ROWS;
 use terms::{Report, Settings, Summary};
 use trace::Trace;
 use vv::MAX_THREADS;
 
 /// Records that a path can hold at most.
-const MAX_BRANCHES: u64 = 1_024;
+pub const MAX_BRANCHES: u64 = 4_096;
 /// Rows that may begin in an execution at most.
-const MAX_OPERATIONS: u64 = 4_096;
+pub const MAX_OPERATIONS: u64 = 4_096;
 /// Executions of a run at most.
-const MAX_EXECUTIONS: u64 = 65_535;
+pub const MAX_EXECUTIONS: u64 = 65_535;
 /// Bytes of a path record and of a trace entry.
 const RECORD: u64 = 16;
 

@@ -9,7 +9,7 @@ use std::mem::take;
 /// Cells in a program at most.
 pub const MAX_CELLS: usize = 4;
 /// Rows in a thread at most.
-const MAX_ROWS: usize = 32;
+pub const MAX_ROWS: usize = 64;
 const HEADER: usize = 8;
 const ROW: usize = 24;
 

@@ -95,8 +95,8 @@ fn program(n: &mut Numbers) -> Vec<u8> {
 fn limits(n: &mut Numbers) -> Settings {
     let any = n.next();
     Settings {
-        branches: n.pick(&[1_024, 1_024, 1_024, 60, 12, 5, 1]),
-        operations: n.pick(&[4_096, 300, 300, 40, 12, 1]),
+        branches: n.pick(&[MAX_BRANCHES, 1_024, 1_024, 60, 12, 5, 1]),
+        operations: n.pick(&[MAX_OPERATIONS, 300, 300, 40, 12, 1]),
         executions: n.pick(&[60, 60, 300, 7, 1]),
         bound: n.pick(&[None, None, None, Some(0), Some(1), Some(2), Some(any as u8)]),
         exploring: n.below(8) != 0,
@@ -151,7 +151,7 @@ fn any_bytes_settings_and_lengths() {
         }
         let number = |n: &mut Numbers| {
             let any = n.next();
-            n.pick(&[0, 1, 2, 3, 1_024, 4_096, 65_535, any, u64::MAX])
+            n.pick(&[0, 1, 2, 3, MAX_BRANCHES, MAX_OPERATIONS, MAX_EXECUTIONS, any, u64::MAX])
         };
         let settings = Settings {
             branches: number(&mut n),
@@ -160,7 +160,7 @@ fn any_bytes_settings_and_lengths() {
             bound: Some(n.next() as u8).filter(|bound| *bound > 99),
             exploring: n.below(2) == 0,
         };
-        let length = |n: &mut Numbers| n.pick(&[0, 1, 16, 32, 48, 47, 16_384, 65_536]);
+        let length = |n: &mut Numbers| n.pick(&[0, 1, 16, 32, 48, 47, 16 * MAX_BRANCHES as usize, 16 * MAX_OPERATIONS as usize]);
         let (path, trace) = (length(&mut n), length(&mut n));
         run_in(&bytes, &settings, path, trace, n.pick(&[5, 5, 5, 0, 4, 6]));
     }

@@ -29,13 +29,13 @@ fn limits(branches: u64, operations: u64, executions: u64) -> Settings {
 fn settings_out_of_range() {
     for (branches, operations, executions) in [
         (0, 1, 1),
-        (1_025, 1, 1),
+        (MAX_BRANCHES + 1, 1, 1),
         (u64::MAX, 1, 1),
         (1, 0, 1),
-        (1, 4_097, 1),
+        (1, MAX_OPERATIONS + 1, 1),
         (1, u64::MAX, 1),
         (1, 1, 0),
-        (1, 1, 65_536),
+        (1, 1, MAX_EXECUTIONS + 1),
         (1, 1, u64::MAX),
     ] {
         let report = run(&good(), &limits(branches, operations, executions)).report;
@@ -45,9 +45,9 @@ fn settings_out_of_range() {
 
 #[test]
 fn limits_themselves_are_accepted() {
-    for branches in [3, 1_024] {
-        for operations in [1, 4_096] {
-            for executions in [1, 65_535] {
+    for branches in [3, MAX_BRANCHES] {
+        for operations in [1, MAX_OPERATIONS] {
+            for executions in [1, MAX_EXECUTIONS] {
                 for bound in [None, Some(0), Some(255)] {
                     let settings = Settings {
                         branches,
@@ -102,7 +102,7 @@ fn header_and_length() {
         (0, 6),
         (1, 0),
         (1, 5),
-        (2, 33),
+        (2, MAX_ROWS as u8 + 1),
         (2, 0),
         (2, 2),
         (3, 1),
@@ -127,10 +127,10 @@ fn the_first_bad_row_is_named() {
     let row = yield_now();
     refused(&table(&[0], &[&[row, row, bad, bad]]), 0, 2);
     refused(&table(&[0], &[&[], &[row], &[row, bad], &[bad]]), 2, 1);
-    let full = [row; 32];
+    let full = [row; MAX_ROWS];
     let mut last = full;
-    last[31] = bad;
-    refused(&table(&[0], &[&full, &full, &full, &full, &last]), 4, 31);
+    last[MAX_ROWS - 1] = bad;
+    refused(&table(&[0], &[&full, &full, &full, &full, &last]), 4, MAX_ROWS as u64 - 1);
 }
 
 #[test]

@@ -30,18 +30,18 @@ fn threads_without_rows() {
 }
 
 #[test]
-fn a_thread_of_32_rows() {
-    let mut rows = [check(0, 0); 32];
-    rows[31] = jump(32);
+fn a_thread_of_all_its_rows() {
+    let mut rows = [check(0, 0); MAX_ROWS];
+    rows[MAX_ROWS - 1] = jump(MAX_ROWS as u16);
     let left = run(&table(&[0], &[&rows]), &settings());
-    assert_eq!((left.report.answer, left.report.rows), (0, 32));
+    assert_eq!((left.report.answer, left.report.rows), (0, MAX_ROWS as u64));
     let rows: Vec<u8> = left.entries().iter().map(|entry| entry[1]).collect();
-    assert_eq!(rows, (0..32).collect::<Vec<u8>>());
+    assert_eq!(rows, (0..MAX_ROWS as u8).collect::<Vec<u8>>());
 }
 
 #[test]
-fn five_threads_of_32_rows() {
-    let rows = [rmw(3, ACQ_REL, 1, 1, 1); 32];
+fn five_threads_of_all_their_rows() {
+    let rows = [rmw(3, ACQ_REL, 1, 1, 1); MAX_ROWS];
     let adders = table(&[0, 0, 0, 0], &[&rows[..]; 5]);
     let left = run(
         &adders,
@@ -52,10 +52,10 @@ fn five_threads_of_32_rows() {
     );
     assert_eq!(
         (left.report.answer, left.report.executions, left.report.rows),
-        (1, 100, 160)
+        (1, 100, 5 * MAX_ROWS as u64)
     );
-    assert_eq!(left.entries().iter().map(value).max(), Some(159));
-    let local = [check(0, 0); 32];
+    assert_eq!(left.entries().iter().map(value).max(), Some(5 * MAX_ROWS as u64 - 1));
+    let local = [check(0, 0); MAX_ROWS];
     let whole = run(&table(&[0], &[&local[..]; 5]), &settings());
     assert_eq!(
         (
@@ -63,28 +63,28 @@ fn five_threads_of_32_rows() {
             whole.report.executions,
             whole.report.rows
         ),
-        (0, 1, 160)
+        (0, 1, 5 * MAX_ROWS as u64)
     );
 }
 
 #[test]
 fn the_longest_path_and_trace() {
-    // A load takes two records, so 512 of them fill the path; one more is to be scheduled.
-    let loads = table(&[0], &[&[load(0, RELAXED, 0), jump(0)]]);
+    // A load takes two records, so half as many of them fill the path; one more is to be scheduled.
+    let loads = table(&[0], &[&[load(0, RELAXED, 0), load(0, RELAXED, 0), jump(0)]]);
     let left = run(&loads, &settings());
     assert_eq!(
         (left.report.answer, left.report.thread, left.report.row),
         (11, 0, 0)
     );
     assert_eq!(
-        (left.report.rows, left.history[0].0.len()),
-        (2 * 512 + 1, 16 * 1_024)
+        (left.report.rows, left.history[0].0.len() as u64),
+        (3 * (MAX_BRANCHES / 4) + 1, 16 * MAX_BRANCHES)
     );
     let checks = table(&[0], &[&[check(0, 0), jump(0)]]);
     let left = run(&checks, &settings());
     assert_eq!(
         (left.report.answer, left.report.row, left.report.rows),
-        (12, 0, 4_096)
+        (12, 0, MAX_OPERATIONS)
     );
-    assert_eq!(left.history[0].1.len(), 16 * 4_096);
+    assert_eq!(left.history[0].1.len() as u64, 16 * MAX_OPERATIONS);
 }

@@ -8,7 +8,7 @@ use crate::{condition, Place, Program, Refused, HEADER};
 /// Cells, threads and rows of a thread that a text has at most.
 pub const CELLS: usize = 4;
 pub const THREADS: usize = 5;
-pub const ROWS: usize = 32;
+pub const ROWS: usize = 64;
 
 /// Reads a text.
 pub fn read(text: &[u8]) -> Result<Program, Refused> {

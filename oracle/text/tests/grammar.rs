@@ -1,6 +1,6 @@
 //! Each rule of docs/GRAMMAR.md, in its order.
 
-use text::{read, write, Place, Program, Refused};
+use text::{read, write, Place, Program, Refused, ROWS};
 
 fn place(line: u64, column: u64) -> Place {
     Place { line, column }
@@ -248,11 +248,11 @@ fn threads_and_their_rows() {
     assert_eq!(program(&format!("cells 0\n{five}")).table[..8], [5, 1, 0, 0, 0, 0, 0, 0]);
     refused(&format!("cells 0\n{five} thread\n"), 7, 2);
     refused(&format!("cells 0\n{five}yield\nthread\n"), 8, 1);
-    let rows = "yield\n".repeat(32);
+    let rows = "yield\n".repeat(ROWS);
     let table = program(&format!("cells 0\nthread\n{rows}thread\n{rows}")).table;
-    assert_eq!(table[..8], [2, 1, 32, 32, 0, 0, 0, 0]);
-    refused(&format!("cells 0\nthread\n{rows} \tyield\n"), 35, 3);
-    refused(&format!("cells 0\nthread\n{rows}x = y\n"), 35, 1);
+    assert_eq!(table[..8], [2, 1, ROWS as u8, ROWS as u8, 0, 0, 0, 0]);
+    refused(&format!("cells 0\nthread\n{rows} \tyield\n"), ROWS as u64 + 3, 3);
+    refused(&format!("cells 0\nthread\n{rows}x = y\n"), ROWS as u64 + 3, 1);
     refused("cells 0\nthread 0\n", 2, 8);
     refused("cells 0\nthread yield\n", 2, 8);
     refused("cells 0\nthread\nyield yield\n", 3, 7);
@@ -476,9 +476,10 @@ fn how_threads_and_rows_are_counted() {
     refused("cells 0\nthread\njump 2\nfinally\n0.r0\n=\n0\n", 3, 6);
     // A line that is no row counts too.
     refused("cells 0\nthread\njump 2\nno row\n", 4, 1);
-    let rows = "yield\n".repeat(40);
-    refused(&format!("cells 0\nthread\njump 41\n{rows}"), 35, 1);
-    refused(&format!("cells 0\nthread\njump 42\n{rows}"), 3, 6);
+    let more = ROWS + 8;
+    let rows = "yield\n".repeat(more);
+    refused(&format!("cells 0\nthread\njump {}\n{rows}", more + 1), ROWS as u64 + 3, 1);
+    refused(&format!("cells 0\nthread\njump {}\n{rows}", more + 2), 3, 6);
 }
 
 // The final condition

@@ -2,13 +2,14 @@ use Prim.Native.Nat.{_≤_, _-_}
 use mathlib.Core.Path.{_≡_}
 use lib.ListN.{length}
 use lib.Seq.{paste, paste-zero}
+use Rattle.claims.specs.Units.{mostClaimed}
 use Rattle.claims.proofs.ByteLaws.{write-on, write-all}
 use borrow.Author.Needs.{needs}
 use Rattle.claims.proofs.appended.Statement.{statement}
 use Rattle.claims.proofs.appended.Tie as tie
 
 abbrev Inv-loop : tie.InvT-loop
-Inv-loop at size unit made₀ i₀ made i = (i ≤ size) × (length made ≡ 1035) × (made ≡ paste made₀ at unit i)
+Inv-loop at size unit made₀ i₀ made i = (i ≤ size) × (length made ≡ mostClaimed) × (made ≡ paste made₀ at unit i)
 
 abbrev μ-loop : tie.MeasureT-loop
 μ-loop length size unit made₀ i₀ made i = size - i

@@ -6,7 +6,9 @@ use native.Mathlib.Omega.{arith}
 use borrow.Author.Tests.{not-true, not-false}
 use lib.ListN.{length, take, drop}
 use lib.Seq.{length-take-le, length-paste}
+use Rattle.rules.specs.Condition.{conditionBytes}
 use Rattle.rules.specs.Text.{claimed, claimedTo}
+use Rattle.claims.specs.Units.{mostClaimed}
 use Rattle.claims.proofs.ClaimLaws.{claim-out, claim-end, claim-stop, claim-none, claim-broken, claim-long, claim-on, claims-to, taken-on}
 use borrow.Author.Needs.{needs}
 use Rattle.claims.proofs.claimed.Statement.{statement}
@@ -14,7 +16,7 @@ use Rattle.claims.proofs.claimed.Tie as tie
 
 abbrev Inv-loop : tie.InvT-loop
 Inv-loop text at lines stop bytes₀ n₀ from₀ left₀ bytes n from left =
-    (n ≤ 1024) × (length bytes ≡ 1035) × (claimed lines left stop (take n bytes) (drop from text) ≡ claimed lines lines stop [] (drop at text))
+    (n ≤ conditionBytes) × (length bytes ≡ mostClaimed) × (claimed lines left stop (take n bytes) (drop from text) ≡ claimed lines lines stop [] (drop at text))
 
 abbrev μ-loop : tie.MeasureT-loop
 μ-loop text at lines stop bytes₀ n₀ from₀ left₀ bytes n from left = left

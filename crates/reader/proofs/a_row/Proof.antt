@@ -1,10 +1,12 @@
-use Prim.Native.Nat.{ℕ, _≤_, _<_}
+use Prim.Native.Nat.{ℕ, _-_, _≤_, _<_}
 use mathlib.Core.Path.{_≡_, ap, sym, _∙_}
 use native.Mathlib.Omega.{arith}
 use borrow.Author.Tests.{not-true, not-false}
 use lib.ListN.{getD, drop}
+use Rattle.rules.specs.Table.{maxRows}
 use Rattle.rules.specs.Form.{rowIn}
 use Rattle.rules.specs.Text.{rowsSoFar, withRow}
+use Rattle.rules.proofs.LimitLaws.{rows-fit}
 use Rattle.reader.proofs.HeldLaws.{held-threads, held-cells, within, begun, count-there}
 use Rattle.reader.proofs.LineLaws.{row-early, row-full, row-stuck, row-fits, followed-stuck, followed-fits}
 use borrow.Author.Needs.{needs}
@@ -34,21 +36,31 @@ returns c = record {
       row-early (a .all) (a .rows) m (drop (a .from) (a .text .now)) (drop (a .here) (a .text .now)) (omega (arith, c .if1 .taken, held-threads (a .table .now) (a .length) m held));
 }
 
-add-if2 : tie.Need-add-if2
-add-if2 c =
+add-before : tie.Need-add-before
+add-before c =
     let start = c .before .before .before .before in
     let a = start .args in
     let h = start .pre .held in
     let t = held-threads (a .table .now) (a .length) (start .pre .made) h in
     omega (arith, t, h .threads)
 
-slice-read-if2 : tie.Need-slice-read-if2
-slice-read-if2 c =
+slice-read-before : tie.Need-slice-read-before
+slice-read-before c =
     let start = c .before .before .before .before .before in
     let a = start .args in
     let h = start .pre .held in
     let t = held-threads (a .table .now) (a .length) (start .pre .made) h in
     omega (arith, t, h .threads, h .room)
+
+cast-before : tie.Need-cast-before
+cast-before c =
+    let past = c .before in
+    let start = past .before .before .before .before in
+    let a = start .args in
+    let h = start .pre .held in
+    let m = start .pre .made in
+    let some : 1 ≤ getD (a .table .now) 0 0 = omega (arith, past .if1 .left) in
+    omega (arith, count-there (a .table .now) (a .length) m h some, h .few (m .threads - 1), rows-fit)
 
 returns-2 : tie.Need-returns-2
 returns-2 c = record {
@@ -59,16 +71,16 @@ returns-2 c = record {
       row-full (a .all) (a .rows) m (drop (a .from) (a .text .now)) (drop (a .here) (a .text .now)) (begun (a .table .now) (a .length) m held some) (omega (arith, c .if2 .taken, count-there (a .table .now) (a .length) m held some));
 }
 
-slice-read-t13 : tie.Need-slice-read-t13
-slice-read-t13 c =
+slice-read-t14 : tie.Need-slice-read-t14
+slice-read-t14 c =
     let start = c .before .before .before .before .before .before .before in
     let a = start .args in
     let h = start .pre .held in
     let t = held-threads (a .table .now) (a .length) (start .pre .made) h in
     omega (arith, h .room)
 
-cast-t19 : tie.Need-cast-t19
-cast-t19 c =
+cast-t20 : tie.Need-cast-t20
+cast-t20 c =
     let start = c .before .before .before .before .before .before .before in
     let a = start .args in
     let h = start .pre .held in
@@ -86,7 +98,7 @@ returns-3 c = record {
       let one = two .before .before in
       let a = one .before .before .before .before .args in
       let some : 1 ≤ getD (a .table .now) 0 0 = omega (arith, one .if1 .left) in
-      let few : rowsSoFar m < 32 = omega (arith, two .if2 .left, count-there (a .table .now) (a .length) m held some) in
+      let few : rowsSoFar m < maxRows = omega (arith, two .if2 .left, count-there (a .table .now) (a .length) m held some) in
       let read = ap (λ (k : ℕ). rowIn (record { threads = a .all; cells = k; rows = a .rows }) (drop (a .from) (a .text .now))) (sym (held-cells (a .table .now) (a .length) m held)) ∙ sym (got .row-in .ensures .follows .said) in
       row-stuck (a .all) (a .rows) m (drop (a .from) (a .text .now)) (drop (a .here) (a .text .now)) (begun (a .table .now) (a .length) m held some) few _ (read ∙ followed-stuck (a .text .now) (got .row-in .result) (not-true _ (c .if3 .taken)));
 }
@@ -98,8 +110,8 @@ add-row-requires c κs =
     let one = two .before .before in
     record { holds = one .before .before .before .before .pre; some = omega (arith, one .if1 .left); fewer = two .if2 .left }
 
-add-t15 : tie.Need-add-t15
-add-t15 c =
+add-t16 : tie.Need-add-t16
+add-t16 c =
     let got = c .before .before .before .before .before .before .before in
     let start = got .before .before .before .before .before .before .before .before in
     omega (arith, within (start .args .table .now) (start .args .length) (start .pre .made) (start .pre .held))
@@ -117,7 +129,7 @@ returns-4 c = record {
       let one = two .before .before in
       let a = one .before .before .before .before .args in
       let some : 1 ≤ getD (a .table .now) 0 0 = omega (arith, one .if1 .left) in
-      let few : rowsSoFar m < 32 = omega (arith, two .if2 .left, count-there (a .table .now) (a .length) m held some) in
+      let few : rowsSoFar m < maxRows = omega (arith, two .if2 .left, count-there (a .table .now) (a .length) m held some) in
       let read = ap (λ (k : ℕ). rowIn (record { threads = a .all; cells = k; rows = a .rows }) (drop (a .from) (a .text .now))) (sym (held-cells (a .table .now) (a .length) m held)) ∙ sym (got .row-in .ensures .follows .said) in (
         withRow m (got .row-in .result .fields),
         (
@@ -134,14 +146,15 @@ a-row-spec =
     slice-read-threads
     cast-threads
     returns
-    add-if2
-    slice-read-if2
+    add-before
+    slice-read-before
+    cast-before
     returns-2
-    slice-read-t13
-    cast-t19
+    slice-read-t14
+    cast-t20
     row-in-requires
     returns-3
     add-row-requires
-    add-t15
+    add-t16
     same-length
     returns-4)

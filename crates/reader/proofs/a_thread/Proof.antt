@@ -10,10 +10,17 @@ use borrow.Author.Needs.{needs}
 use Rattle.reader.proofs.a_thread.Statement.{statement}
 use Rattle.reader.proofs.a_thread.Tie as tie
 
-slice-read-if1 : tie.Need-slice-read-if1
-slice-read-if1 c =
+slice-read-threads : tie.Need-slice-read-threads
+slice-read-threads c =
     let start = c .before .before .before in
     omega (arith, start .pre .held .room)
+
+cast-threads : tie.Need-cast-threads
+cast-threads c =
+    let start = c .before .before .before in
+    let a = start .args in
+    let h = start .pre .held in
+    omega (arith, held-threads (a .table .now) (a .length) (start .pre .made) h, h .threads)
 
 returns : tie.Need-returns
 returns c = record {
@@ -57,7 +64,8 @@ pub a-thread-spec : {M : Type 1} → statement M
 a-thread-spec =
     tie.close
     (tie.spec
-    slice-read-if1
+    slice-read-threads
+    cast-threads
     returns
     next-line-requires
     rows-ahead-requires

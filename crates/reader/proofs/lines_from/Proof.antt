@@ -1,6 +1,7 @@
 use mathlib.Core.Path.{_≡_, refl, sym, _∙_, subst}
 use native.Mathlib.Omega.{arith}
 use lib.ListN.{length}
+use Rattle.rules.specs.Condition.{conditionBytes}
 use Rattle.rules.specs.Text.{readText}
 use Rattle.reader.specs.Tables.{Blank}
 use Rattle.reader.proofs.WholeLaws.{Going, going-start, going-out, step-goes, step-refused, step-ended, step-made, answered-by}
@@ -70,7 +71,7 @@ returns-2 c = record {
       let at = turn .before in
       let a = at .before .before .before .before .before .args in
       let g = at .loop .inv .2 in
-      step-ended (a .text .now) _ _ _ _ _ _ _ _ g _ (line .line-of .result) (line .line-of .ensures) (turn .loop-test .taken) _ 1024 (subst (Blank 1024) (sym (at .loop .inv .1)) (at .before .before .before .before .before .pre .1)) (c .enum-told .given .1);
+      step-ended (a .text .now) _ _ _ _ _ _ _ _ g _ (line .line-of .result) (line .line-of .ensures) (turn .loop-test .taken) _ conditionBytes (subst (Blank conditionBytes) (sym (at .loop .inv .1)) (at .before .before .before .before .before .pre .1)) (c .enum-told .given .1);
 }
 
 enum-known-at-2 : tie.Need-enum-known-at-2 Inv-loop μ-loop
@@ -85,7 +86,7 @@ concluded-requires c κs =
     let a = at .before .before .before .before .before .args in
     let g = at .loop .inv .2 in
     let x = step-made (a .text .now) _ _ _ _ _ _ _ _ g _ (line .line-of .result) (line .line-of .ensures) (turn .loop-test .taken) _ (told .at2 .given .1) in
-    (record { made = x .0; held = x .1 .1 }, subst (Blank 1024) (sym (at .loop .inv .1)) (at .before .before .before .before .before .pre .1))
+    (record { made = x .0; held = x .1 .1 }, subst (Blank conditionBytes) (sym (at .loop .inv .1)) (at .before .before .before .before .before .pre .1))
 
 same-length-5 : tie.Need-same-length-5 Inv-loop μ-loop
 same-length-5 c = search needs

@@ -1,4 +1,6 @@
 use native.Mathlib.Omega.{arith}
+use Rattle.rules.specs.Condition.{conditionBytes}
+use Rattle.rules.specs.Text.{tableBytes}
 use Rattle.reader.proofs.ReadLaws.{no-table, no-condition, cleared-blank, said-refused, read-refused, read-taken}
 use borrow.Author.Needs.{needs}
 use Rattle.reader.proofs.read.Statement.{statement}
@@ -26,7 +28,7 @@ lines-from-requires c κs =
     let both = c .before .before .before .before in
     let one = both .before .before .before .before in
     let two = one .before .before in
-    (cleared-blank 3880 _ _ (one .clear-all .ensures) (two .before .if1 .left), cleared-blank 1024 _ _ (both .clear-all2 .ensures) (two .if2 .left))
+    (cleared-blank tableBytes _ _ (one .clear-all .ensures) (two .before .if1 .left), cleared-blank conditionBytes _ _ (both .clear-all2 .ensures) (two .if2 .left))
 
 enum-known-at : tie.Need-enum-known-at
 enum-known-at c = search needs

@@ -3,6 +3,7 @@
 use super::{hand, Hand};
 use crate::format::Case;
 use crate::table::*;
+use oracle::limits::MAX_ROWS;
 
 pub(super) fn all() -> Vec<Hand> {
     let mut all = buffers();
@@ -80,6 +81,7 @@ fn check_order() -> Vec<Hand> {
 
 /// One byte of the header changed, the rest as it was.
 fn headers() -> Vec<Hand> {
+    let many = MAX_ROWS as u8 + 1;
     let bytes: [(&str, usize, u8); 14] = [
         ("no threads", 0, 0),
         ("one thread of two", 0, 1),
@@ -88,7 +90,7 @@ fn headers() -> Vec<Hand> {
         ("no cells", 1, 0),
         ("five cells", 1, 5),
         ("255 cells", 1, 255),
-        ("33 rows", 2, 33),
+        ("a row too many", 2, many),
         ("255 rows", 3, 255),
         ("rows past the thread count", 4, 1),
         ("rows at the fifth place", 6, 1),

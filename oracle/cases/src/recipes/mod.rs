@@ -11,6 +11,7 @@ mod waiting;
 use crate::draw::*;
 use crate::random::Random;
 use crate::table::*;
+use oracle::limits::MAX_ROWS;
 
 pub use waiting::{left_alone, ping_pong};
 
@@ -83,7 +84,7 @@ fn soup(r: &mut Random) -> Program {
     let starts: Vec<u64> = (0..cells).map(|_| value(r)).collect();
     let mut program = Program::new(&starts);
     for _ in 0..threads {
-        let rows = if r.chance(1, 40) { r.between(20, 32) } else { r.below(7) };
+        let rows = if r.chance(1, 40) { r.between(20, MAX_ROWS as u64) } else { r.below(7) };
         let room = Room { cells: cells as u8, threads: threads as u8, rows: rows as u16 };
         let rows: Vec<Row> = (0..rows).map(|_| any_row(r, room)).collect();
         program = program.thread(&rows);

@@ -8,7 +8,7 @@ pub(super) fn all() -> Vec<Timed> {
     vec![
         timed("two-by-six", "stores and loads of one cell", turns(2, 6, 1)).limits(64, 64, 10_000),
         timed("two-by-sixteen", "the same, longer", turns(2, 16, 1)).limits(128, 64, 5_000),
-        timed("two-by-32", "the longest two threads", turns(2, 32, 1)).limits(256, 128, 3_000),
+        timed("two-by-32", "the same, longer still", turns(2, 32, 1)).limits(256, 128, 3_000),
         timed("four-cells", "the same spread over four cells", turns(2, 24, 4))
             .limits(256, 128, 4_000),
         timed("counters", "64 additions to one cell: one offer each", counters())

@@ -1,4 +1,4 @@
-//! Long executions: loops, spins, and limits met at their greatest.
+//! Long executions: loops, spins, and limits met.
 
 use super::{timed, Timed};
 use cases::table::*;

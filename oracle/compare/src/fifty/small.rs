@@ -28,10 +28,10 @@ pub(super) fn all() -> Vec<Timed> {
         timed("early-race", "a race in the first executions", early_race())
             .limits(64, 64, 500)
             .runs(8_000),
-        timed("wide-buffers", "one load with the largest buffers: clearing", one_load())
+        timed("wide-buffers", "one load with long buffers: clearing", one_load())
             .limits(1_024, 4_096, 1)
             .runs(5_000),
-        timed("refused", "the longest table, its last row bad: judging alone", refused())
+        timed("refused", "five threads of 32 rows, the last row bad: judging alone", refused())
             .limits(64, 64, 1)
             .runs(6_000),
     ]

@@ -1,6 +1,7 @@
 //! Writing tables by hand, and running them with everything that must hold of every run.
-#![allow(dead_code)]
+#![allow(dead_code, unused_imports)]
 
+pub use plain::{MAX_BRANCHES, MAX_EXECUTIONS, MAX_OPERATIONS, MAX_ROWS};
 use std::collections::HashSet;
 use terms::{Report, Settings, Summary};
 
@@ -215,9 +216,9 @@ pub fn table(cells: &[u64], threads: &[&[Row]]) -> Vec<u8> {
 /// Room for whatever a small program needs.
 pub fn settings() -> Settings {
     Settings {
-        branches: 1_024,
-        operations: 4_096,
-        executions: 65_535,
+        branches: MAX_BRANCHES,
+        operations: MAX_OPERATIONS,
+        executions: MAX_EXECUTIONS,
         bound: None,
         exploring: true,
     }
@@ -271,8 +272,8 @@ pub fn run(table: &[u8], settings: &Settings) -> Left {
 
 /// The same with a final condition.
 pub fn run_claimed(table: &[u8], condition: &[u8], settings: &Settings) -> Left {
-    let path = 16 * settings.branches.min(2_000) as usize;
-    let trace = 16 * settings.operations.min(5_000) as usize;
+    let path = 16 * settings.branches.min(MAX_BRANCHES + 1) as usize;
+    let trace = 16 * settings.operations.min(MAX_OPERATIONS + 1) as usize;
     run_all(table, condition, settings, (path, trace, 5))
 }
 
