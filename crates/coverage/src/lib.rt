@@ -85,7 +85,7 @@ fn exhausted(begun: u64, bound: Bound) {
     let Bound::AtMost(most) = bound else {
         first_line(b"answer 0: exhausted after ", 0, begun);
         line::write(
-            b"covered: every order of the threads that can matter, and every store that a load may read (docs/COVERAGE.md)",
+            b"covered: every choice that the rules opened, of threads and of the stores that a load may read; some orders they never open (docs/COVERAGE.md, 1)",
         );
         return;
     };

@@ -35,8 +35,8 @@ module _ (text : List ℕ) (at : ℕ) where
         ∙ ap (λ (i : ℕ). onward (left - 1) found i (leb at i)) (sym is)
         ∙ ap (onward (left - 1) found here) e
 
-    pub before-stop : at ≤ here → tokenBefore text at left found from ≡ found
-    before-stop h = one true (le-leb at here h)
+    pub before-here : at ≤ here → tokenBefore text at left found from ≡ found
+    before-here h = one true (le-leb at here h)
 
     pub before-on : (to : ℕ) → here < at → to ≡ here + tokenLength (drop here text) → tokenBefore text at (left - 1) here to ≡ tokenBefore text at left found from
     before-on to h e = ap (tokenBefore text at (left - 1) here) e ∙ sym (one false (lt-leb at here h))

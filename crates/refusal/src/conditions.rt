@@ -28,7 +28,7 @@ pub fn print(table: &[u8], condition: &[u8]) {
     match condition::first_bad(condition, threads) {
         Found::Bad(at) => bad(condition, at, threads),
         Found::Ends(at) => line::say(
-            b"answer 5: refused: the condition ends before byte #, and goes on to byte #",
+            b"answer 5: refused: the condition ends before byte #, and # bytes were given",
             at as u64,
             condition.len() as u64,
             0,

@@ -1,7 +1,7 @@
 use mathlib.Core.Path.{_≡_, refl, sym, _∙_}
 use lib.ListN.{length}
 use Rattle.excerpt.specs.Excerpts.{tokenBefore}
-use Rattle.excerpt.proofs.BeforeLaws.{before-out, before-stop, before-on}
+use Rattle.excerpt.proofs.BeforeLaws.{before-out, before-here, before-on}
 use borrow.Author.Needs.{needs}
 use Rattle.excerpt.proofs.token_before.Statement.{statement}
 use Rattle.excerpt.proofs.token_before.Tie as tie
@@ -24,7 +24,7 @@ returns c =
     let turn = got .before in
     let at = turn .before in
     let a = at .before .before .args in
-    sym (before-stop (a .text .now) (a .at) (at .loop .left) (at .loop .found) (at .loop .from) (got .skip .result) (turn .loop-test .taken) (got .skip .ensures) (c .if1 .taken)) ∙ at .loop .inv
+    sym (before-here (a .text .now) (a .at) (at .loop .left) (at .loop .found) (at .loop .from) (got .skip .result) (turn .loop-test .taken) (got .skip .ensures) (c .if1 .taken)) ∙ at .loop .inv
 
 token-end-requires : tie.Need-token-end-requires Inv-loop μ-loop
 token-end-requires c κs = search needs
