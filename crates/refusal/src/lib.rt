@@ -2,20 +2,17 @@
 // and what it may be.
 use table::Judged;
 
-mod conditions;
 mod header;
-mod row;
-mod words;
 
 // Says it, in one line: what is wrong with this row; or, where no row is named, with the header or the length; or else with the
 // condition, which is judged behind the table.
 pub fn print(table: &[u8], condition: &[u8], thread: u64, number: u64) {
     if thread != 255 {
-        row::print(table, (thread % 256) as u8, (number % 256) as u8);
+        bad_row::print(table, (thread % 256) as u8, (number % 256) as u8);
         return;
     }
     if let Judged::Accepted = table::judge(table) {
-        conditions::print(table, condition);
+        bad_condition::print(table, condition);
         return;
     }
     header::print(table);

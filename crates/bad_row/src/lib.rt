@@ -1,5 +1,4 @@
 // What is wrong with a row: which of its fields, by crate reasons.
-use crate::words;
 use decode::Row;
 use layout::MAX_THREADS;
 use layout::wide8;
@@ -13,6 +12,8 @@ use table::limits::HEADER;
 use table::limits::ROW;
 use table::limits::VALUE;
 use table::little;
+
+mod words;
 
 // Says what is wrong with this row of this thread.
 pub fn print(table: &[u8], thread: u8, number: u8) {
@@ -43,11 +44,22 @@ pub fn print(table: &[u8], thread: u8, number: u8) {
 
 // The fields of the row whose first byte is this one; all zero where the table does not hold it.
 fn fields(table: &[u8], at: usize) -> Row {
+    let zeros = Row {
+        opcode: 0,
+        object: 0,
+        order: 0,
+        failure: 0,
+        kind: 0,
+        register: 0,
+        target: 0,
+        a: 0,
+        b: 0,
+    };
     if table.len() < ROW {
-        return zeros();
+        return zeros;
     }
     if table.len() - ROW < at {
-        return zeros();
+        return zeros;
     }
     Row {
         opcode: table[at],
@@ -59,19 +71,5 @@ fn fields(table: &[u8], at: usize) -> Row {
         target: little::u16_at(table, at + 6),
         a: little::u64_at(table, at + 8),
         b: little::u64_at(table, at + 16),
-    }
-}
-
-fn zeros() -> Row {
-    Row {
-        opcode: 0,
-        object: 0,
-        order: 0,
-        failure: 0,
-        kind: 0,
-        register: 0,
-        target: 0,
-        a: 0,
-        b: 0,
     }
 }

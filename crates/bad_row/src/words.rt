@@ -103,21 +103,16 @@ fn put_count(line: &mut Line, at: usize, count: usize) -> usize {
     )
 }
 
-// A field that the opcode does not use.
+// A field that the opcode, which is named, does not use.
 fn put_unused(line: &mut Line, at: usize, value: u64, opcode: u8) -> usize {
     let to = line::fill(line, at, b" is #, and opcode # (", value, opcode as u64, 0);
-    let to = put_name(line, to, opcode);
-    line::put(line, to, b") does not use it: it must be 0")
-}
-
-// The name of an opcode, by its number.
-fn put_name(line: &mut Line, at: usize, opcode: u8) -> usize {
-    put_nth(
+    let to = put_nth(
         line,
-        at,
+        to,
         b"load,store,store of a register,change,fence,unsync_load,with_mut,yield,join,jump,jump if equal,jump if not equal,check,critical,explore_state,skip_branch,branch_spurious",
         opcode as usize,
-    )
+    );
+    line::put(line, to, b") does not use it: it must be 0")
 }
 
 // Puts the part of a list that stands past so many commas.

@@ -3,8 +3,8 @@ use mathlib.Core.Logic.{⊎-elim}
 use native.Mathlib.Omega.{arith}
 use lib.ListN.{length}
 use borrow.Author.Needs.{needs}
-use Rattle.refusal.proofs.words.put_nth.Statement.{statement}
-use Rattle.refusal.proofs.words.put_nth.Tie as tie
+use Rattle.bad_row.proofs.words.put_nth.Statement.{statement}
+use Rattle.bad_row.proofs.words.put_nth.Tie as tie
 
 abbrev Inv-loop : tie.InvT-loop
 Inv-loop line₀ at list n to₀ past₀ i₀ line to past i = (i ≤ length list) × (past ≤ i)
