@@ -21,7 +21,7 @@ extern "C" {
 #define CHJIRVOLLU_RECORD 16
 
 /* The buffers into which a text is read have at least this many bytes. */
-#define CHJIRVOLLU_TABLE_BYTES 7720
+#define CHJIRVOLLU_TABLE_BYTES 7752
 #define CHJIRVOLLU_CONDITION_BYTES 1024
 
 /* The numbers of a report, by their places; four for each of the five threads from CHJIRVOLLU_THREADS on. */
@@ -113,7 +113,7 @@ enum {
    all are, and where there is no room both buffers stay as they are. */
 uint64_t chjirvollu_read(
     const uint8_t *text, size_t text_length,
-    uint8_t *table, size_t table_length,          /* 7720 bytes at least, else no room */
+    uint8_t *table, size_t table_length,          /* 7752 bytes at least, else no room */
     uint8_t *condition, size_t condition_length,  /* 1024 bytes at least, else no room */
     uint64_t *numbers, size_t numbers_length);    /* exactly 5 numbers, else 255 */
 

@@ -10,7 +10,7 @@ const UNBOUNDED: u64 = 256;
 /// A path record and a trace entry have this many bytes.
 const RECORD: usize = 16;
 /// The buffers into which a text is read have at least this many bytes.
-const TABLE_BYTES: usize = 7720;
+const TABLE_BYTES: usize = 7752;
 const CONDITION_BYTES: usize = 1024;
 const CHECK_FAILED: u64 = 15;
 

@@ -1,10 +1,10 @@
 //! One execution of a table. Document 01, "Table" (opcodes), "Support rules" (when a scheduling is
-//! made) and the limits that a row may meet.
+//! made) and the limits that a row may meet; document 02, section 5, for opcodes 17 and 18.
 
 use crate::change::changed;
 use crate::entry::{Seen, Trace};
 use crate::guard::{self, Call, Met};
-use crate::rt::{self, Atomic, Cells, Location, Next, MAX_THREADS};
+use crate::rt::{self, Atomic, Cells, Location, Next, Plains, MAX_THREADS};
 use crate::table::{ordering, Program, Row};
 
 /// Where a thread stands in its rows.
@@ -43,6 +43,7 @@ impl From<Met> for Stop {
 pub(crate) struct Interpreter<'a> {
     program: &'a Program,
     cells: Cells,
+    plains: Plains,
     /// Operation limit L.
     limit: u64,
     pub(crate) trace: Trace<'a>,
@@ -55,9 +56,12 @@ pub(crate) struct Interpreter<'a> {
 impl<'a> Interpreter<'a> {
     /// The start of an execution: cells and threads are made anew, thread 0 runs at once.
     pub(crate) fn new(program: &'a Program, limit: u64, trace: &'a mut [u8]) -> Interpreter<'a> {
+        let (starts, plain_starts) = (program.starts(), program.plain_starts());
+        let (cells, plains) = rt::restart(program.threads, starts, plain_starts);
         Interpreter {
             program,
-            cells: rt::restart(program.threads, program.starts()),
+            cells,
+            plains,
             limit,
             trace: Trace::new(trace),
             lanes: [Lane::default(); MAX_THREADS],
@@ -103,6 +107,11 @@ impl<'a> Interpreter<'a> {
             8 => self.join(thread, row),
             9..=11 => {
                 self.jump(thread, row);
+                Ok(())
+            }
+            17 | 18 => {
+                let seen = self.plain(thread, row)?;
+                self.complete(thread, row, seen);
                 Ok(())
             }
             _ => self.remaining(thread, row),
@@ -155,6 +164,19 @@ impl<'a> Interpreter<'a> {
             5 => unsync_load(cell, register),
             _ => exclusive(cell, row, register),
         }
+    }
+
+    /// Opcodes 17 and 18.
+    fn plain(&mut self, thread: usize, row: &Row) -> Result<Seen, Met> {
+        let cell = self.plains[usize::from(row.place)].as_mut();
+        let cell = cell.expect("the table names this plain cell");
+        if row.opcode == 18 {
+            cell.write(row.a)?;
+            return Ok(Seen::value(row.a));
+        }
+        let value = cell.read()?;
+        self.lanes[thread].registers[usize::from(row.register)] = value;
+        Ok(Seen::value(value))
     }
 
     /// A yield's entry comes before its scheduling, the only thing in it that can fault.

@@ -11,6 +11,8 @@ mod access;
 #[path = "atomic.rs"]
 #[allow(clippy::all)]
 pub(crate) mod atomic;
+#[path = "cell.rs"]
+mod cell;
 #[path = "execution.rs"]
 mod execution;
 #[path = "location.rs"]
@@ -33,6 +35,7 @@ mod vv;
 use self::access::Access;
 use self::atomic::Action;
 pub(crate) use self::atomic::{fence, Atomic};
+pub(crate) use self::cell::Cell;
 pub(crate) use self::execution::{Execution, Next};
 pub(crate) use self::location::Location;
 use self::num::Numeric;
@@ -50,8 +53,11 @@ pub(crate) const MAX_THREADS: usize = 5;
 /// Document 01: MAX_ATOMIC_HISTORY is 7.
 pub(crate) const MAX_ATOMIC_HISTORY: usize = 7;
 
-/// The cells of a table; places past its cell count are empty.
+/// The atomic cells of a table; places past their count are empty.
 pub(crate) type Cells = [Option<Atomic<u64>>; 4];
+
+/// The plain cells of a table; places past their count are empty.
+pub(crate) type Plains = [Option<Cell>; 4];
 
 thread_local! {
     static EXECUTION: RefCell<Option<Execution>> = const { RefCell::new(None) };
@@ -92,13 +98,16 @@ where
     })
 }
 
-/// The start of an execution: thread 0 makes the cells, then all threads stand as document 01 says.
-pub(crate) fn restart(threads: usize, starts: &[u64]) -> Cells {
+/// The start of an execution: thread 0 makes the cells, the plain ones last, then all threads stand
+/// as document 01 says.
+pub(crate) fn restart(threads: usize, starts: &[u64], plain_starts: &[u64]) -> (Cells, Plains) {
     execution(|execution| execution.restart(threads));
     let made = |i: usize| starts.get(i).map(|&value| Atomic::new(value, Location));
     let cells = std::array::from_fn(made);
+    let made = |i: usize| plain_starts.get(i).map(|&value| Cell::new(value));
+    let plains = std::array::from_fn(made);
     execution(|execution| execution.threads.cells_made());
-    cells
+    (cells, plains)
 }
 
 /// Sets the pending operation of a row that is scheduled before it acts; says whether it is one.

@@ -1,4 +1,5 @@
-//! The table: which bytes are accepted, and the rows they hold. Document 01, "Table".
+//! The table: which bytes are accepted, and the rows they hold. Document 01, "Table"; plain cells
+//! are those of document 02, section 5.
 
 use crate::limits::MAX_ROWS;
 use crate::rt::MAX_THREADS;
@@ -12,8 +13,10 @@ const ROW: usize = 24;
 #[derive(Debug)]
 pub(crate) struct Program {
     pub(crate) threads: usize,
-    starts: [u64; 4],
     cells: usize,
+    plains: usize,
+    /// The start values of the atomic cells, then those of the plain ones.
+    starts: Vec<u64>,
     /// Where each thread's rows begin, and at last where the last thread's end.
     firsts: [usize; MAX_THREADS + 1],
     rows: Vec<Row>,
@@ -23,7 +26,7 @@ pub(crate) struct Program {
 #[derive(Debug, Clone, Copy)]
 pub(crate) struct Row {
     pub(crate) opcode: u8,
-    /// Cell, or thread for a join.
+    /// Atomic cell, plain cell, or thread for a join.
     pub(crate) place: u8,
     pub(crate) order: u8,
     pub(crate) failure: u8,
@@ -47,7 +50,7 @@ impl Program {
             thread: 255,
             row: 255,
         })?;
-        let rows = &table[HEADER + 8 * program.cells..];
+        let rows = &table[HEADER + 8 * program.starts.len()..];
         program.rows = rows.chunks_exact(ROW).map(Row::read).collect();
         for thread in 0..program.threads {
             for (number, row) in program.of(thread).iter().enumerate() {
@@ -65,9 +68,10 @@ impl Program {
     /// Header and length; the rows are still to be read.
     fn shape(table: &[u8]) -> Option<Program> {
         let header: &[u8; HEADER] = table.first_chunk()?;
-        let [threads, cells, counts @ .., zero] = *header;
+        let [threads, cells, counts @ .., plains] = *header;
         let (threads, cells) = (usize::from(threads), usize::from(cells));
-        let named = (1..=MAX_THREADS).contains(&threads) && (1..=4).contains(&cells) && zero == 0;
+        let plains = usize::from(plains);
+        let named = (1..=MAX_THREADS).contains(&threads) && (1..=4).contains(&cells) && plains <= 4;
         if !named || counts.iter().any(|&count| usize::from(count) > MAX_ROWS) {
             return None;
         }
@@ -78,17 +82,16 @@ impl Program {
         for (thread, count) in counts.into_iter().enumerate() {
             firsts[thread + 1] = firsts[thread] + usize::from(count);
         }
-        if table.len() != HEADER + 8 * cells + ROW * firsts[MAX_THREADS] {
+        let rows = HEADER + 8 * (cells + plains);
+        if table.len() != rows + ROW * firsts[MAX_THREADS] {
             return None;
         }
-        let mut starts = [0; 4];
-        for (cell, start) in starts[..cells].iter_mut().enumerate() {
-            *start = number(&table[HEADER + 8 * cell..]);
-        }
+        let starts = table[HEADER..rows].chunks_exact(8).map(number).collect();
         Some(Program {
             threads,
-            starts,
             cells,
+            plains,
+            starts,
             firsts,
             rows: Vec::new(),
         })
@@ -99,9 +102,14 @@ impl Program {
         &self.rows[self.firsts[thread]..self.firsts[thread + 1]]
     }
 
-    /// The start values, one for each cell.
+    /// The start values, one for each atomic cell.
     pub(crate) fn starts(&self) -> &[u64] {
         &self.starts[..self.cells]
+    }
+
+    /// The start values, one for each plain cell.
+    pub(crate) fn plain_starts(&self) -> &[u64] {
+        &self.starts[self.cells..]
     }
 
     /// A used field is in range, any other is zero.
@@ -112,6 +120,7 @@ impl Program {
         let places = match used.place {
             Place::None => 1,
             Place::Cell => self.cells,
+            Place::Plain => self.plains,
             Place::Thread => self.threads,
         };
         let targets = if used.target {
@@ -166,6 +175,7 @@ pub(crate) fn ordering(order: u8) -> Ordering {
 enum Place {
     None,
     Cell,
+    Plain,
     Thread,
 }
 
@@ -200,7 +210,8 @@ impl Used {
             0..=3 | 5 | 6 => used.place = Place::Cell,
             8 => used.place = Place::Thread,
             4 | 7 | 9..=16 => {}
-            17..=255 => return None,
+            17 | 18 => used.place = Place::Plain,
+            19..=255 => return None,
         }
         match row.opcode {
             0 => used.orders = &[0, 2, 4],
@@ -209,10 +220,10 @@ impl Used {
             4 => used.orders = &[1, 2, 3, 4],
             _ => {}
         }
-        used.register = matches!(row.opcode, 0 | 2 | 3 | 5 | 6 | 10 | 11 | 12 | 16);
+        used.register = matches!(row.opcode, 0 | 2 | 3 | 5 | 6 | 10 | 11 | 12 | 16 | 17);
         used.target = matches!(row.opcode, 9..=11);
         used.change = matches!(row.opcode, 3 | 6);
-        used.a = matches!(row.opcode, 1 | 10 | 11 | 12) || used.change && row.change <= 11;
+        used.a = matches!(row.opcode, 1 | 10 | 11 | 12 | 18) || used.change && row.change <= 11;
         used.b = used.change && row.change == 11;
         if row.opcode == 3 && matches!(row.change, 11 | 12) {
             used.failures = &[0, 2, 4];

@@ -21,12 +21,15 @@ impl Random {
 }
 
 /// A row that is accepted; atomic rows are the most frequent.
-fn row(random: &mut Random, threads: u64, cells: u64, rows: u64) -> Row {
+fn row(random: &mut Random, threads: u64, [cells, plains]: [u64; 2], rows: u64) -> Row {
     let place = random.below(cells) as u8;
     let register = random.below(4) as u8;
     let a = random.below(3);
     let target = random.below(rows + 1) as u16;
-    match random.below(40) {
+    match random.below(if plains == 0 { 40 } else { 52 }) {
+        40..=45 => plain_read(random.below(plains) as u8, register),
+        46.. => plain_write(random.below(plains) as u8, a),
+
         0..=8 => load(place, random.pick(&[0, 2, 4]), register),
         9..=15 => store(place, random.pick(&[0, 1, 4]), a),
         16 => store_register(place, random.pick(&[0, 1, 4]), register),
@@ -58,16 +61,18 @@ fn random_rmw(random: &mut Random, place: u8, register: u8, a: u64) -> Row {
 
 fn random_table(random: &mut Random) -> Vec<u8> {
     let (threads, cells) = (1 + random.below(4), 1 + random.below(2));
+    let plains = random.below(6).saturating_sub(2);
     let thread = |random: &mut Random| -> Vec<Row> {
         let rows = random.below(6);
         (0..rows)
-            .map(|_| row(random, threads, cells, rows))
+            .map(|_| row(random, threads, [cells, plains], rows))
             .collect()
     };
     let rows: Vec<Vec<Row>> = (0..threads).map(|_| thread(random)).collect();
     let rows: Vec<&[Row]> = rows.iter().map(Vec::as_slice).collect();
     let starts: Vec<u64> = (0..cells).map(|_| random.below(3)).collect();
-    table(&starts, &rows)
+    let plain_starts: Vec<u64> = (0..plains).map(|_| random.below(3)).collect();
+    table_with(&starts, &plain_starts, &rows)
 }
 
 fn random_settings(random: &mut Random) -> Settings {
@@ -137,6 +142,7 @@ fn only_the_current_one_is_yielded(ran: &Ran) {
 #[test]
 fn random_tables() {
     let mut answers = [0; 18];
+    let mut kinds = [0; 13];
     for case in 1..=20_000u64 {
         let mut random = Random(case.wrapping_mul(0x9e37_79b9_7f4a_7c15));
         let table = random_table(&mut random);
@@ -147,11 +153,13 @@ fn random_tables() {
         well_formed(&ran);
         only_the_current_one_is_yielded(&ran);
         answers[ran.report.answer as usize] += 1;
+        kinds[ran.report.kind as usize] += 1;
     }
     // The generator reaches every answer but the rare 13 and 17, and the refusals.
     for answer in [0, 1, 10, 11, 12, 14, 15, 16] {
         assert!(answers[answer] > 100, "{answers:?}");
     }
+    assert!(kinds[10..].iter().all(|&kind| kind > 100), "{kinds:?}");
 }
 
 /// A run leaves nothing behind: run again, alone or inside another's history or on other machine

@@ -150,13 +150,18 @@ fn header_and_length() {
     // Byte 4 is the count of thread 2, which is absent.
     let edits = [(0, 0), (0, 6), (0, 255), (1, 0), (1, 5), (4, 1), (6, 1)];
     let many = MAX_ROWS as u8 + 1;
-    for (at, value) in edits.into_iter().chain([(7, 1), (7, 255), (2, many)]) {
+    for (at, value) in edits
+        .into_iter()
+        .chain([(7, 1), (7, 4), (7, 5), (7, 255), (2, many)])
+    {
         let mut bad = good.clone();
         bad[at] = value;
         bad_header(&bad);
     }
     // A row too many, with the bytes for it.
     bad_header(&table(&[0], &[&[yields(); MAX_ROWS + 1]]));
+    // A plain cell too many, with the bytes for it.
+    bad_header(&table_with(&[0], &[0; 5], &[&[yields()]]));
     // An absent thread with rows, with the bytes for them.
     let mut absent = table(&[0], &[&[yields()], &[yields()]]);
     absent[0] = 1;
@@ -165,7 +170,7 @@ fn header_and_length() {
     let mut both = table(
         &[0],
         &[&[Row {
-            opcode: 17,
+            opcode: 19,
             ..yields()
         }]],
     );
@@ -187,9 +192,15 @@ fn the_first_bad_row_is_named() {
     assert_eq!(judged(&table(&[0], &late)), Report::refusal(5, 1, 0));
 }
 
-/// A table of two threads and two cells; the row stands second of three in thread 1.
+/// A table of two threads, two cells and three plain cells; the row stands second of three in thread 1.
 fn accepted(row: Row) -> bool {
-    let table = table(&[0, 0], &[&[], &[check(0, 0), row, check(0, 0)]]);
+    accepted_with(3, row)
+}
+
+/// The same with so many plain cells.
+fn accepted_with(plains: usize, row: Row) -> bool {
+    let rows = [check(0, 0), row, check(0, 0)];
+    let table = table_with(&[0, 0], &vec![0; plains], &[&[], &rows]);
     let settings = settings(64, 64, 1);
     let mut path = vec![0; 16 * 64];
     let mut trace = path.clone();
@@ -222,7 +233,7 @@ fn plain(opcode: u8) -> Row {
 #[test]
 fn opcodes() {
     for opcode in 0..=255 {
-        assert_eq!(accepted(plain(opcode)), opcode <= 16, "{opcode}");
+        assert_eq!(accepted(plain(opcode)), opcode <= 18, "{opcode}");
     }
 }
 
@@ -235,7 +246,7 @@ fn orders() {
         &[0, 1, 2, 3, 4],
         &[1, 2, 3, 4],
     ];
-    for opcode in 0..=16 {
+    for opcode in 0..=18 {
         for order in 0..=255 {
             let row = Row {
                 order,
@@ -268,7 +279,7 @@ fn failure_orders() {
 
 #[test]
 fn changes_and_registers() {
-    for opcode in 0..=16 {
+    for opcode in 0..=18 {
         for value in 0..=255 {
             let change = Row {
                 change: value,
@@ -280,7 +291,7 @@ fn changes_and_registers() {
                 register: value,
                 ..plain(opcode)
             };
-            let used = [0, 2, 3, 5, 6, 10, 11, 12, 16].contains(&opcode);
+            let used = [0, 2, 3, 5, 6, 10, 11, 12, 16, 17].contains(&opcode);
             let registers = if used { 3 } else { 0 };
             assert_eq!(accepted(register), value <= registers, "{register:?}");
         }
@@ -289,15 +300,19 @@ fn changes_and_registers() {
 
 #[test]
 fn places_and_targets() {
-    for opcode in 0..=16 {
+    for opcode in 0..=18 {
         for value in 0..=255 {
             let place = Row {
                 place: value,
                 ..plain(opcode)
             };
-            // Two cells, two threads; a join may name its own thread.
-            let used = [0, 1, 2, 3, 5, 6, 8].contains(&opcode);
-            assert_eq!(accepted(place), value <= u8::from(used), "{place:?}");
+            // Two cells, two threads, three plain cells; a join may name its own thread.
+            let last = match opcode {
+                0..=3 | 5 | 6 | 8 => 1,
+                17 | 18 => 2,
+                _ => 0,
+            };
+            assert_eq!(accepted(place), value <= last, "{place:?}");
         }
         for target in [0, 1, 3, 4, 255, 256, 65535] {
             let row = Row {
@@ -312,7 +327,7 @@ fn places_and_targets() {
 
 #[test]
 fn operands() {
-    for opcode in 0..=16 {
+    for opcode in 0..=18 {
         for change in 0..=12 {
             let changes = matches!(opcode, 3 | 6);
             if change > 0 && !changes {
@@ -324,11 +339,23 @@ fn operands() {
                     ..plain(opcode)
                 };
                 let a = Row { a: operand, ..base };
-                let uses_a = [1, 10, 11, 12].contains(&opcode) || changes && change <= 11;
+                let uses_a = [1, 10, 11, 12, 18].contains(&opcode) || changes && change <= 11;
                 assert_eq!(accepted(a), uses_a, "{a:?}");
                 let b = Row { b: operand, ..base };
                 assert_eq!(accepted(b), changes && change == 11, "{b:?}");
             }
+        }
+    }
+}
+
+/// A plain cell is there only if the header counts it, however many atomic ones there are.
+#[test]
+fn plain_cells_that_there_are() {
+    for plains in 0..=4 {
+        for place in 0..=255 {
+            let there = usize::from(place) < plains;
+            assert_eq!(accepted_with(plains, plain_read(place, 0)), there);
+            assert_eq!(accepted_with(plains, plain_write(place, 1)), there);
         }
     }
 }

@@ -1,17 +1,18 @@
--- The laws of the rows that access a cell: each step's own promise gives what it leaves, and the last state is the
+-- The laws of the rows that access a cell or a plain cell: each step's own promise gives what it leaves, and the last state is the
 -- definition's. Assumes nothing.
 --     put-raced, put-done       a value that was read, or the race that stopped it
---     reads-as                  of the newest slot, by what an unsynchronised load came to
+--     reads-as                  of the newest slot, by what an unsynchronised load came to; of none, by what a plain read did
 --     store-raced, store-done   a store
 --     mut-raced, mut-done       an exclusive change
+--     write-raced, write-done   a plain write
 use Prim.Native.Nat.{ℕ}
 use mathlib.Core.Path.{_≡_, _∙_}
 use Rattle.rules.specs.Event as Event
 use Rattle.rules.specs.Event.{Move, moves, stops}
 use Rattle.rules.specs.State.{State, Clocks, Marks, Values, Numbers, value, withValue, number, storeAt, registerAt, ofStore, ofRegister, count, threads}
 use Rattle.rules.specs.Vector.{oneMore, zeros}
-use Rattle.rules.specs.Cell.{Access, slotOf, newest, noRace, raceOf, storeRace, storeTracked, storeDone, withClocks}
-use Rattle.rules.specs.Machine.{versionRaised, completed, entry, storesUnless, stores, reads, leavesIn}
+use Rattle.rules.specs.Cell.{Access, Race, slotOf, newest, noRace, raceOf, storeRace, storeTracked, storeDone, withClocks}
+use Rattle.rules.specs.Machine.{versionRaised, completed, entry, noSlot, storesUnless, stores, reads, leavesIn, writesUnless}
 use Rattle.layout.specs.Tables.{state}
 use Rattle.atomic.specs.Accesses.{accessOf}
 use Rattle.atomic.specs.Exclusive.{mutatedOf}
@@ -19,6 +20,7 @@ use Rattle.atomic.specs.declared.Loaded.{Loaded}
 use Rattle.atomic.specs.declared.Loaded.the-variants as loads
 use Rattle.atomic.specs.declared.Mutated.{Mutated}
 use Rattle.atomic.specs.declared.Mutated.the-variants as mutates
+use Rattle.plain.specs.Writes.{unlessRaced}
 
 module _ (t k opcode r : ℕ) where
   module _ (slot mask : ℕ) (loaded : Loaded) where
@@ -48,6 +50,15 @@ module _ (t k opcode r : ℕ) where
         st ≡ completed (state clocks marks (withValue values (ofRegister at) found) numbers) t next →
         moves st (entry t k opcode slot 0 (value values (ofStore store))) ≡ leavesIn x t k opcode c r
     mut-done found left e slot store at next f g h i st j = rw (← access, e, j, i, h, g, f)
+
+-- by the race that was found, and what was left
+module _ (t k opcode v : ℕ) (race whole : Race) (answer : race ≡ whole) (st written left : State) (is : left ≡ unlessRaced race st written) where
+  pub write-raced : (kind other : ℕ) → race ≡ raceOf kind other → stops left (Event.race kind other) ≡ writesUnless whole st written t k opcode v
+  write-raced kind other e = rw (is, ← answer, e)
+
+  pub write-done : race ≡ noRace → (next : ℕ) (out : State) → next ≡ oneMore k → out ≡ completed left t next →
+      moves out (entry t k opcode noSlot 0 v) ≡ writesUnless whole st written t k opcode v
+  write-done e next out f g = rw (g, f, is, ← answer, e)
 
 module _ (t k opcode c o v : ℕ) where
   -- the version first

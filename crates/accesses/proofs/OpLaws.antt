@@ -53,7 +53,7 @@ of-within r cell register e h = subst (λ (x : Reading). readWithin x) e h
 
 -- the places of those opcodes among the variants
 abbrev elsewhere : List ℕ
-elsewhere = 1 ∷ 2 ∷ 4 ∷ 5 ∷ 6 ∷ 7 ∷ 8 ∷ 9 ∷ 10 ∷ 11 ∷ 12 ∷ 13 ∷ 14 ∷ 15 ∷ 16 ∷ []
+elsewhere = 1 ∷ 2 ∷ 4 ∷ 5 ∷ 6 ∷ 7 ∷ 8 ∷ 9 ∷ 10 ∷ 11 ∷ 12 ∷ 13 ∷ 14 ∷ 15 ∷ 16 ∷ 17 ∷ 18 ∷ []
 
 pub record Other (op : Table.Op) : Type 0 where
   pub nothing : Nothing ≡ readingOf op
@@ -78,6 +78,8 @@ others code.Critical e = record { nothing = refl; done = λ st t slot. refl; off
 others code.ExploreState e = record { nothing = refl; done = λ st t slot. refl; offers = λ st t. refl }
 others code.SkipBranch e = record { nothing = refl; done = λ st t slot. refl; offers = λ st t. refl }
 others (code.Spurious r) e = record { nothing = refl; done = λ st t slot. refl; offers = λ st t. refl }
+others (code.PlainRead c r) e = record { nothing = refl; done = λ st t slot. refl; offers = λ st t. refl }
+others (code.PlainWrite c a) e = record { nothing = refl; done = λ st t slot. refl; offers = λ st t. refl }
 
 -- What is read
 
@@ -157,6 +159,8 @@ module _ (st : State) (t k slot mask : ℕ) where
   by-reading Table.exploreState = refl
   by-reading Table.skipBranch = refl
   by-reading (Table.spurious r) = refl
+  by-reading (Table.plainRead c r) = refl
+  by-reading (Table.plainWrite c a) = refl
 
   pub from-refused : (row : Decoded) → row ≡ Refused → stops st Event.impossible ≡ readFrom st t k slot mask (decodedOf row)
   unfolding readFrom

@@ -29,6 +29,8 @@ readDone st t slot Table.critical = read 0 st
 readDone st t slot Table.exploreState = read 0 st
 readDone st t slot Table.skipBranch = read 0 st
 readDone st t slot (Table.spurious r) = read 0 st
+readDone st t slot (Table.plainRead c r) = read 0 st
+readDone st t slot (Table.plainWrite c a) = read 0 st
 
 -- the cell and the register of a load or an RMW; nothing of another row
 abbrev pub readingOf : Op → Reading
@@ -49,6 +51,8 @@ readingOf Table.critical = code.Nothing
 readingOf Table.exploreState = code.Nothing
 readingOf Table.skipBranch = code.Nothing
 readingOf (Table.spurious r) = code.Nothing
+readingOf (Table.plainRead c r) = code.Nothing
+readingOf (Table.plainWrite c a) = code.Nothing
 
 -- they are a cell and a register that there are
 abbrev pub readWithin : Reading → Type 0

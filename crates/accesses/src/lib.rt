@@ -1,11 +1,12 @@
-// The rows that access a cell, each once its thread has been chosen, and how a load or an RMW goes on with the store it is
-// given.
+// The rows that access a cell or a plain cell, each once its thread has been chosen, and how a load or an RMW goes on with the
+// store it is given.
 ghost use mathlib.Core.Path.{_≡_};
 ghost use Prim.Native.Nat.{ℕ, _<_};
 ghost use lib.Dec.{ltb};
 ghost use Rattle.rules.specs.Cell as cells;
 ghost use Rattle.rules.specs.Event as events;
 ghost use Rattle.rules.specs.Machine as machine;
+ghost use Rattle.rules.specs.Plain.{plainReadDone, plainWriteRace, plainWriteDone};
 ghost use Rattle.rules.specs.State as rules;
 ghost use Rattle.rules.specs.Table.{opcodeIn};
 ghost use Rattle.layout.specs.Tables.{state};
@@ -22,6 +23,7 @@ use decode::Decoded;
 use decode::Op;
 use event::Event;
 use event::Fault;
+use event::NO_SLOT;
 use event::Site;
 use layout::Access;
 use layout::Clocks;
@@ -125,6 +127,46 @@ pub fn with_mut_row(
                 value: left,
             }
         }
+    }
+}
+
+// A read of a plain cell. It has no slot, and raises no version.
+pub fn plain_read_row(
+    clocks: &mut Clocks,
+    values: &mut Values,
+    numbers: &mut Numbers,
+    site: Site,
+    plain: usize,
+    register: usize,
+) -> Event
+    requires { ⌜ (site .thread < 5) × (plain < 4) × (register < 4) ⌝ }
+    ensures { λ r. ⌜ ((marks : rules.Marks) (opcode : ℕ) (m : events.Matched) → moveOf r (site .thread) (site .row) opcode m (state (now (clocks .exit)) marks (now (values .exit)) (now (numbers .exit))) ≡ machine.reads (plainReadDone (state (now (clocks .entry)) marks (now (values .entry)) (now (numbers .entry))) (site .thread) plain) (site .thread) (site .row) opcode register machine.noSlot 0) ⌝ }
+{
+    let loaded = plain::read(clocks, values, site.thread, plain);
+    put_value(values, numbers, site, register, NO_SLOT, 0, loaded)
+}
+
+// A write of a plain cell, which has no slot either, and raises no version.
+pub fn plain_write_row(
+    clocks: &mut Clocks,
+    values: &mut Values,
+    numbers: &mut Numbers,
+    site: Site,
+    plain: usize,
+    value: u64,
+) -> Event
+    requires { ⌜ (site .thread < 5) × (plain < 4) ⌝ }
+    ensures { λ r. ⌜ ((marks : rules.Marks) (opcode : ℕ) (m : events.Matched) → moveOf r (site .thread) (site .row) opcode m (state (now (clocks .exit)) marks (now (values .exit)) (now (numbers .exit))) ≡ machine.writesUnless (plainWriteRace (now (clocks .entry)) (site .thread) plain) (state (now (clocks .entry)) marks (now (values .entry)) (now (numbers .entry))) (plainWriteDone (state (now (clocks .entry)) marks (now (values .entry)) (now (numbers .entry))) (site .thread) plain value) (site .thread) (site .row) opcode value) ⌝ }
+{
+    let thread = site.thread;
+    if let Race::With { kind, other } = plain::write(clocks, values, thread, plain, value) {
+        return Event::Stops(Fault::Race { kind, other });
+    }
+    thread::complete(numbers, thread, vv::one_more(site.row));
+    Event::Done {
+        slot: NO_SLOT,
+        mask: 0,
+        value,
     }
 }
 

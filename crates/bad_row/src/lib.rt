@@ -7,6 +7,7 @@ use reasons::Room;
 use table::CELLS;
 use table::COUNTS;
 use table::FIRSTS;
+use table::PLAINS;
 use table::THREADS;
 use table::limits::HEADER;
 use table::limits::ROW;
@@ -25,10 +26,12 @@ pub fn print(table: &[u8], thread: u8, number: u8) {
     let room = Room {
         threads: wide16(shape[THREADS]),
         cells: wide16(shape[CELLS]),
-        count: wide16(shape[COUNTS + t]),
+        plains: wide16(shape[PLAINS]),
+        rows: wide16(shape[COUNTS + t]),
     };
     let index = wide16(shape[FIRSTS + t]) + wide8(number);
-    let row = fields(table, HEADER + VALUE * room.cells + ROW * index);
+    let values = room.cells + room.plains;
+    let row = fields(table, HEADER + VALUE * values + ROW * index);
     let mut line = [0u8; 256];
     let to = line::fill(
         &mut line,

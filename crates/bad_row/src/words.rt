@@ -58,20 +58,22 @@ fn put_field(line: &mut Line, at: usize, field: Field, opcode: u8) -> usize {
     }
 }
 
-// A row names a cell, or a thread, or neither.
+// A row names a cell, a plain cell, a thread, or none.
 fn put_object(line: &mut Line, at: usize, opcode: u8) -> usize {
     match reasons::may_be(Field::Object, opcode, 0) {
         May::AnyCell => line::put(line, at, b"cell"),
+        May::AnyPlain => line::put(line, at, b"plain cell"),
         May::AnyThread => line::put(line, at, b"thread"),
-        _ => line::put(line, at, b"the cell or thread"),
+        _ => line::put(line, at, b"the cell, plain cell or thread"),
     }
 }
 
 // What it may be, where it is used.
 fn put_may(line: &mut Line, at: usize, may: May, room: Room) -> usize {
     match may {
-        May::AnyOpcode => line::put(line, at, b": there are 0 to 16"),
+        May::AnyOpcode => line::put(line, at, b": there are 0 to 18"),
         May::AnyCell => put_count(line, at, room.cells),
+        May::AnyPlain => put_count(line, at, room.plains),
         May::AnyThread => put_count(line, at, room.threads),
         May::AnyOrder => line::put(line, at, b": there are 0 to 4"),
         May::LoadOrder => line::put(line, at, b" that a load may have (0, 2 or 4)"),
@@ -83,7 +85,7 @@ fn put_may(line: &mut Line, at: usize, may: May, room: Room) -> usize {
             line,
             at,
             b": it may be up to #, the thread's end",
-            room.count as u64,
+            room.rows as u64,
             0,
             0,
         ),
@@ -109,7 +111,7 @@ fn put_unused(line: &mut Line, at: usize, value: u64, opcode: u8) -> usize {
     let to = put_nth(
         line,
         to,
-        b"load,store,store of a register,change,fence,unsync_load,with_mut,yield,join,jump,jump if equal,jump if not equal,check,critical,explore_state,skip_branch,branch_spurious",
+        b"load,store,store of a register,change,fence,unsync_load,with_mut,yield,join,jump,jump if equal,jump if not equal,check,critical,explore_state,skip_branch,branch_spurious,plain read,plain write",
         opcode as usize,
     );
     line::put(line, to, b") does not use it: it must be 0")

@@ -12,10 +12,11 @@ use native.Mathlib.Omega.{arith}
 use lib.Dec.{eqb, ltb}
 use Rattle.rules.specs.Vector.{joined}
 use Rattle.rules.specs.Seen.{touchedAt, unseens}
-use Rattle.rules.specs.State.{State, Clocks, Marks, Numbers, Vector, vector, number, marksOf, threads, cells, history, storeAt}
-use Rattle.rules.specs.State.{causality, released, seqCst, loaded, unsyncLoaded, stored, mutated, happensBefore, order, sync, count}
+use Rattle.rules.specs.State.{State, Clocks, Marks, Numbers, Vector, vector, number, marksOf, threads, cells, plains, history, storeAt}
+use Rattle.rules.specs.State.{causality, released, seqCst, loaded, unsyncLoaded, stored, mutated, happensBefore, order, sync, readAccess, writeAccess, count}
 use Rattle.rules.specs.Cell as Cell
 use Rattle.rules.specs.Cell.{version, withClocks, liveStores, liveIn, slotOf, storeDone, sighted, Race, noRace, raceOf}
+use Rattle.rules.specs.Plain as Plain
 use Rattle.rules.proofs.StateLaws.{inVectors}
 use Rattle.rules.proofs.SlotLaws.{live-most}
 use Rattle.rules.proofs.MeasureRows.{pick}
@@ -29,6 +30,22 @@ oldest-live n k h =
     pick (λ (x : ℕ). x < history) (ltb n history) (λ e. omega (arith, live-most n)) (λ e. omega arith)
 
 module _ {P : Kind → ℕ → ℕ → Type 0} where
+  module _ {least : ℕ → ℕ} (t : ℕ) (below : t < threads) where
+    recorded-since : (r : Race) (clocks : Clocks) (v : Vector) → inVectors v → ofVersions ≡ kindOf v → Since P least clocks →
+        Since P least (Cell.recorded r clocks v t)
+    recorded-since noRace clocks v h e s = join-into clocks v (causality t) h below e s
+    recorded-since (raceOf kind other) clocks v h e s = s
+
+    -- of a plain cell
+    module _ (c : ℕ) (on : c < plains) where
+      pub plain-read-tracked : (clocks : Clocks) → Since P least clocks → Since P least (Plain.plainReadTracked clocks t c)
+      unfolding Plain.plainReadTracked
+      plain-read-tracked clocks s = recorded-since (Plain.plainReadRace clocks t c) clocks (readAccess c) on refl s
+
+      pub plain-write-tracked : (clocks : Clocks) → Since P least clocks → Since P least (Plain.plainWriteTracked clocks t c)
+      unfolding Plain.plainWriteTracked
+      plain-write-tracked clocks s = recorded-since (Plain.plainWriteRace clocks t c) clocks (writeAccess c) on refl s
+
   module _ {least : ℕ → ℕ} (t c : ℕ) (below : t < threads) (on : c < cells) where
     pub load-synced : (clocks : Clocks) (store o : ℕ) → store < 28 → Since P least clocks →
         Since P least (Cell.loadSynced clocks t store o)
@@ -44,26 +61,21 @@ module _ {P : Kind → ℕ → ℕ → Type 0} where
         pick (Fit (P ofVersions)) (Cell.releases o) (λ e. joined-fit (P ofVersions) _ _ once (fit-of clocks (causality t) below s))
         (λ e. once)
 
-    recorded-since : (r : Race) (clocks : Clocks) (v : Vector) → inVectors v → ofVersions ≡ kindOf v → Since P least clocks →
-        Since P least (Cell.recorded r clocks v t)
-    recorded-since noRace clocks v h e s = join-into clocks v (causality t) h below e s
-    recorded-since (raceOf kind other) clocks v h e s = s
-
     pub load-tracked : (clocks : Clocks) → Since P least clocks → Since P least (Cell.loadTracked clocks t c)
     unfolding Cell.loadTracked
-    load-tracked clocks s = recorded-since (Cell.loadRace clocks t c) clocks (loaded c) on refl s
+    load-tracked clocks s = recorded-since t below (Cell.loadRace clocks t c) clocks (loaded c) on refl s
 
     pub unsync-tracked : (clocks : Clocks) → Since P least clocks → Since P least (Cell.unsyncLoadTracked clocks t c)
     unfolding Cell.unsyncLoadTracked
-    unsync-tracked clocks s = recorded-since (Cell.unsyncLoadRace clocks t c) clocks (unsyncLoaded c) on refl s
+    unsync-tracked clocks s = recorded-since t below (Cell.unsyncLoadRace clocks t c) clocks (unsyncLoaded c) on refl s
 
     pub store-tracked : (clocks : Clocks) → Since P least clocks → Since P least (Cell.storeTracked clocks t c)
     unfolding Cell.storeTracked
-    store-tracked clocks s = recorded-since (Cell.storeRace clocks t c) clocks (stored c) on refl s
+    store-tracked clocks s = recorded-since t below (Cell.storeRace clocks t c) clocks (stored c) on refl s
 
     pub mut-tracked : (clocks : Clocks) → Since P least clocks → Since P least (Cell.mutTracked clocks t c)
     unfolding Cell.mutTracked
-    mut-tracked clocks s = recorded-since (Cell.mutRace clocks t c) clocks (mutated c) on refl s
+    mut-tracked clocks s = recorded-since t below (Cell.mutRace clocks t c) clocks (mutated c) on refl s
 
     -- an order takes in others
     with-order : (clocks : Clocks) (b : Bool) (so : List ℕ) (i : ℕ) → i < history → Since P least clocks → Fit (P ofVersions) so →

@@ -19,19 +19,20 @@ use Rattle.rules.specs.Table as Table
 use Rattle.rules.specs.Table.{Op, Decoded, refused, decoded}
 use Rattle.rules.specs.Event.{Entry, offers}
 use Rattle.rules.specs.State as State
-use Rattle.rules.specs.State.{State, vector, number, withNumber, threads, cells, history, storeAt}
+use Rattle.rules.specs.State.{State, vector, number, withNumber, threads, cells, plains, history, storeAt}
 use Rattle.rules.specs.State.{causality, scheduleOf, seqCst, sync, phase, nextRow, yields, lastYield, operation, awaits, count, isSeqCst, exploring, skipping}
 use Rattle.rules.specs.Cell as Cell
 use Rattle.rules.specs.Cell.{version, storeDone, slotOf, withClocks, Access, raced, read, Race, noRace, raceOf, unlessRace, sighted, loadDone, byChange, succeeded, rmwDone, unsyncLoadDone, mutDone}
+use Rattle.rules.specs.Plain.{plainReadRace, plainWriteRace, plainReadDone, plainWriteDone}
 use Rattle.rules.specs.Machine
 use Rattle.rules.specs.Machine.{Program, rowCount, completed, toBegin, ended, blocked, yielded}
 use Rattle.rules.proofs.SlotLaws.{matched-long, offered-long, live-most}
-use Rattle.rules.proofs.MeasureRows.{pick, Names, RowNames}
+use Rattle.rules.proofs.MeasureRows.{pick, Names, RowNames, widest}
 use Rattle.rules.proofs.VectorLaws.{raised-own}
 use Rattle.bounds.specs.Bounds
 use Rattle.bounds.specs.Bounds.{Fits, Kind, ofVersions, but, Part, Holds}
 use Rattle.bounds.proofs.Parts.{Fit, zeros-fit, raised-fit, Since, fit-of, put, join-into}
-use Rattle.bounds.proofs.Accesses.{with-clocks, sighted-sound, stored-sound, load-synced, store-tracked, unsync-tracked, mut-tracked, fenced-since}
+use Rattle.bounds.proofs.Accesses.{with-clocks, sighted-sound, stored-sound, load-synced, store-tracked, unsync-tracked, mut-tracked, plain-read-tracked, plain-write-tracked, fenced-since}
 use Rattle.bounds.proofs.Numbers.{given-own, of-given, aside, last-yield, acted, stored, yields-once, aside-links, phase-now, operation-now}
 use Rattle.bounds.proofs.Stands.{At, part-eased, eased-at, over, holds, asks-thread, asks-row, has-room, Ending, Going, ending-going}
 
@@ -189,6 +190,12 @@ module _ (p : Program) (fits : Fits p) (t n : ℕ) (rows owing waits least : ℕ
       unless-race (Cell.mutRace (st .clocks) t c) st _ s (isRead
       (record { sound = after .sound; tally = after .tally; links = after .links }))
 
+  plain-read-at : (st : State) (c : ℕ) → c < plains → Raised st → AtRead (plainReadDone st t c)
+  unfolding plainReadDone
+  plain-read-at st c h s =
+      unless-race (plainReadRace (st .clocks) t c) st _ s
+      (isRead (acts-bare _ (with-parts st _ (plain-read-tracked t below c h (st .clocks)) s)))
+
   -- the same with a value in a register
   with-register : (st : State) (r v : ℕ) → Acted st → Acted (Machine.withRegister st t r v)
   with-register st r v s = record { sound = s .sound; tally = s .tally; links = s .links }
@@ -213,6 +220,14 @@ module _ (p : Program) (fits : Fits p) (t n : ℕ) (rows owing waits least : ℕ
       let up = Machine.versionRaised st t in
       stores-unless (Cell.storeRace (up .clocks) t c) up _ k opcode c o v h (raise st s)
       (with-parts up _ (store-tracked t c below h (up .clocks)) (raise st s))
+
+  writes-unless : (x : Race) (st : State) (k opcode c v : ℕ) → c < plains → Raised st →
+      Ending p n (Machine.writesUnless x st (plainWriteDone st t c v) t k opcode v)
+  unfolding plainWriteDone
+  writes-unless (raceOf kind other) st k opcode c v h s = over st s
+  writes-unless noRace st k opcode c v h s =
+      let after = acts-bare _ (with-parts st _ (plain-write-tracked t below c h (st .clocks)) s) in
+      finished _ (oneMore k) (record { sound = after .sound; tally = after .tally; links = after .links })
 
   -- The row needs nothing but to be complete
   bare : (st : State) (k : ℕ) → Acting st → Holds p (completed st t k) (n + 1)
@@ -322,7 +337,7 @@ module _ (p : Program) (fits : Fits p) (t n : ℕ) (rows owing waits least : ℕ
   slot-going st fate cnt s = (asks-now (Machine.versionRaised st t) (raise st s), slots-few fate cnt)
 
   -- What each row does, where it has begun
-  pub acts-going : (st : State) (k : ℕ) (op : Op) → Names threads cells (rowCount p t) op → version (st .clocks) t ≤ least t → Acting st →
+  pub acts-going : (st : State) (k : ℕ) (op : Op) → Names (widest (rowCount p t)) op → version (st .clocks) t ≤ least t → Acting st →
       Going p n (Machine.acts p st t k op)
   unfolding Machine.actsAs Cell.matchedLoad Cell.matchedRmw
   acts-going st k (Table.load c o r) h v s = slot-going st _ (number (st .numbers) (count c)) s
@@ -350,10 +365,17 @@ module _ (p : Program) (fits : Fits p) (t n : ℕ) (rows owing waits least : ℕ
   acts-going st k Table.exploreState h v s = explores-going st k 14 true s
   acts-going st k Table.skipBranch h v s = bare (Machine.skipped st) (oneMore k) (skips st s)
   acts-going st k (Table.spurious r) h v s = asks-now st (not-raised st s)
+  acts-going st k (Table.plainRead c r) h v s =
+      ending-going p n (Machine.reads (plainReadDone st t c) t k 17 r Machine.noSlot 0)
+      (reads-ending (plainReadDone st t c) k 17 r Machine.noSlot 0 (plain-read-at st c h (not-raised st s)))
+  acts-going st k (Table.plainWrite c a) h v s =
+      let race = plainWriteRace (st .clocks) t c in
+      ending-going p n (Machine.writesUnless race st (plainWriteDone st t c a) t k 18 a)
+      (writes-unless race st k 18 c a h (not-raised st s))
 
   -- a load or an RMW reads its slot
   pub read-ending : (st : State) (k slot mask : ℕ) (row : Decoded Op) → slot < history →
-      RowNames threads cells (rowCount p t) row → Raised st →
+      RowNames (widest (rowCount p t)) row → Raised st →
       Ending p n (Machine.readFrom st t k slot mask row)
   unfolding Machine.readFrom RowNames
   read-ending st k slot mask refused d h s = over st s
@@ -378,6 +400,8 @@ module _ (p : Program) (fits : Fits p) (t n : ℕ) (rows owing waits least : ℕ
   read-ending st k slot mask (decoded Table.exploreState) d h s = over st s
   read-ending st k slot mask (decoded Table.skipBranch) d h s = over st s
   read-ending st k slot mask (decoded (Table.spurious r)) d h s = over st s
+  read-ending st k slot mask (decoded (Table.plainRead c r)) d h s = over st s
+  read-ending st k slot mask (decoded (Table.plainWrite c a)) d h s = over st s
 
   -- "16 `branch_spurious` into register (0 or 1)"
   pub bit-ending : (st : State) (k v : ℕ) (row : Decoded Op) → Raised st → Ending p n (Machine.bitTaken st t k v row)
@@ -400,3 +424,5 @@ module _ (p : Program) (fits : Fits p) (t n : ℕ) (rows owing waits least : ℕ
   bit-ending st k v (decoded Table.critical) s = over st s
   bit-ending st k v (decoded Table.exploreState) s = over st s
   bit-ending st k v (decoded Table.skipBranch) s = over st s
+  bit-ending st k v (decoded (Table.plainRead c r)) s = over st s
+  bit-ending st k v (decoded (Table.plainWrite c a)) s = over st s

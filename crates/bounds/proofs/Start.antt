@@ -13,10 +13,11 @@ use lib.Seq.{getD-set-same}
 use borrow.Author.Tests.{eqb-true, eqb-false}
 use Rattle.rules.specs.Vector.{zeros}
 use Rattle.rules.specs.Seen.{unseens}
-use Rattle.rules.specs.Table.{threadsOf, cellsOf}
-use Rattle.rules.specs.State.{State, Vector, vector, withVector, vectorAt, number, vectorsHeld, threads, cells, history, none}
+use Rattle.rules.specs.Table.{threadsOf, cellsOf, plainsOf}
+use Rattle.rules.specs.State.{State, Vector, vector, withVector, vectorAt, number, vectorsHeld, threads, cells, plains, history, none}
 use Rattle.rules.specs.State.{causality, mutated, rowsOf, yields, lastYield, operation, phase, count, activeThread, begun, exploring}
 use Rattle.rules.specs.Cell.{version, joinInto, withClocks}
+use Rattle.rules.specs.Plain.{plainWriteDone}
 use Rattle.rules.specs.Machine
 use Rattle.rules.specs.Machine.{Program, start}
 use Rattle.rules.proofs.StateLaws.{inVectors, vectorAt-within, vector-same}
@@ -26,7 +27,7 @@ use Rattle.rules.proofs.MeasureRows.{pick}
 use Rattle.bounds.specs.Bounds.{Fits, Kind, ofVersions, ofChoices, kindOf, given, nothing, rowsIn, Part, NoneOr, Sights, Tally, Holds}
 use Rattle.bounds.proofs.Parts.{Fit, set-fit, zeros-fit, Since, put, join-into, eased}
 use Rattle.bounds.proofs.Marks.{Row, unseen-row, later}
-use Rattle.bounds.proofs.Accesses.{Sound, with-clocks, stored-sound}
+use Rattle.bounds.proofs.Accesses.{Sound, with-clocks, stored-sound, plain-write-tracked}
 use Rattle.bounds.proofs.Numbers.{given-own, given-other, of-given, Links}
 use Rattle.bounds.proofs.Stands.{At, holds}
 
@@ -122,6 +123,15 @@ made-sound table (suc n) c st h s =
     (stored-sound 0 c (omega arith) (omega arith) st′ _ _ 1 (zeros-making ofVersions)
     (with-clocks st _ s (λ k. join-into (st .clocks) (mutated c) (causality 0) (omega arith) (omega arith) refl k)))
 
+-- "thread 0 makes them as writes after the atomic cells"
+plains-sound : (table : List ℕ) (n c : ℕ) (st : State) → c + n ≤ plains → Sound Making first st →
+    Sound Making first (Machine.plainsMade table st n c)
+unfolding Machine.plainsMade plainWriteDone
+plains-sound table zero c st h s = s
+plains-sound table (suc n) c st h s =
+    plains-sound table n (c + 1) (Machine.plainMade table st c) (omega arith)
+    (with-clocks st _ s (plain-write-tracked 0 (omega arith) c (omega arith) (st .clocks)))
+
 -- "then thread 0 is (2,0,0,0,0), each other thread has 1 at place 0 and 1 at its own"
 started-fit : (t : ℕ) → Fit (Started ofVersions) (Machine.firstCausality t)
 started-fit t =
@@ -199,11 +209,16 @@ module _ (p : Program) (fits : Fits p) where
   -- The whole
 
   made : State
-  made = Machine.cellsMade (p .table) (Machine.thread0Making (Machine.blank (p .exploring))) (cellsOf (p .table)) 0
+  made =
+      Machine.plainsMade (p .table)
+      (Machine.cellsMade (p .table) (Machine.thread0Making (Machine.blank (p .exploring))) (cellsOf (p .table)) 0)
+      (plainsOf (p .table)) 0
 
   made-at : Sound Making first made
   unfolding made
-  made-at = made-sound (p .table) (cellsOf (p .table)) 0 _ (omega (arith, fits .held)) (making-sound (p .exploring))
+  made-at =
+      plains-sound (p .table) (plainsOf (p .table)) 0 _ (omega (arith, fits .plain))
+      (made-sound (p .table) (cellsOf (p .table)) 0 _ (omega (arith, fits .held)) (making-sound (p .exploring)))
 
   started-part : (k : Kind) (u x : ℕ) → u < threads → Making k u x → Started k u x
   started-part ofVersions u x b h = omega (arith, first-most u)

@@ -5,16 +5,16 @@
 --     in-range             so every part of every vector, every count and every mark is in range, at every tick and at the end
 use Prim.Native.Nat.{ℕ, _+_, _≤_, _<_}
 use mathlib.Core.List.{List}
-use mathlib.Core.Bool.{true}
+use mathlib.Core.Bool.{true, and-eq-true-iff}
 use mathlib.Core.Path.{_≡_}
 use native.Mathlib.Omega.{arith}
 use lib.ListN.{getD, set}
-use borrow.Author.Tests.{lt-ltb}
+use borrow.Author.Tests.{lt-ltb, leb-true}
 use Rattle.rules.specs.Vector.{largest, raised}
-use Rattle.rules.specs.Table.{headerFine}
+use Rattle.rules.specs.Table.{headerFine, plainsOf}
 use Rattle.rules.specs.Explored.{Settings, settingsFine, programOf}
 use Rattle.rules.specs.Event.{Question, whichThread, whichSlot, whichBit, Answer, runThread, readSlot, takeBit}
-use Rattle.rules.specs.State.{State, Vector, vector, number, threads, count}
+use Rattle.rules.specs.State.{State, Vector, vector, number, threads, plains, count}
 use Rattle.rules.proofs.StateLaws.{inVectors}
 use Rattle.rules.proofs.LimitLaws.{operations-most, operations-fit}
 use Rattle.rules.proofs.NumberLaws.{five-has}
@@ -79,9 +79,14 @@ pub raised-by-one : (st : State) → InRange st → (v : Vector) → inVectors v
 unfolding raised
 raised-by-one st r v h t b = rw (lt-ltb (getD (vector (st .clocks) v) t 0) largest (r .parts v h t b))
 
+-- "up to four unsynchronised cells" (document 02, §5)
+plains-within : (table : List ℕ) → headerFine table ≡ true → plainsOf table ≤ plains
+unfolding headerFine
+plains-within table e = let f = simp and-eq-true-iff at e in omega (arith, leb-true)
+
 -- "threads 1..5, cells 1..4", and the operation limit
 pub accepted-fits : (table condition : List ℕ) (s : Settings) → headerFine table ≡ true → settingsFine s ≡ true →
     Fits (programOf table condition s)
 accepted-fits table condition s h f =
     let header = header-within table h in
-    record { few = header .1; held = header .2; limited = omega (arith, operations-most s f, operations-fit) }
+    record { few = header .1; held = header .2; plain = plains-within table h; limited = omega (arith, operations-most s f, operations-fit) }

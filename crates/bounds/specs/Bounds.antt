@@ -16,19 +16,20 @@ use lib.Dec.{eqb}
 use lib.ListN.{length, getD}
 use Rattle.rules.specs.Vector.{largest}
 use Rattle.rules.specs.Seen.{unseen, markOf}
-use Rattle.rules.specs.Table.{threadsOf, cellsOf}
+use Rattle.rules.specs.Table.{threadsOf, cellsOf, plainsOf}
 use Rattle.rules.specs.Event.{offers, Question, whichThread, whichSlot, whichBit}
 use Rattle.rules.specs.State as State
-use Rattle.rules.specs.State.{State, Clocks, Numbers, Vector, vector, number, marksOf, vectorsHeld, numbersHeld, threads, cells, history}
+use Rattle.rules.specs.State.{State, Clocks, Numbers, Vector, vector, number, marksOf, vectorsHeld, numbersHeld, threads, cells, plains, history}
 use Rattle.rules.specs.State.{rowsOf, yields, lastYield, operation, phase, count, activeThread, begun}
 use Rattle.rules.specs.Cell.{version, liveIn}
 use Rattle.rules.specs.Machine.{Program, toBegin, noOperation, active}
 use Rattle.rules.proofs.StateLaws.{inVectors}
 
--- A program whose threads and cells have their numbers, and whose operation limit leaves versions room
+-- A program whose threads, cells and plain cells have their numbers, and whose operation limit leaves versions room
 pub record Fits (p : Program) : Type 0 where
   pub few : threadsOf (p .table) ≤ threads
   pub held : cellsOf (p .table) ≤ cells
+  pub plain : plainsOf (p .table) ≤ plains
   pub limited : p .operations + 2 < largest
 
 -- Versions are raised by rows that act; choices, by a scheduling that chooses a thread with a pending operation
@@ -50,6 +51,8 @@ kindOf (State.lastNonLoad c) = ofChoices
 kindOf (State.happensBefore s) = ofVersions
 kindOf (State.order s) = ofVersions
 kindOf (State.sync s) = ofVersions
+kindOf (State.readAccess c) = ofVersions
+kindOf (State.writeAccess c) = ofVersions
 
 -- of the five threads
 abbrev pub ofAll : (ℕ → ℕ) → ℕ

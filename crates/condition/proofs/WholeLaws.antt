@@ -12,6 +12,7 @@ use lib.ListN.{length, getD, drop, length-drop, replicate}
 use borrow.Author.Tests.{lt-leb, le-leb, eq-eqb, ne-eqb}
 use Rattle.rules.specs.Condition as rules
 use Rattle.rules.specs.Condition.{bad, read, conditionAt, claimAt, ends, groupsDeep, isCondition, holds}
+use Rattle.rules.specs.State.{valuesHeld}
 use Rattle.condition.specs.Reads.{Reads, registerIn, readOf, foundIn}
 use Rattle.condition.specs.declared.Read as code
 use Rattle.condition.specs.declared.Read.the-variants.{Bad, Value}
@@ -24,21 +25,21 @@ zero-at zero k = refl
 zero-at (suc n) zero = refl
 zero-at (suc n) (suc k) = zero-at n k
 
-nothing-held : registerIn (replicate 48 0) ≡ (λ (t r : ℕ). 0)
-nothing-held = λ i t r. zero-at 48 (28 + (4 * t + r)) i
+nothing-held : registerIn (replicate valuesHeld 0) ≡ (λ (t r : ℕ). 0)
+nothing-held = λ i t r. zero-at valuesHeld (28 + (4 * t + r)) i
 
-module _ (threads : ℕ) (bytes : List ℕ) {r : code.Read} (h : Reads bytes 0 r (conditionAt threads (registerIn (replicate 48 0)) groupsDeep (drop 0 bytes))) where
+module _ (threads : ℕ) (bytes : List ℕ) {r : code.Read} (h : Reads bytes 0 r (conditionAt threads (registerIn (replicate valuesHeld 0)) groupsDeep (drop 0 bytes))) where
   back : {at : ℕ} → at ≤ length bytes → at ≡ length bytes - length (drop at bytes)
   back l = simp length-drop (omega arith)
 
   pub found-bad : {at : ℕ} → r ≡ Bad at → found.Bad at ≡ foundIn (length bytes) (conditionAt threads (λ (t r : ℕ). 0) groupsDeep bytes)
   found-bad {at} e =
-      let one : Reads bytes 0 (Bad at) (conditionAt threads (registerIn (replicate 48 0)) groupsDeep bytes) = rw e at h in
+      let one : Reads bytes 0 (Bad at) (conditionAt threads (registerIn (replicate valuesHeld 0)) groupsDeep bytes) = rw e at h in
       rw (← nothing-held, ← one .is) (ap found.Bad (back (one .within)))
 
   pub found-end : {v : Bool} {at : ℕ} → r ≡ Value v at → found.Ends at ≡ foundIn (length bytes) (conditionAt threads (λ (t r : ℕ). 0) groupsDeep bytes)
   found-end {v} {at} e =
-      let one : Reads bytes 0 (Value v at) (conditionAt threads (registerIn (replicate 48 0)) groupsDeep bytes) = rw e at h in
+      let one : Reads bytes 0 (Value v at) (conditionAt threads (registerIn (replicate valuesHeld 0)) groupsDeep bytes) = rw e at h in
       rw (← nothing-held, ← one .is) (ap found.Ends (back (one .within)))
 
 module _ (threads : ℕ) (register : ℕ → ℕ → ℕ) where

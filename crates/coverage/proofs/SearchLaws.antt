@@ -102,7 +102,7 @@ module _ (cell : ℕ) (d : rules.Decoded rules.Op) (r : ℕ) (found : r ≡ oneI
 
 -- all but the store, the store of a register and the RMW
 abbrev pub others : List ℕ
-others = 0 ∷ 4 ∷ 5 ∷ 6 ∷ 7 ∷ 8 ∷ 9 ∷ 10 ∷ 11 ∷ 12 ∷ 13 ∷ 14 ∷ 15 ∷ 16 ∷ []
+others = 0 ∷ 4 ∷ 5 ∷ 6 ∷ 7 ∷ 8 ∷ 9 ∷ 10 ∷ 11 ∷ 12 ∷ 13 ∷ 14 ∷ 15 ∷ 16 ∷ 17 ∷ 18 ∷ []
 
 pub stores-none : (op : Op) (cell : ℕ) → OneOf others (tagOf Op.the-type op) → storesTo cell (rules.decoded (opOf op)) ≡ false
 stores-none (code.Load order c register) cell k = refl
@@ -122,6 +122,8 @@ stores-none code.Critical cell k = refl
 stores-none code.ExploreState cell k = refl
 stores-none code.SkipBranch cell k = refl
 stores-none (code.Spurious register) cell k = refl
+stores-none (code.PlainRead plain register) cell k = refl
+stores-none (code.PlainWrite plain value) cell k = refl
 
 pub stores-as : (row : Decoded) (op m : Op) (cell r : ℕ) (b : Bool) → row ≡ Says op → op ≡ m → r ≡ oneIf b →
     b ≡ storesTo cell (rules.decoded (opOf m)) → r ≡ oneIf (storesTo cell (decodedOf row))

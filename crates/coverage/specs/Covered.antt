@@ -9,6 +9,7 @@ use mathlib.Core.Bool.{Bool, true, false, cond, not, _&&_, _||_}
 use lib.Dec.{ltb, eqb}
 use lib.ListN.{getD}
 use Rattle.rules.specs.Table.{Op, Decoded, refused, decoded, opcodeIn, opAt, shapeOf, firstNot, maxThreads}
+use Rattle.table.specs.Answers.{roomIn}
 use Rattle.rules.specs.Machine.{Pending, nothing, pends, pendingOf, aLoad}
 use Rattle.coverage.specs.declared.search.Place.{Place}
 use Rattle.coverage.specs.declared.search.Place.the-variants.{Nowhere, At}
@@ -19,7 +20,7 @@ abbrev pub countOf : List ℕ → ℕ → ℕ
 countOf shape thread = getD shape (2 + thread) 0
 
 abbrev pub rowOp : List ℕ → List ℕ → ℕ → ℕ → Decoded Op
-rowOp t shape thread row = opAt t (getD shape 0 0) (getD shape 1 0) (countOf shape thread) (getD shape (7 + thread) 0 + row)
+rowOp t shape thread row = opAt t (roomIn shape thread) (getD shape (7 + thread) 0 + row)
 
 -- Rows that switch exploring
 
@@ -44,7 +45,7 @@ firstSwitch t on = firstFrom t (shapeOf t) on maxThreads 0
 
 -- Rows that store
 
--- rows whose pending operation is a store or an RMW
+-- rows whose pending operation is a store or an RMW; a plain cell keeps no stores
 abbrev pub storesAs : ℕ → Pending → Bool
 storesAs cell nothing = false
 storesAs cell (pends operation c) = not (eqb operation aLoad) && eqb c cell

@@ -2,7 +2,7 @@
 --     arm, beyond, change-arm, change-beyond     the match on an opcode, and on a change kind
 --     fine                                       whether a row says something
 --     meant, told                                what was taken apart
---     load-made .. spurious-made                 a row of each opcode, its tests as the code groups them
+--     load-made .. plain-write-made              a row of each opcode, its tests as the code groups them
 --     fields-told, rmw-judged                    an RMW's tests alone
 use Prim.Native.Nat.{ℕ, zero, suc, _≤_, _<_, zero-le}
 use native.Mathlib.Omega.{arith}
@@ -15,7 +15,7 @@ use Rattle.rules.specs.Change as rules
 use Rattle.decode.specs.declared.Op as code
 use Rattle.decode.specs.declared.fields.ChangeDecoded.{ChangeDecoded}
 use Rattle.decode.specs.Ops.{opOf, changeDecodedOf}
-use Rattle.rules.specs.Table.{Row, Op, Decoded, refused, decoded, onlyIf, rowDecoded, changeDecoded, loadRow, storeRow, storeRegisterRow, rmwRow, fenceRow, unsyncLoadRow, exclusiveRow, opcodeOf, isFine, bareRow, joinRow, jumpRow, jumpOnRow, checkRow, spuriousRow, anyOrder, loadOrder, storeOrder, fenceOrder, failureOrder, isRegister, load, store, storeRegister, rmw, fence, unsyncLoad, exclusive, join, jump, check, spurious}
+use Rattle.rules.specs.Table.{Row, Room, Op, Decoded, refused, decoded, onlyIf, rowDecoded, changeDecoded, loadRow, storeRow, storeRegisterRow, rmwRow, fenceRow, unsyncLoadRow, exclusiveRow, opcodeOf, isFine, bareRow, joinRow, jumpRow, jumpOnRow, checkRow, spuriousRow, plainReadRow, plainWriteRow, anyOrder, loadOrder, storeOrder, fenceOrder, failureOrder, isRegister, load, store, storeRegister, rmw, fence, unsyncLoad, exclusive, join, jump, check, spurious, plainRead, plainWrite}
 
 -- what the last arm of a match knows of x, that it is none of the numbers below n, in the form that a match hands over
 abbrev pub NoneBelow : ℕ → ℕ → Type 0
@@ -43,26 +43,26 @@ withOpcode k r = record {
   b = r .b;
 }
 
-module _ (threads cells count : ℕ) (r : Row) where
+module _ (room : Room) (r : Row) where
   -- an arm: what a row says as one of the opcode that it has
-  pub arm : (k : ℕ) (d : Decoded Op) → r .opcode ≡ k → d ≡ rowDecoded threads cells count (withOpcode k r) → d ≡ rowDecoded threads cells count r
+  pub arm : (k : ℕ) (d : Decoded Op) → r .opcode ≡ k → d ≡ rowDecoded room (withOpcode k r) → d ≡ rowDecoded room r
   arm k d e h = rw e h
 
   -- where a change is asked for, the row stays in the question
-  pub rmw-arm : (d : Decoded Op) → r .opcode ≡ 3 → d ≡ rmwRow cells r (changeDecoded (r .kind) (r .a) (r .b)) → d ≡ rowDecoded threads cells count r
+  pub rmw-arm : (d : Decoded Op) → r .opcode ≡ 3 → d ≡ rmwRow (room .cells) r (changeDecoded (r .kind) (r .a) (r .b)) → d ≡ rowDecoded room r
   unfolding rowDecoded
   rmw-arm d e h = rw e (rw e at h)
 
-  pub exclusive-arm : (d : Decoded Op) → r .opcode ≡ 6 → d ≡ exclusiveRow cells r (changeDecoded (r .kind) (r .a) (r .b)) → d ≡ rowDecoded threads cells count r
+  pub exclusive-arm : (d : Decoded Op) → r .opcode ≡ 6 → d ≡ exclusiveRow (room .cells) r (changeDecoded (r .kind) (r .a) (r .b)) → d ≡ rowDecoded room r
   unfolding rowDecoded
   exclusive-arm d e h = rw e (rw e at h)
 
   -- the arm of refusals
-  pub beyond : 17 ≤ r .opcode → refused ≡ rowDecoded threads cells count r
+  pub beyond : 19 ≤ r .opcode → refused ≡ rowDecoded room r
   unfolding rowDecoded
   beyond h =
       rw
-      (past {i = 0} h (omega arith), past {i = 1} h (omega arith), past {i = 2} h (omega arith), past {i = 3} h (omega arith), past {i = 4} h (omega arith), past {i = 5} h (omega arith), past {i = 6} h (omega arith), past {i = 7} h (omega arith), past {i = 8} h (omega arith), past {i = 9} h (omega arith), past {i = 10} h (omega arith), past {i = 11} h (omega arith), past {i = 12} h (omega arith), past {i = 13} h (omega arith), past {i = 14} h (omega arith), past {i = 15} h (omega arith), past {i = 16} h (omega arith))
+      (past {i = 0} h (omega arith), past {i = 1} h (omega arith), past {i = 2} h (omega arith), past {i = 3} h (omega arith), past {i = 4} h (omega arith), past {i = 5} h (omega arith), past {i = 6} h (omega arith), past {i = 7} h (omega arith), past {i = 8} h (omega arith), past {i = 9} h (omega arith), past {i = 10} h (omega arith), past {i = 11} h (omega arith), past {i = 12} h (omega arith), past {i = 13} h (omega arith), past {i = 14} h (omega arith), past {i = 15} h (omega arith), past {i = 16} h (omega arith), past {i = 17} h (omega arith), past {i = 18} h (omega arith))
 
 module _ (kind a b : ℕ) where
   pub change-arm : (k : ℕ) (d : Decoded rules.Change) → kind ≡ k → d ≡ changeDecoded k a b → d ≡ changeDecoded kind a b
@@ -88,27 +88,27 @@ told n e f = rw e f
 -- A row of each opcode, by what its tests answered
 
 -- no change kind and no failure order; no operands
-abbrev pub plain : Row → Bool
-plain r = eqb (r .failure) 0 && eqb (r .kind) 0
+abbrev pub unchanging : Row → Bool
+unchanging r = eqb (r .failure) 0 && eqb (r .kind) 0
 
 abbrev pub bare : Row → Bool
 bare r = eqb (r .a) 0 && eqb (r .b) 0
 
 pub load-made : (cells : ℕ) (r : Row) {n o g p q : Bool} {cell register : ℕ} {d : Decoded Op} →
     d ≡ onlyIf (n && o && g && p && eqb (r .target) 0 && q) (load cell (r .order) register) →
-    n ≡ ltb (r .object) cells → o ≡ loadOrder (r .order) → g ≡ isRegister (r .register) → p ≡ plain r → q ≡ bare r → cell ≡ r .object → register ≡ r .register →
+    n ≡ ltb (r .object) cells → o ≡ loadOrder (r .order) → g ≡ isRegister (r .register) → p ≡ unchanging r → q ≡ bare r → cell ≡ r .object → register ≡ r .register →
     d ≡ loadRow cells r
 load-made cells r h e0 e1 e2 e3 e4 e5 e6 = h ∙ rw (e0, e1, e2, e3, e4, e5, e6) (simp (and-assoc, and-true))
 
 pub store-made : (cells : ℕ) (r : Row) {n o p : Bool} {cell : ℕ} {d : Decoded Op} →
     d ≡ onlyIf (n && o && p && eqb (r .register) 0 && eqb (r .target) 0 && eqb (r .b) 0) (store cell (r .order) (r .a)) →
-    n ≡ ltb (r .object) cells → o ≡ storeOrder (r .order) → p ≡ plain r → cell ≡ r .object →
+    n ≡ ltb (r .object) cells → o ≡ storeOrder (r .order) → p ≡ unchanging r → cell ≡ r .object →
     d ≡ storeRow cells r
 store-made cells r h e0 e1 e2 e3 = h ∙ rw (e0, e1, e2, e3) (simp (and-assoc, and-true))
 
 pub store-register-made : (cells : ℕ) (r : Row) {n o g p q : Bool} {cell register : ℕ} {d : Decoded Op} →
     d ≡ onlyIf (n && o && g && p && eqb (r .target) 0 && q) (storeRegister cell (r .order) register) →
-    n ≡ ltb (r .object) cells → o ≡ storeOrder (r .order) → g ≡ isRegister (r .register) → p ≡ plain r → q ≡ bare r → cell ≡ r .object → register ≡ r .register →
+    n ≡ ltb (r .object) cells → o ≡ storeOrder (r .order) → g ≡ isRegister (r .register) → p ≡ unchanging r → q ≡ bare r → cell ≡ r .object → register ≡ r .register →
     d ≡ storeRegisterRow cells r
 store-register-made cells r h e0 e1 e2 e3 e4 e5 e6 = h ∙ rw (e0, e1, e2, e3, e4, e5, e6) (simp (and-assoc, and-true))
 
@@ -141,7 +141,7 @@ rmw-refused cells r w = rw (← w)
 
 pub unsync-load-made : (cells : ℕ) (r : Row) {n g p q : Bool} {cell register : ℕ} {d : Decoded Op} →
     d ≡ onlyIf (n && g && eqb (r .order) 0 && p && eqb (r .target) 0 && q) (unsyncLoad cell register) →
-    n ≡ ltb (r .object) cells → g ≡ isRegister (r .register) → p ≡ plain r → q ≡ bare r → cell ≡ r .object → register ≡ r .register →
+    n ≡ ltb (r .object) cells → g ≡ isRegister (r .register) → p ≡ unchanging r → q ≡ bare r → cell ≡ r .object → register ≡ r .register →
     d ≡ unsyncLoadRow cells r
 unsync-load-made cells r h e0 e1 e2 e3 e4 e5 = h ∙ rw (e0, e1, e2, e3, e4, e5) (simp (and-assoc, and-true))
 
@@ -156,42 +156,54 @@ exclusive-refused cells r w = rw (← w)
 
 pub fence-made : (r : Row) {p q : Bool} {d : Decoded Op} →
     d ≡ onlyIf (fenceOrder (r .order) && eqb (r .object) 0 && p && eqb (r .register) 0 && eqb (r .target) 0 && q) (fence (r .order)) →
-    p ≡ plain r → q ≡ bare r →
+    p ≡ unchanging r → q ≡ bare r →
     d ≡ fenceRow r
 fence-made r h e0 e1 = h ∙ rw (e0, e1) (simp (and-assoc, and-true))
 
 pub bare-made : (r : Row) (op : Op) {p q : Bool} {d : Decoded Op} →
     d ≡ onlyIf (eqb (r .object) 0 && eqb (r .order) 0 && p && eqb (r .register) 0 && eqb (r .target) 0 && q) (op) →
-    p ≡ plain r → q ≡ bare r →
+    p ≡ unchanging r → q ≡ bare r →
     d ≡ bareRow op r
 bare-made r op h e0 e1 = h ∙ rw (e0, e1) (simp (and-assoc, and-true))
 
 pub join-made : (threads : ℕ) (r : Row) {n p q : Bool} {cell : ℕ} {d : Decoded Op} →
     d ≡ onlyIf (n && eqb (r .order) 0 && p && eqb (r .register) 0 && eqb (r .target) 0 && q) (join cell) →
-    n ≡ ltb (r .object) threads → p ≡ plain r → q ≡ bare r → cell ≡ r .object →
+    n ≡ ltb (r .object) threads → p ≡ unchanging r → q ≡ bare r → cell ≡ r .object →
     d ≡ joinRow threads r
 join-made threads r h e0 e1 e2 e3 = h ∙ rw (e0, e1, e2, e3) (simp (and-assoc, and-true))
 
 pub jump-made : (count : ℕ) (r : Row) {t p q : Bool} {d : Decoded Op} →
     d ≡ onlyIf (t && eqb (r .object) 0 && eqb (r .order) 0 && p && eqb (r .register) 0 && q) (jump (r .target)) →
-    t ≡ leb (r .target) count → p ≡ plain r → q ≡ bare r →
+    t ≡ leb (r .target) count → p ≡ unchanging r → q ≡ bare r →
     d ≡ jumpRow count r
 jump-made count r h e0 e1 e2 = h ∙ rw (e0, e1, e2) (simp (and-assoc, and-true))
 
 pub jump-on-made : (count : ℕ) (r : Row) (op : Op) {g t p : Bool} {d : Decoded Op} →
     d ≡ onlyIf (g && t && eqb (r .object) 0 && eqb (r .order) 0 && p && eqb (r .b) 0) (op) →
-    g ≡ isRegister (r .register) → t ≡ leb (r .target) count → p ≡ plain r →
+    g ≡ isRegister (r .register) → t ≡ leb (r .target) count → p ≡ unchanging r →
     d ≡ jumpOnRow (λ (register a target : ℕ). op) count r
 jump-on-made count r op h e0 e1 e2 = h ∙ rw (e0, e1, e2) (simp (and-assoc, and-true))
 
 pub check-made : (r : Row) {g p : Bool} {register : ℕ} {d : Decoded Op} →
     d ≡ onlyIf (g && eqb (r .object) 0 && eqb (r .order) 0 && p && eqb (r .target) 0 && eqb (r .b) 0) (check register (r .a)) →
-    g ≡ isRegister (r .register) → p ≡ plain r → register ≡ r .register →
+    g ≡ isRegister (r .register) → p ≡ unchanging r → register ≡ r .register →
     d ≡ checkRow r
 check-made r h e0 e1 e2 = h ∙ rw (e0, e1, e2) (simp (and-assoc, and-true))
 
 pub spurious-made : (r : Row) {g p q : Bool} {register : ℕ} {d : Decoded Op} →
     d ≡ onlyIf (g && eqb (r .object) 0 && eqb (r .order) 0 && p && eqb (r .target) 0 && q) (spurious register) →
-    g ≡ isRegister (r .register) → p ≡ plain r → q ≡ bare r → register ≡ r .register →
+    g ≡ isRegister (r .register) → p ≡ unchanging r → q ≡ bare r → register ≡ r .register →
     d ≡ spuriousRow r
 spurious-made r h e0 e1 e2 e3 = h ∙ rw (e0, e1, e2, e3) (simp (and-assoc, and-true))
+
+pub plain-read-made : (plains : ℕ) (r : Row) {n g p q : Bool} {cell register : ℕ} {d : Decoded Op} →
+    d ≡ onlyIf (n && g && eqb (r .order) 0 && p && eqb (r .target) 0 && q) (plainRead cell register) →
+    n ≡ ltb (r .object) plains → g ≡ isRegister (r .register) → p ≡ unchanging r → q ≡ bare r → cell ≡ r .object → register ≡ r .register →
+    d ≡ plainReadRow plains r
+plain-read-made plains r h e0 e1 e2 e3 e4 e5 = h ∙ rw (e0, e1, e2, e3, e4, e5) (simp (and-assoc, and-true))
+
+pub plain-write-made : (plains : ℕ) (r : Row) {n p : Bool} {cell : ℕ} {d : Decoded Op} →
+    d ≡ onlyIf (n && eqb (r .order) 0 && p && eqb (r .register) 0 && eqb (r .target) 0 && eqb (r .b) 0) (plainWrite cell (r .a)) →
+    n ≡ ltb (r .object) plains → p ≡ unchanging r → cell ≡ r .object →
+    d ≡ plainWriteRow plains r
+plain-write-made plains r h e0 e1 e2 = h ∙ rw (e0, e1, e2) (simp (and-assoc, and-true))

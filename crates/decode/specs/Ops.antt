@@ -10,6 +10,7 @@ use Rattle.decode.specs.declared.Decoded.the-variants.{Refused, Row as S
 use Rattle.decode.specs.declared.fields.ChangeDecoded.{ChangeDecoded}
 use Rattle.decode.specs.declared.fields.ChangeDecoded.the-variants as decodes
 use Rattle.decode.specs.declared.Row.{Row}
+use Rattle.decode.specs.declared.Room.{Room}
 
 abbrev pub opOf : Op → rules.Op
 opOf (code.Load order cell register) = rules.load cell order register
@@ -29,6 +30,8 @@ opOf code.Critical = rules.critical
 opOf code.ExploreState = rules.exploreState
 opOf code.SkipBranch = rules.skipBranch
 opOf (code.Spurious register) = rules.spurious register
+opOf (code.PlainRead plain register) = rules.plainRead plain register
+opOf (code.PlainWrite plain value) = rules.plainWrite plain value
 
 abbrev pub decodedOf : Decoded → rules.Decoded rules.Op
 decodedOf Refused = rules.refused
@@ -51,7 +54,10 @@ rowOf r = record {
   b = r .b;
 }
 
--- every cell and register that is named is below 4, every thread below 5
+abbrev pub roomOf : Room → rules.Room
+roomOf r = record { threads = r .threads; cells = r .cells; plains = r .plains; rows = r .rows }
+
+-- every cell, plain cell and register that is named is below 4, every thread below 5
 abbrev pub inRange : rules.Op → Type 0
 inRange (rules.load cell order register) = (cell < 4) × (register < 4)
 inRange (rules.store cell order a) = cell < 4
@@ -70,6 +76,8 @@ inRange rules.critical = Unit
 inRange rules.exploreState = Unit
 inRange rules.skipBranch = Unit
 inRange (rules.spurious register) = register < 4
+inRange (rules.plainRead plain register) = (plain < 4) × (register < 4)
+inRange (rules.plainWrite plain a) = plain < 4
 
 abbrev pub allInRange : rules.Decoded rules.Op → Type 0
 allInRange rules.refused = Unit

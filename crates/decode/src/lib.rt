@@ -5,7 +5,7 @@ ghost use mathlib.Core.Bool.{_&&_};
 ghost use lib.Dec.{ltb, eqb};
 ghost use Prim.Native.Nat.{ℕ};
 ghost use Rattle.rules.specs.Table as rules;
-ghost use Rattle.decode.specs.Ops.{opOf, decodedOf, rowOf};
+ghost use Rattle.decode.specs.Ops.{opOf, decodedOf, rowOf, roomOf};
 
 mod fields;
 
@@ -88,6 +88,14 @@ pub enum Op {
     Spurious {
         register: usize,
     },
+    PlainRead {
+        plain: usize,
+        register: usize,
+    },
+    PlainWrite {
+        plain: usize,
+        value: u64,
+    },
 }
 
 // What a row says, or that it is refused.
@@ -96,7 +104,15 @@ pub enum Decoded {
     Row(Op),
 }
 
-// The fields of a row as they stand. `object` is the cell or the thread.
+// What a row may name: so many threads, cells and plain cells, and the rows of its thread, which a jump may lead to.
+pub struct Room {
+    pub threads: usize,
+    pub cells: usize,
+    pub plains: usize,
+    pub rows: usize,
+}
+
+// The fields of a row as they stand. `object` is the cell, the plain cell or the thread.
 pub struct Row {
     pub opcode: u8,
     pub object: u8,
@@ -109,57 +125,61 @@ pub struct Row {
     pub b: u64,
 }
 
-// What this row does, as one of a thread of `count` rows, in a table of so many threads and cells.
-pub fn row_decoded(row: Row, threads: usize, cells: usize, count: usize) -> Decoded
-    ensures { λ r. ⌜ decodedOf r ≡ rules.rowDecoded threads cells count (rowOf row) ⌝ }
+// What this row does, in this room.
+pub fn row_decoded(row: Row, room: Room) -> Decoded
+    ensures { λ r. ⌜ decodedOf r ≡ rules.rowDecoded (roomOf room) (rowOf row) ⌝ }
 {
     let opcode = row.opcode;
     match opcode {
-        0 => load_row(row, cells),
-        1 => store_row(row, cells),
-        2 => store_register_row(row, cells),
-        3 => rmw_row(row, cells),
+        0 => load_row(row, room.cells),
+        1 => store_row(row, room.cells),
+        2 => store_register_row(row, room.cells),
+        3 => rmw_row(row, room.cells),
         4 => fence_row(row),
-        5 => unsync_load_row(row, cells),
-        6 => with_mut_row(row, cells),
+        5 => unsync_load_row(row, room.cells),
+        6 => with_mut_row(row, room.cells),
         7 => bare_row(row, Op::Yield),
-        8 => join_row(row, threads),
-        9 => jump_row(row, count),
-        10 => jump_if_row(row, count),
-        11 => jump_unless_row(row, count),
+        8 => join_row(row, room.threads),
+        9 => jump_row(row, room.rows),
+        10 => jump_if_row(row, room.rows),
+        11 => jump_unless_row(row, room.rows),
         12 => check_row(row),
         13 => bare_row(row, Op::Critical),
         14 => bare_row(row, Op::ExploreState),
         15 => bare_row(row, Op::SkipBranch),
         16 => spurious_row(row),
-        17..=255 => Decoded::Refused,
+        17 => plain_read_row(row, room.plains),
+        18 => plain_write_row(row, room.plains),
+        19..=255 => Decoded::Refused,
     }
 }
 
 // Whether this row says something at all.
-pub fn is_row(row: Row, threads: usize, cells: usize, count: usize) -> bool
-    ensures { λ r. ⌜ r ≡ rules.isFine (rules.rowDecoded threads cells count (rowOf row)) ⌝ }
+pub fn is_row(row: Row, room: Room) -> bool
+    ensures { λ r. ⌜ r ≡ rules.isFine (rules.rowDecoded (roomOf room) (rowOf row)) ⌝ }
 {
     let opcode = row.opcode;
     match opcode {
-        0 => is_decoded(load_row(row, cells)),
-        1 => is_decoded(store_row(row, cells)),
-        2 => is_decoded(store_register_row(row, cells)),
-        3 => is_rmw(row, cells),
+        0 => is_decoded(load_row(row, room.cells)),
+        1 => is_decoded(store_row(row, room.cells)),
+        2 => is_decoded(store_register_row(row, room.cells)),
+        3 => is_rmw(row, room.cells),
         4 => is_decoded(fence_row(row)),
-        5 => is_decoded(unsync_load_row(row, cells)),
-        6 => is_decoded(with_mut_row(row, cells)),
+        5 => is_decoded(unsync_load_row(row, room.cells)),
+        6 => is_decoded(with_mut_row(row, room.cells)),
         7 => is_decoded(bare_row(row, Op::Yield)),
-        8 => is_decoded(join_row(row, threads)),
-        9 => is_decoded(jump_row(row, count)),
-        10 => is_decoded(jump_if_row(row, count)),
-        11 => is_decoded(jump_unless_row(row, count)),
+        8 => is_decoded(join_row(row, room.threads)),
+        9 => is_decoded(jump_row(row, room.rows)),
+        10 => is_decoded(jump_if_row(row, room.rows)),
+        11 => is_decoded(jump_unless_row(row, room.rows)),
         12 => is_decoded(check_row(row)),
         13 => is_decoded(bare_row(row, Op::Critical)),
         14 => is_decoded(bare_row(row, Op::ExploreState)),
         15 => is_decoded(bare_row(row, Op::SkipBranch)),
         16 => is_decoded(spurious_row(row)),
-        17..=255 => false,
+        17 => is_decoded(plain_read_row(row, room.plains)),
+        18 => is_decoded(plain_write_row(row, room.plains)),
+        19..=255 => false,
     }
 }
 
@@ -458,6 +478,42 @@ fn spurious_row(row: Row) -> Decoded
     )
 }
 
+// A plain read uses the plain cell and the register.
+fn plain_read_row(row: Row, plains: usize) -> Decoded
+    ensures { λ r. ⌜ decodedOf r ≡ rules.plainReadRow plains (rowOf row) ⌝ }
+{
+    only_if(
+        named(row.object, plains)
+            & is_register(row.register)
+            & (row.order == 0)
+            & no_change(row)
+            & (row.target == 0)
+            & no_operands(row),
+        Op::PlainRead {
+            plain: wide8(row.object),
+            register: wide8(row.register),
+        },
+    )
+}
+
+// A plain write uses the plain cell and operand a.
+fn plain_write_row(row: Row, plains: usize) -> Decoded
+    ensures { λ r. ⌜ decodedOf r ≡ rules.plainWriteRow plains (rowOf row) ⌝ }
+{
+    only_if(
+        named(row.object, plains)
+            & (row.order == 0)
+            & no_change(row)
+            & (row.register == 0)
+            & (row.target == 0)
+            & (row.b == 0),
+        Op::PlainWrite {
+            plain: wide8(row.object),
+            value: row.a,
+        },
+    )
+}
+
 // The row, where it passed its tests.
 fn only_if(fine: bool, op: Op) -> Decoded
     ensures { λ r. ⌜ decodedOf r ≡ rules.onlyIf fine (opOf op) ⌝ }
@@ -490,5 +546,7 @@ pub fn opcode(op: Op) -> u8
         Op::ExploreState => 14,
         Op::SkipBranch => 15,
         Op::Spurious { .. } => 16,
+        Op::PlainRead { .. } => 17,
+        Op::PlainWrite { .. } => 18,
     }
 }

@@ -336,7 +336,7 @@ unfolding Cell.loadSynced Cell.storeSynced Cell.fateFrom Cell.loadFate Cell.rmwF
     Event.slotsFrom Explored.summary Explored.refused Explored.verdictSite Explored.reported Explored.entriesBytes
     Explored.noted Explored.stopOf Explored.ran Explored.settingsFine Explored.explored Runs.allMarked Runs.seedOf Runs.pushed
     Runs.allBelow Runs.reply Runs.tick Runs.walked Runs.execution Runs.after Runs.runFrom Runs.run Machine.forThreads
-    Machine.blank Machine.cellsMade Machine.threadsStarted Machine.start Machine.conflict Machine.fewestFrom Machine.initial
+    Machine.blank Machine.cellsMade Machine.plainsMade Machine.threadsStarted Machine.start Machine.conflict Machine.fewestFrom Machine.initial
     Machine.standing Machine.schedules Machine.accessMade Machine.othersAwake Machine.switched Machine.allOver Machine.scheduled
     Machine.stores Machine.joins Machine.someCanRun Machine.actsAs Machine.begins Machine.threadEnded Machine.nextAt
     Machine.next Machine.maskOf Machine.readFrom Machine.bitTaken Machine.answered Machine.final Condition.compared Condition.comparisonAt Condition.conditionAt Condition.isCondition Condition.holds Path.encoded Path.encodedAll Path.written
@@ -347,7 +347,7 @@ unfolding Cell.loadSynced Cell.storeSynced Cell.fateFrom Cell.loadFate Cell.rmwF
     Table.u16At Table.u32At Table.u64At Table.countsOf Table.countsFine Table.total Table.headerFine Table.firstRows
     Table.startValue Table.rowFrom Table.rowAt Table.changeDecoded Table.rowDecoded Table.opAt Table.firstNot Table.firstBad
     Table.rowsJudged Table.judged Vector.atMost Vector.equal Vector.less Vector.joined Vector.ahead Vector.raised
-    Worked.rowsAsBytes Worked.threadsAsBytes Worked.valuesAsBytes Worked.table walkedBy runFromBy runBy steppedFirst
+    Worked.rowsAsBytes Worked.threadsAsBytes Worked.valuesAsBytes Worked.tableWith walkedBy runFromBy runBy steppedFirst
     ticksFromBy courseBy coursesFromBy coursesBy runningBy ticksFrom courseOf coursesFrom courses threadsFrom alternatives
     openNames newlyPending markedAlternatives openedNames joinedOver
 computed = record {

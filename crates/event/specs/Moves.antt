@@ -50,6 +50,8 @@ matchedFor st t (Table.decoded Table.critical) = rules.offers []
 matchedFor st t (Table.decoded Table.exploreState) = rules.offers []
 matchedFor st t (Table.decoded Table.skipBranch) = rules.offers []
 matchedFor st t (Table.decoded (Table.spurious r)) = rules.offers []
+matchedFor st t (Table.decoded (Table.plainRead c r)) = rules.offers []
+matchedFor st t (Table.decoded (Table.plainWrite c a)) = rules.offers []
 
 -- the entry of a yield, which is complete before its scheduling; no other row that asks is complete
 abbrev pub askedBy : Question → Bool → ℕ → ℕ → ℕ → Matched → State → Move State

@@ -23,7 +23,7 @@ pub fn print(name: &[u8], text: &[u8], line: usize, column: usize) {
     let end = line_end(text, begin);
     let at = place_in(begin, end, column);
     saying::place(name, line, column);
-    saying::what(text, token_before(text, begin, at), at);
+    saying::what(text, begin, token_before(text, begin, at), at);
     let mut lines = [0u8; 512];
     let behind = put_line(&mut lines, 0, text, begin, end, at);
     let all = put_caret(&mut lines, behind, text, begin, at);

@@ -19,19 +19,23 @@ pub fn place(name: &[u8], line: usize, column: usize) {
     say(b": ");
 }
 
-// What stands there, and where that is plain from the token before, why it cannot; or that something is missing.
-pub fn what(text: &[u8], before: usize, at: usize) {
+// What stands there, and where that is clear from the line's first token and the one before, why it cannot; or that something is missing.
+pub fn what(text: &[u8], begin: usize, before: usize, at: usize) {
     if token::ends_line(text, at) {
         say(b"something is missing here\n");
         return;
     }
     let to = token::token_end(text, at);
     let word = token::part(text, at, to);
-    if is_plain(word) {
+    if is_clear(word) {
         say(b"`");
         say(word);
         say(b"` cannot stand here");
-        why(text, before, at, to);
+        if names_plain(text, begin, before) {
+            why_no_plain(text, at, to);
+        } else {
+            why(text, before, at, to);
+        }
     } else {
         say(b"this cannot stand here");
     }
@@ -39,11 +43,30 @@ pub fn what(text: &[u8], before: usize, at: usize) {
 }
 
 // Whether a token can be named: it is short, and no byte that would steer a terminal, or a part of a letter.
-fn is_plain(word: &[u8]) -> bool {
+fn is_clear(word: &[u8]) -> bool {
     if word.len() == 0 || NAMED < word.len() {
         return false;
     }
     32 <= word[0] && word[0] < 127
+}
+
+// Whether a plain cell stands behind this token of the line that begins there.
+fn names_plain(text: &[u8], begin: usize, before: usize) -> bool {
+    let end = token::token_end(text, before);
+    if token::is_word(text, before, end, b"read") {
+        return true;
+    }
+    let first = token::skip(text, begin);
+    token::is_word(text, first, token::token_end(text, first), b"write")
+        && token::is_word(text, before, end, b"to")
+}
+
+// Why a token cannot stand where a plain cell must.
+fn why_no_plain(text: &[u8], at: usize, to: usize) {
+    match token::plain(text, at, to) {
+        Found::Value(plain) => say(b": there is no such plain cell"),
+        Found::Nothing => say(b": a plain cell is p0 to p3"),
+    }
 }
 
 // Why a number cannot stand there: behind these words only one that is too large is refused.

@@ -1,7 +1,7 @@
 -- The laws of what a row does, and of how it goes on with an answer: from what the call of its arm leaves to what the definition
 -- says of it. Assumes nothing.
 --     op-within, slot-within         what an operation and an answer name
---     alone-of, asks-bit             the rows that an arm for all others takes together
+--     unsync-of, alone-of, asks-bit      the rows that an arm for all others takes together
 --     act-as, asks-as, alone-as      a row that was taken apart
 --     stores-from, jumps-from, unless-from, checks-from     with the register that was read
 --     answers-as                     an answer that was taken apart
@@ -25,7 +25,7 @@ use Rattle.decode.proofs.Op as Op
 use Rattle.decode.specs.declared.Op.{Op}
 use Rattle.decode.specs.declared.Op.the-variants as code
 use Rattle.decode.specs.Ops.{opOf, inRange}
-use Rattle.execution.specs.Alone.{Alone}
+use Rattle.execution.specs.Alone.{Unsync, Alone}
 use Rattle.execution.specs.Answers.{Answers, choiceWithin}
 
 pub op-within : (op m : Op) → op ≡ m → inRange (opOf op) → inRange (opOf m)
@@ -34,32 +34,59 @@ op-within op m e h = rw e at h
 pub slot-within : (c : Choice) (slot mask : ℕ) → c ≡ choice.Slot slot mask → choiceWithin c → slot < 7
 slot-within c slot mask e h = rw e at h
 
--- the places of the rows that concern their own thread alone, among the variants
-abbrev alone : List ℕ
-alone = 9 ∷ 10 ∷ 11 ∷ 12 ∷ 13 ∷ 14 ∷ 15 ∷ 16 ∷ []
+-- the places of the rows without synchronisation, among the variants
+abbrev unsync : List ℕ
+unsync = 5 ∷ 6 ∷ 9 ∷ 10 ∷ 11 ∷ 12 ∷ 13 ∷ 14 ∷ 15 ∷ 16 ∷ 17 ∷ 18 ∷ []
 
-pub alone-of : (op : Op) → OneOf alone (tagOf Op.the-type op) → Alone (opOf op)
-alone-of (code.Load order cell register) k = absurd (miss alone 0 tt k)
-alone-of (code.Store order cell value) k = absurd (miss alone 1 tt k)
-alone-of (code.StoreRegister order cell register) k = absurd (miss alone 2 tt k)
-alone-of (code.Rmw order cell register change failure) k = absurd (miss alone 3 tt k)
-alone-of (code.Fence order) k = absurd (miss alone 4 tt k)
-alone-of (code.UnsyncLoad cell register) k = absurd (miss alone 5 tt k)
-alone-of (code.WithMut cell register change) k = absurd (miss alone 6 tt k)
-alone-of code.Yield k = absurd (miss alone 7 tt k)
-alone-of (code.Join thread) k = absurd (miss alone 8 tt k)
-alone-of (code.Jump target) k = tt
-alone-of (code.JumpIf target register a) k = tt
-alone-of (code.JumpUnless target register a) k = tt
-alone-of (code.Check register a) k = tt
-alone-of code.Critical k = tt
-alone-of code.ExploreState k = tt
-alone-of code.SkipBranch k = tt
-alone-of (code.Spurious register) k = tt
+pub unsync-of : (op : Op) → OneOf unsync (tagOf Op.the-type op) → Unsync (opOf op)
+unsync-of (code.Load order cell register) k = absurd (miss unsync 0 tt k)
+unsync-of (code.Store order cell value) k = absurd (miss unsync 1 tt k)
+unsync-of (code.StoreRegister order cell register) k = absurd (miss unsync 2 tt k)
+unsync-of (code.Rmw order cell register change failure) k = absurd (miss unsync 3 tt k)
+unsync-of (code.Fence order) k = absurd (miss unsync 4 tt k)
+unsync-of (code.UnsyncLoad cell register) k = tt
+unsync-of (code.WithMut cell register change) k = tt
+unsync-of code.Yield k = absurd (miss unsync 7 tt k)
+unsync-of (code.Join thread) k = absurd (miss unsync 8 tt k)
+unsync-of (code.Jump target) k = tt
+unsync-of (code.JumpIf target register a) k = tt
+unsync-of (code.JumpUnless target register a) k = tt
+unsync-of (code.Check register a) k = tt
+unsync-of code.Critical k = tt
+unsync-of code.ExploreState k = tt
+unsync-of code.SkipBranch k = tt
+unsync-of (code.Spurious register) k = tt
+unsync-of (code.PlainRead plain register) k = tt
+unsync-of (code.PlainWrite plain value) k = tt
 
--- and of those that have no arm of their own there
+-- and of those that access no cell without synchronisation
+abbrev apart : List ℕ
+apart = 0 ∷ 1 ∷ 2 ∷ 3 ∷ 4 ∷ 7 ∷ 8 ∷ 9 ∷ 10 ∷ 11 ∷ 12 ∷ 13 ∷ 14 ∷ 15 ∷ 16 ∷ []
+
+pub alone-of : (op : Op) → OneOf apart (tagOf Op.the-type op) → Unsync (opOf op) → Alone (opOf op)
+alone-of (code.Load order cell register) k own = absurd own
+alone-of (code.Store order cell value) k own = absurd own
+alone-of (code.StoreRegister order cell register) k own = absurd own
+alone-of (code.Rmw order cell register change failure) k own = absurd own
+alone-of (code.Fence order) k own = absurd own
+alone-of (code.UnsyncLoad cell register) k own = absurd (miss apart 5 tt k)
+alone-of (code.WithMut cell register change) k own = absurd (miss apart 6 tt k)
+alone-of code.Yield k own = absurd own
+alone-of (code.Join thread) k own = absurd own
+alone-of (code.Jump target) k own = tt
+alone-of (code.JumpIf target register a) k own = tt
+alone-of (code.JumpUnless target register a) k own = tt
+alone-of (code.Check register a) k own = tt
+alone-of code.Critical k own = tt
+alone-of code.ExploreState k own = tt
+alone-of code.SkipBranch k own = tt
+alone-of (code.Spurious register) k own = tt
+alone-of (code.PlainRead plain register) k own = absurd (miss apart 17 tt k)
+alone-of (code.PlainWrite plain value) k own = absurd (miss apart 18 tt k)
+
+-- and of those that have no arm of their own among those that concern their thread alone
 abbrev rest : List ℕ
-rest = 0 ∷ 1 ∷ 2 ∷ 3 ∷ 4 ∷ 5 ∷ 6 ∷ 7 ∷ 8 ∷ 16 ∷ []
+rest = 0 ∷ 1 ∷ 2 ∷ 3 ∷ 4 ∷ 5 ∷ 6 ∷ 7 ∷ 8 ∷ 16 ∷ 17 ∷ 18 ∷ []
 
 module _ (p : Program) (st : State) (t k : ℕ) where
   pub asks-bit : (op : Op) → OneOf rest (tagOf Op.the-type op) → Alone (opOf op) → asks st [] (isExploring (st .numbers)) whichBit ≡ acts p st t k (opOf op)
@@ -81,6 +108,8 @@ module _ (p : Program) (st : State) (t k : ℕ) where
   asks-bit code.ExploreState k own = absurd (miss rest 14 tt k)
   asks-bit code.SkipBranch k own = absurd (miss rest 15 tt k)
   asks-bit (code.Spurious register) k own = refl
+  asks-bit (code.PlainRead plain register) k own = absurd own
+  asks-bit (code.PlainWrite plain value) k own = absurd own
 
 module _ (p : Program) (r : Event) (st left : State) (t k : ℕ) (op m : Op) (e : op ≡ m) where
   pub act-as : moveOf r t k (opcodeOf (opOf m)) (matchedFor left t (decoded (opOf m))) left ≡ acts p st t k (opOf m) →

@@ -1,4 +1,6 @@
--- The rows that concern their own thread alone: neither a cell nor another thread. Assumes nothing.
+-- Rows that are taken together. Assumes nothing.
+--     Alone      those that concern their own thread alone: neither a cell, plain or not, nor another thread
+--     Unsync     these, and those that access a cell, plain or not, without synchronisation
 use Rattle.rules.specs.Table as rules
 use Rattle.rules.specs.Table.{Op}
 
@@ -20,3 +22,26 @@ Alone rules.critical = Unit
 Alone rules.exploreState = Unit
 Alone rules.skipBranch = Unit
 Alone (rules.spurious r) = Unit
+Alone (rules.plainRead c r) = ⊥
+Alone (rules.plainWrite c a) = ⊥
+
+abbrev pub Unsync : Op → Type 0
+Unsync (rules.load c o r) = ⊥
+Unsync (rules.store c o a) = ⊥
+Unsync (rules.storeRegister c o r) = ⊥
+Unsync (rules.rmw c o f change r) = ⊥
+Unsync (rules.fence o) = ⊥
+Unsync (rules.unsyncLoad c r) = Unit
+Unsync (rules.exclusive c change r) = Unit
+Unsync rules.yield = ⊥
+Unsync (rules.join target) = ⊥
+Unsync (rules.jump target) = Unit
+Unsync (rules.jumpIf r a target) = Unit
+Unsync (rules.jumpUnless r a target) = Unit
+Unsync (rules.check r a) = Unit
+Unsync rules.critical = Unit
+Unsync rules.exploreState = Unit
+Unsync rules.skipBranch = Unit
+Unsync (rules.spurious r) = Unit
+Unsync (rules.plainRead c r) = Unit
+Unsync (rules.plainWrite c a) = Unit

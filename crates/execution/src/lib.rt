@@ -10,7 +10,7 @@ ghost use Rattle.rules.specs.Table.{cellsOf, opcodeOf, opcodeIn};
 ghost use Rattle.layout.specs.Tables.{state};
 ghost use Rattle.event.specs.Moves.{moveOf, matchedFor};
 ghost use Rattle.decode.specs.Ops.{opOf, decodedOf, inRange, opWithin};
-ghost use Rattle.execution.specs.Alone.{Alone};
+ghost use Rattle.execution.specs.Alone.{Unsync, Alone};
 ghost use Rattle.execution.specs.Answers.{Answers, choiceWithin};
 use decode::Decoded;
 use decode::Op;
@@ -97,6 +97,24 @@ pub fn act(
         }
         Op::Rmw { .. } => ask_slot(clocks, site.thread),
         Op::Fence { order } => rows::fence_row(clocks, marks, numbers, site, cells, order),
+        Op::Yield => rows::yield_row(clocks, numbers, site),
+        Op::Join { thread: target } => rows::join_row(clocks, numbers, site, target),
+        _ => act_unsync(clocks, values, numbers, site, op),
+    }
+}
+
+// The rows that access a cell, plain or not, without synchronisation, and those that concern their own thread alone.
+fn act_unsync(
+    clocks: &mut Clocks,
+    values: &mut Values,
+    numbers: &mut Numbers,
+    site: Site,
+    op: Op,
+) -> Event
+    requires { ⌜ (site .thread < 5) × inRange (opOf op) × Unsync (opOf op) ⌝ }
+    ensures { λ r. ⌜ ((p : machine.Program) (marks : rules.Marks) (m : Matched) → moveOf r (site .thread) (site .row) (opcodeOf (opOf op)) m (state (now (clocks .exit)) marks (now (values .exit)) (now (numbers .exit))) ≡ machine.acts p (state (now (clocks .entry)) marks (now (values .entry)) (now (numbers .entry))) (site .thread) (site .row) (opOf op)) ⌝ }
+{
+    match op {
         Op::UnsyncLoad { cell, register } => {
             accesses::unsync_load_row(clocks, values, numbers, site, cell, register)
         }
@@ -105,8 +123,12 @@ pub fn act(
             change,
             register,
         } => accesses::with_mut_row(clocks, values, numbers, site, cell, change, register),
-        Op::Yield => rows::yield_row(clocks, numbers, site),
-        Op::Join { thread: target } => rows::join_row(clocks, numbers, site, target),
+        Op::PlainRead { plain, register } => {
+            accesses::plain_read_row(clocks, values, numbers, site, plain, register)
+        }
+        Op::PlainWrite { plain, value } => {
+            accesses::plain_write_row(clocks, values, numbers, site, plain, value)
+        }
         _ => act_alone(values, numbers, site, op),
     }
 }

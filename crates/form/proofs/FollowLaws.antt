@@ -8,8 +8,9 @@ use mathlib.Core.Path.{_≡_, refl, ap, sym, _∙_}
 use native.Mathlib.Omega.{arith}
 use borrow.Author.Tests.{eq-eqb, ne-eqb}
 use lib.ListN.{length, drop, length-drop}
+use Rattle.rules.specs.Table.{Room}
 use Rattle.rules.specs.Token.{isEmpty, endsLine, skip, token, pastToken, nextLine, tokenLength, Found, nothing, found}
-use Rattle.rules.specs.Form.{Room, valueOf, withField, Followed, stuck, fits, follow}
+use Rattle.rules.specs.Form.{valueOf, withField, Followed, stuck, fits, follow}
 use Rattle.token.specs.Places.{part}
 use Rattle.token.proofs.PlaceLaws.{left-by, part-token}
 

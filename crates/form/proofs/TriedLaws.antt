@@ -12,8 +12,9 @@ use borrow.Author.Tests.{lt-ltb, le-ltb}
 use lib.Dec.{ltb, eqb}
 use lib.ListN.{length, getD, take, drop, length-drop, length-append, drop-of-length-le}
 use lib.Seq.{drop-drop, getD-drop, drop-append-add, take-append-seam}
+use Rattle.rules.specs.Table.{Room}
 use Rattle.rules.specs.Token.{lineFeed, lineLength, skip, bytesOf}
-use Rattle.rules.specs.Form.{Room, Form, forms, Followed, stuck, fits, follow, mostWords, blankFields, further, tried, rowIn}
+use Rattle.rules.specs.Form.{Form, forms, Followed, stuck, fits, follow, mostWords, blankFields, further, tried, rowIn}
 use Rattle.token.specs.Places.{part, Between}
 use Rattle.token.proofs.PlaceLaws.{left-by}
 use Rattle.form.specs.Lines.{coded}

@@ -6,13 +6,14 @@ use mathlib.Core.List.{List}
 use mathlib.Core.Bool.{false, cond}
 use mathlib.Core.Path.{_≡_}
 use lib.ListN.{drop, replicate}
+use Rattle.rules.specs.Table as Table
 use Rattle.rules.specs.Form as rules
 use Rattle.token.specs.Places.{Between}
 use Rattle.form.specs.declared.Room.{Room}
 use Rattle.form.specs.declared.Row.{Row}
 
-abbrev pub roomOf : Room → rules.Room
-roomOf room = record { threads = room .threads; cells = room .cells; rows = room .rows }
+abbrev pub roomOf : Room → Table.Room
+roomOf room = record { threads = room .threads; cells = room .cells; plains = room .plains; rows = room .rows }
 
 abbrev pub followedOf : List ℕ → Row → rules.Followed
 followedOf text r = cond (r .fits) (rules.fits (r .fields) (drop (r .at) text)) (rules.stuck (drop (r .at) text))

@@ -18,10 +18,11 @@ use token::Found;
 // No form has as many words.
 const MOST_WORDS: usize = 10;
 
-// What a row may name: so many threads and cells, and the rows that a jump may lead to.
+// What a row may name: so many threads, cells and plain cells, and the rows that a jump may lead to.
 pub struct Room {
     pub threads: u64,
     pub cells: u64,
+    pub plains: u64,
     pub rows: u64,
 }
 
@@ -38,7 +39,7 @@ pub struct Row {
 }
 
 // The forms, a line for each: its opcode, its change kind and its words. A capital letter stands for a field.
-pub const FORMS: [u8; 876] = *b"\
+pub const FORMS: [u8; 904] = *b"\
 \x00\x00R = load C L
 \x01\x00store A to C S
 \x02\x00store R to C S
@@ -80,6 +81,8 @@ pub const FORMS: [u8; 876] = *b"\
 \x0e\x00explore_state
 \x0f\x00skip_branch
 \x10\x00R = branch_spurious
+\x11\x00R = read P
+\x12\x00write A to P
 ";
 
 // The row that stands in this line. Where it is of no form the fields are zeros.
@@ -276,7 +279,7 @@ pub fn field_of(letter: u8) -> usize
 {
     match letter {
         b'R' => 5,
-        b'C' | b'T' => 1,
+        b'C' | b'T' | b'P' => 1,
         b'J' => 6,
         b'A' => 7,
         b'B' => 8,
@@ -299,12 +302,15 @@ fn letter_in(room: Room, letter: u8, text: &[u8], at: usize, to: usize) -> Found
     Found::Nothing
 }
 
-// The register, number or order that a word is.
+// The register, plain cell, number or order that a word is.
 fn kind_in(letter: u8, text: &[u8], at: usize, to: usize) -> Found
     ensures { λ r. ⌜ foundOf r ≡ kindIn letter (part at to (now (text .entry))) ⌝ }
 {
     if letter == b'R' {
         return token::register(text, at, to);
+    }
+    if letter == b'P' {
+        return token::plain(text, at, to);
     }
     if (letter == b'C')
         | (letter == b'T')
@@ -323,6 +329,7 @@ fn may_be(room: Room, letter: u8, value: u64) -> bool
 {
     match letter {
         b'C' => value < room.cells,
+        b'P' => value < room.plains,
         b'T' => value < room.threads,
         b'J' => value <= room.rows,
         b'L' | b'X' => (value <= 4) & (value != 1) & (value != 3),

@@ -10,7 +10,7 @@ use lib.ListN.{length, getD}
 use Rattle.rules.specs.Vector.{largest}
 use Rattle.rules.specs.Path.{positions}
 use Rattle.rules.specs.State.{State, Clocks, Marks, Values, Numbers}
-use Rattle.rules.specs.Table.{threadsOf, cellsOf}
+use Rattle.rules.specs.Table.{threadsOf, cellsOf, plainsOf}
 use Rattle.rules.specs.Machine as machine
 use Rattle.rules.specs.Explorer as explorer
 use Rattle.rules.specs.Explorer.{Walk, Ledger, Tick}
@@ -24,16 +24,17 @@ use Rattle.meeting.specs.declared.Ticked.{Ticked}
 use Rattle.walk.specs.Walks.{Runs, Gone}
 use Rattle.iteration.specs.Executes.{mostOpened, Afresh, Ready, Shaped, Given, Started, Knows, Walks, Executes, machineOf}
 use Rattle.iteration.specs.declared.Terms.{Terms}
-use Rattle.iteration.proofs.ReadyLaws.{ready-header, ready-threads, ready-cells}
+use Rattle.iteration.proofs.ReadyLaws.{ready-header, ready-threads, ready-cells, ready-plains}
 
-pub started : (clocks : Clocks) (marks : Marks) (values : Values) (numbers : Numbers) (table shape : List ℕ) (exploring : Bool) (threads cells : ℕ)
-    → threads ≡ getD shape 0 0 → cells ≡ getD shape 1 0
-    → ((p : machine.Program) → p .table ≡ table → p .exploring ≡ exploring → threadsOf (p .table) ≡ threads → cellsOf (p .table) ≡ cells → state clocks marks values numbers ≡ machine.start p)
+pub started : (clocks : Clocks) (marks : Marks) (values : Values) (numbers : Numbers) (table shape : List ℕ) (exploring : Bool) (threads cells plains : ℕ)
+    → threads ≡ getD shape 0 0 → cells ≡ getD shape 1 0 → plains ≡ getD shape 12 0
+    → ((p : machine.Program) → p .table ≡ table → p .exploring ≡ exploring → threadsOf (p .table) ≡ threads → cellsOf (p .table) ≡ cells → plainsOf (p .table) ≡ plains → state clocks marks values numbers ≡ machine.start p)
     → Started clocks marks values numbers table shape exploring
-started clocks marks values numbers table shape exploring threads cells e f h condition s path trace shaped explores =
+started clocks marks values numbers table shape exploring threads cells plains e f g h condition s path trace shaped explores =
     h (programOf table condition s) refl explores
     (sym (e ∙ ready-threads (shaped .ready) (shaped .is-shape)))
     (sym (f ∙ ready-cells (shaped .ready) (shaped .is-shape)))
+    (sym (g ∙ ready-plains (shaped .ready) (shaped .is-shape)))
 
 module _ (table condition shape : List ℕ) (s : Settings) (path trace : List ℕ) (shaped : Shaped table shape s path trace) where
   in-range : (s .branches ≤ positions) × (s .operations < largest)

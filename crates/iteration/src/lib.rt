@@ -11,6 +11,7 @@ use layout::Numbers;
 use layout::Values;
 use layout::wide16;
 use table::CELLS;
+use table::PLAINS;
 use table::Shape;
 use table::THREADS;
 use walk::Cursor;
@@ -37,7 +38,7 @@ pub fn execute(
     terms: Terms,
     cursor: Cursor,
 ) -> Ticked
-    requires { ⌜ (getD (now shape) 0 0 ≤ 5) × (getD (now shape) 1 0 ≤ 4) × (16 * cursor .len ≤ length (now path)) × (cursor .opened + mostOpened < 2 ^ 64) ⌝ }
+    requires { ⌜ (getD (now shape) 0 0 ≤ 5) × (getD (now shape) 1 0 ≤ 4) × (getD (now shape) 12 0 ≤ 4) × (16 * cursor .len ≤ length (now path)) × (cursor .opened + mostOpened < 2 ^ 64) ⌝ }
     ensures { λ r. ⌜ Executes (lent (now (clocks .entry)) (now (marks .entry)) (now (values .entry)) (now (numbers .entry)) (now (path .entry)) (now (trace .entry))) (lent (now (clocks .exit)) (now (marks .exit)) (now (values .exit)) (now (numbers .exit)) (now (path .exit)) (now (trace .exit))) (now (table .entry)) (now (shape .entry)) terms cursor r ⌝ }
 {
     start_anew(
@@ -75,11 +76,12 @@ fn start_anew(
     shape: &Shape,
     exploring: bool,
 )
-    requires { ⌜ (getD (now shape) 0 0 ≤ 5) × (getD (now shape) 1 0 ≤ 4) ⌝ }
+    requires { ⌜ (getD (now shape) 0 0 ≤ 5) × (getD (now shape) 1 0 ≤ 4) × (getD (now shape) 12 0 ≤ 4) ⌝ }
     ensures { λ _. ⌜ Started (now (clocks .exit)) (now (marks .exit)) (now (values .exit)) (now (numbers .exit)) (now (table .entry)) (now (shape .entry)) exploring ⌝ }
 {
     let threads = wide16(shape[THREADS]);
     let cells = wide16(shape[CELLS]);
+    let plains = wide16(shape[PLAINS]);
     start::start(
         clocks,
         marks,
@@ -88,6 +90,7 @@ fn start_anew(
         table,
         threads,
         cells,
+        plains,
         exploring,
     );
 }

@@ -1,12 +1,13 @@
 // Where each part of the machine's state stands, and how large it is: here alone. The state is four tables that the caller
 // lends: vectors (clocks), marks of first sight, values and numbers. A part is found at its constant plus the number of its
-// thread, cell, store or register; nothing else does arithmetic on positions. A new part goes at the end of its table, past
+// thread, cell, store, register or plain cell; nothing else does arithmetic on positions. A new part goes at the end of its table, past
 // all that are there, and the table's size grows by it: then no position that a proof names moves.
 ghost use mathlib.Core.Path.{_≡_};
 ghost use Prim.Native.Nat.{_+_, _*_, _<_};
 ghost use Rattle.layout.specs.Wide.{Wide};
 
 pub mod of_cell;
+pub mod of_plain;
 pub mod of_run;
 pub mod of_store;
 pub mod of_thread;
@@ -18,6 +19,8 @@ pub const MAX_THREADS: usize = 5;
 
 pub const MAX_CELLS: usize = 4;
 
+pub const MAX_PLAINS: usize = 4;
+
 // loom's: a cell keeps its seven most recent stores.
 pub const MAX_ATOMIC_HISTORY: usize = 7;
 
@@ -28,9 +31,9 @@ pub const REGISTERS: usize = 4;
 pub const NONE: u16 = 65535;
 
 // How many vectors, values and numbers the tables hold.
-pub const CLOCKS: usize = 124;
+pub const CLOCKS: usize = 132;
 
-pub const VALUES: usize = 48;
+pub const VALUES: usize = 52;
 
 pub const NUMBERS: usize = 89;
 

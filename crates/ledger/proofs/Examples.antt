@@ -60,7 +60,7 @@ unfolding Condition.compared Condition.comparisonAt Condition.conditionAt Condit
     Cell.storeRace Cell.loadTracked Cell.storeTracked Cell.coherentFrom Cell.coherent Cell.touchDone Cell.storeOrderFrom
     Cell.storeOrder Cell.storeDone Cell.sighted Cell.loadDone Event.little Event.slotsFrom Explorer.allMarked
     Explorer.seedOf Explorer.pushed Explorer.allBelow Explorer.reply Explorer.tick Explorer.walked Explorer.execution
-    Explorer.after Explorer.runFrom Explorer.run Machine.forThreads Machine.blank Machine.cellsMade
+    Explorer.after Explorer.runFrom Explorer.run Machine.forThreads Machine.blank Machine.cellsMade Machine.plainsMade
     Machine.threadsStarted Machine.start Machine.conflict Machine.fewestFrom Machine.initial Machine.standing
     Machine.schedules Machine.accessMade Machine.othersAwake Machine.switched Machine.allOver Machine.scheduled
     Machine.stores Machine.actsAs Machine.begins Machine.threadEnded Machine.nextAt Machine.next Machine.maskOf
@@ -70,7 +70,7 @@ unfolding Condition.compared Condition.comparisonAt Condition.conditionAt Condit
     Path.openIn Path.turned Path.turnedBranch Path.stepped Path.choiceOf Seen.seenThrough Seen.seen Seen.seenBeforeYield
     Seen.touched Seen.touchedAt Table.u16At Table.u32At Table.u64At Table.countsOf Table.firstRows Table.startValue
     Table.rowFrom Table.rowAt Table.changeDecoded Table.rowDecoded Table.opAt Vector.atMost Vector.equal Vector.less
-    Vector.joined Vector.ahead Vector.raised Worked.rowsAsBytes Worked.threadsAsBytes Worked.valuesAsBytes Worked.table Worked.loadsIn
+    Vector.joined Vector.ahead Vector.raised Worked.rowsAsBytes Worked.threadsAsBytes Worked.valuesAsBytes Worked.tableWith Worked.loadsIn
     Worked.loadsInAll ticksFrom courseOf coursesFrom courses threadsFrom alternatives openNames newlyPending
     markedAlternatives openedNames joinedOver openedOf turnedOf openOf parting partings played walkedBy runFromBy runBy
     steppedFirst againFrom steppedTwice

@@ -20,6 +20,7 @@ pub fn put(line: &mut Line, at: usize, came: Came) -> usize {
         Came::Took(bit) => line::put_with(line, at, b"took ", bit),
         Came::Jumped(taken) => put_taken(line, at, taken),
         Came::Passed => line::put(line, at, b"passed"),
+        Came::Written(value) => line::put_with(line, at, b"wrote ", value),
     }
 }
 

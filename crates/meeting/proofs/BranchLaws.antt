@@ -218,6 +218,8 @@ few-for st t (Table.decoded Table.critical) = omega arith
 few-for st t (Table.decoded Table.exploreState) = omega arith
 few-for st t (Table.decoded Table.skipBranch) = omega arith
 few-for st t (Table.decoded (Table.spurious r)) = omega arith
+few-for st t (Table.decoded (Table.plainRead c r)) = omega arith
+few-for st t (Table.decoded (Table.plainWrite c a)) = omega arith
 
 -- the slots that were written are those that are offered
 abbrev ReadBack : ℕ → List ℕ → rules.Matched → Type 0

@@ -3,6 +3,7 @@
 --     Accessed                                         what is said of an access
 --     load-accessed, rmw-accessed                      of a slot
 --     unsync-accessed, mut-accessed                    of the newest store
+--     plain-read-accessed, plain-write-calm            of a plain cell
 use Prim.Native.Nat.{ℕ, _≤_, _<_}
 use mathlib.Core.Path.{refl}
 use mathlib.Core.Logic.{_⊎_, inl, inr}
@@ -11,9 +12,10 @@ use native.Mathlib.Decide.{ℕ-discrete}
 use lib.ListN.{length}
 use Rattle.rules.specs.Change.{Change, Changed, success, failure, applied}
 use Rattle.rules.specs.Seen.{unseen}
-use Rattle.rules.specs.State.{State, number, vector, vectorAt, value, ofStore, storeAt, threads, count, causality, sync, stored, unsyncLoaded, mutated}
+use Rattle.rules.specs.State.{State, number, vector, vectorAt, value, ofStore, storeAt, threads, count, causality, sync, stored, unsyncLoaded, mutated, readAccess, writeAccess}
 use Rattle.rules.specs.Cell
 use Rattle.rules.specs.Cell.{Access, raced, read, Race, noRace, raceOf, unlessRace, slotOf, withClocks, byChange}
+use Rattle.rules.specs.Plain
 use Rattle.offers.specs.Seen.{Sees}
 use Rattle.offers.proofs.Growing.{high, grows-trans, load-sync-grows, recorded-grows}
 use Rattle.offers.proofs.Sight.{Stays, rowIn, seen-stays}
@@ -61,6 +63,14 @@ module _ (t n : ℕ) (below : t < threads) (st : State) where
   unless-sees c slot noRace s x h = h
   unless-sees c slot (raceOf kind other) s x h = tt
 
+  -- a plain cell has neither marks nor a count
+  pub plain-write-calm : (c v : ℕ) → Calm n n st (Plain.plainWriteDone st t c v)
+  unfolding Plain.plainWriteDone Plain.plainWriteTracked
+  plain-write-calm c v =
+      let race = Plain.plainWriteRace (st .clocks) t c in
+      calm-trans (calm-clocks n n st _ (recorded-grows n (st .clocks) race (writeAccess c) t below))
+      (calm-rest n (withClocks st (Plain.plainWriteTracked (st .clocks) t c)) _ (st .numbers) (λ d h. refl))
+
   module _ (sound : SoundState n st) where
     same : Calm n n st st
     same = calm-more n n st (omega arith)
@@ -73,6 +83,13 @@ module _ (t n : ℕ) (below : t < threads) (st : State) where
         (calm-step
         (calm-clocks n n st _ (recorded-grows n (st .clocks) (Cell.unsyncLoadRace (st .clocks) t c)
         (unsyncLoaded c) t below)) sound)
+
+    pub plain-read-accessed : (c : ℕ) → Accessed (Plain.plainReadDone st t c)
+    unfolding Plain.plainReadDone Plain.plainReadTracked
+    plain-read-accessed c =
+        let race = Plain.plainReadRace (st .clocks) t c in
+        unless-accessed race st _ same
+        (calm-step (calm-clocks n n st _ (recorded-grows n (st .clocks) race (readAccess c) t below)) sound)
 
     pub mut-accessed : (c : ℕ) (change : Change) → Accessed (Cell.mutDone st t c change)
     unfolding Cell.mutDone Cell.mutTracked

@@ -154,6 +154,8 @@ module _ (t n : ℕ) (below : t < threads) (st : State) (sound : SoundState n st
   read-answer k slot mask (decoded Table.exploreState) on l = same n st
   read-answer k slot mask (decoded Table.skipBranch) on l = same n st
   read-answer k slot mask (decoded (Table.spurious r)) on l = same n st
+  read-answer k slot mask (decoded (Table.plainRead c r)) on l = same n st
+  read-answer k slot mask (decoded (Table.plainWrite c a)) on l = same n st
 
   bit-answer : (u k v : ℕ) (row : Decoded Op) → AnswerOf u n st (Machine.bitTaken st t k v row)
   unfolding Machine.bitTaken
@@ -175,6 +177,8 @@ module _ (t n : ℕ) (below : t < threads) (st : State) (sound : SoundState n st
   bit-answer u k v (decoded Table.critical) = same n st
   bit-answer u k v (decoded Table.exploreState) = same n st
   bit-answer u k v (decoded Table.skipBranch) = same n st
+  bit-answer u k v (decoded (Table.plainRead c r)) = same n st
+  bit-answer u k v (decoded (Table.plainWrite c a)) = same n st
 
   -- what it has read
   load-after : (k slot mask c o r : ℕ) → c < 4 → slot < 7 → n < unseen →

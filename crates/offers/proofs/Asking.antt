@@ -16,6 +16,7 @@ use Rattle.rules.specs.Event as Event
 use Rattle.rules.specs.Event.{Entry, Matched, Site, whichThread, whichSlot, whichBit, readSlot, Move, moves, asks, stops, ends}
 use Rattle.rules.specs.State.{State, number, count, marksOf, value, ofStore, storeAt, threads, begun, exploring}
 use Rattle.rules.specs.Cell.{Access, raced, read, Race, noRace, raceOf, unlessRace, newest, sighted, loadRace, loadSynced, loadDone, byChange, succeeded, rmwDone, unsyncLoadDone, mutDone, matchedLoad, matchedRmw, storeRace, storeTracked, withClocks}
+use Rattle.rules.specs.Plain.{plainReadDone, plainWriteRace, plainWriteDone}
 use Rattle.rules.specs.Machine
 use Rattle.rules.specs.Machine.{Program, Pending, nothing, pends, pendingOf, machine, active, activeRow, activeOp, rowOf, rowCount, versionRaised, maskOf, entry}
 use Rattle.rules.specs.Explorer.{Limits, Walk, goes, faulted, fits, followed, noted, withState}
@@ -63,6 +64,10 @@ module _ (p : Program) (st : State) (t k : ℕ) (row : Decoded Op) (s : State) w
   leaves-ask (raced kind other u) n c r = tt
   leaves-ask (read v u) n c r = tt
 
+  writes-ask : (r : Race) (u written : State) (n v : ℕ) → OfMove st t row (Machine.writesUnless r u written t k n v)
+  writes-ask noRace u written n v = tt
+  writes-ask (raceOf kind other) u written n v = tt
+
   joins-ask : (n target : ℕ) → OfMove st t row (Machine.joins s t k n target)
   unfolding Machine.joins
   joins-ask n target =
@@ -95,6 +100,8 @@ module _ (p : Program) (st : State) (t k : ℕ) (row : Decoded Op) (s : State) w
   bare-ask Table.exploreState e = explores-ask 14 true
   bare-ask Table.skipBranch e = tt
   bare-ask (Table.spurious r) e = tt
+  bare-ask (Table.plainRead c r) e = reads-ask (plainReadDone s t c) 17 r Machine.noSlot 0
+  bare-ask (Table.plainWrite c a) e = writes-ask (plainWriteRace (s .clocks) t c) s (plainWriteDone s t c a) 18 a
 
   begun-ask : (op : Op) (x : Pending) → pendingOf op ≡ x → OfMove st t row (Machine.begunAs p s t k op x)
   begun-ask op nothing e = bare-ask op e
@@ -129,6 +136,8 @@ module _ (p : Program) (st : State) (t k : ℕ) where
   acts-ask Table.exploreState = bare-ask p st t k (decoded Table.exploreState) st Table.exploreState refl
   acts-ask Table.skipBranch = bare-ask p st t k (decoded Table.skipBranch) st Table.skipBranch refl
   acts-ask (Table.spurious r) = bare-ask p st t k (decoded (Table.spurious r)) st (Table.spurious r) refl
+  acts-ask (Table.plainRead c r) = bare-ask p st t k (decoded (Table.plainRead c r)) st (Table.plainRead c r) refl
+  acts-ask (Table.plainWrite c a) = bare-ask p st t k (decoded (Table.plainWrite c a)) st (Table.plainWrite c a) refl
 
   row-asks : (row : Decoded Op) → OfMove st t row (Machine.ofRow p st t k row)
   row-asks refused = tt

@@ -55,7 +55,7 @@ raised-most xs t =
 -- Vectors
 
 -- the places of the vectors that flow into a thread's causality: the threads' own and what they have released, the global one,
--- and what stores hand on
+-- and what stores hand on. Those of plain cells stand behind these: they do not flow, but are bounded as well
 pub data Flows : ℕ → Type 0 where
   low : {k : ℕ} → k < 10 → Flows k
   global : {k : ℕ} → k ≡ 15 → Flows k

@@ -8,8 +8,9 @@ use native.Mathlib.Omega.{arith}
 use borrow.Author.Tests.{ltb-true, leb-true}
 use Rattle.rules.specs.Change.{Change}
 use Rattle.rules.specs.Table as Table
-use Rattle.rules.specs.Table.{Op, Decoded, refused, decoded, onlyIf, Row, rowDecoded, opAt}
-use Rattle.rules.specs.Machine.{Program, rowOf}
+use Rattle.rules.specs.Table.{Op, Decoded, refused, decoded, onlyIf, Row, Room, roomOf, rowDecoded, opAt}
+use Rattle.rules.specs.Machine.{Program, rowCount, rowOf}
+use Rattle.rules.proofs.MeasureRows.{both-left}
 
 -- the thread that a join names; 0 stands for none
 abbrev pub targetOf : Op → ℕ
@@ -30,6 +31,8 @@ targetOf Table.critical = 0
 targetOf Table.exploreState = 0
 targetOf Table.skipBranch = 0
 targetOf (Table.spurious r) = 0
+targetOf (Table.plainRead c r) = 0
+targetOf (Table.plainWrite c a) = 0
 
 unfoldable pub RowJoins : Decoded Op → Type 0
 RowJoins refused = Unit
@@ -51,19 +54,19 @@ refused-joins : RowJoins refused ↔ Unit {0}
 unfolding RowJoins
 refused-joins = (λ h. tt, λ h. tt)
 
-module _ (n cells count : ℕ) (few : n ≤ 5) (r : Row) where
-  rmw-joins : (change : Decoded Change) → RowJoins (Table.rmwRow cells r change) ↔ Unit {0}
+module _ (room : Room) (few : room .threads ≤ 5) (r : Row) where
+  rmw-joins : (change : Decoded Change) → RowJoins (Table.rmwRow (room .cells) r change) ↔ Unit {0}
   rmw-joins refused = (λ h. tt, λ h. simp refused-joins tt)
   rmw-joins (decoded change) = (λ h. tt, λ h. simp only-joins (omega arith))
 
-  exclusive-joins : (change : Decoded Change) → RowJoins (Table.exclusiveRow cells r change) ↔ Unit {0}
+  exclusive-joins : (change : Decoded Change) → RowJoins (Table.exclusiveRow (room .cells) r change) ↔ Unit {0}
   exclusive-joins refused = (λ h. tt, λ h. simp refused-joins tt)
   exclusive-joins (decoded change) = (λ h. tt, λ h. simp only-joins (omega arith))
 
-  join-joins : RowJoins (Table.joinRow n r) ↔ Unit {0}
+  join-joins : RowJoins (Table.joinRow (room .threads) r) ↔ Unit {0}
   join-joins = (λ h. tt, λ h. simp (only-joins, and-eq-true-iff) (omega (arith, ltb-true)))
 
-  decoded-joins : RowJoins (rowDecoded n cells count r)
+  decoded-joins : RowJoins (rowDecoded room r)
   unfolding rowDecoded
   decoded-joins =
       simp (cond-joins, bare-joins, join-joins, refused-joins, rmw-joins, exclusive-joins)
@@ -71,4 +74,6 @@ module _ (n cells count : ℕ) (few : n ≤ 5) (r : Row) where
 
 pub row-joins : (p : Program) (t k : ℕ) → RowJoins (rowOf p t k)
 unfolding opAt
-row-joins p t k = simp (cond-joins, refused-joins) (λ e. decoded-joins _ _ _ (leb-true _ _ e) _, λ e. tt)
+row-joins p t k =
+    let room = roomOf (p .table) (rowCount p t) in
+    simp (cond-joins, refused-joins) (λ e. decoded-joins room (leb-true _ _ (both-left _ _ (both-left _ _ e))) _, λ e. tt)

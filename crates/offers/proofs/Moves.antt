@@ -19,6 +19,7 @@ use Rattle.rules.specs.State as State
 use Rattle.rules.specs.State.{State, Numbers, Number, number, withNumber, numberAt, threads, count, causality, scheduleOf, stored, phase, nextRow, operation, operatesOn, begun, rowsOf, yields, lastYield, awaits, exploring, skipping}
 use Rattle.rules.specs.Cell
 use Rattle.rules.specs.Cell.{Access, raced, read, Race, noRace, raceOf, withClocks, joinInto}
+use Rattle.rules.specs.Plain.{plainReadDone, plainWriteRace, plainWriteDone}
 use Rattle.rules.specs.Machine
 use Rattle.rules.specs.Machine.{Program, Pending, nothing, pends, pendingOf, active, activeRow, rowOf, rowCount, completed, versionRaised, forThreads, entry, noSlot}
 use Rattle.rules.proofs.StateLaws.{number-other, number-kept}
@@ -26,7 +27,7 @@ use Rattle.rules.proofs.MeasureRows.{pick, OnCell, RowOnCell, row-on-cell}
 use Rattle.offers.proofs.Joined.{targetOf, RowJoins, row-joins}
 use Rattle.offers.proofs.Growing.{low, Grows, grows-trans, join-grows, raise-grows, schedule-flows, fenced-grows, recorded-grows, Small}
 use Rattle.offers.proofs.Steps.{SameCounts, SoundState, Quiet, quiet-trans, Calm, Steps, calm-trans, calm-more, calm-clocks, calm-rest, calm-step, calm-before, calm-after, store-steps}
-use Rattle.offers.proofs.Accessing.{Accessed, unsync-accessed, mut-accessed}
+use Rattle.offers.proofs.Accessing.{Accessed, unsync-accessed, mut-accessed, plain-read-accessed, plain-write-calm}
 
 -- Counts
 
@@ -238,6 +239,13 @@ module _ (t n : ℕ) (below : t < threads) (st : State) (sound : SoundState n st
       let s1 : SameCounts a (withNumber a exploring 0) = counts-then a a (none-counted a) exploring 0 (omega arith) in
       rest (Machine.skipped st .numbers) (counts-then a (withNumber a exploring 0) s1 skipping 1 (omega arith)) m h
 
+  writes-next : (x : Race) (k opcode c v : ℕ) →
+      NextOf t n st (Machine.writesUnless x st (plainWriteDone st t c v) t k opcode v)
+  writes-next (raceOf kind other) k opcode c v = λ m h. more m (omega arith)
+  writes-next noRace k opcode c v =
+      done-next (plainWriteDone st t c v) (oneMore k) (entry t k opcode noSlot 0 v)
+      (λ m h. calm-trans (more m h) (plain-write-calm t m below st c v))
+
   acts-next : (p : Program) (k : ℕ) (op : Op) → OnCell (pendingOf op) → targetOf op < 5 → NextOf t n st (Machine.acts p st t k op)
   unfolding Machine.actsAs
   acts-next p k (Table.load c o r) on l = raised-calm
@@ -266,6 +274,9 @@ module _ (t n : ℕ) (below : t < threads) (st : State) (sound : SoundState n st
   acts-next p k Table.exploreState on l = explores-next k 14 true
   acts-next p k Table.skipBranch on l = done-next (Machine.skipped st) (oneMore k) (entry t k 15 noSlot 0 0) skipped-calm
   acts-next p k (Table.spurious r) on l = λ m h. more m (omega arith)
+  acts-next p k (Table.plainRead c r) on l =
+      reads-next (plainReadDone st t c) k 17 r noSlot 0 (λ m h. plain-read-accessed t m below st (more m h .sound sound) c)
+  acts-next p k (Table.plainWrite c a) on l = writes-next (plainWriteRace (st .clocks) t c) k 18 c a
 
   -- A row begins, or a thread ends
 

@@ -16,6 +16,7 @@ use Rattle.rules.specs.Event.{Entry, Matched, Question, whichThread, whichSlot,
 use Rattle.rules.specs.State.{State, number, threads, begun, count, exploring}
 use Rattle.rules.specs.Cell
 use Rattle.rules.specs.Cell.{Access, raced, read, Race, noRace, raceOf, withClocks}
+use Rattle.rules.specs.Plain.{plainReadDone, plainWriteRace, plainWriteDone}
 use Rattle.rules.specs.Machine
 use Rattle.rules.specs.Machine.{Program, Pending, nothing, pends, pendingOf, machine, active, activeRow, activeOp, rowOf, rowCount, versionRaised, entry, noSlot}
 use Rattle.rules.specs.Explorer.{Limits, Walk, goes, tick}
@@ -63,6 +64,10 @@ module _ (st : State) (t k : ℕ) where
   leaves-entries (raced kind other s) n c r a b = tt
   leaves-entries (read v s) n c r a b = ((a, b), tt)
 
+  writes-entries : (x : Race) (s : State) (n v : ℕ) → (n ≡ 0 → ⊥) → (n ≡ 3 → ⊥) → EntriesOf (Machine.writesUnless x st s t k n v)
+  writes-entries noRace s n v a b = one-entry t k n noSlot 0 v a b
+  writes-entries (raceOf kind other) s n v a b = tt
+
   joins-entries : (target : ℕ) → EntriesOf (Machine.joins st t k 8 target)
   unfolding Machine.joins
   joins-entries target =
@@ -97,6 +102,9 @@ module _ (st : State) (t k : ℕ) where
   acts-entries p Table.exploreState = explores-entries 14 true (omega arith) (omega arith)
   acts-entries p Table.skipBranch = bare t k 15 (omega arith) (omega arith)
   acts-entries p (Table.spurious r) = tt
+  acts-entries p (Table.plainRead c r) = reads-entries (plainReadDone st t c) 17 r noSlot 0 (omega arith) (omega arith)
+  acts-entries p (Table.plainWrite c a) =
+      writes-entries (plainWriteRace (st .clocks) t c) (plainWriteDone st t c a) 18 a (omega arith) (omega arith)
 
   begun-entries : (p : Program) (op : Op) (x : Pending) → EntriesOf (Machine.begunAs p st t k op x)
   begun-entries p op nothing = acts-entries p op
@@ -139,6 +147,8 @@ module _ (st : State) (t k : ℕ) where
   bit-entries v (decoded Table.critical) = tt
   bit-entries v (decoded Table.exploreState) = tt
   bit-entries v (decoded Table.skipBranch) = tt
+  bit-entries v (decoded (Table.plainRead c r)) = tt
+  bit-entries v (decoded (Table.plainWrite c a)) = tt
 
 next-entries : (p : Program) (st : State) → EntriesOf (Machine.next p st .move)
 unfolding Machine.next

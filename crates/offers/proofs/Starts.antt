@@ -9,7 +9,7 @@ use native.Mathlib.Omega.{arith}
 use lib.ListN.{length, getD, set, replicate, length-replicate}
 use Rattle.rules.specs.Vector.{zeros}
 use Rattle.rules.specs.Seen.{unseen, unseens}
-use Rattle.rules.specs.Table.{threadsOf, cellsOf, startValue}
+use Rattle.rules.specs.Table.{threadsOf, cellsOf, plainsOf, startValue}
 use Rattle.rules.specs.State.{State, Clocks, Marks, withVector, vectorAt, threads, cells, history, vectorsHeld, causality, mutated}
 use Rattle.rules.specs.Cell.{withClocks, version, joinInto}
 use Rattle.rules.specs.Machine
@@ -18,6 +18,7 @@ use Rattle.offers.proofs.Growing.{set-has, Small, low, write-bounded, j
 use Rattle.offers.proofs.Sight.{Marked, rowIn, Sound, sound-grows}
 use Rattle.offers.proofs.Steps.{SoundState, calm-more, store-sound}
 use Rattle.offers.proofs.Moves.{small-zeros}
+use Rattle.offers.proofs.Accessing.{plain-write-calm}
 
 pub replicate-has : {A : Type 0} (P : A → Type 0) (n k : ℕ) (x d : A) → P x → P d → P (getD (replicate n x) k d)
 replicate-has P zero k x d p q = q
@@ -86,6 +87,14 @@ cells-sound table n (suc left) c st h s =
     (store-sound n (withClocks st open-to) 0 c (zeros threads) (startValue table c) 1 (omega arith) (omega arith) one
     (λ b. small-zeros n))
 
+-- plain cells are made
+plains-sound : (table : List ℕ) (n left c : ℕ) (st : State) → SoundState n st → SoundState n (Machine.plainsMade table st left c)
+unfolding Machine.plainsMade
+plains-sound table n zero c st s = s
+plains-sound table n (suc left) c st s =
+    plains-sound table n left (c + 1) (Machine.plainMade table st c)
+    (plain-write-calm 0 n (omega arith) st c (startValue table (cellsOf table + c)) .sound s)
+
 -- "then thread 0 is (2,0,0,0,0), each other thread has 1 at place 0 and 1 at its own"
 record First (t : ℕ) : Type 0 where
   five : 5 ≤ length (firstCausality t)
@@ -131,7 +140,10 @@ threads-sound (suc left) t st h ones s =
 
 module _ (p : Program) (few : threadsOf (p .table) ≤ threads) (held : cellsOf (p .table) ≤ cells) where
   abbrev made : State
-  made = Machine.cellsMade (p .table) (Machine.thread0Making (Machine.blank (p .exploring))) (cellsOf (p .table)) 0
+  made =
+      Machine.plainsMade (p .table)
+      (Machine.cellsMade (p .table) (Machine.thread0Making (Machine.blank (p .exploring))) (cellsOf (p .table)) 0)
+      (plainsOf (p .table)) 0
 
   making-sound : SoundState 1 (Machine.thread0Making (Machine.blank (p .exploring)))
   unfolding Machine.blank
@@ -141,13 +153,15 @@ module _ (p : Program) (few : threadsOf (p .table) ≤ threads) (held : cellsOf 
       (small-five 1 0 0 0 0 1 (omega arith) (omega arith) (omega arith) (omega arith) (omega arith)) (λ c i. unmarked c i 0 1)
       (blank-sound 1 (p .exploring))
 
-  cells-made : SoundState 1 made
-  cells-made = cells-sound (p .table) 1 (cellsOf (p .table)) 0 _ (omega arith) making-sound
+  made-so : SoundState 1 made
+  made-so =
+      plains-sound (p .table) 1 (plainsOf (p .table)) 0 _
+      (cells-sound (p .table) 1 (cellsOf (p .table)) 0 _ (omega arith) making-sound)
 
   pub start-sound : SoundState 2 (start p)
   unfolding start
   start-sound =
       threads-sound (threadsOf (p .table)) 0 made (omega arith)
       (λ c i t h. marked-up (rowIn (made .marks) c i) t (version (made .clocks) t) 1
-      (cells-made .bounded (vectorAt (causality t)) (low (omega arith)) t) (cells-made .marked c i t h))
-      (calm-more 1 2 made (omega arith) .sound cells-made)
+      (made-so .bounded (vectorAt (causality t)) (low (omega arith)) t) (made-so .marked c i t h))
+      (calm-more 1 2 made (omega arith) .sound made-so)

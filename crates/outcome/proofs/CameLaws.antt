@@ -44,6 +44,8 @@ module _ (h : List ℕ) (t s v : ℕ) where
   no-came code.ExploreState k = refl
   no-came code.SkipBranch k = refl
   no-came (code.Spurious register) k = absurd (miss quiet 16 tt k)
+  no-came (code.PlainRead plain register) k = absurd (miss quiet 17 tt k)
+  no-came (code.PlainWrite plain value) k = absurd (miss quiet 18 tt k)
 
 -- what was looked up among what is held, in its place
 module _ (x y : ℕ) (e : x ≡ y) where

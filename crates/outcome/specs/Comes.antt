@@ -7,9 +7,9 @@ use mathlib.Core.Bool.{true, not}
 use lib.Dec.{eqb}
 use Rattle.rules.specs.Change as changes
 use Rattle.rules.specs.Event.{Entry}
-use Rattle.rules.specs.Table.{Op, Decoded, refused, decoded, load, store, storeRegister, rmw, fence, unsyncLoad, exclusive, yield, join, jump, jumpIf, jumpUnless, check, critical, exploreState, skipBranch, spurious}
+use Rattle.rules.specs.Table.{Op, Decoded, refused, decoded, load, store, storeRegister, rmw, fence, unsyncLoad, exclusive, yield, join, jump, jumpIf, jumpUnless, check, critical, exploreState, skipBranch, spurious, plainRead, plainWrite}
 use Rattle.steps.specs.Entries.{entryAt, operationAt}
-use Rattle.steps.specs.Holds.{held, writer, newest, register}
+use Rattle.steps.specs.Holds.{held, writer, newest, register, plainWriter}
 use Rattle.outcome.specs.declared.Came.{Came}
 use Rattle.outcome.specs.declared.Came.the-variants as came
 
@@ -19,7 +19,8 @@ changeCame v by (changes.success w) = came.Wrote v by w
 changeCame v by changes.failure = came.Failed v by
 
 -- "value read (opcodes 0, 3, 5, 16), stored (1, 2), left (6)": of a row of thread t with this slot and value in its entry, where h was
--- held before it. A load reads what its slot holds; an exclusive change found its cell's newest value
+-- held before it. A load reads what its slot holds; an exclusive change found its cell's newest value. "the value read or written"
+-- (document 02, §5)
 unfoldable pub cameOf : List ℕ → ℕ → ℕ → ℕ → Op → Came
 cameOf h t s v (load c o r) = came.Read v (held h (writer c s))
 cameOf h t s v (store c o a) = came.Stored v
@@ -38,6 +39,8 @@ cameOf h t s v critical = came.Nothing
 cameOf h t s v exploreState = came.Nothing
 cameOf h t s v skipBranch = came.Nothing
 cameOf h t s v (spurious r) = came.Took v
+cameOf h t s v (plainRead c r) = came.Read v (held h (plainWriter c))
+cameOf h t s v (plainWrite c a) = came.Written v
 
 -- nothing of a step that the trace does not hold
 abbrev pub cameBy : List ℕ → Entry → Decoded Op → Came

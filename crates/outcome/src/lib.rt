@@ -12,7 +12,7 @@ use steps::held;
 use steps::held::Held;
 
 // A value that was read comes with the step that wrote it, counted from 1, or 0 for a start value. A change that succeeds wrote
-// another behind it; an exclusive one left it in the place of what it found.
+// another behind it; an exclusive one left it in the place of what it found. A plain cell holds what was written last.
 pub enum Came {
     Nothing,
     Read(u64, u64),
@@ -23,6 +23,7 @@ pub enum Came {
     Took(u64),
     Jumped(bool),
     Passed,
+    Written(u64),
 }
 
 // What came of step `i`, by what was held before it.
@@ -55,6 +56,8 @@ fn of_row(held: &Held, thread: u8, slot: u8, value: u64, op: Op) -> Came
         }
         Op::Check { .. } => Came::Passed,
         Op::Spurious { .. } => Came::Took(value),
+        Op::PlainRead { plain, .. } => Came::Read(value, held::plain_writer(held, plain)),
+        Op::PlainWrite { .. } => Came::Written(value),
         _ => Came::Nothing,
     }
 }

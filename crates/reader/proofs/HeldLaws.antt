@@ -1,23 +1,25 @@
 -- A table that grows in a buffer. Assumes nothing.
 --     filled-on           bytes put behind those that are there
 --     total-set, total-most      the rows of all threads
---     held-cell, held-thread, held-row      one cell, thread or row more
+--     held-many, mid-many                   what the header counts at a place
+--     held-value, held-thread, held-row     one start value, thread or row more
 use Prim.Native.Nat.{ℕ, zero, suc, _+_, _-_, _*_, _≤_, _<_}
 use mathlib.Core.List.{List, [], _∷_, _++_, append-assoc}
-use mathlib.Core.Bool.{Bool, true, false}
+use mathlib.Core.Bool.{Bool, true, false, cond}
 use mathlib.Core.Path.{_≡_, refl, ap, sym, _∙_}
 use native.Mathlib.Omega.{arith}
 use native.Mathlib.Decide.{decLt}
-use mathlib.Core.Logic.{_≢_}
+use mathlib.Core.Logic.{_≢_, inl, inr}
+use lib.Dec.{eqb}
 use lib.ListN.{length, getD, set, take, drop, replicate, length-append, length-set, length-replicate, getD-replicate, List·getD-append}
-use lib.Seq.{paste, take-all, take-at, drop-at, drop-append-add, getD-set-same, getD-set-other, set-append-left, ext-getD, length-paste}
+use lib.Seq.{paste, take-all, take-at, drop-at, drop-append-add, getD-at, set-at, getD-set-same, getD-set-other, set-append-left, ext-getD, length-paste}
 use Rattle.trace.specs.Entries as trace
 use Rattle.rules.specs.Table.{maxRows, total}
 use Rattle.rules.specs.Event.{little}
 use Rattle.rules.specs.Form.{rowBytes}
-use Rattle.rules.specs.Text.{Made, tableOf, filled, withCell, withThread, withRow, rowsSoFar, tableBytes}
+use Rattle.rules.specs.Text.{Made, tableOf, filled, withCell, withPlain, withThread, withRow, rowsSoFar, tableBytes}
 use Rattle.claims.proofs.ByteLaws.{length-little}
-use Rattle.reader.specs.Tables.{Held, Cleared}
+use Rattle.reader.specs.Tables.{Held, Counts, howMany, oneMore, Cleared}
 
 -- Zeros
 
@@ -65,10 +67,10 @@ length-tableOf m h = simp length-append (omega arith)
 
 -- What a buffer holds
 
-pub so-held : (exit : List ℕ) (room n : ℕ) (m : Made) → exit ≡ filled room (tableOf m) → tableBytes ≤ room → m .threads ≤ 5 → m .cells ≤ 4
-    → length (m .counts) ≡ 5 → ((i : ℕ) → getD (m .counts) i 0 ≤ maxRows) → n ≡ 8 + length (m .body) → length (m .body) ≡ 8 * m .cells + 24 * total (m .counts)
+pub so-held : (exit : List ℕ) (room n : ℕ) (m : Made) → exit ≡ filled room (tableOf m) → tableBytes ≤ room → m .threads ≤ 5 → m .cells ≤ 4 → m .plains ≤ 4
+    → length (m .counts) ≡ 5 → ((i : ℕ) → getD (m .counts) i 0 ≤ maxRows) → n ≡ 8 + length (m .body) → length (m .body) ≡ 8 * (m .cells + m .plains) + 24 * total (m .counts)
     → Held exit n m
-so-held exit room n m e r threads cells five few long body =
+so-held exit room n m e r threads cells plains five few long body =
     let most = total-most (m .counts) few in
     let fits : length (tableOf m) ≤ room = omega (arith, length-tableOf m five) in
     let same : length exit ≡ room = ap length e ∙ length-filled room (tableOf m) fits in
@@ -77,6 +79,7 @@ so-held exit room n m e r threads cells five few long body =
       room = omega arith;
       threads = threads;
       cells = cells;
+      plains = plains;
       five = five;
       few = few;
       long = long;
@@ -85,10 +88,31 @@ so-held exit room n m e r threads cells five few long body =
 
 -- the same with more bytes behind
 abbrev grown : Made → List ℕ → Made
-grown m bytes = record { cells = m .cells; threads = m .threads; counts = m .counts; body = m .body ++ bytes }
+grown m bytes = record { cells = m .cells; plains = m .plains; threads = m .threads; counts = m .counts; body = m .body ++ bytes }
 
 grown-table : (m : Made) (bytes : List ℕ) → tableOf m ++ bytes ≡ tableOf (grown m bytes)
-grown-table m bytes = ap (λ (x : List ℕ). m .threads ∷ m .cells ∷ x) (append-assoc (m .counts) (0 ∷ m .body) bytes)
+grown-table m bytes = ap (λ (x : List ℕ). m .threads ∷ m .cells ∷ x) (append-assoc (m .counts) (m .plains ∷ m .body) bytes)
+
+-- with another number of plain cells
+abbrev plained : Made → ℕ → Made
+plained m v = record { cells = m .cells; plains = v; threads = m .threads; counts = m .counts; body = m .body }
+
+-- the header's last byte
+module _ (room : ℕ) (m : Made) (five : length (m .counts) ≡ 5) where
+  get-plains : getD (filled room (tableOf m)) 7 0 ≡ m .plains
+  get-plains =
+      ap (λ (x : List ℕ). getD x 5 0) (append-assoc (m .counts) (m .plains ∷ m .body) (replicate (room - length (tableOf m)) 0))
+      ∙ getD-at (m .counts) (m .plains) (m .body ++ replicate (room - length (tableOf m)) 0) 0 5 five
+
+  set-plains : (v : ℕ) → set (filled room (tableOf m)) 7 v ≡ filled room (tableOf (plained m v))
+  set-plains v =
+      let zeros : List ℕ = replicate (room - length (tableOf m)) 0 in
+      let same : length (tableOf m) ≡ length (tableOf (plained m v)) = length-tableOf m five ∙ sym (length-tableOf (plained m v) five) in
+      ap (λ (x : List ℕ). m .threads ∷ m .cells ∷ x)
+      (ap (λ (x : List ℕ). set x 5 v) (append-assoc (m .counts) (m .plains ∷ m .body) zeros)
+      ∙ set-at (m .counts) (m .plains) (m .body ++ zeros) v 5 five
+      ∙ sym (append-assoc (m .counts) (v ∷ m .body) zeros))
+      ∙ ap (λ (k : ℕ). tableOf (plained m v) ++ replicate (room - k) 0) same
 
 module _ (b : List ℕ) (n : ℕ) (m : Made) (held : Held b n m) where
   pub held-threads : getD b 0 0 ≡ m .threads
@@ -97,11 +121,18 @@ module _ (b : List ℕ) (n : ℕ) (m : Made) (held : Held b n m) where
   pub held-cells : getD b 1 0 ≡ m .cells
   held-cells = ap (λ (x : List ℕ). getD x 1 0) (held .is)
 
+  pub held-plains : getD b 7 0 ≡ m .plains
+  held-plains = ap (λ (x : List ℕ). getD x 7 0) (held .is) ∙ get-plains (length b) m (held .five)
+
+  pub held-many : (place : ℕ) → Counts place → getD b place 0 ≡ howMany place m
+  held-many place (inl e) = rw e held-cells
+  held-many place (inr e) = rw e held-plains
+
   table-long : length (tableOf m) ≡ n
   table-long = length-tableOf m (held .five) ∙ sym (held .long)
 
   pub within : n ≤ tableBytes
-  within = omega (arith, held .long, held .body, held .cells, held .five, total-most (m .counts) (held .few))
+  within = omega (arith, held .long, held .body, held .cells, held .plains, held .five, total-most (m .counts) (held .few))
 
   grown-held : (bytes : List ℕ) → n + length bytes ≤ length b → paste b n bytes (length bytes) ≡ filled (length b) (tableOf (grown m bytes))
   grown-held bytes h =
@@ -118,52 +149,86 @@ module _ (b : List ℕ) (n : ℕ) (m : Made) (held : Held b n m) where
     pub mid-threads : getD mid 0 0 ≡ m .threads
     mid-threads = ap (λ (x : List ℕ). getD x 0 0) mid-is
 
-    pub mid-cells : getD mid 1 0 ≡ m .cells
-    mid-cells = ap (λ (x : List ℕ). getD x 1 0) mid-is
+    pub mid-many : (place : ℕ) → Counts place → getD mid place 0 ≡ howMany place m
+    mid-many place (inl e) = rw e (ap (λ (x : List ℕ). getD x 1 0) mid-is)
+    mid-many place (inr e) = rw e (ap (λ (x : List ℕ). getD x 7 0) mid-is ∙ get-plains (length b) (grown m bytes) (held .five))
 
     pub mid-long : length mid ≡ length b
     mid-long = ap length p ∙ length-paste b n bytes (length bytes) fits (omega arith)
 
-  -- a cell more has room
-  pub cell-room : m .cells < 4 → n + 8 ≤ length b
-  cell-room h = omega (arith, held .room, held .long, held .body, held .five, total-most (m .counts) (held .few))
+  -- a start value more has room
+  value-fits : m .cells + m .plains < 8 → n + 8 ≤ length b
+  value-fits h = omega (arith, held .room, held .long, held .body, held .five, total-most (m .counts) (held .few))
 
-  pub held-cell : (v : ℕ) (bytes mid : List ℕ) → bytes ≡ little 8 v → mid ≡ paste b n bytes (length bytes) → m .cells < 4
-      → Held (set mid 1 (getD mid 1 0 + 1)) (n + 8) (withCell m v)
-  held-cell v bytes mid e p h =
-      let eight : length (little 8 v) ≡ 8 = length-little v in
-      let long : length bytes ≡ 8 = ap length e ∙ eight in
-      let is : mid ≡ filled (length b) (tableOf (grown m (little 8 v))) = p ∙ grown-held bytes (omega (arith, cell-room h)) ∙ ap (λ (x : List ℕ). filled (length b) (tableOf (grown m x))) e in
-      let size = length-append (m .body) (little 8 v) in
-      so-held (set mid 1 (getD mid 1 0 + 1)) (length b) (n + 8) (withCell m v) (ap (λ (x : List ℕ). set x 1 (getD x 1 0 + 1)) is) (held .room) (held .threads) (omega arith) (held .five) (held .few)
-      (omega (arith, held .long))
-      (omega (arith, held .body))
+  pub value-room : (place : ℕ) → Counts place → howMany place m < 4 → n + 8 ≤ length b
+  value-room place (inl e) h = let few : m .cells < 4 = rw e at h in value-fits (omega (arith, held .plains))
+  value-room place (inr e) h = let few : m .plains < 4 = rw e at h in value-fits (omega (arith, held .cells))
+
+  module _ (v : ℕ) (bytes mid : List ℕ) (e : bytes ≡ little 8 v) (p : mid ≡ paste b n bytes (length bytes)) (fits : n + 8 ≤ length b) where
+    eight : length (little 8 v) ≡ 8
+    eight = length-little v
+
+    value-is : mid ≡ filled (length b) (tableOf (grown m (little 8 v)))
+    value-is = p ∙ grown-held bytes (omega (arith, ap length e, eight)) ∙ ap (λ (x : List ℕ). filled (length b) (tableOf (grown m x))) e
+
+    held-cell : m .cells < 4 → Held (set mid 1 (getD mid 1 0 + 1)) (n + 8) (withCell m v)
+    held-cell h =
+        let size = length-append (m .body) (little 8 v) in
+        so-held (set mid 1 (getD mid 1 0 + 1)) (length b) (n + 8) (withCell m v) (ap (λ (x : List ℕ). set x 1 (getD x 1 0 + 1)) value-is) (held .room) (held .threads) (omega arith) (held .plains) (held .five) (held .few)
+        (omega (arith, held .long, eight))
+        (omega (arith, held .body, eight))
+
+    held-plain : m .plains < 4 → Held (set mid 7 (getD mid 7 0 + 1)) (n + 8) (withPlain m v)
+    held-plain h =
+        let size = length-append (m .body) (little 8 v) in
+        so-held (set mid 7 (getD mid 7 0 + 1)) (length b) (n + 8) (withPlain m v)
+        (ap (λ (x : List ℕ). set x 7 (getD x 7 0 + 1)) value-is
+        ∙ ap (λ (k : ℕ). set (filled (length b) (tableOf (grown m (little 8 v)))) 7 (k + 1)) (get-plains (length b) (grown m (little 8 v)) (held .five))
+        ∙ set-plains (length b) (grown m (little 8 v)) (held .five) (m .plains + 1))
+        (held .room) (held .threads) (held .cells) (omega arith) (held .five) (held .few)
+        (omega (arith, held .long, eight))
+        (omega (arith, held .body, eight))
+
+    pub held-value : (place : ℕ) → Counts place → howMany place m < 4 → Held (set mid place (getD mid place 0 + 1)) (n + 8) (oneMore place m v)
+    held-value place (inl e) h = rw e (held-cell (rw e at h))
+    held-value place (inr e) h = rw e (held-plain (rw e at h))
 
   pub held-thread : m .threads < 5 → Held (set b 0 (getD b 0 0 + 1)) n (withThread m)
   held-thread h =
-      so-held (set b 0 (getD b 0 0 + 1)) (length b) n (withThread m) (ap (λ (x : List ℕ). set x 0 (getD x 0 0 + 1)) (held .is)) (held .room) (omega arith) (held .cells) (held .five) (held .few) (held .long) (held .body)
+      so-held (set b 0 (getD b 0 0 + 1)) (length b) n (withThread m) (ap (λ (x : List ℕ). set x 0 (getD x 0 0 + 1)) (held .is)) (held .room) (omega arith) (held .cells) (held .plains) (held .five) (held .few) (held .long) (held .body)
+
+pub counts-low : (place : ℕ) → Counts place → place ≤ 7
+counts-low place (inl e) = omega arith
+counts-low place (inr e) = omega arith
+
+pub more-many : (place : ℕ) (m : Made) (v : ℕ) → howMany place (oneMore place m v) ≡ howMany place m + 1
+more-many place m v =
+    elim (eqb place 1) as (λ t. cond t ((cond t (withCell m v) (withPlain m v)) .cells) ((cond t (withCell m v) (withPlain m v)) .plains) ≡ cond t (m .cells) (m .plains) + 1) [
+      | true ↦ refl
+      | false ↦ refl
+    ]
 
 -- A row more
 
 abbrev counted : Made → List ℕ → Made
-counted m counts = record { cells = m .cells; threads = m .threads; counts = counts; body = m .body }
+counted m counts = record { cells = m .cells; plains = m .plains; threads = m .threads; counts = counts; body = m .body }
 
 module _ (room : ℕ) (m : Made) (i : ℕ) (h : i < length (m .counts)) where
   zeros : List ℕ
   zeros = replicate (room - length (tableOf m)) 0
 
-  shorter : i < length (m .counts ++ (0 ∷ m .body))
-  shorter = omega (arith, length-append (m .counts) (0 ∷ m .body))
+  shorter : i < length (m .counts ++ (m .plains ∷ m .body))
+  shorter = omega (arith, length-append (m .counts) (m .plains ∷ m .body))
 
   get-count : getD (filled room (tableOf m)) (suc (suc i)) 0 ≡ getD (m .counts) i 0
-  get-count = List·getD-append (m .counts ++ (0 ∷ m .body)) (replicate (room - length (tableOf m)) 0) 0 i shorter ∙ List·getD-append (m .counts) (0 ∷ m .body) 0 i h
+  get-count = List·getD-append (m .counts ++ (m .plains ∷ m .body)) (replicate (room - length (tableOf m)) 0) 0 i shorter ∙ List·getD-append (m .counts) (m .plains ∷ m .body) 0 i h
 
   set-count : (v : ℕ) → set (filled room (tableOf m)) (suc (suc i)) v ≡ filled room (tableOf (counted m (set (m .counts) i v)))
   set-count v =
       let same : length (tableOf m) ≡ length (tableOf (counted m (set (m .counts) i v))) =
-      omega (arith, length-append (m .counts) (0 ∷ m .body), length-append (set (m .counts) i v) (0 ∷ m .body), length-set (m .counts) i v) in
-      ap (λ (x : List ℕ). m .threads ∷ m .cells ∷ x) (set-append-left (m .counts ++ (0 ∷ m .body)) (replicate (room - length (tableOf m)) 0) i v shorter)
-      ∙ ap (λ (x : List ℕ). m .threads ∷ m .cells ∷ (x ++ replicate (room - length (tableOf m)) 0)) (set-append-left (m .counts) (0 ∷ m .body) i v h)
+      omega (arith, length-append (m .counts) (m .plains ∷ m .body), length-append (set (m .counts) i v) (m .plains ∷ m .body), length-set (m .counts) i v) in
+      ap (λ (x : List ℕ). m .threads ∷ m .cells ∷ x) (set-append-left (m .counts ++ (m .plains ∷ m .body)) (replicate (room - length (tableOf m)) 0) i v shorter)
+      ∙ ap (λ (x : List ℕ). m .threads ∷ m .cells ∷ (x ++ replicate (room - length (tableOf m)) 0)) (set-append-left (m .counts) (m .plains ∷ m .body) i v h)
       ∙ ap (λ (k : ℕ). tableOf (counted m (set (m .counts) i v)) ++ replicate (room - k) 0) same
 
 pub length-rowBytes : (fields : List ℕ) → length fields ≡ 9 → length (rowBytes fields) ≡ 24
@@ -227,7 +292,7 @@ module _ (b : List ℕ) (n : ℕ) (m : Made) (held : Held b n m) (some : 1 ≤ g
   five-more = length-set (m .counts) (m .threads - 1) (rowsSoFar m + 1) ∙ held .five
 
   pub row-room : n + 24 ≤ length b
-  row-room = omega (arith, held .room, held .long, held .body, held .cells, five-more, total-more, total-most (set (m .counts) (m .threads - 1) (rowsSoFar m + 1)) few-more)
+  row-room = omega (arith, held .room, held .long, held .body, held .cells, held .plains, five-more, total-more, total-most (set (m .counts) (m .threads - 1) (rowsSoFar m + 1)) few-more)
 
   pub mid-count : (bytes mid : List ℕ) → n + length bytes ≤ length b → mid ≡ paste b n bytes (length bytes) → getD mid (1 + getD mid 0 0) 0 ≡ rowsSoFar m
   mid-count bytes mid fits p =
@@ -250,6 +315,6 @@ module _ (b : List ℕ) (n : ℕ) (m : Made) (held : Held b n m) (some : 1 ≤ g
       ∙ ap (λ (v : ℕ). set (filled (length b) (tableOf (grown m (rowBytes fields)))) (suc (suc (m .threads - 1))) (v + 1)) (get-count (length b) (grown m (rowBytes fields)) (m .threads - 1) inside)
       ∙ set-count (length b) (grown m (rowBytes fields)) (m .threads - 1) inside (rowsSoFar m + 1) in
       let size = length-append (m .body) (rowBytes fields) in
-      so-held _ (length b) (n + 24) (withRow m fields) exit (held .room) (held .threads) (held .cells) five-more few-more
+      so-held _ (length b) (n + 24) (withRow m fields) exit (held .room) (held .threads) (held .cells) (held .plains) five-more few-more
       (omega (arith, held .long))
       (omega (arith, held .body, total-more))

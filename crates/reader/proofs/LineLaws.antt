@@ -1,7 +1,7 @@
 -- How a line comes out. Assumes nothing.
 --     lined-by                   an answer to a line that is the same
 --     bare-on, bare-refused      nothing else may stand in the line
---     Underway, cells-..         start values
+--     Underway, values-..        start values
 --     thread-.., row-..          a thread, a row
 use Prim.Native.Nat.{ℕ, zero, suc, _+_, _-_, _≤_, _<_}
 use mathlib.Core.List.{List}
@@ -11,16 +11,16 @@ use native.Mathlib.Omega.{arith}
 use borrow.Author.Tests.{lt-ltb, le-ltb, le-leb, lt-leb}
 use lib.Dec.{ltb, leb}
 use lib.ListN.{drop}
-use Rattle.rules.specs.Table.{maxRows}
+use Rattle.rules.specs.Table.{Room, maxRows}
 use Rattle.rules.specs.Token.{Found, nothing, found, endsLine, skip, token, pastToken, tokenLength, nextLine, numberIn}
 use Rattle.rules.specs.Form.{Followed, stuck, fits, rowIn}
 use Rattle.rules.specs.Text as rules
-use Rattle.rules.specs.Text.{Made, bareThen, cellsLine, withCell, withRow, rowsSoFar}
+use Rattle.rules.specs.Text.{Made, bareThen, valuesLine, withRow, rowsSoFar}
 use Rattle.form.specs.Rows.{followedOf}
 use Rattle.form.specs.declared.Row.{Row}
 use Rattle.token.specs.Places.{part}
 use Rattle.token.proofs.PlaceLaws.{left-by, part-token}
-use Rattle.reader.specs.Tables.{Held}
+use Rattle.reader.specs.Tables.{Held, howMany, oneMore}
 use Rattle.reader.specs.Lines.{Lined, Steps, Bare, threadLine, rowLine}
 use Rattle.reader.specs.declared.Line.{Line}
 use Rattle.reader.specs.declared.Line.the-variants.{GoesOn, Refused}
@@ -54,51 +54,52 @@ lined-steps text entry exit n r line steps m held other e = lined-by text exit n
 -- Start values
 
 -- on the way, with so many more that may come
-pub record Underway (text table : List ℕ) (n left from : ℕ) (whole : rules.Line) : Type 0 where
+pub record Underway (text table : List ℕ) (place n left from : ℕ) (whole : rules.Line) : Type 0 where
   pub made : Made
   pub held : Held table n made
-  pub count : made .cells + left ≡ 4
-  pub same : cellsLine left made (drop from text) ≡ whole
+  pub count : howMany place made + left ≤ 4
+  pub same : valuesLine (oneMore place) (howMany place) left made (drop from text) ≡ whole
 
-abbrev cellsBy : ℕ → Made → List ℕ → List ℕ → Found → rules.Line
-cellsBy n m bs here f =
-    elim f [
-      | found v ↦ cellsLine n (withCell m v) (pastToken here)
-      | nothing ↦ cond (leb 1 (m .cells)) (bareThen 0 m bs) (rules.refusedLine here)
-    ]
+module _ (more : Made → ℕ → Made) (many : Made → ℕ) where
+  abbrev valuesBy : ℕ → Made → List ℕ → List ℕ → Found → rules.Line
+  valuesBy n m bs here f =
+      elim f [
+        | found v ↦ valuesLine more many n (more m v) (pastToken here)
+        | nothing ↦ cond (leb 1 (many m)) (bareThen 0 m bs) (rules.refusedLine here)
+      ]
 
-cells-next : (n : ℕ) (m : Made) (bs : List ℕ) → cellsLine (suc n) m bs ≡ cellsBy n m bs (skip bs) (numberIn (token (skip bs)))
-unfolding cellsLine
-cells-next n m bs = refl
+  values-next : (n : ℕ) (m : Made) (bs : List ℕ) → valuesLine more many (suc n) m bs ≡ valuesBy n m bs (skip bs) (numberIn (token (skip bs)))
+  unfolding valuesLine
+  values-next n m bs = refl
 
-cells-zero : (m : Made) (bs : List ℕ) → cellsLine 0 m bs ≡ bareThen 0 m bs
-unfolding cellsLine
-cells-zero m bs = refl
+  values-zero : (m : Made) (bs : List ℕ) → valuesLine more many 0 m bs ≡ bareThen 0 m bs
+  unfolding valuesLine
+  values-zero m bs = refl
 
-module _ (text : List ℕ) (from left : ℕ) (m : Made) where
-  pub cells-out : left ≤ 0 → bareThen 0 m (drop from text) ≡ cellsLine left m (drop from text)
-  cells-out h = let e : left ≡ 0 = omega arith in sym (ap (λ (n : ℕ). cellsLine n m (drop from text)) e ∙ cells-zero m (drop from text))
+  module _ (text : List ℕ) (from left : ℕ) (m : Made) where
+    pub values-out : left ≤ 0 → bareThen 0 m (drop from text) ≡ valuesLine more many left m (drop from text)
+    values-out h = let e : left ≡ 0 = omega arith in sym (ap (λ (n : ℕ). valuesLine more many n m (drop from text)) e ∙ values-zero m (drop from text))
 
-  module _ (here to : ℕ) (skipped : drop here text ≡ skip (drop from text)) (long : to ≡ here + tokenLength (drop here text)) (more : 0 < left) where
-    cells-one : (f : Found) → numberIn (part here to text) ≡ f → cellsBy (left - 1) m (drop from text) (drop here text) f ≡ cellsLine left m (drop from text)
-    cells-one f e =
-        let s : left ≡ suc (left - 1) = omega arith in
-        ap (cellsBy (left - 1) m (drop from text) (drop here text)) (sym e ∙ ap numberIn (part-token text here to long))
-        ∙ ap (λ (bs : List ℕ). cellsBy (left - 1) m (drop from text) bs (numberIn (token bs))) skipped
-        ∙ sym (cells-next (left - 1) m (drop from text))
-        ∙ ap (λ (n : ℕ). cellsLine n m (drop from text)) (sym s)
+    module _ (here to : ℕ) (skipped : drop here text ≡ skip (drop from text)) (long : to ≡ here + tokenLength (drop here text)) (some : 0 < left) where
+      values-one : (f : Found) → numberIn (part here to text) ≡ f → valuesBy (left - 1) m (drop from text) (drop here text) f ≡ valuesLine more many left m (drop from text)
+      values-one f e =
+          let s : left ≡ suc (left - 1) = omega arith in
+          ap (valuesBy (left - 1) m (drop from text) (drop here text)) (sym e ∙ ap numberIn (part-token text here to long))
+          ∙ ap (λ (bs : List ℕ). valuesBy (left - 1) m (drop from text) bs (numberIn (token bs))) skipped
+          ∙ sym (values-next (left - 1) m (drop from text))
+          ∙ ap (λ (n : ℕ). valuesLine more many n m (drop from text)) (sym s)
 
-    pub cells-found : (v : ℕ) → numberIn (part here to text) ≡ found v → cellsLine (left - 1) (withCell m v) (drop to text) ≡ cellsLine left m (drop from text)
-    cells-found v e = ap (cellsLine (left - 1) (withCell m v)) (left-by text here to _ long) ∙ cells-one (found v) e
+      pub values-found : (v : ℕ) → numberIn (part here to text) ≡ found v → valuesLine more many (left - 1) (more m v) (drop to text) ≡ valuesLine more many left m (drop from text)
+      values-found v e = ap (valuesLine more many (left - 1) (more m v)) (left-by text here to _ long) ∙ values-one (found v) e
 
-    cells-last : (t : Bool) → leb 1 (m .cells) ≡ t → numberIn (part here to text) ≡ nothing → cond t (bareThen 0 m (drop from text)) (rules.refusedLine (drop here text)) ≡ cellsLine left m (drop from text)
-    cells-last t c e = ap (λ (b : Bool). cond b (bareThen 0 m (drop from text)) (rules.refusedLine (drop here text))) (sym c) ∙ cells-one nothing e
+      values-last : (t : Bool) → leb 1 (many m) ≡ t → numberIn (part here to text) ≡ nothing → cond t (bareThen 0 m (drop from text)) (rules.refusedLine (drop here text)) ≡ valuesLine more many left m (drop from text)
+      values-last t c e = ap (λ (b : Bool). cond b (bareThen 0 m (drop from text)) (rules.refusedLine (drop here text))) (sym c) ∙ values-one nothing e
 
-    pub cells-bare : numberIn (part here to text) ≡ nothing → 1 ≤ m .cells → bareThen 0 m (drop from text) ≡ cellsLine left m (drop from text)
-    cells-bare e h = cells-last true (le-leb 1 (m .cells) h) e
+      pub values-bare : numberIn (part here to text) ≡ nothing → 1 ≤ many m → bareThen 0 m (drop from text) ≡ valuesLine more many left m (drop from text)
+      values-bare e h = values-last true (le-leb 1 (many m) h) e
 
-    pub cells-none : numberIn (part here to text) ≡ nothing → m .cells < 1 → cellsLine left m (drop from text) ≡ rules.refusedLine (drop here text)
-    cells-none e h = sym (cells-last false (lt-leb 1 (m .cells) h) e)
+      pub values-none : numberIn (part here to text) ≡ nothing → many m < 1 → valuesLine more many left m (drop from text) ≡ rules.refusedLine (drop here text)
+      values-none e h = sym (values-last false (lt-leb 1 (many m) h) e)
 
 -- A thread, a row
 
@@ -110,14 +111,18 @@ module _ (lines : ℕ) (m : Made) (here past : List ℕ) where
   thread-begun h = rw (lt-ltb (m .threads) 5 h)
 
 module _ (all rows : ℕ) (m : Made) (bs here : List ℕ) where
+  -- what it may name
+  abbrev room : Room
+  room = record { threads = all; cells = m .cells; plains = m .plains; rows = rows }
+
   abbrev rowBy : Bool → Bool → Followed → rules.Line
   rowBy s t f = cond (s && t) (rules.rowLine rows m f) (rules.refusedLine here)
 
-  row-by : (s t : Bool) → leb 1 (m .threads) ≡ s → ltb (rowsSoFar m) maxRows ≡ t → (f : Followed) → rowIn (record { threads = all; cells = m .cells; rows = rows }) bs ≡ f
+  row-by : (s t : Bool) → leb 1 (m .threads) ≡ s → ltb (rowsSoFar m) maxRows ≡ t → (f : Followed) → rowIn room bs ≡ f
       → rowLine all rows m bs here ≡ rowBy s t f
   row-by s t e d f g =
-      ap (λ (b : Bool). rowBy b (ltb (rowsSoFar m) maxRows) (rowIn (record { threads = all; cells = m .cells; rows = rows }) bs)) e
-      ∙ ap (λ (b : Bool). rowBy s b (rowIn (record { threads = all; cells = m .cells; rows = rows }) bs)) d
+      ap (λ (b : Bool). rowBy b (ltb (rowsSoFar m) maxRows) (rowIn room bs)) e
+      ∙ ap (λ (b : Bool). rowBy s b (rowIn room bs)) d
       ∙ ap (rowBy s t) g
 
   pub row-early : m .threads < 1 → rowLine all rows m bs here ≡ rules.refusedLine here
@@ -126,10 +131,10 @@ module _ (all rows : ℕ) (m : Made) (bs here : List ℕ) where
   pub row-full : 1 ≤ m .threads → maxRows ≤ rowsSoFar m → rowLine all rows m bs here ≡ rules.refusedLine here
   row-full h l = row-by true false (le-leb 1 (m .threads) h) (le-ltb (rowsSoFar m) maxRows l) _ refl
 
-  pub row-stuck : 1 ≤ m .threads → rowsSoFar m < maxRows → (rest : List ℕ) → rowIn (record { threads = all; cells = m .cells; rows = rows }) bs ≡ stuck rest → rowLine all rows m bs here ≡ rules.refusedLine rest
+  pub row-stuck : 1 ≤ m .threads → rowsSoFar m < maxRows → (rest : List ℕ) → rowIn room bs ≡ stuck rest → rowLine all rows m bs here ≡ rules.refusedLine rest
   row-stuck h l rest e = row-by true true (le-leb 1 (m .threads) h) (lt-ltb (rowsSoFar m) maxRows l) (stuck rest) e
 
-  pub row-fits : 1 ≤ m .threads → rowsSoFar m < maxRows → (fields rest : List ℕ) → rowIn (record { threads = all; cells = m .cells; rows = rows }) bs ≡ fits fields rest
+  pub row-fits : 1 ≤ m .threads → rowsSoFar m < maxRows → (fields rest : List ℕ) → rowIn room bs ≡ fits fields rest
       → rowLine all rows m bs here ≡ rules.goesOn rows (withRow m fields) rest
   row-fits h l fields rest e = row-by true true (le-leb 1 (m .threads) h) (lt-ltb (rowsSoFar m) maxRows l) (fits fields rest) e
 

@@ -44,7 +44,7 @@ none-total = refl
 blank-table : (table : List ℕ) → Blank tableBytes table → Held table 8 nothingMade
 blank-table table b =
     let e : length table ≡ suc (suc (suc (suc (suc (suc (suc (suc (length table - 8)))))))) = omega (arith, b .room) in
-    so-held table (length table) 8 nothingMade (b .is ∙ ap (λ (n : ℕ). replicate n 0) e) (b .room) (omega arith) (omega arith) refl none-most refl (omega (arith, none-total))
+    so-held table (length table) 8 nothingMade (b .is ∙ ap (λ (n : ℕ). replicate n 0) e) (b .room) (omega arith) (omega arith) (omega arith) refl none-most refl (omega (arith, none-total))
 
 pub blank-filled : (least : ℕ) (b : List ℕ) → Blank least b → b ≡ filled (length b) []
 blank-filled least b h = let e : length b ≡ length b - 0 = omega arith in h .is ∙ ap (λ (n : ℕ). replicate n 0) e

@@ -6,12 +6,13 @@
 --     readOf      what is answered, and left in both buffers
 use Prim.Native.Nat.{ℕ}
 use mathlib.Core.List.{List}
-use mathlib.Core.Bool.{cond, _&&_}
+use mathlib.Core.Bool.{Bool, cond, _&&_}
 use mathlib.Core.Path.{_≡_}
-use lib.Dec.{ltb, leb}
-use lib.ListN.{length, drop}
+use lib.Dec.{ltb, leb, eqb}
+use lib.ListN.{length, getD, drop}
+use Rattle.rules.specs.Vector.{equal}
 use Rattle.rules.specs.Table.{maxThreads, maxRows}
-use Rattle.rules.specs.Token.{nextLine}
+use Rattle.rules.specs.Token.{bytesOf, nextLine}
 use Rattle.rules.specs.Form.{rowIn}
 use Rattle.rules.specs.Text as rules
 use Rattle.rules.specs.Text.{Made}
@@ -37,6 +38,10 @@ pub record Steps (text entry exit : List ℕ) (n : ℕ) (r : Line) (line : Made 
 abbrev pub Bare : List ℕ → ℕ → ℕ → ℕ → Line → Type 0
 Bare text from rows more r = (table : List ℕ) (n : ℕ) (m : Made) → Held table more m → Lined text table n (rules.bareThen rows m (drop from text)) r
 
+-- the line of the plain cells, by the buffer and the line's first word
+abbrev pub isPlains : List ℕ → List ℕ → Bool
+isPlains table word = eqb (getD table 0 0) 0 && eqb (getD table 7 0) 0 && equal word (bytesOf "plain")
+
 -- "thread", by what is left at its place and behind it
 abbrev pub threadLine : ℕ → Made → List ℕ → List ℕ → rules.Line
 threadLine lines m here past =
@@ -46,7 +51,7 @@ threadLine lines m here past =
 abbrev pub rowLine : ℕ → ℕ → Made → List ℕ → List ℕ → rules.Line
 rowLine all rows m bs here =
     cond (leb 1 (m .threads) && ltb (rules.rowsSoFar m) maxRows)
-    (rules.rowLine rows m (rowIn (record { threads = all; cells = m .cells; rows = rows }) bs))
+    (rules.rowLine rows m (rowIn (record { threads = all; cells = m .cells; plains = m .plains; rows = rows }) bs))
     (rules.refusedLine here)
 
 -- a whole text: the place where it is refused; or its bytes in both buffers

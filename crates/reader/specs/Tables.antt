@@ -1,28 +1,43 @@
 -- A table that grows in a buffer. Assumes nothing.
 --     Held        the buffer is the table so far, then zeros, and the table is within its limits
 --     Holds       it is so for some table
+--     Counts, howMany, oneMore      where the header counts start values, how many there are, and one more
 --     Grows       from any table that it held, one step of the definition
 --     Cleared, Blank      zeros
 use Prim.Native.Nat.{ℕ, _+_, _-_, _*_, _≤_, _<_}
 use mathlib.Core.List.{List}
+use mathlib.Core.Bool.{cond}
+use mathlib.Core.Logic.{_⊎_}
 use mathlib.Core.Path.{_≡_}
+use lib.Dec.{eqb}
 use lib.ListN.{length, getD, replicate}
-use Rattle.rules.specs.Table.{maxThreads, maxCells, maxRows, headerBytes, valueBytes, rowBytes, total}
-use Rattle.rules.specs.Text.{Made, tableOf, filled, tableBytes}
+use Rattle.rules.specs.Table.{maxThreads, maxCells, maxPlains, maxRows, headerBytes, valueBytes, rowBytes, total}
+use Rattle.rules.specs.Text.{Made, withCell, withPlain, tableOf, filled, tableBytes}
 
 pub record Held (buffer : List ℕ) (n : ℕ) (m : Made) : Type 0 where
   pub is : buffer ≡ filled (length buffer) (tableOf m)
   pub room : tableBytes ≤ length buffer
   pub threads : m .threads ≤ maxThreads
   pub cells : m .cells ≤ maxCells
+  pub plains : m .plains ≤ maxPlains
   pub five : length (m .counts) ≡ maxThreads
   pub few : (i : ℕ) → getD (m .counts) i 0 ≤ maxRows
   pub long : n ≡ headerBytes + length (m .body)
-  pub body : length (m .body) ≡ valueBytes * m .cells + rowBytes * total (m .counts)
+  pub body : length (m .body) ≡ valueBytes * (m .cells + m .plains) + rowBytes * total (m .counts)
 
 pub record Holds (buffer : List ℕ) (n : ℕ) : Type 0 where
   pub made : Made
   pub held : Held buffer n made
+
+-- the header counts cells at its second byte, and plain cells at its last
+abbrev pub Counts : ℕ → Type 0
+Counts place = (place ≡ 1) ⊎ (place ≡ 7)
+
+abbrev pub howMany : ℕ → Made → ℕ
+howMany place m = cond (eqb place 1) (m .cells) (m .plains)
+
+abbrev pub oneMore : ℕ → Made → ℕ → Made
+oneMore place m v = cond (eqb place 1) (withCell m v) (withPlain m v)
 
 abbrev pub Grows : List ℕ → List ℕ → ℕ → ℕ → (Made → Made) → Type 0
 Grows entry exit n more step = (m : Made) → Held entry n m → Held exit more (step m)

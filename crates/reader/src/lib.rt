@@ -4,15 +4,18 @@ ghost use mathlib.Core.Path.{_≡_};
 ghost use Prim.Native.Nat.{_+_, _≤_, _<_};
 ghost use lib.ListN.{length, getD, drop};
 ghost use lib.Seq.{paste};
+ghost use Rattle.rules.specs.Table.{headerBytes};
 ghost use Rattle.rules.specs.Condition.{conditionBytes};
 ghost use Rattle.rules.specs.Event.{little};
 ghost use Rattle.rules.specs.Text as rules;
-ghost use Rattle.reader.specs.Tables.{Holds, RowFits, Grows, Cleared, Blank};
-ghost use Rattle.reader.specs.Lines.{Bare, Steps, Closes, Answers, readOf, threadLine, rowLine};
+ghost use Rattle.token.specs.Places.{part};
+ghost use Rattle.reader.specs.Tables.{Holds, RowFits, Counts, howMany, oneMore, Grows, Cleared, Blank};
+ghost use Rattle.reader.specs.Lines.{Bare, Steps, Closes, Answers, readOf, isPlains, threadLine, rowLine};
 use condition::CONDITION_BYTES;
 use form::Fields;
 use form::Room;
 use layout::MAX_CELLS;
+use layout::MAX_PLAINS;
 use layout::MAX_THREADS;
 use table::limits::HEADER;
 use table::limits::MAX_ROWS;
@@ -20,6 +23,11 @@ use table::limits::ROW;
 pub use table::limits::TABLE_BYTES;
 use table::limits::VALUE;
 use token::Found;
+
+// Where the header counts the cells, and the plain cells.
+const CELLS: usize = 1;
+
+const PLAINS: usize = 7;
 
 // How a text was read: a buffer was too short; refused at a line and column, both from 1; or taken, with the lengths of its table and
 // its condition.
@@ -150,11 +158,14 @@ fn line_of(
         return Line::GoesOn(rows, length, token::next_line(text, here));
     }
     let to = token::token_end(text, here);
-    if table[1] == 0 {
+    if table[CELLS] == 0 {
         if token::is_word(text, here, to, b"cells") {
-            return cells_line(text, to, length, table);
+            return values_line(text, to, length, CELLS, MAX_CELLS, table);
         }
         return Line::Refused(here);
+    }
+    if is_plain_line(text, here, to, table) {
+        return values_line(text, to, length, PLAINS, MAX_PLAINS, table);
     }
     if token::is_word(text, here, to, b"thread") {
         return a_thread(text, here, to, lines, length, table);
@@ -212,7 +223,8 @@ fn a_row(
     }
     let room = Room {
         threads: all as u64,
-        cells: table[1] as u64,
+        cells: table[CELLS] as u64,
+        plains: table[PLAINS] as u64,
         rows: rows as u64,
     };
     let row = form::row_in(text, from, room);
@@ -224,24 +236,45 @@ fn a_row(
     Line::GoesOn(rows, length + ROW, row.at)
 }
 
-// "cells" and one to four start values.
-fn cells_line(text: &[u8], at: usize, length: usize, table: &mut [u8]) -> Line
-    requires { ⌜ Holds (now table) length × (getD (now table) 1 0 ≡ 0) ⌝ }
-    ensures { λ r. ⌜ Steps (now (text .entry)) (now (table .entry)) (now (table .exit)) length r (λ m. rules.cellsLine 4 m (drop at (now (text .entry)))) ⌝ }
+// Whether it is the line of the plain cells: behind the cells, ahead of the threads, once.
+fn is_plain_line(text: &[u8], here: usize, to: usize, table: &[u8]) -> bool
+    requires { ⌜ headerBytes ≤ length (now table) ⌝ }
+    ensures { λ r. ⌜ r ≡ isPlains (now (table .entry)) (part here to (now (text .entry))) ⌝ }
+{
+    if 0 < table[0] {
+        return false;
+    }
+    if 0 < table[PLAINS] {
+        return false;
+    }
+    token::is_word(text, here, to, b"plain")
+}
+
+// Start values, of cells or of plain cells: one at least, and so many at most. The header counts them at this place.
+fn values_line(
+    text: &[u8],
+    at: usize,
+    length: usize,
+    place: usize,
+    most: usize,
+    table: &mut [u8],
+) -> Line
+    requires { ⌜ Holds (now table) length × Counts place × (getD (now table) place 0 ≡ 0) × (most ≤ 4) ⌝ }
+    ensures { λ r. ⌜ Steps (now (text .entry)) (now (table .entry)) (now (table .exit)) length r (λ m. rules.valuesLine (oneMore place) (howMany place) most m (drop at (now (text .entry)))) ⌝ }
 {
     let mut from = at;
     let mut long = length;
-    let mut left = MAX_CELLS;
+    let mut left = most;
     while 0 < left {
         let here = token::skip(text, from);
         let to = token::token_end(text, here);
         let Found::Value(value) = token::number(text, here, to) else {
-            if table[1] == 0 {
+            if table[place] == 0 {
                 return Line::Refused(here);
             }
             return bare_then(text, from, 0, long);
         };
-        add_cell(table, long, value);
+        add_value(table, long, place, value);
         long += VALUE;
         from = to;
         left -= 1;
@@ -260,15 +293,15 @@ fn bare_then(text: &[u8], from: usize, rows: usize, length: usize) -> Line
     Line::Refused(here)
 }
 
-// One cell more.
-fn add_cell(table: &mut [u8], length: usize, value: u64)
-    requires { ⌜ Holds (now table) length × (getD (now table) 1 0 < 4) ⌝ }
-    ensures { λ _. ⌜ Grows (now (table .entry)) (now (table .exit)) length (length + 8) (λ m. rules.withCell m value) ⌝ }
+// One start value more, which the header counts at this place.
+fn add_value(table: &mut [u8], length: usize, place: usize, value: u64)
+    requires { ⌜ Holds (now table) length × Counts place × (getD (now table) place 0 < 4) ⌝ }
+    ensures { λ _. ⌜ Grows (now (table .entry)) (now (table .exit)) length (length + 8) (λ m. oneMore place m value) ⌝ }
 {
     let bytes = low_bytes(value);
     append(table, length, &bytes);
-    let cells = table[1];
-    table[1] = cells + 1;
+    let many = table[place];
+    table[place] = many + 1;
 }
 
 // One thread more.

@@ -8,21 +8,23 @@ use Prim.Native.Nat.{ℕ}
 use mathlib.Core.Bool.{Bool, true, false, cond, _||_}
 use mathlib.Core.Path.{_≡_, refl, ap, sym, _∙_}
 use lib.Dec.{ltb, eqb}
-use Rattle.rules.specs.Table.{Row, rowDecoded, isFine}
+use Rattle.rules.specs.Table.{Row, Room, rowDecoded, isFine}
 use Rattle.reasons.specs.declared.Field.{Field}
 use Rattle.reasons.specs.declared.Field.the-variants.{Opcode, Object, Order, Kind, Failure, Register, Target, A, B}
 use Rattle.reasons.specs.declared.May.{May}
 use Rattle.reasons.specs.declared.May.the-variants as may
-use Rattle.reasons.specs.Wrong.{blankOrder, firstFields, isFit, wrongIn, hasCell, mayObject, mayOrder, mayFailure, mayBe}
+use Rattle.reasons.specs.Wrong.{blankOrder, firstFields, isFit, isOpcode, wrongIn, hasCell, hasPlain, mayObject, mayOrder, mayFailure, mayBe}
 
 module _ {T : Type 0} (r x y : T) where
   pub test-as : (t u : Bool) → r ≡ cond t x y → t ≡ u → r ≡ cond u x y
   test-as t u e h = e ∙ ap (λ (b : Bool). cond b x y) h
 
-pub object-made : (opcode : ℕ) (cell : Bool) (other r : May) →
-    other ≡ cond (eqb opcode 8) may.AnyThread may.ZeroByOpcode → cell ≡ hasCell opcode → r ≡ cond cell may.AnyCell other →
+pub object-made : (opcode : ℕ) (isPlain isCell : Bool) (thread plain r : May) →
+    thread ≡ cond (eqb opcode 8) may.AnyThread may.ZeroByOpcode →
+    isPlain ≡ hasPlain opcode → plain ≡ cond isPlain may.AnyPlain thread →
+    isCell ≡ hasCell opcode → r ≡ cond isCell may.AnyCell plain →
     r ≡ mayObject opcode
-object-made opcode cell other r o c e = rw (e, c, o)
+object-made opcode isPlain isCell thread plain r t i p j e = rw (e, j, p, i, t)
 
 pub order-made : (opcode : ℕ) (fence change store r : May) →
     fence ≡ cond (eqb opcode 4) may.FenceOrder may.ZeroByOpcode →
@@ -69,43 +71,43 @@ unfolding firstFields
 fields-as r n object blank order failure kind register target a b e1 e2 e3 e4 e5 e6 e7 e8 e9 =
     rw (e1, e3, e2, e4, e5, e6, e7, e8, e9)
 
-module _ (threads cells count : ℕ) (r : Row) where
-  pub fit-as : (n : ℕ) (x : Row) (is : Bool) → is ≡ isFine (rowDecoded threads cells count x) → x ≡ firstFields r n → is ≡ isFit threads cells count r n
+module _ (room : Room) (r : Row) where
+  pub fit-as : (n : ℕ) (x : Row) (is : Bool) → is ≡ isFine (rowDecoded room x) → x ≡ firstFields r n → is ≡ isFit room r n
   unfolding isFit
-  fit-as n x is e h = e ∙ ap (λ (y : Row). isFine (rowDecoded threads cells count y)) h
+  fit-as n x is e h = e ∙ ap (λ (y : Row). isFine (rowDecoded room y)) h
 
-  pub wrong-0 : isFit threads cells count r 0 ≡ false → Opcode ≡ wrongIn threads cells count r
+  pub wrong-0 : isOpcode room r ≡ false → Opcode ≡ wrongIn room r
   unfolding wrongIn
   wrong-0 e0 = rw (e0)
 
-  pub wrong-1 : isFit threads cells count r 0 ≡ true → isFit threads cells count r 1 ≡ false → Object ≡ wrongIn threads cells count r
+  pub wrong-1 : isOpcode room r ≡ true → isFit room r 1 ≡ false → Object ≡ wrongIn room r
   unfolding wrongIn
   wrong-1 e0 e1 = rw (e0, e1)
 
-  pub wrong-2 : isFit threads cells count r 0 ≡ true → isFit threads cells count r 1 ≡ true → isFit threads cells count r 2 ≡ false → Order ≡ wrongIn threads cells count r
+  pub wrong-2 : isOpcode room r ≡ true → isFit room r 1 ≡ true → isFit room r 2 ≡ false → Order ≡ wrongIn room r
   unfolding wrongIn
   wrong-2 e0 e1 e2 = rw (e0, e1, e2)
 
-  pub wrong-3 : isFit threads cells count r 0 ≡ true → isFit threads cells count r 1 ≡ true → isFit threads cells count r 2 ≡ true → isFit threads cells count r 3 ≡ false → Kind ≡ wrongIn threads cells count r
+  pub wrong-3 : isOpcode room r ≡ true → isFit room r 1 ≡ true → isFit room r 2 ≡ true → isFit room r 3 ≡ false → Kind ≡ wrongIn room r
   unfolding wrongIn
   wrong-3 e0 e1 e2 e3 = rw (e0, e1, e2, e3)
 
-  pub wrong-4 : isFit threads cells count r 0 ≡ true → isFit threads cells count r 1 ≡ true → isFit threads cells count r 2 ≡ true → isFit threads cells count r 3 ≡ true → isFit threads cells count r 4 ≡ false → Failure ≡ wrongIn threads cells count r
+  pub wrong-4 : isOpcode room r ≡ true → isFit room r 1 ≡ true → isFit room r 2 ≡ true → isFit room r 3 ≡ true → isFit room r 4 ≡ false → Failure ≡ wrongIn room r
   unfolding wrongIn
   wrong-4 e0 e1 e2 e3 e4 = rw (e0, e1, e2, e3, e4)
 
-  pub wrong-5 : isFit threads cells count r 0 ≡ true → isFit threads cells count r 1 ≡ true → isFit threads cells count r 2 ≡ true → isFit threads cells count r 3 ≡ true → isFit threads cells count r 4 ≡ true → isFit threads cells count r 5 ≡ false → Register ≡ wrongIn threads cells count r
+  pub wrong-5 : isOpcode room r ≡ true → isFit room r 1 ≡ true → isFit room r 2 ≡ true → isFit room r 3 ≡ true → isFit room r 4 ≡ true → isFit room r 5 ≡ false → Register ≡ wrongIn room r
   unfolding wrongIn
   wrong-5 e0 e1 e2 e3 e4 e5 = rw (e0, e1, e2, e3, e4, e5)
 
-  pub wrong-6 : isFit threads cells count r 0 ≡ true → isFit threads cells count r 1 ≡ true → isFit threads cells count r 2 ≡ true → isFit threads cells count r 3 ≡ true → isFit threads cells count r 4 ≡ true → isFit threads cells count r 5 ≡ true → isFit threads cells count r 6 ≡ false → Target ≡ wrongIn threads cells count r
+  pub wrong-6 : isOpcode room r ≡ true → isFit room r 1 ≡ true → isFit room r 2 ≡ true → isFit room r 3 ≡ true → isFit room r 4 ≡ true → isFit room r 5 ≡ true → isFit room r 6 ≡ false → Target ≡ wrongIn room r
   unfolding wrongIn
   wrong-6 e0 e1 e2 e3 e4 e5 e6 = rw (e0, e1, e2, e3, e4, e5, e6)
 
-  pub wrong-7 : isFit threads cells count r 0 ≡ true → isFit threads cells count r 1 ≡ true → isFit threads cells count r 2 ≡ true → isFit threads cells count r 3 ≡ true → isFit threads cells count r 4 ≡ true → isFit threads cells count r 5 ≡ true → isFit threads cells count r 6 ≡ true → isFit threads cells count r 7 ≡ false → A ≡ wrongIn threads cells count r
+  pub wrong-7 : isOpcode room r ≡ true → isFit room r 1 ≡ true → isFit room r 2 ≡ true → isFit room r 3 ≡ true → isFit room r 4 ≡ true → isFit room r 5 ≡ true → isFit room r 6 ≡ true → isFit room r 7 ≡ false → A ≡ wrongIn room r
   unfolding wrongIn
   wrong-7 e0 e1 e2 e3 e4 e5 e6 e7 = rw (e0, e1, e2, e3, e4, e5, e6, e7)
 
-  pub wrong-8 : isFit threads cells count r 0 ≡ true → isFit threads cells count r 1 ≡ true → isFit threads cells count r 2 ≡ true → isFit threads cells count r 3 ≡ true → isFit threads cells count r 4 ≡ true → isFit threads cells count r 5 ≡ true → isFit threads cells count r 6 ≡ true → isFit threads cells count r 7 ≡ true → B ≡ wrongIn threads cells count r
+  pub wrong-8 : isOpcode room r ≡ true → isFit room r 1 ≡ true → isFit room r 2 ≡ true → isFit room r 3 ≡ true → isFit room r 4 ≡ true → isFit room r 5 ≡ true → isFit room r 6 ≡ true → isFit room r 7 ≡ true → B ≡ wrongIn room r
   unfolding wrongIn
   wrong-8 e0 e1 e2 e3 e4 e5 e6 e7 = rw (e0, e1, e2, e3, e4, e5, e6, e7)

@@ -1,11 +1,12 @@
 -- Which field of a refused row is wrong, and what it may be. Assumes nothing.
 --     firstFields        a row of which only the first fields are looked at
+--     isOpcode           whether there is such an opcode
 --     wrongIn      the first field with which a row is refused
 --     mayBe        what that field may be
 use Prim.Native.Nat.{ℕ}
 use mathlib.Core.Bool.{Bool, cond, _||_}
 use lib.Dec.{ltb, leb, eqb}
-use Rattle.rules.specs.Table.{Row, rowDecoded, isFine}
+use Rattle.rules.specs.Table.{Row, Room, rowDecoded, isFine}
 use Rattle.reasons.specs.declared.Field.{Field}
 use Rattle.reasons.specs.declared.Field.the-variants.{Opcode, Object, Order, Kind, Failure, Register, Target, A, B}
 use Rattle.reasons.specs.declared.May.{May}
@@ -15,8 +16,8 @@ use Rattle.reasons.specs.declared.May.the-variants as may
 abbrev pub blankOrder : ℕ → ℕ
 blankOrder opcode = cond (eqb opcode 4) 1 0
 
--- the opcode and so many fields behind it, in the order in which they are judged: cell or thread, order, change kind, failure order,
--- register, jump target, operands a and b. The others are as if they were not used
+-- the opcode and so many fields behind it, in the order in which they are judged: cell, plain cell or thread, order, change kind,
+-- failure order, register, jump target, operands a and b. The others are as if they were not used
 unfoldable pub firstFields : Row → ℕ → Row
 firstFields r n = record {
   opcode = r .opcode;
@@ -30,21 +31,25 @@ firstFields r n = record {
   b = cond (ltb 7 n) (r .b) 0;
 }
 
--- whether such a row is one, in a table of so many threads and cells, in a thread of so many rows
-unfoldable pub isFit : ℕ → ℕ → ℕ → Row → ℕ → Bool
-isFit threads cells count r n = isFine (rowDecoded threads cells count (firstFields r n))
+-- whether such a row is one, in this room
+unfoldable pub isFit : Room → Row → ℕ → Bool
+isFit room r n = isFine (rowDecoded room (firstFields r n))
+
+-- whether there is such an opcode, be there plain cells or not: a row of it is one where there is a plain cell to name
+unfoldable pub isOpcode : Room → Row → Bool
+isOpcode room r = isFit (record { threads = room .threads; cells = room .cells; plains = 1; rows = room .rows }) r 0
 
 -- the field with which it is refused first. Where all before it are fine it is operand b
-unfoldable pub wrongIn : ℕ → ℕ → ℕ → Row → Field
-wrongIn threads cells count r =
-    cond (isFit threads cells count r 0)
-    (cond (isFit threads cells count r 1)
-    (cond (isFit threads cells count r 2)
-    (cond (isFit threads cells count r 3)
-    (cond (isFit threads cells count r 4)
-    (cond (isFit threads cells count r 5)
-    (cond (isFit threads cells count r 6)
-    (cond (isFit threads cells count r 7) B A)
+unfoldable pub wrongIn : Room → Row → Field
+wrongIn room r =
+    cond (isOpcode room r)
+    (cond (isFit room r 1)
+    (cond (isFit room r 2)
+    (cond (isFit room r 3)
+    (cond (isFit room r 4)
+    (cond (isFit room r 5)
+    (cond (isFit room r 6)
+    (cond (isFit room r 7) B A)
     Target)
     Register)
     Failure)
@@ -53,9 +58,12 @@ wrongIn threads cells count r =
     Object)
     Opcode
 
--- the opcodes that name a cell, that have a register, that jump, that change
+-- the opcodes that name a cell, a plain cell, that have a register, that jump, that change
 abbrev pub hasCell : ℕ → Bool
 hasCell opcode = leb opcode 3 || eqb opcode 5 || eqb opcode 6
+
+abbrev pub hasPlain : ℕ → Bool
+hasPlain opcode = eqb opcode 17 || eqb opcode 18
 
 abbrev pub isJump : ℕ → Bool
 isJump opcode = eqb opcode 9 || eqb opcode 10 || eqb opcode 11
@@ -63,13 +71,17 @@ isJump opcode = eqb opcode 9 || eqb opcode 10 || eqb opcode 11
 abbrev pub hasRegister : ℕ → Bool
 hasRegister opcode =
     eqb opcode 0 || eqb opcode 2 || eqb opcode 3 || eqb opcode 5 || eqb opcode 6
-    || eqb opcode 10 || eqb opcode 11 || eqb opcode 12 || eqb opcode 16
+    || eqb opcode 10 || eqb opcode 11 || eqb opcode 12 || eqb opcode 16 || eqb opcode 17
 
 abbrev pub isChange : ℕ → Bool
 isChange opcode = eqb opcode 3 || eqb opcode 6
 
 abbrev pub mayObject : ℕ → May
-mayObject opcode = cond (hasCell opcode) may.AnyCell (cond (eqb opcode 8) may.AnyThread may.ZeroByOpcode)
+mayObject opcode =
+    cond (hasCell opcode) may.AnyCell
+    (cond (hasPlain opcode) may.AnyPlain
+    (cond (eqb opcode 8) may.AnyThread
+    may.ZeroByOpcode))
 
 -- "Refused: load or failure order 1 or 3, store order 2 or 3, fence 0."
 abbrev pub mayOrder : ℕ → May

@@ -2,8 +2,9 @@
 // of the bad one, one after the other, and the first with which it is refused is the one that is wrong.
 ghost use mathlib.Core.Path.{_≡_};
 ghost use mathlib.Core.Bool.{cond};
-ghost use Rattle.decode.specs.Ops.{rowOf};
-ghost use Rattle.reasons.specs.Wrong.{blankOrder, firstFields, isFit, wrongIn, hasCell, isJump, hasRegister, isChange, mayObject, mayOrder, mayFailure, mayBe};
+ghost use Rattle.decode.specs.Ops.{rowOf, roomOf};
+ghost use Rattle.reasons.specs.Wrong.{blankOrder, firstFields, isFit, isOpcode, wrongIn, hasCell, hasPlain, isJump, hasRegister, isChange, mayObject, mayOrder, mayFailure, mayBe};
+pub use decode::Room;
 use decode::Row;
 use decode::is_row;
 
@@ -24,6 +25,7 @@ pub enum Field {
 pub enum May {
     AnyOpcode,
     AnyCell,
+    AnyPlain,
     AnyThread,
     AnyOrder,
     LoadOrder,
@@ -36,18 +38,11 @@ pub enum May {
     ZeroByKind,
 }
 
-// What a row may name: so many threads, cells and rows of its thread.
-pub struct Room {
-    pub threads: usize,
-    pub cells: usize,
-    pub count: usize,
-}
-
 // The field that is wrong first.
 pub fn wrong(row: Row, room: Room) -> Field
-    ensures { λ r. ⌜ r ≡ wrongIn (room .threads) (room .cells) (room .count) (rowOf row) ⌝ }
+    ensures { λ r. ⌜ r ≡ wrongIn (roomOf room) (rowOf row) ⌝ }
 {
-    if !is_fit(row, room, 0) {
+    if !is_opcode(row, room) {
         return Field::Opcode;
     }
     if !is_fit(row, room, 1) {
@@ -74,11 +69,24 @@ pub fn wrong(row: Row, room: Room) -> Field
     Field::B
 }
 
+// Whether there is this opcode, be there plain cells or not: a row of it is taken where there is one to name.
+fn is_opcode(row: Row, room: Room) -> bool
+    ensures { λ r. ⌜ r ≡ isOpcode (roomOf room) (rowOf row) ⌝ }
+{
+    let one = Room {
+        threads: room.threads,
+        cells: room.cells,
+        plains: 1,
+        rows: room.rows,
+    };
+    is_fit(row, one, 0)
+}
+
 // Whether the library takes a row with the first `n` fields of this one.
 fn is_fit(row: Row, room: Room, n: usize) -> bool
-    ensures { λ r. ⌜ r ≡ isFit (room .threads) (room .cells) (room .count) (rowOf row) n ⌝ }
+    ensures { λ r. ⌜ r ≡ isFit (roomOf room) (rowOf row) n ⌝ }
 {
-    is_row(first_fields(row, n), room.threads, room.cells, room.count)
+    is_row(first_fields(row, n), room)
 }
 
 // The row's opcode and its first `n` fields, on a row that is accepted, if there is one of this opcode.
@@ -158,12 +166,13 @@ fn may_if(test: bool, may: May, other: May) -> May
     other
 }
 
-// The cell or the thread.
+// The cell, the plain cell or the thread.
 fn object_may(opcode: u8) -> May
     ensures { λ r. ⌜ r ≡ mayObject opcode ⌝ }
 {
-    let other = may_if(opcode == 8, May::AnyThread, May::ZeroByOpcode);
-    may_if(has_cell(opcode), May::AnyCell, other)
+    let thread = may_if(opcode == 8, May::AnyThread, May::ZeroByOpcode);
+    let plain = may_if(has_plain(opcode), May::AnyPlain, thread);
+    may_if(has_cell(opcode), May::AnyCell, plain)
 }
 
 // The order, by what opcode may have which.
@@ -190,6 +199,12 @@ fn has_cell(opcode: u8) -> bool
     (opcode <= 3) | (opcode == 5) | (opcode == 6)
 }
 
+fn has_plain(opcode: u8) -> bool
+    ensures { λ r. ⌜ r ≡ hasPlain opcode ⌝ }
+{
+    (opcode == 17) | (opcode == 18)
+}
+
 fn is_jump(opcode: u8) -> bool
     ensures { λ r. ⌜ r ≡ isJump opcode ⌝ }
 {
@@ -208,6 +223,7 @@ fn has_register(opcode: u8) -> bool
         | (opcode == 11)
         | (opcode == 12)
         | (opcode == 16)
+        | (opcode == 17)
 }
 
 fn is_change(opcode: u8) -> bool

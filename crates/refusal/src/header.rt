@@ -1,20 +1,18 @@
 // What is wrong with a header, or with a table's length, in the order of the bytes.
 use layout::MAX_CELLS;
+use layout::MAX_PLAINS;
 use layout::MAX_THREADS;
-use layout::wide8;
 use layout::wide16;
 use table::CELLS;
 use table::COUNTS;
 use table::FIRSTS;
+use table::PLAINS;
 use table::Shape;
 use table::THREADS;
 use table::limits::HEADER;
 use table::limits::MAX_ROWS;
 use table::limits::ROW;
 use table::limits::VALUE;
-
-// Where the header has its zero.
-const ZERO: usize = 7;
 
 // Says what is wrong first.
 pub fn print(table: &[u8]) {
@@ -28,15 +26,15 @@ pub fn print(table: &[u8]) {
         return;
     }
     let shape = table::shape(table);
-    let zero = wide8(table[ZERO]);
     if named(&shape) {
         return;
     }
-    if zero != 0 {
+    let plains = wide16(shape[PLAINS]);
+    if MAX_PLAINS < plains {
         line::say(
-            b"answer 5: refused: byte #, the last of the header, is #: it must be 0",
-            ZERO as u64,
-            zero as u64,
+            b"answer 5: refused: byte 7 says # plain cells: there may be 0 to #",
+            plains as u64,
+            MAX_PLAINS as u64,
             0,
         );
         return;
@@ -51,9 +49,9 @@ pub fn print(table: &[u8]) {
 
 // The length of a table of this shape.
 fn size(shape: &Shape) -> usize {
-    let cells = wide16(shape[CELLS]);
+    let values = wide16(shape[CELLS]) + wide16(shape[PLAINS]);
     let rows = wide16(shape[COUNTS + 4]) + wide16(shape[FIRSTS + 4]);
-    HEADER + VALUE * cells + ROW * rows
+    HEADER + VALUE * values + ROW * rows
 }
 
 // Whether one of the header's numbers is wrong, which is then named.

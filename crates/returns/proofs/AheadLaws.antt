@@ -10,7 +10,7 @@ use native.Mathlib.Omega.{arith}
 use lib.Dec.{eqb·suc-zero}
 use lib.ListN.{length, getD, length-append}
 use Rattle.rules.specs.Vector.{equal}
-use Rattle.rules.specs.Table.{cellsOf, countsOf, firstRows, rowAt}
+use Rattle.rules.specs.Table.{valuesOf, countsOf, firstRows, rowAt}
 use Rattle.rules.specs.Token.{bytesOf, lineFeed, run, tokenLength, lineLength, endsLine, isEmpty, skip}
 use Rattle.rules.specs.Text.{says, rowsAhead, threadsAhead}
 use Rattle.rules.specs.Writer.{rowShown, rowsShown, threadsShown}
@@ -52,14 +52,14 @@ ahead-row n line rest p =
 
 -- the n rows from this one on are written as plain lines
 abbrev pub PlainRows : List ℕ → ℕ → ℕ → Type 0
-PlainRows t n i = (d : ℕ) → d < n → PlainLine (rowShown (rowAt t (cellsOf t) (i + d)))
+PlainRows t n i = (d : ℕ) → d < n → PlainLine (rowShown (rowAt t (valuesOf t) (i + d)))
 
 rows-later : (t : List ℕ) (n i : ℕ) → PlainRows t (suc n) i → PlainRows t n (i + 1)
 rows-later t n i h d l =
     let e : i + 1 + d ≡ i + suc d = omega arith in
     rw e (h (suc d) (omega arith))
 
-rows-first : (t : List ℕ) (n i : ℕ) → PlainRows t (suc n) i → PlainLine (rowShown (rowAt t (cellsOf t) i))
+rows-first : (t : List ℕ) (n i : ℕ) → PlainRows t (suc n) i → PlainLine (rowShown (rowAt t (valuesOf t) i))
 rows-first t n i h = let e : i + 0 ≡ i = omega arith in rw e at (h 0 (omega arith))
 
 pub rows-ahead : (t : List ℕ) (q i n : ℕ) (rest : List ℕ) → PlainRows t q i → Stops rest → length (rowsShown t q i ++ rest) < n →
@@ -68,7 +68,7 @@ unfolding rowsShown
 rows-ahead t zero i n rest h s l = rows-stop n rest s
 rows-ahead t (suc q) i zero rest h s l = absurd (omega arith)
 rows-ahead t (suc q) i (suc n) rest h s l =
-    let line = rowShown (rowAt t (cellsOf t) i) in
+    let line = rowShown (rowAt t (valuesOf t) i) in
     let p = rows-first t q i h in
     let e = append-assoc line (rowsShown t q (i + 1)) rest in
     let k = p .long in
@@ -99,7 +99,7 @@ unfolding rowsShown
 past-rows t zero i n rest k h then l = then n l
 past-rows t (suc q) i zero rest k h then l = absurd (omega arith)
 past-rows t (suc q) i (suc n) rest k h then l =
-    let line = rowShown (rowAt t (cellsOf t) i) in
+    let line = rowShown (rowAt t (valuesOf t) i) in
     let p = rows-first t q i h in
     let e = append-assoc line (rowsShown t q (i + 1)) rest in
     let g = p .long in

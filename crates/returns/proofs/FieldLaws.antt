@@ -3,21 +3,21 @@
 --     inRange                   what a letter's field may be
 --     letter-back, letter-word  so it is read back as it was written
 --     letter-known              and what is read is in range
-use Prim.Native.Nat.{ℕ, _^_, _<_}
-use mathlib.Core.List.{List}
+use Prim.Native.Nat.{ℕ, _^_, _≤_, _<_}
+use mathlib.Core.List.{List, _∷_}
 use mathlib.Core.Bool.{Bool, true, false, cond, not, _&&_, _||_, true≢false}
 use mathlib.Core.Path.{_≡_, refl, ap, sym, _∙_}
 use native.Mathlib.Omega.{arith}
 use lib.Dec.{ltb, leb, eqb}
 use lib.ListN.{getD}
 use borrow.Author.Tests.{eqb-true, ltb-true, leb-true, lt-ltb, le-leb}
-use Rattle.rules.specs.Table.{isRegister, anyOrder, loadOrder, storeOrder, fenceOrder}
-use Rattle.rules.specs.Token.{found, onlyIf, only, numberIn}
-use Rattle.rules.specs.Form.{Room, orderIn, fieldOf, letterIn}
+use Rattle.rules.specs.Table.{Room, isRegister, anyOrder, loadOrder, storeOrder, fenceOrder}
+use Rattle.rules.specs.Token.{found, onlyIf, only, numberIn, plainIn}
+use Rattle.rules.specs.Form.{orderIn, fieldOf, letterIn}
 use Rattle.rules.specs.Writer.{shown, orderShown, letterShown}
 use Rattle.rules.proofs.MeasureRows.{both-left}
 use Rattle.returns.proofs.TokenLaws.{isWord}
-use Rattle.returns.proofs.NumberLaws.{number-back, shown-word, register-back, register-word, order-back, only-found, number-below, register-below, order-below}
+use Rattle.returns.proofs.NumberLaws.{number-back, shown-word, register-back, register-word, plain-back, plain-word, order-back, only-found, number-below, register-below, plain-below, order-below}
 
 abbrev pub isLetterOf : ℕ → Bool
 isLetterOf b = ltb (fieldOf b) 9
@@ -26,35 +26,37 @@ test : {A : Type 0} (x : Bool) → (x ≡ true → A) → (x ≡ false → A) �
 test true f g = f refl
 test false f g = g refl
 
--- R, C, T, J, A, B, L, S, O, F, X
-pub letter-cases : (P : ℕ → Type 0) (b : ℕ) → isLetterOf b ≡ true → P 82 → P 67 → P 84 → P 74 → P 65 → P 66 → P 76 → P 83 → P 79 → P 70 → P 88 → P b
+-- R, C, P, T, J, A, B, L, S, O, F, X
+pub letter-cases : (P : ℕ → Type 0) (b : ℕ) → isLetterOf b ≡ true → P 82 → P 67 → P 80 → P 84 → P 74 → P 65 → P 66 → P 76 → P 83 → P 79 → P 70 → P 88 → P b
 unfolding fieldOf
-letter-cases P b h pr pc pt pj pa pb pl ps po pf px =
+letter-cases P b h pr pc pp pt pj pa pb pl ps po pf px =
     test (eqb b 82) (λ e. rw (eqb-true b 82 e) pr)
     (λ e0. test (eqb b 67) (λ e. rw (eqb-true b 67 e) pc)
-    (λ e1. test (eqb b 84) (λ e. rw (eqb-true b 84 e) pt)
-    (λ e2. test (eqb b 74) (λ e. rw (eqb-true b 74 e) pj)
-    (λ e3. test (eqb b 65) (λ e. rw (eqb-true b 65 e) pa)
-    (λ e4. test (eqb b 66) (λ e. rw (eqb-true b 66 e) pb)
-    (λ e5. test (eqb b 76) (λ e. rw (eqb-true b 76 e) pl)
-    (λ e6. test (eqb b 83) (λ e. rw (eqb-true b 83 e) ps)
-    (λ e7. test (eqb b 79) (λ e. rw (eqb-true b 79 e) po)
-    (λ e8. test (eqb b 70) (λ e. rw (eqb-true b 70 e) pf)
-    (λ e9. test (eqb b 88) (λ e. rw (eqb-true b 88 e) px)
-    (λ e10. absurd (true≢false (sym h ∙ rw (e0, e1, e2, e3, e4, e5, e6, e7, e8, e9, e10) refl)))))))))))))
+    (λ e1. test (eqb b 80) (λ e. rw (eqb-true b 80 e) pp)
+    (λ e2. test (eqb b 84) (λ e. rw (eqb-true b 84 e) pt)
+    (λ e3. test (eqb b 74) (λ e. rw (eqb-true b 74 e) pj)
+    (λ e4. test (eqb b 65) (λ e. rw (eqb-true b 65 e) pa)
+    (λ e5. test (eqb b 66) (λ e. rw (eqb-true b 66 e) pb)
+    (λ e6. test (eqb b 76) (λ e. rw (eqb-true b 76 e) pl)
+    (λ e7. test (eqb b 83) (λ e. rw (eqb-true b 83 e) ps)
+    (λ e8. test (eqb b 79) (λ e. rw (eqb-true b 79 e) po)
+    (λ e9. test (eqb b 70) (λ e. rw (eqb-true b 70 e) pf)
+    (λ e10. test (eqb b 88) (λ e. rw (eqb-true b 88 e) px)
+    (λ e11. absurd (true≢false (sym h ∙ rw (e0, e1, e2, e3, e4, e5, e6, e7, e8, e9, e10, e11) refl))))))))))))))
 
 -- What a letter's field may be. Every number below 2^64 may be an operand
 unfoldable pub inRange : Room → ℕ → ℕ → Bool
 inRange room b v =
     cond (eqb b 82) (isRegister v)
     (cond (eqb b 67) (ltb v (room .cells))
+    (cond (eqb b 80) (ltb v (room .plains))
     (cond (eqb b 84) (ltb v (room .threads))
     (cond (eqb b 74) (leb v (room .rows))
     (cond (eqb b 65 || eqb b 66) true
     (cond (eqb b 76 || eqb b 88) (loadOrder v)
     (cond (eqb b 83) (storeOrder v)
     (cond (eqb b 70) (fenceOrder v)
-    (anyOrder v))))))))
+    (anyOrder v)))))))))
 
 pub any-below : (o : ℕ) → anyOrder o ≡ true → o < 5
 any-below o e = omega (arith, leb-true o 4 e)
@@ -73,6 +75,9 @@ fence-any o e = both-left (anyOrder o) _ e
 number-only : (p : ℕ → Bool) (v : ℕ) → p v ≡ true → v < 2 ^ 64 → only p (numberIn (shown v)) ≡ found v
 number-only p v e h = ap (only p) (number-back v h) ∙ ap (λ (x : Bool). onlyIf x v) e
 
+plain-only : (p : ℕ → Bool) (v : ℕ) → p v ≡ true → v < 4 → only p (plainIn (112 ∷ shown v)) ≡ found v
+plain-only p v e h = ap (only p) (plain-back v h) ∙ ap (λ (x : Bool). onlyIf x v) e
+
 order-only : (p : ℕ → Bool) (o : ℕ) → p o ≡ true → anyOrder o ≡ true → only p (orderIn (orderShown o)) ≡ found o
 order-only p o e h = ap (only p) (order-back o (any-below o h) .0) ∙ ap (λ (x : Bool). onlyIf x o) e
 
@@ -81,12 +86,14 @@ module _ (room : Room) (fields : List ℕ) where
   Back b = inRange room b (getD fields (fieldOf b) 0) ≡ true → getD fields (fieldOf b) 0 < 2 ^ 64 →
       letterIn room b (letterShown b fields) ≡ found (getD fields (fieldOf b) 0)
 
-  pub letter-back : (b : ℕ) → isLetterOf b ≡ true → Back b
+  -- no more plain cells than have a name
+  pub letter-back : room .plains ≤ 4 → (b : ℕ) → isLetterOf b ≡ true → Back b
   unfolding letterIn letterShown fieldOf inRange
-  letter-back b h =
+  letter-back few b h =
       letter-cases Back b h
       (λ e l. register-back (getD fields 5 0) (ltb-true (getD fields 5 0) 4 e))
       (λ e l. number-only (λ (v : ℕ). ltb v (room .cells)) (getD fields 1 0) e l)
+      (λ e l. plain-only (λ (v : ℕ). ltb v (room .plains)) (getD fields 1 0) e (omega (arith, ltb-true (getD fields 1 0) (room .plains) e)))
       (λ e l. number-only (λ (v : ℕ). ltb v (room .threads)) (getD fields 1 0) e l)
       (λ e l. number-only (λ (v : ℕ). leb v (room .rows)) (getD fields 6 0) e l)
       (λ e l. number-back (getD fields 7 0) l)
@@ -104,7 +111,7 @@ module _ (room : Room) (fields : List ℕ) where
   unfolding letterShown fieldOf inRange
   letter-word b h =
       letter-cases Worded b h
-      (λ e. register-word (getD fields 5 0)) (λ e. shown-word (getD fields 1 0)) (λ e. shown-word (getD fields 1 0)) (λ e. shown-word (getD fields 6 0))
+      (λ e. register-word (getD fields 5 0)) (λ e. shown-word (getD fields 1 0)) (λ e. plain-word (getD fields 1 0)) (λ e. shown-word (getD fields 1 0)) (λ e. shown-word (getD fields 6 0))
       (λ e. shown-word (getD fields 7 0)) (λ e. shown-word (getD fields 8 0))
       (λ e. order-back (getD fields 2 0) (any-below (getD fields 2 0) (load-any (getD fields 2 0) e)) .1)
       (λ e. order-back (getD fields 2 0) (any-below (getD fields 2 0) (store-any (getD fields 2 0) e)) .1)
@@ -127,12 +134,16 @@ module _ (room : Room) (word : List ℕ) (v : ℕ) where
   order-known : (p : ℕ → Bool) → only p (orderIn word) ≡ found v → (p v ≡ true) × (v < 2 ^ 64)
   order-known p e = let k = only-found p (orderIn word) v e in (k .0, (omega (arith, order-below word v (k .1))))
 
+  plain-known : (p : ℕ → Bool) → only p (plainIn word) ≡ found v → (p v ≡ true) × (v < 2 ^ 64)
+  plain-known p e = let k = only-found p (plainIn word) v e in (k .0, (omega (arith, plain-below word v (k .1))))
+
   pub letter-known : (b : ℕ) → isLetterOf b ≡ true → Known b
   unfolding letterIn fieldOf inRange
   letter-known b h =
       letter-cases Known b h
       (λ e. let k = register-below word v e in (lt-ltb v 4 k, (omega arith)))
       (λ e. number-known (λ (x : ℕ). ltb x (room .cells)) e)
+      (λ e. plain-known (λ (x : ℕ). ltb x (room .plains)) e)
       (λ e. number-known (λ (x : ℕ). ltb x (room .threads)) e)
       (λ e. number-known (λ (x : ℕ). leb x (room .rows)) e)
       (λ e. (refl, number-below word v e))

@@ -13,8 +13,9 @@ use lib.Seq.{getD-set-same, getD-set-other, getD-drop}
 use borrow.Author.Tests.{eqb-true, eqb-false, eq-eqb, ltb-true, not-true}
 use Rattle.rules.specs.Vector.{equal}
 use Rattle.rules.specs.ConditionTree.{FineAll}
+use Rattle.rules.specs.Table.{Room}
 use Rattle.rules.specs.Token.{run, endsLine, skip, token, pastToken, nextLine, Found, nothing, found, onlyIf}
-use Rattle.rules.specs.Form.{Room, fieldOf, letterIn, isField, valueOf, withField, stuck, fits, follow}
+use Rattle.rules.specs.Form.{fieldOf, letterIn, isField, valueOf, withField, stuck, fits, follow}
 use Rattle.rules.proofs.MeasureRows.{both-left, both-right}
 use Rattle.returns.proofs.TokenLaws.{also, either, isWord, word-stands}
 use Rattle.returns.proofs.PieceLaws.{spaced, against, follow-word, parted-words}

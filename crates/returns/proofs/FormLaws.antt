@@ -12,8 +12,9 @@ use lib.ListN.{length}
 use borrow.Author.Tests.{ltb-true}
 use Rattle.rules.specs.Vector.{equal}
 use Rattle.rules.specs.ConditionTree.{FineAll}
+use Rattle.rules.specs.Table.{Room}
 use Rattle.rules.specs.Token.{bytesOf, space, lineFeed, run, skip, tokenLength, endsLine, digitsBehind, numberIn, registerIn, placeIn}
-use Rattle.rules.specs.Form.{Room, Form, forms, fieldOf, letterIn, isField, valueOf, mostWords, blankFields, further, Followed, stuck, fits, follow, tried, rowIn}
+use Rattle.rules.specs.Form.{Form, forms, fieldOf, letterIn, isField, valueOf, mostWords, blankFields, further, Followed, stuck, fits, follow, tried, rowIn}
 use Rattle.rules.specs.Writer.{formIn}
 use Rattle.rules.proofs.VectorLaws.{equal-true}
 use Rattle.rules.proofs.MeasureRows.{both-left, both-right}
@@ -75,20 +76,20 @@ pieces-are f h =
     }
 
 -- the form of an opcode and a change kind that there is
-pub form-has : (p : Form → Bool) (o k : ℕ) (fs : List Form) → everyForm p fs ≡ true → formIn o k fs .opcode < 17 → p (formIn o k fs) ≡ true
+pub form-has : (p : Form → Bool) (o k : ℕ) (fs : List Form) → everyForm p fs ≡ true → formIn o k fs .opcode < 19 → p (formIn o k fs) ≡ true
 unfolding formIn
 form-has p o k [] h l = absurd (omega arith)
 form-has p o k (f ∷ fs) h l = by (λ m. form-has p o k fs (both-right (p f) (everyForm p fs) h) m) (eqb (f .opcode) o && eqb (f .kind) k) l
   where
-    by : (formIn o k fs .opcode < 17 → p (formIn o k fs) ≡ true) → (x : Bool) →
-        elim x as (λ y. Form) [ true ↦ f | false ↦ formIn o k fs ] .opcode < 17 → p (elim x [ true ↦ f | false ↦ formIn o k fs ]) ≡ true
+    by : (formIn o k fs .opcode < 19 → p (formIn o k fs) ≡ true) → (x : Bool) →
+        elim x as (λ y. Form) [ true ↦ f | false ↦ formIn o k fs ] .opcode < 19 → p (elim x [ true ↦ f | false ↦ formIn o k fs ]) ≡ true
     by more true m = both-left (p f) (everyForm p fs) h
     by more false m = more m
 
 pub forms-pieces : (f : Form) → ((p : Form → Bool) → everyForm p forms ≡ true → p f ≡ true) → Pieces f
 forms-pieces f h = pieces-are f (h formFine forms-fine)
 
-pub form-pieces : (o k : ℕ) → formIn o k forms .opcode < 17 → Pieces (formIn o k forms)
+pub form-pieces : (o k : ℕ) → formIn o k forms .opcode < 19 → Pieces (formIn o k forms)
 form-pieces o k l = pieces-are (formIn o k forms) (form-has formFine o k forms forms-fine l)
 
 -- A row is read by its own form
@@ -127,7 +128,7 @@ module _ (room : Room) where
 
 -- a row's text, which its form g reads
 pub record Reads (room : Room) (from rest bs : List ℕ) (g : Form) : Type 0 where
-  pub real : g .opcode < 17
+  pub real : g .opcode < 19
   pub text : bs ≡ space ∷ (spaced (map (pieceShown from) (piecesOf g)) ++ (lineFeed ∷ rest))
   pub written : FineAll (λ (q : List ℕ). isWord (pieceShown from q) ≡ true) (piecesOf g)
   pub read : follow mostWords room (g .words) (blankFields g) bs ≡ fits from rest

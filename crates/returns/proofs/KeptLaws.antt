@@ -1,8 +1,8 @@
 -- What each line keeps of what has been read. Assumes nothing.
---     kept-start        nothing yet
---     kept-cell         one cell more
---     kept-thread       one thread more, where the last has all its rows
---     kept-row          one row more
+--     kept-start                nothing yet
+--     kept-cell, kept-plain     one cell more, one plain cell more
+--     kept-thread               one thread more, where the last has all its rows
+--     kept-row                  one row more
 use Prim.Native.Nat.{ℕ, zero, suc, _+_, _-_, _*_, _/_, _≤_, _<_}
 use mathlib.Core.List.{List, _++_}
 use mathlib.Core.Logic.{_≢_}
@@ -14,7 +14,7 @@ use lib.Seq.{getD-set-same, getD-set-other, take-set-le}
 use Rattle.rules.specs.Event.{little}
 use Rattle.rules.specs.Table.{maxRows, total, isFine, rowDecoded, rowFrom, Row}
 use Rattle.rules.specs.Form.{rowBytes}
-use Rattle.rules.specs.Text.{Made, nothingMade, withCell, withThread, withRow, rowsSoFar}
+use Rattle.rules.specs.Text.{Made, nothingMade, withCell, withPlain, withThread, withRow, rowsSoFar}
 use Rattle.returns.proofs.ByteLaws.{bytes-append, little-bytes, row-is-bytes}
 use Rattle.returns.proofs.CountLaws.{total-next, total-take, total-past, total-set}
 use Rattle.returns.proofs.LineLaws.{roomFor}
@@ -64,33 +64,33 @@ module _ (allThreads rows : ℕ) (m : Made) (h : Kept allThreads rows m) (some :
       sym (total-past (m .counts) (suc (m .threads - 1)) (λ i l. h .past i (omega arith))) ∙ total-next (m .counts) (m .threads - 1)
 
   -- the rows before are left
-  left : (e k i : ℕ) → k ≤ last → i < getD (m .counts) k 0 → RowFits allThreads e (m .cells) (m .counts) (m .body) k i → RowFits allThreads e (m .cells) counts body k i
+  left : (e k i : ℕ) → k ≤ last → i < getD (m .counts) k 0 → RowFits allThreads e m (m .counts) (m .body) k i → RowFits allThreads e m counts body k i
   unfolding body
   left e k i l n f a b =
       let within = total-take (m .counts) (suc k) in
       let next = total-next (m .counts) k in
-      ap (λ (x : ℕ). isFine (rowDecoded allThreads (m .cells) e (rowFrom (m .body ++ rowBytes fields) (8 * m .cells + 24 * (x + i))))) (before-same k l)
-      ∙ ap (λ (x : Row). isFine (rowDecoded allThreads (m .cells) e x))
-      (row-kept (m .body) (rowBytes fields) (8 * m .cells + 24 * (total (take k (m .counts)) + i)) (omega (arith, h .size)))
+      ap (λ (x : ℕ). isFine (rowDecoded (roomFor allThreads e m) (rowFrom (m .body ++ rowBytes fields) (8 * (m .cells + m .plains) + 24 * (x + i))))) (before-same k l)
+      ∙ ap (λ (x : Row). isFine (rowDecoded (roomFor allThreads e m) x))
+      (row-kept (m .body) (rowBytes fields) (8 * (m .cells + m .plains) + 24 * (total (take k (m .counts)) + i)) (omega (arith, h .size)))
       ∙ f a b
 
   -- and the new one stands behind them
-  added : RowFits allThreads rows (m .cells) counts body last (rowsSoFar m)
+  added : RowFits allThreads rows m counts body last (rowsSoFar m)
   unfolding body
   added a b =
-      let place : length (m .body) ≡ 8 * m .cells + 24 * (total (take last counts) + rowsSoFar m) = h .size ∙ (omega (arith, total-last, before-same last (omega arith))) in
-      ap (λ (x : Row). isFine (rowDecoded allThreads (m .cells) rows x))
-      (row-new (m .body) fields (8 * m .cells + 24 * (total (take last counts) + rowsSoFar m)) place (r .long) (r .within (h .cells-few) a b))
+      let place : length (m .body) ≡ 8 * (m .cells + m .plains) + 24 * (total (take last counts) + rowsSoFar m) = h .size ∙ (omega (arith, total-last, before-same last (omega arith))) in
+      ap (λ (x : Row). isFine (rowDecoded (roomFor allThreads rows m) x))
+      (row-new (m .body) fields (8 * (m .cells + m .plains) + 24 * (total (take last counts) + rowsSoFar m)) place (r .long) (r .within (h .cells-few) (h .plains-few) a b))
       ∙ r .fine
 
-  currently : (k : ℕ) → suc k ≡ m .threads → (i : ℕ) → i < getD counts k 0 → RowFits allThreads rows (m .cells) counts body k i
+  currently : (k : ℕ) → suc k ≡ m .threads → (i : ℕ) → i < getD counts k 0 → RowFits allThreads rows m counts body k i
   unfolding last
   currently k e i n =
       let q : k ≡ m .threads - 1 = omega arith in
       let there : getD (m .counts) k 0 ≡ rowsSoFar m = ap (λ (x : ℕ). getD (m .counts) x 0) q in
       let now : getD counts k 0 ≡ rowsSoFar m + 1 = ap (λ (x : ℕ). getD counts x 0) q ∙ counts-last in
       elim (ℕ-discrete i (rowsSoFar m)) [
-        | yes d ↦ subst (λ (x : ℕ). RowFits allThreads rows (m .cells) counts body k x) (sym d) (subst (λ (x : ℕ). RowFits allThreads rows (m .cells) counts body x (rowsSoFar m)) (sym q) added)
+        | yes d ↦ subst (λ (x : ℕ). RowFits allThreads rows m counts body k x) (sym d) (subst (λ (x : ℕ). RowFits allThreads rows m counts body x (rowsSoFar m)) (sym q) added)
         | no d ↦ left rows k i (omega arith) (omega arith) (h .current k e i (omega arith))
       ]
 
@@ -99,6 +99,7 @@ module _ (allThreads rows : ℕ) (m : Made) (h : Kept allThreads rows m) (some :
   kept-row = record {
     five = length-set (m .counts) (m .threads - 1) (rowsSoFar m + 1) ∙ h .five;
     cells-few = h .cells-few;
+    plains-few = h .plains-few;
     threads-few = h .threads-few;
     some = h .some;
     past = λ k l. counts-other k (omega arith) ∙ h .past k l;
@@ -110,7 +111,7 @@ module _ (allThreads rows : ℕ) (m : Made) (h : Kept allThreads rows m) (some :
     bytes = bytes-append (m .body) (rowBytes fields) (h .bytes) (row-is-bytes fields);
     earlier = λ k l i n.
         let same = counts-other k (omega arith) in
-        subst (λ (x : ℕ). RowFits allThreads x (m .cells) counts body k i) (sym same) (left (getD (m .counts) k 0) k i (omega arith) (omega arith) (h .earlier k l i (omega arith)));
+        subst (λ (x : ℕ). RowFits allThreads x m counts body k i) (sym same) (left (getD (m .counts) k 0) k i (omega arith) (omega arith) (h .earlier k l i (omega arith)));
     current = currently;
   }
 
@@ -120,6 +121,7 @@ pub kept-thread : (allThreads rows more : ℕ) (m : Made) → Kept allThreads ro
 kept-thread allThreads rows more m h some few full = record {
   five = h .five;
   cells-few = h .cells-few;
+  plains-few = h .plains-few;
   threads-few = omega arith;
   some = λ l. some;
   past = λ k l. h .past k (omega arith);
@@ -129,7 +131,7 @@ kept-thread allThreads rows more m h some few full = record {
   earlier = λ k l i n. elim (ℕ-discrete (suc k) (m .threads)) [
     | yes e ↦
         let f : m .threads - 1 ≡ k = omega arith in
-        subst (λ (x : ℕ). RowFits allThreads x (m .cells) (m .counts) (m .body) k i) (full (omega arith) ∙ ap (λ (x : ℕ). getD (m .counts) x 0) f) (h .current k e i n)
+        subst (λ (x : ℕ). RowFits allThreads x m (m .counts) (m .body) k i) (full (omega arith) ∙ ap (λ (x : ℕ). getD (m .counts) x 0) f) (h .current k e i n)
     | no d ↦ h .earlier k (omega arith) i n
   ];
   current = λ k e i n. absurd (omega (arith, h .past k (omega arith)));
@@ -142,12 +144,15 @@ unfolding little
 little-long zero v = refl
 little-long (suc n) v = ap suc (little-long n (v / 256))
 
-pub kept-cell : (allThreads rows v : ℕ) (m : Made) → Kept allThreads rows m → m .threads ≡ 0 → m .cells < 4 → Kept allThreads rows (withCell m v)
-kept-cell allThreads rows v m h none few = record {
+-- one value more, of a cell or of a plain cell
+kept-value : (allThreads rows v cells plains : ℕ) (m : Made) → Kept allThreads rows m → m .threads ≡ 0 → cells ≤ 4 → plains ≤ 4 → cells + plains ≡ m .cells + m .plains + 1 →
+    Kept allThreads rows (record { cells = cells; plains = plains; threads = m .threads; counts = m .counts; body = m .body ++ little 8 v })
+kept-value allThreads rows v cells plains m h none few fewer one = record {
   five = h .five;
-  cells-few = omega arith;
+  cells-few = few;
+  plains-few = fewer;
   threads-few = h .threads-few;
-  some = λ l. omega arith;
+  some = λ l. absurd (omega arith);
   past = h .past;
   few = h .few;
   size = length-append (m .body) (little 8 v) ∙ (omega (arith, h .size, little-long 8 v));
@@ -156,11 +161,18 @@ kept-cell allThreads rows v m h none few = record {
   current = λ k e i n. absurd (omega arith);
 }
 
+pub kept-cell : (allThreads rows v : ℕ) (m : Made) → Kept allThreads rows m → m .threads ≡ 0 → m .cells < 4 → Kept allThreads rows (withCell m v)
+kept-cell allThreads rows v m h none few = kept-value allThreads rows v (m .cells + 1) (m .plains) m h none (omega arith) (h .plains-few) (omega arith)
+
+pub kept-plain : (allThreads rows v : ℕ) (m : Made) → Kept allThreads rows m → m .threads ≡ 0 → m .plains < 4 → Kept allThreads rows (withPlain m v)
+kept-plain allThreads rows v m h none few = kept-value allThreads rows v (m .cells) (m .plains + 1) m h none (h .cells-few) (omega arith) (omega arith)
+
 -- how many rows there are to be matters only in a thread
 pub kept-any : (allThreads rows more : ℕ) (m : Made) → Kept allThreads rows m → m .threads ≡ 0 → Kept allThreads more m
 kept-any allThreads rows more m h none = record {
   five = h .five;
   cells-few = h .cells-few;
+  plains-few = h .plains-few;
   threads-few = h .threads-few;
   some = h .some;
   past = h .past;
@@ -181,6 +193,7 @@ unfolding total
 kept-start allThreads rows = record {
   five = refl;
   cells-few = omega arith;
+  plains-few = omega arith;
   threads-few = omega arith;
   some = λ l. absurd (omega arith);
   past = λ k l. zeros-at 5 k;

@@ -12,31 +12,33 @@ use native.Mathlib.Decide.{ℕ-discrete, decLt}
 use lib.ListN.{length, getD, take, length-append}
 use lib.Seq.{take-at, getD-at}
 use borrow.Author.Tests.{le-leb, lt-ltb}
-use Rattle.rules.specs.Table.{maxCells, maxRows, allRows, countsOf, countsFine, total, sizeOf, judged, good, isFine, rowDecoded, rowFrom, rowAt, opAt, Row}
+use Rattle.rules.specs.Table.{maxValues, maxRows, allRows, plainsOf, countsOf, countsFine, total, sizeOf, judged, good, isFine, rowDecoded, rowFrom, rowAt, opAt, Room, roomOf, Row}
 use Rattle.rules.specs.ConditionTree.{AllBytes}
 use Rattle.rules.specs.Text.{Made, tableOf, rowsSoFar}
 use Rattle.returns.proofs.ByteLaws.{bytes-append}
 use Rattle.returns.proofs.TableLaws.{Header, RowsFine, rows-from, table-fine}
 use Rattle.returns.proofs.CountLaws.{total-next, total-take, total-few, counts-made}
+use Rattle.returns.proofs.LineLaws.{roomFor}
 use Rattle.returns.proofs.AppendLaws.{row-behind}
 
 -- row i of thread k in these bytes is fine, if there are not too many threads and rows
-abbrev pub RowFits : (allThreads rows : ℕ) → (cells : ℕ) (counts body : List ℕ) → (k i : ℕ) → Type 0
-RowFits allThreads rows cells counts body k i =
-    allThreads ≤ 5 → rows ≤ maxRows → isFine (rowDecoded allThreads cells rows (rowFrom body (8 * cells + 24 * (total (take k counts) + i)))) ≡ true
+abbrev pub RowFits : (allThreads rows : ℕ) (m : Made) (counts body : List ℕ) → (k i : ℕ) → Type 0
+RowFits allThreads rows m counts body k i =
+    allThreads ≤ 5 → rows ≤ maxRows → isFine (rowDecoded (roomFor allThreads rows m) (rowFrom body (8 * (m .cells + m .plains) + 24 * (total (take k counts) + i)))) ≡ true
 
 pub record Kept (allThreads rows : ℕ) (m : Made) : Type 0 where
   pub five : length (m .counts) ≡ 5
   pub cells-few : m .cells ≤ 4
+  pub plains-few : m .plains ≤ 4
   pub threads-few : m .threads ≤ 5
   pub some : 1 ≤ m .threads → 1 ≤ m .cells
   pub past : (k : ℕ) → m .threads ≤ k → getD (m .counts) k 0 ≡ 0
   pub few : (k : ℕ) → getD (m .counts) k 0 ≤ maxRows
-  pub size : length (m .body) ≡ 8 * m .cells + 24 * total (m .counts)
+  pub size : length (m .body) ≡ 8 * (m .cells + m .plains) + 24 * total (m .counts)
   pub bytes : AllBytes (m .body)
   -- the threads before the last have as many rows as they were to have, and the last so far
-  pub earlier : (k : ℕ) → suc k < m .threads → (i : ℕ) → i < getD (m .counts) k 0 → RowFits allThreads (getD (m .counts) k 0) (m .cells) (m .counts) (m .body) k i
-  pub current : (k : ℕ) → suc k ≡ m .threads → (i : ℕ) → i < getD (m .counts) k 0 → RowFits allThreads rows (m .cells) (m .counts) (m .body) k i
+  pub earlier : (k : ℕ) → suc k < m .threads → (i : ℕ) → i < getD (m .counts) k 0 → RowFits allThreads (getD (m .counts) k 0) m (m .counts) (m .body) k i
+  pub current : (k : ℕ) → suc k ≡ m .threads → (i : ℕ) → i < getD (m .counts) k 0 → RowFits allThreads rows m (m .counts) (m .body) k i
 
 few-bytes : (cs : List ℕ) → ((k : ℕ) → getD cs k 0 ≤ maxRows) → AllBytes cs
 few-bytes [] h = tt
@@ -44,33 +46,37 @@ few-bytes (c ∷ cs) h = (omega (arith, h 0), few-bytes cs (λ k. h (suc k)))
 
 pub kept-bytes : (allThreads rows : ℕ) (m : Made) → Kept allThreads rows m → AllBytes (tableOf m)
 kept-bytes allThreads rows m h =
-    (omega (arith, h .threads-few), (omega (arith, h .cells-few), bytes-append (m .counts) (0 ∷ m .body) (few-bytes (m .counts) (h .few)) (omega arith, h .bytes)))
+    (omega (arith, h .threads-few), (omega (arith, h .cells-few), bytes-append (m .counts) (m .plains ∷ m .body) (few-bytes (m .counts) (h .few)) (omega (arith, h .plains-few), h .bytes)))
 
 module _ (allThreads rows : ℕ) (m : Made) (h : Kept allThreads rows m) (some : 1 ≤ m .threads) (every : allThreads ≡ m .threads) (full : rows ≡ rowsSoFar m) where
   t : List ℕ
   t = tableOf m
 
   head : List ℕ
-  head = m .threads ∷ m .cells ∷ (m .counts ++ (0 ∷ []))
+  head = m .threads ∷ m .cells ∷ (m .counts ++ (m .plains ∷ []))
 
   head-long : length head ≡ 8
   unfolding head
-  head-long = omega (arith, length-append (m .counts) (0 ∷ []), h .five)
+  head-long = omega (arith, length-append (m .counts) (m .plains ∷ []), h .five)
 
   behind-head : t ≡ head ++ m .body
   unfolding t head
-  behind-head = ap (λ (l : List ℕ). m .threads ∷ m .cells ∷ l) (sym (append-assoc (m .counts) (0 ∷ []) (m .body)))
+  behind-head = ap (λ (l : List ℕ). m .threads ∷ m .cells ∷ l) (sym (append-assoc (m .counts) (m .plains ∷ []) (m .body)))
 
   counts-are : countsOf t ≡ m .counts
   unfolding t countsOf
-  counts-are = take-at (m .counts) (0 ∷ m .body) 5 (h .five)
+  counts-are = take-at (m .counts) (m .plains ∷ m .body) 5 (h .five)
 
   long : length t ≡ 8 + length (m .body)
   long = ap length behind-head ∙ length-append head (m .body) ∙ (omega (arith, head-long))
 
-  last-zero : getD t 7 0 ≡ 0
+  plains-are : plainsOf t ≡ m .plains
   unfolding t
-  last-zero = getD-at (m .counts) 0 (m .body) 0 5 (h .five)
+  plains-are = getD-at (m .counts) (m .plains) (m .body) 0 5 (h .five)
+
+  room-is : (n : ℕ) → roomOf t n ≡ roomFor allThreads n m
+  unfolding t
+  room-is n = λ i. record { threads = sym every i; cells = m .cells; plains = plains-are i; rows = n }
 
   header : Header t
   unfolding t
@@ -81,13 +87,13 @@ module _ (allThreads rows : ℕ) (m : Made) (h : Kept allThreads rows m) (some :
     cells-some = h .some some;
     cells-few = h .cells-few;
     counts = ap (countsFine (m .threads) 0) counts-are ∙ counts-made (m .threads) 0 (m .counts) (h .few) (λ k l. h .past k (omega arith));
-    last = last-zero;
-    size = long ∙ (omega (arith, h .size, ap total counts-are));
+    plains-few = omega (arith, plains-are, h .plains-few);
+    size = long ∙ (omega (arith, h .size, plains-are, ap total counts-are));
   }
 
   -- a row's place is behind the header's eight bytes, and within the table
   row-place : (k i : ℕ) → k < 5 → i < getD (m .counts) k 0 →
-      rowAt t (m .cells) (0 + total (take k (m .counts)) + i) ≡ rowFrom (m .body) (8 * m .cells + 24 * (total (take k (m .counts)) + i))
+      rowAt t (m .cells + m .plains) (0 + total (take k (m .counts)) + i) ≡ rowFrom (m .body) (8 * (m .cells + m .plains) + 24 * (total (take k (m .counts)) + i))
   unfolding rowAt
   row-place k i l n =
       let j = 0 + total (take k (m .counts)) + i in
@@ -95,37 +101,38 @@ module _ (allThreads rows : ℕ) (m : Made) (h : Kept allThreads rows m) (some :
       let most = total-few (m .counts) (h .few) in
       let next = total-next (m .counts) k in
       let cells = h .cells-few in
+      let plains = h .plains-few in
       let five = h .five in
-      let e : sizeOf (m .cells) j ≡ 8 + (8 * m .cells + 24 * (total (take k (m .counts)) + i)) = omega arith in
-      rw (le-leb (m .cells) maxCells cells, lt-ltb j allRows (omega arith), le-leb (sizeOf (m .cells) j + 24) (length t) (omega (arith, long, h .size)))
+      let e : sizeOf (m .cells + m .plains) j ≡ 8 + (8 * (m .cells + m .plains) + 24 * (total (take k (m .counts)) + i)) = omega arith in
+      rw (le-leb (m .cells + m .plains) maxValues (omega arith), lt-ltb j allRows (omega arith), le-leb (sizeOf (m .cells + m .plains) j + 24) (length t) (omega (arith, long, h .size)))
       (ap (rowFrom t) e
-      ∙ ap (λ (l : List ℕ). rowFrom l (8 + (8 * m .cells + 24 * (total (take k (m .counts)) + i)))) behind-head
-      ∙ row-behind head (m .body) 8 (8 * m .cells + 24 * (total (take k (m .counts)) + i)) head-long)
+      ∙ ap (λ (l : List ℕ). rowFrom l (8 + (8 * (m .cells + m .plains) + 24 * (total (take k (m .counts)) + i)))) behind-head
+      ∙ row-behind head (m .body) 8 (8 * (m .cells + m .plains) + 24 * (total (take k (m .counts)) + i)) head-long)
 
-  fits-so : (k i : ℕ) → i < getD (m .counts) k 0 → RowFits allThreads (getD (m .counts) k 0) (m .cells) (m .counts) (m .body) k i
+  fits-so : (k i : ℕ) → i < getD (m .counts) k 0 → RowFits allThreads (getD (m .counts) k 0) m (m .counts) (m .body) k i
   fits-so k i n = elim (ℕ-discrete (suc k) (m .threads)) [
     | yes e ↦
         let f : m .threads - 1 ≡ k = omega arith in
-        subst (λ (x : ℕ). RowFits allThreads x (m .cells) (m .counts) (m .body) k i) (full ∙ ap (λ (x : ℕ). getD (m .counts) x 0) f) (h .current k e i n)
+        subst (λ (x : ℕ). RowFits allThreads x m (m .counts) (m .body) k i) (full ∙ ap (λ (x : ℕ). getD (m .counts) x 0) f) (h .current k e i n)
     | no d ↦ h .earlier k (before k i n d) i n
   ]
     where
       before : (k i : ℕ) → i < getD (m .counts) k 0 → suc k ≢ m .threads → suc k < m .threads
       before k i n d = elim (decLt k (m .threads)) [ yes l ↦ omega arith | no l ↦ absurd (omega (arith, h .past k (omega arith))) ]
 
-  row-in : (k : ℕ) → k < 5 → (i : ℕ) → i < getD (m .counts) k 0 → isFine (opAt t (m .threads) (m .cells) (getD (m .counts) k 0) (0 + total (take k (m .counts)) + i)) ≡ true
+  row-in : (k : ℕ) → k < 5 → (i : ℕ) → i < getD (m .counts) k 0 → isFine (opAt t (roomOf t (getD (m .counts) k 0)) (0 + total (take k (m .counts)) + i)) ≡ true
   unfolding opAt
   row-in k l i n =
-      rw (le-leb (m .threads) 5 (h .threads-few))
-      (ap (λ (r : Row). isFine (rowDecoded (m .threads) (m .cells) (getD (m .counts) k 0) r)) (row-place k i l n)
-      ∙ ap (λ (x : ℕ). isFine (rowDecoded x (m .cells) (getD (m .counts) k 0) (rowFrom (m .body) (8 * m .cells + 24 * (total (take k (m .counts)) + i))))) (sym every)
-      ∙ fits-so k i n (omega (arith, h .threads-few)) (h .few k))
+      let room = roomFor allThreads (getD (m .counts) k 0) m in
+      ap (λ (x : Room). isFine (opAt t x (0 + total (take k (m .counts)) + i))) (room-is (getD (m .counts) k 0))
+      ∙ rw (le-leb allThreads 5 (omega (arith, h .threads-few)), le-leb (m .cells) 4 (h .cells-few), le-leb (m .plains) 4 (h .plains-few))
+      (ap (λ (r : Row). isFine (rowDecoded room r)) (row-place k i l n) ∙ fits-so k i n (omega (arith, h .threads-few)) (h .few k))
 
   pub kept-table : judged (tableOf m) ≡ good
   unfolding t
   kept-table = table-fine (tableOf m) (record {
     header = header;
     rows =
-        subst (RowsFine (tableOf m) (m .threads) (m .cells) 0) (sym counts-are)
-        (rows-from (tableOf m) (m .threads) (m .cells) 0 (m .counts) (λ k l i n. row-in k (omega (arith, h .five)) i n));
+        subst (RowsFine (tableOf m) 0) (sym counts-are)
+        (rows-from (tableOf m) 0 (m .counts) (λ k l i n. row-in k (omega (arith, h .five)) i n));
   })

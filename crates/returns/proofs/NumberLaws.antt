@@ -1,8 +1,8 @@
 -- Numbers as they are written are read back. Assumes nothing.
 --     shown-letters, shown-word     they are words
 --     number-back                   a number below 2^64
---     register-back, order-back     a register, an order
---     number-below, register-below, order-below     what is read is in range
+--     register-back, plain-back, order-back     a register, a plain cell, an order
+--     number-below, register-below, plain-below, order-below     what is read is in range
 use Prim.Native.Nat.{ℕ, zero, suc, _+_, _-_, _*_, _/_, _%_, _^_, _≤_, _<_}
 use mathlib.Core.List.{List, [], _∷_}
 use mathlib.Core.Bool.{Bool, true, false, cond, not, _&&_, _||_}
@@ -10,8 +10,8 @@ use mathlib.Core.Path.{_≡_, refl, ap, sym, subst, _∙_}
 use native.Mathlib.Omega.{arith}
 use lib.Dec.{ltb, leb, eqb, eqb·suc-zero}
 use lib.ListN.{length, getD}
-use borrow.Author.Tests.{le-leb, lt-ltb, ltb-true, ltb-false, leb-true, ne-eqb}
-use Rattle.rules.specs.Token.{bytesOf, placeIn, isBetween, isDigit, isLetter, isEmpty, Found, nothing, found, onlyIf, only, numberIn, digitsBehind, registerIn}
+use borrow.Author.Tests.{le-leb, lt-ltb, ltb-true, ltb-false, leb-true, eq-eqb, ne-eqb}
+use Rattle.rules.specs.Token.{bytesOf, placeIn, isBetween, isDigit, isLetter, isEmpty, Found, nothing, found, onlyIf, only, numberIn, digitsBehind, fourth, registerIn, plainIn}
 use Rattle.rules.specs.Vector.{equal}
 use Rattle.rules.specs.Form as Form
 use Rattle.rules.specs.Form.{orderIn}
@@ -116,20 +116,31 @@ shown-some v = by (ltb v 10)
 pub shown-word : (v : ℕ) → isWord (shown v) ≡ true
 shown-word v = letters-word (shown v) (shown-some v) (shown-letters v)
 
--- A register and an order
+-- A register, a plain cell and an order
+
+fourth-back : (letter v : ℕ) → v < 4 → fourth letter (letter ∷ shown v) ≡ found v
+unfolding digitsOf
+fourth-back letter zero h = rw (eq-eqb letter letter refl) refl
+fourth-back letter (suc zero) h = rw (eq-eqb letter letter refl) refl
+fourth-back letter (suc (suc zero)) h = rw (eq-eqb letter letter refl) refl
+fourth-back letter (suc (suc (suc zero))) h = rw (eq-eqb letter letter refl) refl
+fourth-back letter (suc (suc (suc (suc v)))) h = absurd (omega arith)
 
 pub register-back : (v : ℕ) → v < 4 → registerIn (114 ∷ shown v) ≡ found v
-unfolding registerIn digitsOf
-register-back zero h = refl
-register-back (suc zero) h = refl
-register-back (suc (suc zero)) h = refl
-register-back (suc (suc (suc zero))) h = refl
-register-back (suc (suc (suc (suc v)))) h = absurd (omega arith)
+unfolding registerIn
+register-back v h = fourth-back 114 v h
+
+pub plain-back : (v : ℕ) → v < 4 → plainIn (112 ∷ shown v) ≡ found v
+unfolding plainIn
+plain-back v h = fourth-back 112 v h
 
 pub register-word : (v : ℕ) → isWord (114 ∷ shown v) ≡ true
 register-word v = letters-word (114 ∷ shown v) (omega arith) (shown-letters v)
 
--- it is no number
+pub plain-word : (v : ℕ) → isWord (112 ∷ shown v) ≡ true
+plain-word v = letters-word (112 ∷ shown v) (omega arith) (shown-letters v)
+
+-- a register is no number
 pub register-none : (bs : List ℕ) → numberIn (114 ∷ bs) ≡ nothing
 unfolding numberIn digitsBehind
 register-none bs = rw (eqb·suc-zero (length bs)) refl
@@ -178,12 +189,19 @@ number-below bs v e = by (isEmpty bs || (eqb (getD bs 0 0) 48 && not (eqb (lengt
     by true g = none-found v g
     by false g = digits-below bs 0 v (omega arith) g
 
+fourth-below : (letter : ℕ) (bs : List ℕ) (v : ℕ) → fourth letter bs ≡ found v → v < 4
+fourth-below letter bs v e =
+    let k = onlyIf-found (eqb (length bs) 2 && eqb (getD bs 0 0) letter && isBetween 48 51 (getD bs 1 0)) (getD bs 1 0 - 48) v e in
+    let h = both-right (eqb (length bs) 2 && eqb (getD bs 0 0) letter) _ (k .0) in
+    omega (arith, k .1, leb-true (getD bs 1 0) 51 (both-right (leb 48 (getD bs 1 0)) _ h))
+
 pub register-below : (bs : List ℕ) (v : ℕ) → registerIn bs ≡ found v → v < 4
 unfolding registerIn
-register-below bs v e =
-    let k = onlyIf-found (eqb (length bs) 2 && eqb (getD bs 0 0) 114 && isBetween 48 51 (getD bs 1 0)) (getD bs 1 0 - 48) v e in
-    let h = both-right (eqb (length bs) 2 && eqb (getD bs 0 0) 114) _ (k .0) in
-    omega (arith, k .1, leb-true (getD bs 1 0) 51 (both-right (leb 48 (getD bs 1 0)) _ h))
+register-below bs v e = fourth-below 114 bs v e
+
+pub plain-below : (bs : List ℕ) (v : ℕ) → plainIn bs ≡ found v → v < 4
+unfolding plainIn
+plain-below bs v e = fourth-below 112 bs v e
 
 pub place-below : (i : ℕ) (word : List ℕ) (ws : List (List ℕ)) (v : ℕ) → placeIn i word ws ≡ found v → v < i + length ws
 unfolding placeIn

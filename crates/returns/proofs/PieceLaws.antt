@@ -14,8 +14,9 @@ use lib.ListN.{length, getD}
 use borrow.Author.Tests.{eqb-true, not-true}
 use Rattle.rules.specs.Vector.{equal}
 use Rattle.rules.specs.ConditionTree.{FineAll}
+use Rattle.rules.specs.Table.{Room}
 use Rattle.rules.specs.Token.{space, lineFeed, run, lineLength, tokenLength, endsLine, isEmpty, skip, token, pastToken, nextLine, Found, nothing, found}
-use Rattle.rules.specs.Form.{Room, fieldOf, letterIn, isField, valueOf, withField, Followed, stuck, fits, follow}
+use Rattle.rules.specs.Form.{fieldOf, letterIn, isField, valueOf, withField, Followed, stuck, fits, follow}
 use Rattle.rules.specs.Writer.{letterShown, formShown, shown}
 use Rattle.rules.proofs.VectorLaws.{equal-true}
 use Rattle.rules.proofs.MeasureRows.{both-left, both-right}

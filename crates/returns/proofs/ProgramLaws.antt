@@ -10,8 +10,8 @@ use native.Mathlib.Omega.{arith}
 use native.Mathlib.Numerals.{add-one}
 use lib.ListN.{length, getD, set, take, drop, length-append, length-take, length-drop}
 use Rattle.rules.specs.ConditionTree.{AllBytes}
-use Rattle.rules.specs.Table.{maxRows, threadsOf, cellsOf, countsOf, sizeOf, total, firstRows, Row, rowAt}
-use Rattle.rules.specs.Form.{Room, rowBytes}
+use Rattle.rules.specs.Table.{maxRows, threadsOf, cellsOf, plainsOf, valuesOf, countsOf, sizeOf, total, firstRows, Room, roomOf, Row, rowAt}
+use Rattle.rules.specs.Form.{rowBytes}
 use Rattle.rules.specs.Token.{bytesOf, lineFeed}
 use Rattle.rules.specs.Text.{Made, withRow, withThread, TextRead, linesFrom}
 use Rattle.rules.specs.Writer.{fieldsOf, rowShown, rowsShown, threadsShown}
@@ -32,7 +32,7 @@ module _ (t : List ℕ) (bytes : AllBytes t) (fine : Fine t) where
   before k = total (take k counts)
 
   abbrev pub made : ℕ → List ℕ → ℕ → Made
-  made threads sofar rows = record { cells = cellsOf t; threads = threads; counts = sofar; body = take (8 * cellsOf t + 24 * rows) (drop 8 t) }
+  made threads sofar rows = record { cells = cellsOf t; plains = plainsOf t; threads = threads; counts = sofar; body = take (8 * valuesOf t + 24 * rows) (drop 8 t) }
 
   pub counts-five : length (countsOf t) ≡ 5
   unfolding countsOf
@@ -40,37 +40,37 @@ module _ (t : List ℕ) (bytes : AllBytes t) (fine : Fine t) where
 
   -- A row
 
-  there-at : (k i : ℕ) → k < 5 → i < getD counts k 0 → There t (threadsOf t) (cellsOf t) (getD counts k 0) (before k + i)
+  there-at : (k i : ℕ) → k < 5 → i < getD counts k 0 → There t (getD counts k 0) (before k + i)
   there-at k i h l =
       let e : 0 + before k + i ≡ before k + i = omega arith in
-      row-there t (threadsOf t) (cellsOf t) (getD counts k 0) (before k + i)
-      (rw e at (thread-rows t (threadsOf t) (cellsOf t) 0 counts (fine .rows) k (omega (arith, counts-five)) i l))
+      row-there t (getD counts k 0) (before k + i)
+      (rw e at (thread-rows t 0 counts (fine .rows) k (omega (arith, counts-five)) i l))
 
   abbrev roomIn : ℕ → Room
-  roomIn k = record { threads = threadsOf t; cells = cellsOf t; rows = getD counts k 0 }
+  roomIn k = roomOf t (getD counts k 0)
 
-  line-at : (k i : ℕ) → k < 5 → i < getD counts k 0 → RowLine (roomIn k) (fieldsOf (rowAt t (cellsOf t) (before k + i))) (rowShown (rowAt t (cellsOf t) (before k + i)))
+  line-at : (k i : ℕ) → k < 5 → i < getD counts k 0 → RowLine (roomIn k) (fieldsOf (rowAt t (valuesOf t) (before k + i))) (rowShown (rowAt t (valuesOf t) (before k + i)))
   line-at k i h l =
       let r = there-at k i h l in
-      let row = rowAt t (cellsOf t) (before k + i) in
-      let small : Small (fieldsOf row) = subst (λ (x : Row). Small (fieldsOf x)) (sym (r .is)) (small-row t bytes (sizeOf (cellsOf t) (before k + i))) in
-      row-line (roomIn k) row (row-known (roomIn k) row small (r .fine))
+      let row = rowAt t (valuesOf t) (before k + i) in
+      let small : Small (fieldsOf row) = subst (λ (x : Row). Small (fieldsOf x)) (sym (r .is)) (small-row t bytes (sizeOf (valuesOf t) (before k + i))) in
+      row-line (roomIn k) row (row-known (roomIn k) row (fine .header .plains-few) small (r .fine))
 
   row-made : (k j : ℕ) → k < 5 → j < getD counts k 0 →
-      withRow (made (k + 1) (soFar counts k j) (before k + j)) (fieldsOf (rowAt t (cellsOf t) (before k + j))) ≡ made (k + 1) (soFar counts k (j + 1)) (before k + j + 1)
+      withRow (made (k + 1) (soFar counts k j) (before k + j)) (fieldsOf (rowAt t (valuesOf t) (before k + j))) ≡ made (k + 1) (soFar counts k (j + 1)) (before k + j + 1)
   row-made k j h l =
       let r = there-at k j h l in
-      let n = 8 * cellsOf t + 24 * (before k + j) in
+      let n = 8 * valuesOf t + 24 * (before k + j) in
       let e : k + 1 - 1 ≡ k = omega arith in
-      let f : 8 + n ≡ sizeOf (cellsOf t) (before k + j) = omega arith in
-      let g : n + 24 ≡ 8 * cellsOf t + 24 * (before k + j + 1) = omega arith in
-      let rowed : rowBytes (fieldsOf (rowAt t (cellsOf t) (before k + j))) ≡ take 24 (drop (8 + n) t) =
-      ap (λ (x : Row). rowBytes (fieldsOf x)) (r .is) ∙ row-bytes t bytes (sizeOf (cellsOf t) (before k + j)) (r .within) ∙ ap (λ (x : ℕ). take 24 (drop x t)) (sym f) in
+      let f : 8 + n ≡ sizeOf (valuesOf t) (before k + j) = omega arith in
+      let g : n + 24 ≡ 8 * valuesOf t + 24 * (before k + j + 1) = omega arith in
+      let rowed : rowBytes (fieldsOf (rowAt t (valuesOf t) (before k + j))) ≡ take 24 (drop (8 + n) t) =
+      ap (λ (x : Row). rowBytes (fieldsOf x)) (r .is) ∙ row-bytes t bytes (sizeOf (valuesOf t) (before k + j)) (r .within) ∙ ap (λ (x : ℕ). take 24 (drop x t)) (sym f) in
       let more : set (soFar counts k j) (k + 1 - 1) (getD (soFar counts k j) (k + 1 - 1) 0 + 1) ≡ soFar counts k (j + 1) =
       rw (e, so-at counts k j (omega (arith, counts-five))) (so-more counts k j (j + 1)) in
-      let body : take n (drop 8 t) ++ rowBytes (fieldsOf (rowAt t (cellsOf t) (before k + j))) ≡ take (8 * cellsOf t + 24 * (before k + j + 1)) (drop 8 t) =
+      let body : take n (drop 8 t) ++ rowBytes (fieldsOf (rowAt t (valuesOf t) (before k + j))) ≡ take (8 * valuesOf t + 24 * (before k + j + 1)) (drop 8 t) =
       ap (λ (x : List ℕ). take n (drop 8 t) ++ x) rowed ∙ sym (parts t bytes n 24 8) ∙ ap (λ (x : ℕ). take x (drop 8 t)) g in
-      λ i. record { cells = cellsOf t; threads = k + 1; counts = more i; body = body i }
+      λ i. record { cells = cellsOf t; plains = plainsOf t; threads = k + 1; counts = more i; body = body i }
 
   few-rows : (k j : ℕ) → k < 5 → j < getD counts k 0 → getD (soFar counts k j) (k + 1 - 1) 0 < maxRows
   few-rows k j h l =
@@ -79,10 +79,10 @@ module _ (t : List ℕ) (bytes : AllBytes t) (fine : Fine t) where
 
   -- one row of thread k, in a text of so many lines
   row-on : (lines n k j : ℕ) (rest : List ℕ) → k < 5 → j < getD counts k 0 →
-      linesFrom (suc n) lines (threadsOf t) (getD counts k 0) (made (k + 1) (soFar counts k j) (before k + j)) (rowShown (rowAt t (cellsOf t) (before k + j)) ++ rest)
+      linesFrom (suc n) lines (threadsOf t) (getD counts k 0) (made (k + 1) (soFar counts k j) (before k + j)) (rowShown (rowAt t (valuesOf t) (before k + j)) ++ rest)
       ≡ linesFrom n lines (threadsOf t) (getD counts k 0) (made (k + 1) (soFar counts k (j + 1)) (before k + j + 1)) rest
   row-on lines n k j rest h l =
-      let row = rowAt t (cellsOf t) (before k + j) in
+      let row = rowAt t (valuesOf t) (before k + j) in
       let m = made (k + 1) (soFar counts k j) (before k + j) in
       on-goes n lines (threadsOf t) (getD counts k 0) m (rowShown row ++ rest) (getD counts k 0) (withRow m (fieldsOf row)) rest
       (row-step lines (threadsOf t) (getD counts k 0) m (fieldsOf row) (rowShown row) rest (line-at k j h l) (fine .header .cells-some) (omega arith) (few-rows k j h l))
@@ -101,7 +101,7 @@ module _ (t : List ℕ) (bytes : AllBytes t) (fine : Fine t) where
         ap (λ (x : ℕ). linesFrom n lines (threadsOf t) (getD counts k 0) (made (k + 1) (soFar counts k x) (before k + x)) rest) f ∙ then n (omega arith) l
     rows-read k j (suc q) zero h e then l = absurd (omega arith)
     rows-read k j (suc q) (suc n) h e then l =
-        let line = rowShown (rowAt t (cellsOf t) (before k + j)) in
+        let line = rowShown (rowAt t (valuesOf t) (before k + j)) in
         let more = rowsShown t q (before k + j + 1) ++ rest in
         let a = append-assoc line (rowsShown t q (before k + j + 1)) rest in
         let b : before k + j + 1 ≡ before k + (j + 1) = omega arith in
@@ -119,7 +119,7 @@ module _ (t : List ℕ) (bytes : AllBytes t) (fine : Fine t) where
 
   pub plain-rows : (k : ℕ) → k < 5 → PlainRows t (getD counts k 0) (getD (firstRows 0 counts) k 0)
   plain-rows k h d l =
-      subst (λ (x : ℕ). PlainLine (rowShown (rowAt t (cellsOf t) (x + d)))) (sym (first-is k h)) (line-at k d h l .plain)
+      subst (λ (x : ℕ). PlainLine (rowShown (rowAt t (valuesOf t) (x + d)))) (sym (first-is k h)) (line-at k d h l .plain)
 
   made-next : (k : ℕ) → made (k + 1) (soFar counts k (getD counts k 0)) (before k + getD counts k 0) ≡ made (k + 1) (soFar counts (k + 1) 0) (before (k + 1))
   made-next k =

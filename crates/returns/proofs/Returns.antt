@@ -1,9 +1,10 @@
 -- What was written is read back: the whole text. Assumes nothing.
---     condition-back     the condition
---     table-back         the table that was made
---     returned           the statement
+--     condition-back             the condition
+--     table-back                 the table that was made
+--     past-plains, plains-on     past the line of the plain cells, where there is one
+--     returned                   the statement
 use Prim.Native.Nat.{ℕ, zero, suc, _+_, _-_, _*_, _≤_, _<_}
-use mathlib.Core.List.{List, [], _∷_, _++_, append-assoc, append-nil}
+use mathlib.Core.List.{List, [], _∷_, _++_, append-nil}
 use mathlib.Core.Bool.{true, false, _&&_, true≢false, or-true}
 use mathlib.Core.Path.{_≡_, refl, ap, sym, subst, _∙_}
 use mathlib.Core.Logic.{inl, inr}
@@ -14,22 +15,22 @@ use lib.ListN.{length, getD, take, drop, replicate, length-append, length-drop}
 use lib.Seq.{take-all}
 use borrow.Author.Tests.{leb-true}
 use Rattle.rules.specs.Vector.{equal}
-use Rattle.rules.specs.Table.{threadsOf, cellsOf, countsOf, total}
+use Rattle.rules.specs.Table.{maxPlains, threadsOf, cellsOf, plainsOf, valuesOf, countsOf, total}
 use Rattle.rules.specs.Condition.{Read, bad, read, conditionAt, claimAt, ends, isCondition, groupsDeep, conditionBytes}
 use Rattle.rules.specs.ConditionTree.{AllBytes}
 use Rattle.rules.specs.Token.{bytesOf, lineFeed, run, tokenLength, endsLine, isEmpty, isLetter}
-use Rattle.rules.specs.Text.{Made, tableOf, says, nothingMade, threadsAhead, claimed, claimedTo, Claimed, concluded, TextRead, refusedAt, accepted, lineOf, goesOn, linesFrom, readText}
-use Rattle.rules.specs.Writer.{unitsShown, conditionShown, threadsShown, valuesShown, writtenText}
+use Rattle.rules.specs.Text.{Made, withPlain, tableOf, says, nothingMade, threadsAhead, claimed, claimedTo, Claimed, concluded, TextRead, refusedAt, accepted, lineOf, goesOn, valuesLine, linesFrom, readText}
+use Rattle.rules.specs.Writer.{unitsShown, conditionShown, threadsShown, valuesShown, plainsShown, writtenText}
 use Rattle.rules.proofs.MeasureRows.{both-left, both-right}
 use Rattle.rules.proofs.ConditionLaws.{grammar}
 use Rattle.returns.specs.Returns.{Returned}
 use Rattle.returns.proofs.TokenLaws.{run-all}
 use Rattle.returns.proofs.TableLaws.{Fine, fine-table, table-whole}
 use Rattle.returns.proofs.CountLaws.{soFar, so-start}
-use Rattle.returns.proofs.LineLaws.{on-goes, on-ends, on-concludes, cells-step, finally-step, end-step}
+use Rattle.returns.proofs.LineLaws.{on-goes, on-ends, on-concludes, cells-step, plains-step, finally-step, end-step}
 use Rattle.returns.proofs.AheadLaws.{Ending, past-line, threads-ahead}
 use Rattle.returns.proofs.ProgramLaws.{made, counts-five, plain-rows, threads-read}
-use Rattle.returns.proofs.CellsLaws.{cells-line, cellsMade, values-parted, cells-read}
+use Rattle.returns.proofs.CellsLaws.{valuesText, values-text, values-parted, plainsText, plains-shown, cells-line, plains-line, cellsMade, plainsMade, none-yet, cells-read, plains-read}
 use Rattle.returns.proofs.UnitLaws.{Units, none, parted-units, tree-units, claimed-back}
 
 -- The condition
@@ -99,8 +100,8 @@ module _ (t : List ℕ) (bytes : AllBytes t) (fine : Fine t) where
   table-back : tableOf whole ≡ t
   table-back =
       let size = fine .header .size in
-      let rest : take (8 * cellsOf t + 24 * total (countsOf t)) (drop 8 t) ≡ drop 8 t = take-all (8 * cellsOf t + 24 * total (countsOf t)) (drop 8 t) (omega (arith, length-drop 8 t)) in
-      (λ i. threadsOf t ∷ cellsOf t ∷ (countsOf t ++ (sym (fine .header .last) i ∷ rest i))) ∙ table-whole t (fine .header .long)
+      let rest : take (8 * valuesOf t + 24 * total (countsOf t)) (drop 8 t) ≡ drop 8 t = take-all (8 * valuesOf t + 24 * total (countsOf t)) (drop 8 t) (omega (arith, length-drop 8 t)) in
+      (λ i. threadsOf t ∷ cellsOf t ∷ (countsOf t ++ (plainsOf t ∷ rest i))) ∙ table-whole t (fine .header .long)
 
   finish : (l : ℕ) (c : List ℕ) → Units c → AllBytes c → isCondition (threadsOf t) c ≡ true → (n rows : ℕ) → n ≤ suc l → length (conditionShown c) < n →
       linesFrom n (suc l) (threadsOf t) rows whole (conditionShown c) ≡ accepted t c
@@ -115,41 +116,88 @@ module _ (t : List ℕ) (bytes : AllBytes t) (fine : Fine t) where
       ∙ condition-back l whole b bs (fine .header .threads-few) k e (omega (arith, length-append (bytesOf "finally") text))
       ∙ ap (λ (x : List ℕ). accepted x (b ∷ bs)) table-back
 
-  cells-made : cellsMade t bytes fine (cellsOf t) ≡ made t bytes fine 0 (soFar (countsOf t) 0 0) (total (take 0 (countsOf t)))
+  values-made : plainsMade t bytes fine (valuesOf t) ≡ made t bytes fine 0 (soFar (countsOf t) 0 0) (total (take 0 (countsOf t)))
   unfolding total
-  cells-made =
+  values-made =
+      let p : valuesOf t - cellsOf t ≡ plainsOf t = omega arith in
       let e : replicate 5 0 ≡ soFar (countsOf t) 0 0 = sym (so-start (countsOf t) ∙ ap (λ (n : ℕ). replicate n 0) (counts-five t bytes fine)) in
-      let f : 8 * cellsOf t ≡ 8 * cellsOf t + 24 * 0 = omega arith in
-      λ i. record { cells = cellsOf t; threads = 0; counts = e i; body = take (f i) (drop 8 t) }
+      let f : 8 * valuesOf t ≡ 8 * valuesOf t + 24 * 0 = omega arith in
+      λ i. record { cells = cellsOf t; plains = p i; threads = 0; counts = e i; body = take (f i) (drop 8 t) }
+
+  -- The line of the plain cells, where there is one
+
+  past-plains : (n : ℕ) (rest : List ℕ) (k : ℕ) → ((m : ℕ) → length rest < m → threadsAhead m rest ≡ k) → length (plainsShown t ++ rest) < n →
+      threadsAhead n (plainsShown t ++ rest) ≡ k
+  past-plains zero rest k then l = absurd (omega arith)
+  past-plains (suc n) rest k then l = elim (plains-shown t) [
+    | inl a ↦
+        let e = ap (λ (x : List ℕ). x ++ rest) (a .1) in
+        ap (threadsAhead (suc n)) e ∙ then (suc n) (omega (arith, ap length e))
+    | inr a ↦
+        let e = ap (λ (x : List ℕ). x ++ rest) (a .1) in
+        let line = plains-line t in
+        let long = line .long in
+        ap (threadsAhead (suc n)) e ∙ past-line n (plainsText t) rest line ∙ then n (omega (arith, ap length e, length-append (plainsText t) rest))
+  ]
+
+  plains-on : (lines n : ℕ) (answer : TextRead) (rest : List ℕ) →
+      ((m : ℕ) → m ≤ n → length rest < m → linesFrom m lines (threadsOf t) 0 (plainsMade t bytes fine (valuesOf t)) rest ≡ answer) →
+      length (plainsShown t ++ rest) < n → linesFrom n lines (threadsOf t) 0 (cellsMade t bytes fine (cellsOf t)) (plainsShown t ++ rest) ≡ answer
+  plains-on lines zero answer rest then l = absurd (omega arith)
+  plains-on lines (suc n) answer rest then l = elim (plains-shown t) [
+    | inl a ↦
+        let e = ap (λ (x : List ℕ). x ++ rest) (a .1) in
+        let z = a .0 in
+        let all : cellsOf t ≡ valuesOf t = omega arith in
+        ap (linesFrom (suc n) lines (threadsOf t) 0 cells) e
+        ∙ ap (λ (m : Made). linesFrom (suc n) lines (threadsOf t) 0 m rest) (none-yet t bytes fine ∙ ap (plainsMade t bytes fine) all)
+        ∙ then (suc n) (omega arith) (omega (arith, ap length e))
+    | inr a ↦
+        let e = ap (λ (x : List ℕ). x ++ rest) (a .1) in
+        let long = plains-line t .long in
+        let behind = valuesShown t (plainsOf t) (cellsOf t) ++ (lineFeed ∷ rest) in
+        ap (linesFrom (suc n) lines (threadsOf t) 0 cells) (e ∙ values-text (bytesOf "plain") t (plainsOf t) (cellsOf t) rest)
+        ∙ on-goes n lines (threadsOf t) 0 cells (bytesOf "plain" ++ behind) 0 (plainsMade t bytes fine (valuesOf t)) rest
+        (plains-step lines (threadsOf t) 0 cells behind (values-parted t (plainsOf t) (cellsOf t) rest .0) (fine .header .cells-some) refl refl
+        ∙ ap (λ (m : Made). valuesLine withPlain (λ (x : Made). x .plains) maxPlains m behind) (none-yet t bytes fine)
+        ∙ plains-read t bytes fine (a .0) rest)
+        ∙ then n (omega arith) (omega (arith, ap length e, length-append (plainsText t) rest))
+  ]
+    where
+      cells : Made
+      cells = cellsMade t bytes fine (cellsOf t)
 
   -- The whole text
 
   abbrev lineOne : List ℕ
-  lineOne = bytesOf "cells" ++ (valuesShown t (cellsOf t) 0 ++ (lineFeed ∷ []))
+  lineOne = valuesText (bytesOf "cells") t (cellsOf t) 0
 
   abbrev others : List ℕ → List ℕ
   others c = threadsShown t (threadsOf t) 0 ++ conditionShown c
 
-  lines-text : (c : List ℕ) → writtenText t c ≡ lineOne ++ others c
+  lines-text : (c : List ℕ) → writtenText t c ≡ lineOne ++ (plainsShown t ++ others c)
   unfolding writtenText
-  lines-text c = sym (append-assoc (bytesOf "cells") (valuesShown t (cellsOf t) 0 ++ (lineFeed ∷ [])) (others c) ∙ ap (λ (x : List ℕ). bytesOf "cells" ++ x) (append-assoc (valuesShown t (cellsOf t) 0) (lineFeed ∷ []) (others c)))
+  lines-text c = sym (values-text (bytesOf "cells") t (cellsOf t) 0 (plainsShown t ++ others c))
 
   ahead-all : (c : List ℕ) → Units c → (n : ℕ) → length (writtenText t c) ≤ n → threadsAhead (suc n) (writtenText t c) ≡ threadsOf t
   ahead-all c u n h =
       let few = fine .header .threads-few in
-      let line = cells-line t (cellsOf t) in
+      let line = cells-line t in
       let some = line .long in
       let e = lines-text c in
       ap (threadsAhead (suc n)) e
-      ∙ past-line n lineOne (others c) line
-      ∙ threads-ahead t (conditionShown c) (ending-so c u) (threadsOf t) 0 n (λ j l. plain-rows t bytes fine j (omega arith)) (omega (arith, ap length e, length-append lineOne (others c)))
+      ∙ past-line n lineOne (plainsShown t ++ others c) line
+      ∙ past-plains n (others c) (threadsOf t)
+      (λ m l. threads-ahead t (conditionShown c) (ending-so c u) (threadsOf t) 0 m (λ j k. plain-rows t bytes fine j (omega arith)) l)
+      (omega (arith, ap length e, length-append lineOne (plainsShown t ++ others c)))
 
-  first-line : (c : List ℕ) (lines allThreads : ℕ) → lineOf lines allThreads 0 nothingMade (writtenText t c) ≡ goesOn 0 (cellsMade t bytes fine (cellsOf t)) (others c)
+  first-line : (c : List ℕ) (lines allThreads : ℕ) →
+      lineOf lines allThreads 0 nothingMade (writtenText t c) ≡ goesOn 0 (cellsMade t bytes fine (cellsOf t)) (plainsShown t ++ others c)
   unfolding writtenText
   first-line c lines allThreads =
-      let few = fine .header .cells-few in
-      cells-step lines allThreads 0 nothingMade (valuesShown t (cellsOf t) 0 ++ (lineFeed ∷ others c)) (values-parted t (cellsOf t) 0 (others c) .0) refl
-      ∙ cells-read t bytes fine (cellsOf t) 0 4 (others c) (omega arith) (omega arith)
+      let behind = plainsShown t ++ others c in
+      cells-step lines allThreads 0 nothingMade (valuesShown t (cellsOf t) 0 ++ (lineFeed ∷ behind)) (values-parted t (cellsOf t) 0 behind .0) refl
+      ∙ cells-read t bytes fine behind
 
   text-back : (c : List ℕ) → AllBytes c → isCondition (threadsOf t) c ≡ true → readText (writtenText t c) ≡ accepted t c
   unfolding readText
@@ -157,15 +205,19 @@ module _ (t : List ℕ) (bytes : AllBytes t) (fine : Fine t) where
       let text = writtenText t c in
       let l = length text in
       let u = accepted-units (threadsOf t) c (fine .header .threads-few) k e in
-      let line = cells-line t (cellsOf t) in
+      let line = cells-line t in
       let some = line .long in
-      let left : length (others c) < l = omega (arith, ap length (lines-text c), length-append lineOne (others c)) in
+      let behind = plainsShown t ++ others c in
+      let left : length behind < l = omega (arith, ap length (lines-text c), length-append lineOne behind) in
       ap (λ (n : ℕ). linesFrom n n (threadsAhead n text) 0 nothingMade text) (add-one l)
       ∙ ap (λ (n : ℕ). linesFrom (suc l) (suc l) n 0 nothingMade text) (ahead-all c u l (omega arith))
-      ∙ on-goes l (suc l) (threadsOf t) 0 nothingMade text 0 (cellsMade t bytes fine (cellsOf t)) (others c) (first-line c (suc l) (threadsOf t))
-      ∙ ap (λ (m : Made). linesFrom l (suc l) (threadsOf t) 0 m (others c)) cells-made
+      ∙ on-goes l (suc l) (threadsOf t) 0 nothingMade text 0 (cellsMade t bytes fine (cellsOf t)) behind (first-line c (suc l) (threadsOf t))
+      ∙ plains-on (suc l) l (accepted t c) (others c)
+      (λ m a b.
+      ap (λ (x : Made). linesFrom m (suc l) (threadsOf t) 0 x (others c)) values-made
       ∙ threads-read t bytes fine (suc l) (accepted t c) (conditionShown c) (ending-so c u)
-      (λ n rows h i. finish l c u k e n rows h i) (threadsOf t) 0 l 0 (omega arith) (omega arith) left
+      (λ n rows h i. finish l c u k e n rows h i) (threadsOf t) 0 m 0 (omega arith) (omega arith) b)
+      left
 
 -- "Reading what was written gives the same table and condition."
 pub returned : Returned

@@ -2,7 +2,7 @@
 --     letters-spaced        the letters of a form's pieces
 --     fields-same           the fields that they set, and those that are kept, are all
 --     row-back              a row
-use Prim.Native.Nat.{ℕ, _+_, _^_, _<_}
+use Prim.Native.Nat.{ℕ, _+_, _^_, _≤_, _<_}
 use mathlib.Core.List.{List, [], _∷_, _++_, map, append-assoc}
 use mathlib.Core.Bool.{Bool, true, false, cond, not, _||_, true≢false}
 use mathlib.Core.Path.{_≡_, refl, ap, sym, _∙_}
@@ -14,9 +14,9 @@ use lib.ListN.{length, getD, set, length-set}
 use lib.Seq.{getD-set-same, getD-set-other, ext-getD}
 use borrow.Author.Tests.{eqb-true, ltb-true, not-true}
 use Rattle.rules.specs.ConditionTree.{FineAll}
-use Rattle.rules.specs.Table.{Row, isFine, rowDecoded}
+use Rattle.rules.specs.Table.{Room, Row, isFine, rowDecoded}
 use Rattle.rules.specs.Token.{space, lineFeed}
-use Rattle.rules.specs.Form.{Room, Form, forms, fieldOf, isField, valueOf, blankFields, mostWords, fits, follow, rowIn}
+use Rattle.rules.specs.Form.{Form, forms, fieldOf, isField, valueOf, blankFields, mostWords, fits, follow, rowIn}
 use Rattle.rules.specs.Writer.{formShown, formIn, fieldsOf, rowShown}
 use Rattle.rules.proofs.VectorLaws.{equal-refl}
 use Rattle.rules.proofs.MeasureRows.{both-left, both-right}
@@ -92,7 +92,7 @@ fields-same (b ∷ bs) from fields e h =
 abbrev pub Small : List ℕ → Type 0
 Small fields = (i : ℕ) → getD fields i 0 < 2 ^ 64
 
-module _ (room : Room) (fields : List ℕ) (small : Small fields) where
+module _ (room : Room) (few : room .plains ≤ 4) (fields : List ℕ) (small : Small fields) where
   piece-back : (p : List ℕ) → isWord p ≡ true → (isField p ≡ true → inRange room (getD p 0 0) (getD fields (fieldOf (getD p 0 0)) 0) ≡ true) → PieceBack room fields p
   unfolding valueOf pieceShown
   piece-back p w h = by (isField p) refl
@@ -102,7 +102,7 @@ module _ (room : Room) (fields : List ℕ) (small : Small fields) where
 
       by : (x : Bool) → isField p ≡ x → PieceBack room fields p
       by true e = record {
-        value = rw e (letter-back room fields (getD p 0 0) (letter e) (h e) (small (fieldOf (getD p 0 0))));
+        value = rw e (letter-back room fields few (getD p 0 0) (letter e) (h e) (small (fieldOf (getD p 0 0))));
         written = rw e (letter-word room fields (getD p 0 0) (letter e) (h e));
         word = w;
       }
@@ -147,7 +147,7 @@ row-text r rest p =
 
 -- what is known of a row that is accepted, by its form
 pub record Known (room : Room) (r : Row) : Type 0 where
-  pub real : formFor r .opcode < 17
+  pub real : formFor r .opcode < 19
   pub pieces : Pieces (formFor r)
   pub back : FineAll (PieceBack room (fieldsOf r)) (piecesOf (formFor r))
   pub others : keeps (lettersOn (piecesOf (formFor r))) 0 (fieldsOf r) (blankFields (formFor r)) ≡ true
@@ -159,18 +159,18 @@ blank-letters words = refl
 pub letters-same : (f : Form) → Pieces f → lettersOf f ≡ lettersOn (piecesOf f)
 letters-same f p = blank-letters (f .words) ∙ ap lettersIn (p .words) ∙ letters-spaced (piecesOf f) (p .kinds)
 
-pub row-known : (room : Room) (r : Row) → Small (fieldsOf r) → isFine (rowDecoded (room .threads) (room .cells) (room .rows) r) ≡ true → Known room r
+pub row-known : (room : Room) (r : Row) → room .plains ≤ 4 → Small (fieldsOf r) → isFine (rowDecoded room r) ≡ true → Known room r
 unfolding rowFine
-row-known room r small h =
+row-known room r few small h =
     let g = sym (fine-so room r) ∙ h in
-    let l = ltb-true (formFor r .opcode) 17 (both-left (ltb (formFor r .opcode) 17) _ g) in
-    let k = both-right (ltb (formFor r .opcode) 17) _ g in
+    let l = ltb-true (formFor r .opcode) 19 (both-left (ltb (formFor r .opcode) 19) _ g) in
+    let k = both-right (ltb (formFor r .opcode) 19) _ g in
     let p = form-pieces (r .opcode) (r .kind) l in
     let e = letters-same (formFor r) p in
     record {
       real = l;
       pieces = p;
-      back = pieces-back room (fieldsOf r) small (piecesOf (formFor r)) (p .own) (rw e at (both-left (lettersFine room (fieldsOf r) (lettersOf (formFor r))) _ k));
+      back = pieces-back room few (fieldsOf r) small (piecesOf (formFor r)) (p .own) (rw e at (both-left (lettersFine room (fieldsOf r) (lettersOf (formFor r))) _ k));
       others = rw e at (both-right (lettersFine room (fieldsOf r) (lettersOf (formFor r))) _ k);
     }
 

@@ -16,9 +16,9 @@ use lib.Seq.{getD-drop}
 use borrow.Author.Tests.{eqb-true, ltb-true, ltb-false, eq-eqb, ne-eqb, not-true}
 use Rattle.rules.specs.Change as Change
 use Rattle.rules.specs.Change.{Change}
-use Rattle.rules.specs.Table.{Row, Op, refused, onlyIf, isFine, rowDecoded, changeDecoded, rmwRow, exclusiveRow, isRegister, loadOrder, storeOrder, fenceOrder, anyOrder, failureOrder, unused}
+use Rattle.rules.specs.Table.{Room, Row, Op, refused, onlyIf, isFine, rowDecoded, changeDecoded, rmwRow, exclusiveRow, isRegister, loadOrder, storeOrder, fenceOrder, anyOrder, failureOrder, unused}
 use Rattle.rules.specs.Token.{bytesOf}
-use Rattle.rules.specs.Form.{Room, Form, forms, fieldOf, blankFields}
+use Rattle.rules.specs.Form.{Form, forms, fieldOf, blankFields}
 use Rattle.rules.specs.Writer.{formIn, fieldsOf}
 use Rattle.rules.proofs.MeasureRows.{both-left, both-right}
 use Rattle.returns.proofs.TokenLaws.{also, either}
@@ -47,7 +47,7 @@ keeps ls i [] base = true
 keeps ls i (x ∷ xs) base = (names ls i || eqb x (getD base 0 0)) && keeps ls (i + 1) xs (drop 1 base)
 
 unfoldable pub rowFine : Room → Form → List ℕ → Bool
-rowFine room f fields = ltb (f .opcode) 17 && (lettersFine room fields (lettersOf f) && keeps (lettersOf f) 0 fields (blankFields f))
+rowFine room f fields = ltb (f .opcode) 19 && (lettersFine room fields (lettersOf f) && keeps (lettersOf f) 0 fields (blankFields f))
 
 and-left-comm : (a b c : Bool) → (a && (b && c)) ≡ (b && (a && c))
 and-left-comm true b c = refl
@@ -103,7 +103,7 @@ rowOf o ob or fa k re t a b = record { opcode = o; object = ob; order = or; fail
 module _ (room : Room) (ob or fa re t a b : ℕ) where
   -- a row of this opcode and change kind, as document 01 judges it and by a form
   abbrev judges : ℕ → ℕ → Bool
-  judges o k = isFine (rowDecoded (room .threads) (room .cells) (room .rows) (rowOf o ob or fa k re t a b))
+  judges o k = isFine (rowDecoded room (rowOf o ob or fa k re t a b))
 
   abbrev byForm : ℕ → ℕ → Form → Bool
   byForm o k f = rowFine room f (fieldsOf (rowOf o ob or fa k re t a b))
@@ -128,6 +128,8 @@ module _ (room : Room) (ob or fa re t a b : ℕ) where
     exploreState : Single k 14
     skipBranch : Single k 15
     spurious : Single k 16
+    plainRead : Single k 17
+    plainWrite : Single k 18
 
   singles : (k : ℕ) → Singles k
   unfolding rowDecoded rowFine formIn forms lettersIn lettersFine names keeps bytesOf fieldOf inRange
@@ -147,6 +149,8 @@ module _ (room : Room) (ob or fa re t a b : ℕ) where
     exploreState = only-fine _ _;
     skipBranch = only-fine _ _;
     spurious = only-fine _ _ ∙ one (isRegister re) (unused (ob ∷ or ∷ fa ∷ k ∷ t ∷ a ∷ b ∷ []));
+    plainRead = only-fine _ _ ∙ turned (ltb ob (room .plains)) (isRegister re) (unused (or ∷ fa ∷ k ∷ t ∷ a ∷ b ∷ []));
+    plainWrite = only-fine _ _ ∙ one (ltb ob (room .plains)) (unused (or ∷ fa ∷ k ∷ re ∷ t ∷ b ∷ []));
   }
 
   -- those with changes have one for each kind
@@ -227,7 +231,7 @@ keeps-at ls i (x ∷ xs) base (suc j) h l =
 abbrev noForm : Form
 noForm = record { opcode = 255; kind = 0; words = [] }
 
--- no form has an opcode from 17 on, or a kind from 13 on
+-- no form has an opcode from 19 on, or a kind from 13 on
 form-none : (o k : ℕ) (fs : List Form) → everyForm (λ (f : Form). not (eqb (f .opcode) o && eqb (f .kind) k)) fs ≡ true → formIn o k fs ≡ noForm
 unfolding formIn
 form-none o k [] h = refl
@@ -239,24 +243,24 @@ every-so : (p q : Form → Bool) → ((f : Form) → p f ≡ true → q f ≡ tr
 every-so p q g [] h = refl
 every-so p q g (f ∷ fs) h = also (g f (both-left (p f) (everyForm p fs) h)) (every-so p q g fs (both-right (p f) (everyForm p fs) h))
 
-forms-few : everyForm (λ (f : Form). ltb (f .opcode) 17 && ltb (f .kind) 13) forms ≡ true
+forms-few : everyForm (λ (f : Form). ltb (f .opcode) 19 && ltb (f .kind) 13) forms ≡ true
 unfolding forms
 forms-few = refl
 
-opcode-none : (o k : ℕ) → 17 ≤ o → formIn o k forms ≡ noForm
+opcode-none : (o k : ℕ) → 19 ≤ o → formIn o k forms ≡ noForm
 opcode-none o k h =
     form-none o k forms
-    (every-so (λ (f : Form). ltb (f .opcode) 17 && ltb (f .kind) 13) (λ (f : Form). not (eqb (f .opcode) o && eqb (f .kind) k))
+    (every-so (λ (f : Form). ltb (f .opcode) 19 && ltb (f .kind) 13) (λ (f : Form). not (eqb (f .opcode) o && eqb (f .kind) k))
     (λ f e.
-    let l = ltb-true (f .opcode) 17 (both-left (ltb (f .opcode) 17) _ e) in
+    let l = ltb-true (f .opcode) 19 (both-left (ltb (f .opcode) 19) _ e) in
     rw (ne-eqb (f .opcode) o (λ g. omega arith)) refl) forms forms-few)
 
 kind-none : (o k : ℕ) → 13 ≤ k → formIn o k forms ≡ noForm
 kind-none o k h =
     form-none o k forms
-    (every-so (λ (f : Form). ltb (f .opcode) 17 && ltb (f .kind) 13) (λ (f : Form). not (eqb (f .opcode) o && eqb (f .kind) k))
+    (every-so (λ (f : Form). ltb (f .opcode) 19 && ltb (f .kind) 13) (λ (f : Form). not (eqb (f .opcode) o && eqb (f .kind) k))
     (λ f e.
-    let l = ltb-true (f .kind) 13 (both-right (ltb (f .opcode) 17) _ e) in
+    let l = ltb-true (f .kind) 13 (both-right (ltb (f .opcode) 19) _ e) in
     rw (ne-eqb (f .kind) k (λ g. omega arith), and-false) refl) forms forms-few)
 
 past : (n x i : ℕ) → n ≤ x → i < n → eqb x i ≡ false
@@ -268,18 +272,18 @@ change-none k a b h =
     rw
     (past 13 k 0 h (omega arith), past 13 k 1 h (omega arith), past 13 k 2 h (omega arith), past 13 k 3 h (omega arith), past 13 k 4 h (omega arith), past 13 k 5 h (omega arith), past 13 k 6 h (omega arith), past 13 k 7 h (omega arith), past 13 k 8 h (omega arith), past 13 k 9 h (omega arith), past 13 k 10 h (omega arith), past 13 k 11 h (omega arith), past 13 k 12 h (omega arith))
 
-row-none : (threads cells count : ℕ) (r : Row) → 17 ≤ r .opcode → rowDecoded threads cells count r ≡ refused
+row-none : (room : Room) (r : Row) → 19 ≤ r .opcode → rowDecoded room r ≡ refused
 unfolding rowDecoded
-row-none threads cells count r h =
+row-none room r h =
     let o = r .opcode in
     rw
-    (past 17 o 0 h (omega arith), past 17 o 1 h (omega arith), past 17 o 2 h (omega arith), past 17 o 3 h (omega arith), past 17 o 4 h (omega arith), past 17 o 5 h (omega arith), past 17 o 6 h (omega arith), past 17 o 7 h (omega arith), past 17 o 8 h (omega arith), past 17 o 9 h (omega arith), past 17 o 10 h (omega arith), past 17 o 11 h (omega arith), past 17 o 12 h (omega arith), past 17 o 13 h (omega arith), past 17 o 14 h (omega arith), past 17 o 15 h (omega arith), past 17 o 16 h (omega arith))
+    (past 19 o 0 h (omega arith), past 19 o 1 h (omega arith), past 19 o 2 h (omega arith), past 19 o 3 h (omega arith), past 19 o 4 h (omega arith), past 19 o 5 h (omega arith), past 19 o 6 h (omega arith), past 19 o 7 h (omega arith), past 19 o 8 h (omega arith), past 19 o 9 h (omega arith), past 19 o 10 h (omega arith), past 19 o 11 h (omega arith), past 19 o 12 h (omega arith), past 19 o 13 h (omega arith), past 19 o 14 h (omega arith), past 19 o 15 h (omega arith), past 19 o 16 h (omega arith), past 19 o 17 h (omega arith), past 19 o 18 h (omega arith))
 
 -- a row of a form whose letters do not stand for the kind has the form's kind
 kind-kept : (room : Room) (f : Form) (fields : List ℕ) → 4 < length fields → names (lettersOf f) 4 ≡ false → rowFine room f fields ≡ true → getD fields 4 0 ≡ f .kind
 unfolding rowFine
 kind-kept room f fields l n h =
-    let k = both-right (lettersFine room fields (lettersOf f)) _ (both-right (ltb (f .opcode) 17) _ h) in
+    let k = both-right (lettersFine room fields (lettersOf f)) _ (both-right (ltb (f .opcode) 19) _ h) in
     elim (keeps-at (lettersOf f) 0 fields (blankFields f) 4 k l) [ inl y ↦ absurd (true≢false (sym y ∙ n)) | inr y ↦ y ]
 
 module _ (room : Room) (ob or fa re t a b : ℕ) where
@@ -322,7 +326,7 @@ module _ (room : Room) (ob or fa re t a b : ℕ) where
       by true x = below (Kind room ob or fa re t a b 6) (mut-kinds room ob or fa re t a b) k (ltb-true k 13 x)
       by false x = none-fine 6 k (rw (change-none k a b (ltb-false k 13 x)) refl) (kind-none 6 k (ltb-false k 13 x))
 
-  opcodes : (k : ℕ) → Below (λ (o : ℕ). Judged o k) 17
+  opcodes : (k : ℕ) → Below (λ (o : ℕ). Judged o k) 19
   unfolding formIn forms lettersIn names bytesOf fieldOf
   opcodes k =
       let s = singles room ob or fa re t a b k in
@@ -344,15 +348,16 @@ module _ (room : Room) (ob or fa re t a b : ℕ) where
       ▸ single 14 k refl refl refl (s .exploreState)
       ▸ single 15 k refl refl refl (s .skipBranch)
       ▸ single 16 k refl refl refl (s .spurious)
+      ▸ single 17 k refl refl refl (s .plainRead)
+      ▸ single 18 k refl refl refl (s .plainWrite)
 
   fine-fields : (o k : ℕ) → Judged o k
-  fine-fields o k = by (ltb o 17) refl
+  fine-fields o k = by (ltb o 19) refl
     where
-      by : (x : Bool) → ltb o 17 ≡ x → Judged o k
-      by true x = below (λ (i : ℕ). Judged i k) (opcodes k) o (ltb-true o 17 x)
+      by : (x : Bool) → ltb o 19 ≡ x → Judged o k
+      by true x = below (λ (i : ℕ). Judged i k) (opcodes k) o (ltb-true o 19 x)
       by false x =
-          none-fine o k (ap isFine (row-none (room .threads) (room .cells) (room .rows) (rowOf o ob or fa k re t a b) (ltb-false o 17 x))) (opcode-none o k (ltb-false o 17 x))
+          none-fine o k (ap isFine (row-none room (rowOf o ob or fa k re t a b) (ltb-false o 19 x))) (opcode-none o k (ltb-false o 19 x))
 
-pub fine-so : (room : Room) (r : Row) →
-    isFine (rowDecoded (room .threads) (room .cells) (room .rows) r) ≡ rowFine room (formIn (r .opcode) (r .kind) forms) (fieldsOf r)
+pub fine-so : (room : Room) (r : Row) → isFine (rowDecoded room r) ≡ rowFine room (formIn (r .opcode) (r .kind) forms) (fieldsOf r)
 fine-so room r = fine-fields room (r .object) (r .order) (r .failure) (r .register) (r .target) (r .a) (r .b) (r .opcode) (r .kind)

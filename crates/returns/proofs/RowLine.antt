@@ -13,9 +13,9 @@ use lib.ListN.{length}
 use borrow.Author.Tests.{not-true}
 use Rattle.rules.specs.Vector.{equal}
 use Rattle.rules.specs.ConditionTree.{FineAll, AllBytes}
-use Rattle.rules.specs.Table.{Row, rowFrom}
+use Rattle.rules.specs.Table.{Room, Row, rowFrom}
 use Rattle.rules.specs.Token.{bytesOf, space, lineFeed, run, tokenLength, isEmpty, endsLine, skip, token, nextLine}
-use Rattle.rules.specs.Form.{Room, Form, forms, fieldOf, isField, fits, rowIn}
+use Rattle.rules.specs.Form.{Form, forms, fieldOf, isField, fits, rowIn}
 use Rattle.rules.specs.Text.{says}
 use Rattle.rules.specs.Writer.{letterShown, fieldsOf, rowShown}
 use Rattle.rules.proofs.VectorLaws.{equal-true}

@@ -12,9 +12,9 @@ use lib.ListN.{length, getD}
 use lib.Seq.{ext-getD}
 use borrow.Author.Tests.{eqb-true, ltb-true, leb-true, lt-ltb, not-true}
 use Rattle.rules.specs.Vector.{equal}
-use Rattle.rules.specs.Table.{maxRows, Row, isFine, rowDecoded}
+use Rattle.rules.specs.Table.{maxRows, Room, Row, isFine, rowDecoded}
 use Rattle.rules.specs.Token.{bytesOf, run, tokenLength, endsLine, skip, nextLine}
-use Rattle.rules.specs.Form.{Room, Form, forms, fieldOf, blankFields, mostWords, Followed, stuck, fits, follow, tried, further, rowIn}
+use Rattle.rules.specs.Form.{Form, forms, fieldOf, blankFields, mostWords, Followed, stuck, fits, follow, tried, further, rowIn}
 use Rattle.rules.specs.Writer.{formIn, fieldsOf}
 use Rattle.rules.proofs.VectorLaws.{equal-true}
 use Rattle.rules.proofs.MeasureRows.{both-left, both-right}
@@ -82,12 +82,13 @@ fields-back fields e =
 abbrev pub limitAt : ℕ → ℕ
 limitAt i = cond (ltb i 6) 256 (cond (eqb i 6) 65536 (2 ^ 64))
 
-letter-limit : (room : Room) (v : ℕ) → room .cells ≤ 4 → room .threads ≤ 5 → room .rows ≤ maxRows → v < 2 ^ 64 → (b : ℕ) → ltb (fieldOf b) 9 ≡ true → inRange room b v ≡ true → v < limitAt (fieldOf b)
+letter-limit : (room : Room) (v : ℕ) → room .cells ≤ 4 → room .plains ≤ 4 → room .threads ≤ 5 → room .rows ≤ maxRows → v < 2 ^ 64 → (b : ℕ) → ltb (fieldOf b) 9 ≡ true → inRange room b v ≡ true → v < limitAt (fieldOf b)
 unfolding fieldOf inRange
-letter-limit room v c t r s b h =
+letter-limit room v c p t r s b h =
     letter-cases (λ (x : ℕ). inRange room x v ≡ true → v < limitAt (fieldOf x)) b h
     (λ e. omega (arith, ltb-true v 4 e))
     (λ e. omega (arith, ltb-true v (room .cells) e))
+    (λ e. omega (arith, ltb-true v (room .plains) e))
     (λ e. omega (arith, ltb-true v (room .threads) e))
     (λ e. omega (arith, leb-true v (room .rows) e))
     (λ e. s)
@@ -98,14 +99,14 @@ letter-limit room v c t r s b h =
     (λ e. omega (arith, any-below v (fence-any v e)))
     (λ e. omega (arith, any-below v (load-any v e)))
 
-blank-limit : (f : Form) → f .opcode < 17 → f .kind < 13 → (i : ℕ) → i < 9 → getD (blankFields f) i 0 < limitAt i
+blank-limit : (f : Form) → f .opcode < 19 → f .kind < 13 → (i : ℕ) → i < 9 → getD (blankFields f) i 0 < limitAt i
 blank-limit f o k =
     nine (λ (i : ℕ). getD (blankFields f) i 0 < limitAt i) (omega arith) (omega arith) (omega arith) (omega arith) (omega arith) (omega arith) (omega arith) (omega arith) (omega arith)
 
 -- What is computed of each form: its opcode and kind are its own, no letter stands for them, and none for a field twice
 sound : Form → Bool
 sound f =
-    ltb (f .opcode) 17 && (ltb (f .kind) 13 && (distinct (lettersOn (piecesOf f)) && (not (names (lettersOn (piecesOf f)) 0) && (not (names (lettersOn (piecesOf f)) 4)
+    ltb (f .opcode) 19 && (ltb (f .kind) 13 && (distinct (lettersOn (piecesOf f)) && (not (names (lettersOn (piecesOf f)) 0) && (not (names (lettersOn (piecesOf f)) 4)
     && (eqb (formIn (f .opcode) (f .kind) forms .opcode) (f .opcode) && (eqb (formIn (f .opcode) (f .kind) forms .kind) (f .kind) && equal (formIn (f .opcode) (f .kind) forms .words) (f .words)))))))
 
 forms-sound : everyForm sound forms ≡ true
@@ -113,7 +114,7 @@ unfolding sound forms bytesOf formIn piecesIn run tokenLength endsLine equal fie
 forms-sound = refl
 
 record Sound (f : Form) : Type 0 where
-  opcode : f .opcode < 17
+  opcode : f .opcode < 19
   kind : f .kind < 13
   once : distinct (lettersOn (piecesOf f)) ≡ true
   noOpcode : names (lettersOn (piecesOf f)) 0 ≡ false
@@ -125,7 +126,7 @@ unfolding sound
 sound-so f e =
     let ls = lettersOn (piecesOf f) in
     let g = formIn (f .opcode) (f .kind) forms in
-    let e1 = both-right (ltb (f .opcode) 17) _ e in
+    let e1 = both-right (ltb (f .opcode) 19) _ e in
     let e2 = both-right (ltb (f .kind) 13) _ e1 in
     let e3 = both-right (distinct ls) _ e2 in
     let e4 = both-right (not (names ls 0)) _ e3 in
@@ -135,7 +136,7 @@ sound-so f e =
     let k = eqb-true (g .kind) (f .kind) (both-left (eqb (g .kind) (f .kind)) _ e6) in
     let w = equal-true (g .words) (f .words) (both-right (eqb (g .kind) (f .kind)) _ e6) in
     record {
-      opcode = ltb-true (f .opcode) 17 (both-left (ltb (f .opcode) 17) _ e);
+      opcode = ltb-true (f .opcode) 19 (both-left (ltb (f .opcode) 19) _ e);
       kind = ltb-true (f .kind) 13 (both-left (ltb (f .kind) 13) _ e1);
       once = both-left (distinct ls) _ e2;
       noOpcode = not-true (names ls 0) (both-left (not (names ls 0)) _ e3);
@@ -146,8 +147,8 @@ sound-so f e =
 -- A row that is read
 
 pub record RowRead (room : Room) (bs fields rest : List ℕ) : Type 0 where
-  pub fine : isFine (rowDecoded (room .threads) (room .cells) (room .rows) (rowWith fields)) ≡ true
-  pub within : room .cells ≤ 4 → room .threads ≤ 5 → room .rows ≤ maxRows → (i : ℕ) → i < 9 → getD fields i 0 < limitAt i
+  pub fine : isFine (rowDecoded room (rowWith fields)) ≡ true
+  pub within : room .cells ≤ 4 → room .plains ≤ 4 → room .threads ≤ 5 → room .rows ≤ maxRows → (i : ℕ) → i < 9 → getD fields i 0 < limitAt i
   pub long : length fields ≡ 9
   pub next : rest ≡ nextLine bs
 
@@ -159,13 +160,13 @@ module _ (room : Room) (f : Form) (s : Sound f) (p : Pieces f) (fields : List �
   unfolding rowFine
   fine-by =
       let e = letters-same f p in
-      also (lt-ltb (f .opcode) 17 (s .opcode))
+      also (lt-ltb (f .opcode) 19 (s .opcode))
       (also (ap (lettersFine room fields) e ∙ filled-fine room filled refl (s .once))
       (ap (λ (ls : List ℕ). keeps ls 0 fields (blankFields f)) e
       ∙ keeps-made (lettersOn (piecesOf f)) 0 fields (blankFields f)
       (λ j l n. let z : 0 + j ≡ j = omega arith in filled-kept room filled j (ap (names (lettersOn (piecesOf f))) (sym z) ∙ n))))
 
-  fine-row : isFine (rowDecoded (room .threads) (room .cells) (room .rows) (rowWith fields)) ≡ true
+  fine-row : isFine (rowDecoded room (rowWith fields)) ≡ true
   fine-row =
       let o : getD fields 0 0 ≡ f .opcode = filled-kept room filled 0 (s .noOpcode) in
       let k : getD fields 4 0 ≡ f .kind = filled-kept room filled 4 (s .noKind) in
@@ -175,13 +176,13 @@ module _ (room : Room) (f : Form) (s : Sound f) (p : Pieces f) (fields : List �
       ∙ ap (λ (g : Form). rowFine room g fields) (s .own)
       ∙ fine-by
 
-  limits : room .cells ≤ 4 → room .threads ≤ 5 → room .rows ≤ maxRows → (i : ℕ) → i < 9 → getD fields i 0 < limitAt i
-  limits c t r i l = by (names (lettersOn (piecesOf f)) i) refl
+  limits : room .cells ≤ 4 → room .plains ≤ 4 → room .threads ≤ 5 → room .rows ≤ maxRows → (i : ℕ) → i < 9 → getD fields i 0 < limitAt i
+  limits c pl t r i l = by (names (lettersOn (piecesOf f)) i) refl
     where
       by : (x : Bool) → names (lettersOn (piecesOf f)) i ≡ x → getD fields i 0 < limitAt i
       by true n =
           let g = filled-at room filled refl i n in
-          subst (λ (j : ℕ). getD fields i 0 < limitAt j) (g .1) (letter-limit room (getD fields i 0) c t r (g .4) (g .0) (g .2) (g .3))
+          subst (λ (j : ℕ). getD fields i 0 < limitAt j) (g .1) (letter-limit room (getD fields i 0) c pl t r (g .4) (g .0) (g .2) (g .3))
       by false n = subst (λ (v : ℕ). v < limitAt i) (sym (filled-kept room filled i n)) (blank-limit f (s .opcode) (s .kind) i l)
 
 pub row-read : (room : Room) (bs fields rest : List ℕ) → rowIn room bs ≡ fits fields rest → RowRead room bs fields rest

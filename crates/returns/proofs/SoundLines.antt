@@ -16,15 +16,16 @@ use Rattle.rules.specs.Table.{maxRows, judged, good}
 use Rattle.rules.specs.ConditionTree.{AllBytes}
 use Rattle.rules.specs.Token.{bytesOf, tokenLength, isEmpty, skip, token, pastToken, nextLine, Found, nothing, found, numberIn}
 use Rattle.rules.specs.Form.{Followed, stuck, fits, rowIn}
-use Rattle.rules.specs.Text.{Made, withCell, rowsSoFar, tableOf, says, isBare, rowsAhead, threadsAhead, Line, goesOn, refusedLine, ended, concludes, bareThen, cellsLine, firstLine, rowLine, aRow, aThread, theCondition, theEnd, lineOf}
+use Rattle.rules.specs.Text.{Made, withCell, withPlain, rowsSoFar, tableOf, says, isBare, rowsAhead, threadsAhead, Line, goesOn, refusedLine, ended, concludes, bareThen, valuesLine, firstLine, isPlainLine, plainLine, rowLine, aRow, aThread, theCondition, theEnd, lineOf}
 use Rattle.rules.proofs.VectorLaws.{equal-true}
 use Rattle.rules.proofs.MeasureRows.{pick, both-left, both-right}
+use Rattle.returns.proofs.RowLine.{Other}
 use Rattle.returns.proofs.LineLaws.{roomFor}
 use Rattle.returns.proofs.NextLaws.{next-skip, next-past, line-shorter, rowsEnd, threadsEnd, rows-line, threads-line}
 use Rattle.returns.proofs.AheadLaws.{ending-stops, rows-stop, threads-stop}
 use Rattle.returns.proofs.RowRead.{row-read}
 use Rattle.returns.proofs.MadeLaws.{Kept, kept-bytes, kept-table}
-use Rattle.returns.proofs.KeptLaws.{kept-cell, kept-any, kept-thread, kept-row}
+use Rattle.returns.proofs.KeptLaws.{kept-cell, kept-plain, kept-any, kept-thread, kept-row}
 
 -- The first word of a line
 
@@ -36,40 +37,62 @@ bare-silent : (bs : List ℕ) → isBare bs ≡ true → (says "thread" bs ≡ f
 unfolding bytesOf equal
 bare-silent bs e = rw (bare-token bs e) (refl, refl)
 
+-- one that says another word than these
+word-silent : (w bs : List ℕ) → Other w → equal (token (skip bs)) w ≡ true → (says "thread" bs ≡ false) × (says "finally" bs ≡ false)
+word-silent w bs o e = rw (equal-true (token (skip bs)) w e) o
+
 cells-silent : (bs : List ℕ) → says "cells" bs ≡ true → (says "thread" bs ≡ false) × (says "finally" bs ≡ false)
 unfolding bytesOf equal
-cells-silent bs e = rw (equal-true (token (skip bs)) (bytesOf "cells") e) (refl, refl)
+cells-silent bs e = word-silent (bytesOf "cells") bs (refl, refl) e
 
--- Cells
+plain-silent : (bs : List ℕ) → says "plain" bs ≡ true → (says "thread" bs ≡ false) × (says "finally" bs ≡ false)
+unfolding bytesOf equal
+plain-silent bs e = word-silent (bytesOf "plain") bs (refl, refl) e
+
+-- Start values
 
 module _ (allThreads : ℕ) where
-  -- a line of cells comes out so, and the next line is the one behind these bytes
-  abbrev OfCells : List ℕ → Line → Type 0
-  OfCells bs (goesOn more m rest) = Kept allThreads more m × (m .threads ≡ 0) × (rest ≡ nextLine bs)
-  OfCells bs (refusedLine rest) = Unit {0}
-  OfCells bs (ended m) = ⊥
-  OfCells bs (concludes m rest) = ⊥
+  -- a line of start values comes out so, and the next line is the one behind these bytes
+  abbrev OfValues : List ℕ → Line → Type 0
+  OfValues bs (goesOn more m rest) = Kept allThreads more m × (m .threads ≡ 0) × (rest ≡ nextLine bs)
+  OfValues bs (refusedLine rest) = Unit {0}
+  OfValues bs (ended m) = ⊥
+  OfValues bs (concludes m rest) = ⊥
 
-  bare-cells : (m : Made) (bs : List ℕ) → Kept allThreads 0 m → m .threads ≡ 0 → OfCells bs (bareThen 0 m bs)
-  bare-cells m bs h z = pick (OfCells bs) (isBare bs) (λ e. (h, z, next-skip bs)) (λ e. tt)
+  bare-values : (m : Made) (bs : List ℕ) → Kept allThreads 0 m → m .threads ≡ 0 → OfValues bs (bareThen 0 m bs)
+  bare-values m bs h z = pick (OfValues bs) (isBare bs) (λ e. (h, z, next-skip bs)) (λ e. tt)
 
-  behind-cell : (bs : List ℕ) (line : Line) → OfCells (pastToken (skip bs)) line → OfCells bs line
-  behind-cell bs (goesOn more m rest) h = (h .0, h .1, h .2 ∙ next-past (skip bs) ∙ next-skip bs)
-  behind-cell bs (refusedLine rest) h = tt
-  behind-cell bs (ended m) h = h
-  behind-cell bs (concludes m rest) h = h
+  behind-value : (bs : List ℕ) (line : Line) → OfValues (pastToken (skip bs)) line → OfValues bs line
+  behind-value bs (goesOn more m rest) h = (h .0, h .1, h .2 ∙ next-past (skip bs) ∙ next-skip bs)
+  behind-value bs (refusedLine rest) h = tt
+  behind-value bs (ended m) h = h
+  behind-value bs (concludes m rest) h = h
 
-  cells-after : (n : ℕ) (m : Made) (bs : List ℕ) → Kept allThreads 0 m → m .threads ≡ 0 → m .cells + n ≤ 4 → OfCells bs (cellsLine n m bs)
-  unfolding cellsLine
-  cells-after zero m bs h z l = bare-cells m bs h z
-  cells-after (suc n) m bs h z l =
-      by (numberIn (token (skip bs)))
-      (λ v. behind-cell bs (cellsLine n (withCell m v) (pastToken (skip bs))) (cells-after n (withCell m v) (pastToken (skip bs)) (kept-cell allThreads 0 v m h z (omega arith)) z (omega arith)))
-    where
-      by : (f : Found) → ((v : ℕ) → OfCells bs (cellsLine n (withCell m v) (pastToken (skip bs)))) →
-          OfCells bs (elim f [ found v ↦ cellsLine n (withCell m v) (pastToken (skip bs)) | nothing ↦ cond (leb 1 (m .cells)) (bareThen 0 m bs) (refusedLine (skip bs)) ])
-      by (found v) later = later v
-      by nothing later = pick (OfCells bs) (leb 1 (m .cells)) (λ e. bare-cells m bs h z) (λ e. tt)
+  -- what one value more keeps
+  record Grows (more : Made → ℕ → Made) (many : Made → ℕ) : Type 0 where
+    kept : (v : ℕ) (m : Made) → Kept allThreads 0 m → m .threads ≡ 0 → many m < 4 → Kept allThreads 0 (more m v)
+    threads : (v : ℕ) (m : Made) → more m v .threads ≡ m .threads
+    counted : (v : ℕ) (m : Made) → many (more m v) ≡ many m + 1
+
+  cells-grow : Grows withCell (λ (m : Made). m .cells)
+  cells-grow = record { kept = λ v m h z l. kept-cell allThreads 0 v m h z l; threads = λ v m. refl; counted = λ v m. refl }
+
+  plains-grow : Grows withPlain (λ (m : Made). m .plains)
+  plains-grow = record { kept = λ v m h z l. kept-plain allThreads 0 v m h z l; threads = λ v m. refl; counted = λ v m. refl }
+
+  module _ (more : Made → ℕ → Made) (many : Made → ℕ) (grows : Grows more many) where
+    values-after : (n : ℕ) (m : Made) (bs : List ℕ) → Kept allThreads 0 m → m .threads ≡ 0 → many m + n ≤ 4 → OfValues bs (valuesLine more many n m bs)
+    unfolding valuesLine
+    values-after zero m bs h z l = bare-values m bs h z
+    values-after (suc n) m bs h z l =
+        by (numberIn (token (skip bs)))
+        (λ v. behind-value bs (valuesLine more many n (more m v) (pastToken (skip bs)))
+        (values-after n (more m v) (pastToken (skip bs)) (grows .kept v m h z (omega arith)) (grows .threads v m ∙ z) (omega (arith, grows .counted v m))))
+      where
+        by : (f : Found) → ((v : ℕ) → OfValues bs (valuesLine more many n (more m v) (pastToken (skip bs)))) →
+            OfValues bs (elim f [ found v ↦ valuesLine more many n (more m v) (pastToken (skip bs)) | nothing ↦ cond (leb 1 (many m)) (bareThen 0 m bs) (refusedLine (skip bs)) ])
+        by (found v) later = later v
+        by nothing later = pick (OfValues bs) (leb 1 (many m)) (λ e. bare-values m bs h z) (λ e. tt)
 
 -- Lines
 
@@ -123,9 +146,9 @@ module _ (l allThreads : ℕ) where
             },
           )
 
-      -- in a line that says "cells", there is no thread yet
-      cells-go : says "thread" bs ≡ false → m .threads ≡ 0 → (line : Line) → OfCells allThreads (pastToken (skip bs)) line → After line
-      cells-go t z (goesOn more made rest) k =
+      -- in a line of start values, there is no thread yet
+      values-go : says "thread" bs ≡ false → m .threads ≡ 0 → (line : Line) → OfValues allThreads (pastToken (skip bs)) line → After line
+      values-go t z (goesOn more made rest) k =
           let same : rest ≡ nextLine (skip bs) = k .2 ∙ next-past (skip bs) in (
             k .0,
             record {
@@ -134,9 +157,9 @@ module _ (l allThreads : ℕ) where
               rows-are = λ s. absurd (omega (arith, k .1));
             },
           )
-      cells-go t z (refusedLine rest) k = tt
-      cells-go t z (ended made) k = absurd k
-      cells-go t z (concludes made rest) k = absurd k
+      values-go t z (refusedLine rest) k = tt
+      values-go t z (ended made) k = absurd k
+      values-go t z (concludes made rest) k = absurd k
 
       thread-after : 1 ≤ m .cells → says "thread" bs ≡ true → After (aThread (suc l) m bs)
       thread-after c t =
@@ -179,13 +202,17 @@ module _ (l allThreads : ℕ) where
             },
           )
 
+    -- a line of start values, where there is none yet
+    some-values : (more : Made → ℕ → Made) (many : Made → ℕ) → Grows allThreads more many → isEmpty (skip bs) ≡ false → (says "thread" bs ≡ false) × (says "finally" bs ≡ false) →
+        m .threads ≡ 0 → many m ≡ 0 → After (valuesLine more many 4 m (pastToken (skip bs)))
+    some-values more many grows full silent none z =
+        values-go full (silent .1) (silent .0) none (valuesLine more many 4 m (pastToken (skip bs)))
+        (values-after allThreads more many grows 4 m (pastToken (skip bs)) (kept-any allThreads rows 0 m h none) none (omega arith))
+
     first-after : isEmpty (skip bs) ≡ false → m .cells ≡ 0 → After (firstLine m bs)
     first-after full z =
         pick After (says "cells" bs)
-        (λ s.
-        let silent = cells-silent bs s in
-        cells-go full (silent .1) (silent .0) none (cellsLine 4 m (pastToken (skip bs)))
-        (cells-after allThreads 4 m (pastToken (skip bs)) (kept-any allThreads rows 0 m h none) none (omega arith)))
+        (λ s. some-values withCell (λ (x : Made). x .cells) (cells-grow allThreads) full (cells-silent bs s) none z)
         (λ s. tt)
       where
         none : m .threads ≡ 0
@@ -194,6 +221,14 @@ module _ (l allThreads : ℕ) where
             by : (x : Bool) → leb 1 (m .threads) ≡ x → m .threads ≡ 0
             by true e = absurd (omega (arith, h .some (leb-true 1 (m .threads) e)))
             by false e = omega (arith, leb-false 1 (m .threads) e)
+
+    plain-after : isEmpty (skip bs) ≡ false → isPlainLine m bs ≡ true → After (plainLine m bs)
+    plain-after full e =
+        let z = both-left (eqb (m .threads) 0 && eqb (m .plains) 0) (says "plain" bs) e in
+        some-values withPlain (λ (x : Made). x .plains) (plains-grow allThreads) full
+        (plain-silent bs (both-right (eqb (m .threads) 0 && eqb (m .plains) 0) (says "plain" bs) e))
+        (eqb-true (m .threads) 0 (both-left (eqb (m .threads) 0) (eqb (m .plains) 0) z))
+        (eqb-true (m .plains) 0 (both-right (eqb (m .threads) 0) (eqb (m .plains) 0) z))
 
     one-row : isEmpty (skip bs) ≡ false → isBare bs ≡ false → says "thread" bs ≡ false → says "finally" bs ≡ false → After (aRow allThreads rows m bs)
     one-row full b t f =
@@ -217,5 +252,6 @@ module _ (l allThreads : ℕ) where
         pick After (isEmpty (skip bs)) end-after
         (λ full. pick After (isBare bs) (λ b. bare-after full (bare-silent bs b .1) b)
         (λ b. pick After (eqb (m .cells) 0) (λ c. first-after full (eqb-true (m .cells) 0 c))
-        (λ c. pick After (says "thread" bs) (λ t. thread-after full (thread-silent t) (some-cells c) t)
-        (λ t. pick After (says "finally" bs) finally-after (λ f. one-row full b t f)))))
+        (λ c. pick After (isPlainLine m bs) (plain-after full)
+        (λ p. pick After (says "thread" bs) (λ t. thread-after full (thread-silent t) (some-cells c) t)
+        (λ t. pick After (says "finally" bs) finally-after (λ f. one-row full b t f))))))

@@ -12,31 +12,31 @@ use borrow.Author.Tests.{lt-ltb, le-ltb, le-leb, lt-leb, ne-eqb}
 use lib.Dec.{eqb}
 use lib.ListN.{length, getD, drop, drop-of-length-le}
 use lib.Seq.{drop-cons}
-use Rattle.rules.specs.Table.{Row, maxCells, allRows, rowBytes, sizeOf, noRow, rowFrom, rowAt}
+use Rattle.rules.specs.Table.{Row, maxValues, allRows, rowBytes, sizeOf, noRow, rowFrom, rowAt}
 use Rattle.rules.specs.Form.{forms, fieldOf}
 use Rattle.rules.specs.Writer.{shown, orderShown, letterShown, formShown, formIn, fieldsOf, rowShown}
 use Rattle.row_line.specs.Pieces.{pieceShown}
 
 -- Fields
 
-module _ (t : List ℕ) (cells index : ℕ) where
-  pub fields-held : cells ≤ maxCells → index < allRows → sizeOf cells index + rowBytes ≤ length t → (fields : List ℕ) → fields ≡ fieldsOf (rowFrom t (sizeOf cells index)) → fields ≡ fieldsOf (rowAt t cells index)
+module _ (t : List ℕ) (values index : ℕ) where
+  pub fields-held : values ≤ maxValues → index < allRows → sizeOf values index + rowBytes ≤ length t → (fields : List ℕ) → fields ≡ fieldsOf (rowFrom t (sizeOf values index)) → fields ≡ fieldsOf (rowAt t values index)
   unfolding rowAt
   fields-held h k l fields e =
-      e ∙ (rw (le-leb cells maxCells h, lt-ltb index allRows k, le-leb (sizeOf cells index + rowBytes) (length t) l))
+      e ∙ (rw (le-leb values maxValues h, lt-ltb index allRows k, le-leb (sizeOf values index + rowBytes) (length t) l))
 
-  pub fields-short : cells ≤ maxCells → index < allRows → length t < sizeOf cells index + rowBytes → fieldsOf noRow ≡ fieldsOf (rowAt t cells index)
+  pub fields-short : values ≤ maxValues → index < allRows → length t < sizeOf values index + rowBytes → fieldsOf noRow ≡ fieldsOf (rowAt t values index)
   unfolding rowAt
   fields-short h k l =
-      rw (le-leb cells maxCells h, lt-ltb index allRows k, lt-leb (sizeOf cells index + rowBytes) (length t) l)
+      rw (le-leb values maxValues h, lt-ltb index allRows k, lt-leb (sizeOf values index + rowBytes) (length t) l)
 
-  pub fields-past : cells ≤ maxCells → allRows ≤ index → fieldsOf noRow ≡ fieldsOf (rowAt t cells index)
+  pub fields-past : values ≤ maxValues → allRows ≤ index → fieldsOf noRow ≡ fieldsOf (rowAt t values index)
   unfolding rowAt
-  fields-past h k = rw (le-leb cells maxCells h, le-ltb index allRows k)
+  fields-past h k = rw (le-leb values maxValues h, le-ltb index allRows k)
 
-  pub fields-none : maxCells < cells → fieldsOf noRow ≡ fieldsOf (rowAt t cells index)
+  pub fields-none : maxValues < values → fieldsOf noRow ≡ fieldsOf (rowAt t values index)
   unfolding rowAt
-  fields-none h = rw (lt-leb cells maxCells h)
+  fields-none h = rw (lt-leb values maxValues h)
 
 -- Pieces
 
@@ -48,27 +48,37 @@ module _ (b : ℕ) (fields : List ℕ) (field : ℕ) (e : field ≡ fieldOf b) w
     letter : letterShown b fields ≡ pieceShown b fields
     letter = rw (← e, lt-ltb field 9 h)
 
+    -- a letter that is written before the number
+    module _ (k small : ℕ) (at : ℕ) (is-at : fieldOf k ≡ at) (made : letterShown k fields ≡ small ∷ shown (getD fields at 0)) where
+      piece-lettered : b ≡ k → (small ∷ []) ++ shown (getD fields field 0) ≡ pieceShown b fields
+      piece-lettered r =
+          ap (λ (i : ℕ). small ∷ shown (getD fields i 0)) (e ∙ ap fieldOf r ∙ is-at)
+          ∙ sym (ap (λ (x : ℕ). letterShown x fields) r ∙ made)
+          ∙ letter
+
     pub piece-register : b ≡ 82 → (114 ∷ []) ++ shown (getD fields field 0) ≡ pieceShown b fields
     unfolding letterShown fieldOf
-    piece-register r =
-        let five : field ≡ 5 = e ∙ ap fieldOf r in
-        let made : letterShown b fields ≡ 114 ∷ shown (getD fields 5 0) = ap (λ (x : ℕ). letterShown x fields) r in
-        ap (λ (i : ℕ). 114 ∷ shown (getD fields i 0)) five ∙ sym made ∙ letter
+    piece-register r = piece-lettered 82 114 5 refl refl r
+
+    pub piece-plain : b ≡ 80 → (112 ∷ []) ++ shown (getD fields field 0) ≡ pieceShown b fields
+    unfolding letterShown fieldOf
+    piece-plain r = piece-lettered 80 112 1 refl refl r
 
     abbrev other : Bool → List ℕ
     other t = cond t (orderShown (getD fields (fieldOf b) 0)) (shown (getD fields (fieldOf b) 0))
 
-    piece-other : (b ≡ 82 → ⊥) → (t : Bool) → (eqb field 2 || eqb field 3) ≡ t → other t ≡ pieceShown b fields
-    unfolding letterShown
-    piece-other n t s =
-        let made : letterShown b fields ≡ other (eqb (fieldOf b) 2 || eqb (fieldOf b) 3) = rw (ne-eqb b 82 n) in
-        ap other (sym s ∙ ap (λ (i : ℕ). eqb i 2 || eqb i 3) e) ∙ sym made ∙ letter
+    module _ (n : b ≡ 82 → ⊥) (p : b ≡ 80 → ⊥) where
+      piece-other : (t : Bool) → (eqb field 2 || eqb field 3) ≡ t → other t ≡ pieceShown b fields
+      unfolding letterShown
+      piece-other t s =
+          let made : letterShown b fields ≡ other (eqb (fieldOf b) 2 || eqb (fieldOf b) 3) = rw (ne-eqb b 82 n, ne-eqb b 80 p) in
+          ap other (sym s ∙ ap (λ (i : ℕ). eqb i 2 || eqb i 3) e) ∙ sym made ∙ letter
 
-    pub piece-order : (b ≡ 82 → ⊥) → (eqb field 2 || eqb field 3) ≡ true → orderShown (getD fields field 0) ≡ pieceShown b fields
-    piece-order n s = ap (λ (i : ℕ). orderShown (getD fields i 0)) e ∙ piece-other n true s
+      pub piece-order : (eqb field 2 || eqb field 3) ≡ true → orderShown (getD fields field 0) ≡ pieceShown b fields
+      piece-order s = ap (λ (i : ℕ). orderShown (getD fields i 0)) e ∙ piece-other true s
 
-    pub piece-number : (b ≡ 82 → ⊥) → (eqb field 2 || eqb field 3) ≡ false → shown (getD fields field 0) ≡ pieceShown b fields
-    piece-number n s = ap (λ (i : ℕ). shown (getD fields i 0)) e ∙ piece-other n false s
+      pub piece-number : (eqb field 2 || eqb field 3) ≡ false → shown (getD fields field 0) ≡ pieceShown b fields
+      piece-number s = ap (λ (i : ℕ). shown (getD fields i 0)) e ∙ piece-other false s
 
 -- Words
 

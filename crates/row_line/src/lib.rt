@@ -10,35 +10,35 @@ ghost use Rattle.put.specs.Puts.{Puts};
 ghost use Rattle.row_line.specs.Pieces.{pieceShown};
 use form::FORMS;
 use form::Fields;
-use layout::MAX_CELLS;
 use put::put_byte;
 use put::put_bytes;
 use put::put_number;
 use put::put_order;
 use table::limits::ALL_ROWS;
 use table::limits::HEADER;
+use table::limits::MAX_VALUES;
 use table::limits::ROW;
 use table::limits::VALUE;
 use table::little::u16_at;
 use table::little::u64_at;
 
-// The row of this number among all rows of a table with so many cells.
-pub fn put_row(text: &mut [u8], at: usize, table: &[u8], cells: usize, index: usize) -> usize
-    ensures { λ r. ⌜ Puts (now (text .entry)) (now (text .exit)) at (rowShown (rowAt (now (table .entry)) cells index)) r ⌝ }
+// The row of this number among all rows of a table with so many start values.
+pub fn put_row(text: &mut [u8], at: usize, table: &[u8], values: usize, index: usize) -> usize
+    ensures { λ r. ⌜ Puts (now (text .entry)) (now (text .exit)) at (rowShown (rowAt (now (table .entry)) values index)) r ⌝ }
 {
-    let fields = fields_at(table, cells, index);
+    let fields = fields_at(table, values, index);
     let first = put_bytes(text, at, b"  ");
     let behind = put_form(text, first, &FORMS, fields);
     put_byte(text, behind, b'\n')
 }
 
 // That row's fields; those of no row where the table does not hold it.
-fn fields_at(table: &[u8], cells: usize, index: usize) -> Fields
-    ensures { λ r. ⌜ r ≡ fieldsOf (rowAt (now (table .entry)) cells index) ⌝ }
+fn fields_at(table: &[u8], values: usize, index: usize) -> Fields
+    ensures { λ r. ⌜ r ≡ fieldsOf (rowAt (now (table .entry)) values index) ⌝ }
 {
-    if cells <= MAX_CELLS {
+    if values <= MAX_VALUES {
         if index < ALL_ROWS {
-            let at = HEADER + VALUE * cells + ROW * index;
+            let at = HEADER + VALUE * values + ROW * index;
             if at + ROW <= table.len() {
                 return fields_from(table, at);
             }
@@ -119,6 +119,10 @@ fn put_piece(text: &mut [u8], at: usize, byte: u8, fields: Fields) -> usize
     let value = fields[field];
     if byte == b'R' {
         let behind = put_byte(text, at, b'r');
+        return put_number(text, behind, value);
+    }
+    if byte == b'P' {
+        let behind = put_byte(text, at, b'p');
         return put_number(text, behind, value);
     }
     if (field == 2) | (field == 3) {

@@ -81,8 +81,8 @@ pub said-none : (table : List ℕ) (thread number : ℕ) → 5 ≤ thread → ro
 unfolding rowSaid
 said-none table thread number h = rw (le-ltb thread 5 h)
 
-module _ (table : List ℕ) (thread number : ℕ) (shape : List ℕ) (t n cells first : ℕ) where
-  pub said-some : t ≡ thread → t < 5 → shape ≡ shapeOf table → cells ≡ getD shape 1 0 → first ≡ getD shape (7 + t) 0 → n ≡ number →
-      rowWords (rowAt table cells (first + n)) ≡ rowSaid table thread number
+module _ (table : List ℕ) (thread number : ℕ) (shape : List ℕ) (t n cells plains first : ℕ) where
+  pub said-some : t ≡ thread → t < 5 → shape ≡ shapeOf table → cells ≡ getD shape 1 0 → plains ≡ getD shape 12 0 → first ≡ getD shape (7 + t) 0 → n ≡ number →
+      rowWords (rowAt table (cells + plains) (first + n)) ≡ rowSaid table thread number
   unfolding rowSaid
-  said-some e h s c f m = let k : thread < 5 = omega arith in rw (lt-ltb thread 5 k, c, f, m, s, e)
+  said-some e h s c p f m = let k : thread < 5 = omega arith in rw (lt-ltb thread 5 k, c, p, f, m, s, e)

@@ -18,5 +18,5 @@ rowWords r = cond (leb (length (rowShown r)) 256) (formShown (formIn (r .opcode)
 unfoldable pub rowSaid : List ℕ → ℕ → ℕ → List ℕ
 rowSaid table thread number =
     cond (ltb thread maxThreads)
-    (rowWords (rowAt table (getD (shapeOf table) 1 0) (getD (shapeOf table) (7 + thread) 0 + number)))
+    (rowWords (rowAt table (getD (shapeOf table) 1 0 + getD (shapeOf table) 12 0) (getD (shapeOf table) (7 + thread) 0 + number)))
     []

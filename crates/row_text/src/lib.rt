@@ -10,6 +10,7 @@ use line::Line;
 use line::WIDTH;
 use table::CELLS;
 use table::FIRSTS;
+use table::PLAINS;
 
 // How many blanks a text has before a row.
 const BLANKS: usize = 2;
@@ -23,17 +24,17 @@ pub fn put(line: &mut Line, at: usize, table: &[u8], thread: u8, number: u8) -> 
         return at;
     }
     let shape = table::shape(table);
-    let cells = wide16(shape[CELLS]);
+    let values = wide16(shape[CELLS]) + wide16(shape[PLAINS]);
     let first = wide16(shape[FIRSTS + t]);
-    put_at(line, at, table, cells, first + wide8(number))
+    put_at(line, at, table, values, first + wide8(number))
 }
 
-// The row of this number among all rows of a table with so many cells.
-fn put_at(line: &mut Line, at: usize, table: &[u8], cells: usize, index: usize) -> usize
-    ensures { λ r. ⌜ ended (now (line .exit)) r ≡ putText (ended (now (line .entry)) at) (rowWords (rowAt (now (table .entry)) cells index)) ⌝ }
+// The row of this number among all rows of a table with so many start values.
+fn put_at(line: &mut Line, at: usize, table: &[u8], values: usize, index: usize) -> usize
+    ensures { λ r. ⌜ ended (now (line .exit)) r ≡ putText (ended (now (line .entry)) at) (rowWords (rowAt (now (table .entry)) values index)) ⌝ }
 {
     let mut text = [0u8; WIDTH];
-    let to = row_line::put_row(&mut text, 0, table, cells, index);
+    let to = row_line::put_row(&mut text, 0, table, values, index);
     if WIDTH < to {
         return at;
     }

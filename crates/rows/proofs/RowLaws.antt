@@ -40,7 +40,7 @@ use Rattle.rows.specs.Pendings.{Pends}
 
 -- the rows that set no operation
 abbrev pub others : List ℕ
-others = 4 ∷ 5 ∷ 6 ∷ 7 ∷ 8 ∷ 9 ∷ 10 ∷ 11 ∷ 12 ∷ 13 ∷ 14 ∷ 15 ∷ 16 ∷ []
+others = 4 ∷ 5 ∷ 6 ∷ 7 ∷ 8 ∷ 9 ∷ 10 ∷ 11 ∷ 12 ∷ 13 ∷ 14 ∷ 15 ∷ 16 ∷ 17 ∷ 18 ∷ []
 
 pub pends-none : (op : Op) → OneOf others (tagOf Op.the-type op) → Pends pending.Nothing (pendingOf (opOf op))
 pends-none (code.Load order cell register) k = absurd (miss others 0 tt k)
@@ -60,6 +60,8 @@ pends-none code.Critical k = record { is = refl; within = tt }
 pends-none code.ExploreState k = record { is = refl; within = tt }
 pends-none code.SkipBranch k = record { is = refl; within = tt }
 pends-none (code.Spurious register) k = record { is = refl; within = tt }
+pends-none (code.PlainRead plain register) k = record { is = refl; within = tt }
+pends-none (code.PlainWrite plain value) k = record { is = refl; within = tt }
 
 pub pends-as : (op m : Op) (r s : Pending) → op ≡ m → r ≡ s → inRange (opOf op) → (inRange (opOf m) → Pends s (pendingOf (opOf m))) → Pends r (pendingOf (opOf op))
 pends-as op m r s e f within g = rw (e, f) (g (rw e at within))
@@ -177,7 +179,7 @@ flag-false b n e f = rw (e, f)
 
 -- the rows that are given none
 abbrev pub all-others : List ℕ
-all-others = 0 ∷ 1 ∷ 2 ∷ 3 ∷ 4 ∷ 5 ∷ 6 ∷ 7 ∷ 8 ∷ 9 ∷ 10 ∷ 11 ∷ 12 ∷ 13 ∷ 14 ∷ 15 ∷ []
+all-others = 0 ∷ 1 ∷ 2 ∷ 3 ∷ 4 ∷ 5 ∷ 6 ∷ 7 ∷ 8 ∷ 9 ∷ 10 ∷ 11 ∷ 12 ∷ 13 ∷ 14 ∷ 15 ∷ 17 ∷ 18 ∷ []
 
 module _ (st : State) (t k v : ℕ) where
   pub bit-refused : (row : Decoded) → row ≡ Refused → stops st Event.impossible ≡ bitTaken st t k v (decodedOf row)
@@ -203,6 +205,8 @@ module _ (st : State) (t k v : ℕ) where
   bit-none code.ExploreState h = refl
   bit-none code.SkipBranch h = refl
   bit-none (code.Spurious register) h = absurd (miss all-others 16 tt h)
+  bit-none (code.PlainRead plain register) h = refl
+  bit-none (code.PlainWrite plain value) h = refl
 
   pub bit-other : (row : Decoded) (op : Op) → row ≡ Says op → OneOf all-others (tagOf Op.the-type op) → stops st Event.impossible ≡ bitTaken st t k v (decodedOf row)
   bit-other row op e h = rw e (bit-none op h)

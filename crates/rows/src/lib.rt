@@ -37,7 +37,7 @@ use layout::register_at;
 use synchronize::join_into;
 use track::access;
 
-// The pending operation that a row sets, with its cell; a row of opcodes 4 to 16 sets none.
+// The pending operation that a row sets, with its cell; a row of opcodes from 4 on sets none.
 pub enum Pending {
     Nothing,
     On { action: u16, cell: usize },

@@ -1,6 +1,6 @@
 -- What is said of the numbers, where a cell is accessed and where a scheduling records an access. Assumes nothing.
 --     Leaves                                                     of the state that an access leaves
---     load-leaves, rmw-leaves, unsync-leaves, mut-leaves         so it is after each
+--     load-leaves, rmw-leaves, unsync-leaves, mut-leaves, plain-leaves      so it is after each
 --     access-kept                                                and after the access that a scheduling records
 use Prim.Native.Nat.{ℕ, _<_}
 use mathlib.Core.List.{List}
@@ -8,6 +8,7 @@ use lib.Dec.{eqb}
 use Rattle.rules.specs.Change.{Change, Changed, success, failure}
 use Rattle.rules.specs.State.{State, Numbers, withNumber, cells, accessBranch, nonLoadBranch, withVector, lastAccess, lastNonLoad, scheduleOf}
 use Rattle.rules.specs.Cell.{storeDone, Access, raced, read, Race, noRace, raceOf, unlessRace, sighted, loadDone, byChange, succeeded, rmwDone, unsyncLoadDone, mutDone, withClocks}
+use Rattle.rules.specs.Plain.{plainReadDone}
 use Rattle.rules.specs.Machine
 use Rattle.rules.specs.Machine.{noOperation}
 use Rattle.rules.proofs.MeasureRows.{pick}
@@ -33,6 +34,10 @@ module _ (Q : Numbers → Type 0) where
   pub mut-leaves : (st : State) (t c : ℕ) (change : Change) → Q (st .numbers) → Leaves (mutDone st t c change)
   unfolding mutDone
   mut-leaves st t c change q = search (unless-race, isRead)
+
+  pub plain-leaves : (st : State) (t c : ℕ) → Q (st .numbers) → Leaves (plainReadDone st t c)
+  unfolding plainReadDone
+  plain-leaves st t c q = search (unless-race, isRead)
 
   -- what a store of one of so many cells keeps
   module _ (top : ℕ) (store : (st : State) (u c : ℕ) (from : List ℕ) (v o : ℕ) → c < top → Q (st .numbers) → Q (storeDone st u c from v o .numbers)) where

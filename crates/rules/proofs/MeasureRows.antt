@@ -1,8 +1,8 @@
 -- A row that says something names cells, threads and targets that there are: so every write of its acts stands under its own name.
 -- Assumes nothing.
 --     pick, both-left, both-right     what a test picks
---     Names, RowNames, op-names       what a row names is there, by the numbers of its table
---     row-in-place                    so it is among the five threads and the four cells, whatever the table
+--     Names, RowNames, op-names       what a row names is there, by the room that it has
+--     widest, row-in-place            so it is among the five threads, the four cells and the four plain cells, whatever the table
 --     OnCell, row-on-cell             and a pending operation is on one of the four cells
 use Prim.Native.Nat.{ℕ, _+_, _≤_, _<_}
 use mathlib.Core.List.{List}
@@ -15,8 +15,8 @@ use lib.ListN.{length}
 use borrow.Author.Tests.{ltb-true, leb-true}
 use Rattle.rules.specs.Change.{Change}
 use Rattle.rules.specs.Table as Table
-use Rattle.rules.specs.Table.{Op, Row, Decoded, refused, decoded, onlyIf, rowDecoded, rowAt, opAt}
-use Rattle.rules.specs.State.{threads, cells}
+use Rattle.rules.specs.Table.{Op, Row, Room, Decoded, refused, decoded, onlyIf, rowDecoded, rowAt, opAt}
+use Rattle.rules.specs.State.{threads, cells, plains}
 use Rattle.rules.specs.Machine.{Program, Pending, nothing, pends, pendingOf, rowCount, rowOf}
 
 -- what holds of both sides of a test holds of what it picks
@@ -33,82 +33,90 @@ both-right true y e = e
 both-right false true e = refl
 both-right false false e = e
 
--- in a table of m threads and n cells, in a thread of so many rows
-abbrev pub Names : ℕ → ℕ → ℕ → Op → Type 0
-Names m n count (Table.load c o r) = c < n
-Names m n count (Table.store c o a) = c < n
-Names m n count (Table.storeRegister c o r) = c < n
-Names m n count (Table.rmw c o f change r) = c < n
-Names m n count (Table.fence o) = Unit
-Names m n count (Table.unsyncLoad c r) = c < n
-Names m n count (Table.exclusive c change r) = c < n
-Names m n count Table.yield = Unit
-Names m n count (Table.join target) = target < m
-Names m n count (Table.jump target) = target ≤ count
-Names m n count (Table.jumpIf r a target) = target ≤ count
-Names m n count (Table.jumpUnless r a target) = target ≤ count
-Names m n count (Table.check r a) = Unit
-Names m n count Table.critical = Unit
-Names m n count Table.exploreState = Unit
-Names m n count Table.skipBranch = Unit
-Names m n count (Table.spurious r) = Unit
+-- in a room
+abbrev pub Names : Room → Op → Type 0
+Names room (Table.load c o r) = c < room .cells
+Names room (Table.store c o a) = c < room .cells
+Names room (Table.storeRegister c o r) = c < room .cells
+Names room (Table.rmw c o f change r) = c < room .cells
+Names room (Table.fence o) = Unit
+Names room (Table.unsyncLoad c r) = c < room .cells
+Names room (Table.exclusive c change r) = c < room .cells
+Names room Table.yield = Unit
+Names room (Table.join target) = target < room .threads
+Names room (Table.jump target) = target ≤ room .rows
+Names room (Table.jumpIf r a target) = target ≤ room .rows
+Names room (Table.jumpUnless r a target) = target ≤ room .rows
+Names room (Table.check r a) = Unit
+Names room Table.critical = Unit
+Names room Table.exploreState = Unit
+Names room Table.skipBranch = Unit
+Names room (Table.spurious r) = Unit
+Names room (Table.plainRead c r) = c < room .plains
+Names room (Table.plainWrite c a) = c < room .plains
 
 -- what is said of what a row decodes to
-module _ (m n count : ℕ) where
+module _ (room : Room) where
   unfoldable pub RowNames : Decoded Op → Type 0
   RowNames refused = Unit
-  RowNames (decoded op) = Names m n count op
+  RowNames (decoded op) = Names room op
 
   none : RowNames refused
   unfolding RowNames
   none = tt
 
-  only-names : (b : Bool) (op : Op) → RowNames (onlyIf b op) ↔ (b ≡ true → Names m n count op)
+  only-names : (b : Bool) (op : Op) → RowNames (onlyIf b op) ↔ (b ≡ true → Names room op)
   unfolding RowNames
   only-names true op = (λ h e. h, λ h. h refl)
   only-names false op = (λ h e. absurd (false≢true e), λ h. tt)
 
-  pub is-named : (op : Op) → RowNames (decoded op) → Names m n count op
+  pub is-named : (op : Op) → RowNames (decoded op) → Names room op
   unfolding RowNames
   is-named op h = h
 
   module _ (r : Row) where
-    bare : (op : Op) → Names m n count op → RowNames (Table.bareRow op r)
+    bare : (op : Op) → Names room op → RowNames (Table.bareRow op r)
     bare op h = simp only-names (λ e. h)
 
-    load-names : RowNames (Table.loadRow n r)
+    load-names : RowNames (Table.loadRow (room .cells) r)
     load-names = simp (only-names, and-eq-true-iff) (omega (arith, ltb-true))
 
-    store-names : RowNames (Table.storeRow n r)
+    store-names : RowNames (Table.storeRow (room .cells) r)
     store-names = simp (only-names, and-eq-true-iff) (omega (arith, ltb-true))
 
-    register-names : RowNames (Table.storeRegisterRow n r)
+    register-names : RowNames (Table.storeRegisterRow (room .cells) r)
     register-names = simp (only-names, and-eq-true-iff) (omega (arith, ltb-true))
 
-    rmw-names : (change : Decoded Change) → RowNames (Table.rmwRow n r change)
+    rmw-names : (change : Decoded Change) → RowNames (Table.rmwRow (room .cells) r change)
     rmw-names refused = none
     rmw-names (decoded change) = simp (only-names, and-eq-true-iff) (omega (arith, ltb-true))
 
-    unsync-names : RowNames (Table.unsyncLoadRow n r)
+    unsync-names : RowNames (Table.unsyncLoadRow (room .cells) r)
     unsync-names = simp (only-names, and-eq-true-iff) (omega (arith, ltb-true))
 
-    exclusive-names : (change : Decoded Change) → RowNames (Table.exclusiveRow n r change)
+    exclusive-names : (change : Decoded Change) → RowNames (Table.exclusiveRow (room .cells) r change)
     exclusive-names refused = none
     exclusive-names (decoded change) = simp (only-names, and-eq-true-iff) (omega (arith, ltb-true))
 
-    join-names : RowNames (Table.joinRow m r)
+    join-names : RowNames (Table.joinRow (room .threads) r)
     join-names = simp (only-names, and-eq-true-iff) (omega (arith, ltb-true))
 
-    jump-names : RowNames (Table.jumpRow count r)
+    jump-names : RowNames (Table.jumpRow (room .rows) r)
     jump-names = simp (only-names, and-eq-true-iff) (omega (arith, leb-true))
 
-    jump-if-names : RowNames (Table.jumpOnRow Table.jumpIf count r)
+    jump-if-names : RowNames (Table.jumpOnRow Table.jumpIf (room .rows) r)
     jump-if-names = simp (only-names, and-eq-true-iff) (omega (arith, leb-true))
 
-    jump-unless-names : RowNames (Table.jumpOnRow Table.jumpUnless count r)
+    jump-unless-names : RowNames (Table.jumpOnRow Table.jumpUnless (room .rows) r)
     jump-unless-names = simp (only-names, and-eq-true-iff) (omega (arith, leb-true))
 
-    row-names : RowNames (rowDecoded m n count r)
+    plain-read-names : RowNames (Table.plainReadRow (room .plains) r)
+    plain-read-names = simp (only-names, and-eq-true-iff) (omega (arith, ltb-true))
+
+    plain-write-names : RowNames (Table.plainWriteRow (room .plains) r)
+    plain-write-names = simp (only-names, and-eq-true-iff) (omega (arith, ltb-true))
+
+    row-names : RowNames (rowDecoded room r)
     unfolding rowDecoded
     row-names =
         pick RowNames (eqb (r .opcode) 0) (λ e. load-names)
@@ -127,57 +135,62 @@ module _ (m n count : ℕ) where
         (λ e. pick RowNames (eqb (r .opcode) 13) (λ e. bare Table.critical tt)
         (λ e. pick RowNames (eqb (r .opcode) 14) (λ e. bare Table.exploreState tt)
         (λ e. pick RowNames (eqb (r .opcode) 15) (λ e. bare Table.skipBranch tt)
-        (λ e. pick RowNames (eqb (r .opcode) 16) (λ e. simp only-names (λ e. tt)) (λ e. none)))))))))))))))))
+        (λ e. pick RowNames (eqb (r .opcode) 16) (λ e. simp only-names (λ e. tt))
+        (λ e. pick RowNames (eqb (r .opcode) 17) (λ e. plain-read-names)
+        (λ e. pick RowNames (eqb (r .opcode) 18) (λ e. plain-write-names) (λ e. none)))))))))))))))))))
 
-  pub op-names : (t : List ℕ) (index : ℕ) → RowNames (opAt t m n count index)
+  -- there are not more threads, cells and plain cells than there can be
+  abbrev pub fewEnough : Bool
+  fewEnough = leb (room .threads) Table.maxThreads && leb (room .cells) Table.maxCells && leb (room .plains) Table.maxPlains
+
+  pub op-names : (t : List ℕ) (index : ℕ) → RowNames (opAt t room index)
   unfolding opAt
-  op-names t index = pick RowNames (leb m Table.maxThreads) (λ e. row-names (rowAt t n index)) (λ e. none)
+  op-names t index = pick RowNames fewEnough (λ e. row-names (rowAt t (room .cells + room .plains) index)) (λ e. none)
 
 -- Whatever the table
 
-pub names-more : (m n count : ℕ) → m ≤ threads → n ≤ cells → (op : Op) → Names m n count op → Names threads cells count op
-names-more m n count few held (Table.load c o r) h = omega arith
-names-more m n count few held (Table.store c o a) h = omega arith
-names-more m n count few held (Table.storeRegister c o r) h = omega arith
-names-more m n count few held (Table.rmw c o f change r) h = omega arith
-names-more m n count few held (Table.fence o) h = h
-names-more m n count few held (Table.unsyncLoad c r) h = omega arith
-names-more m n count few held (Table.exclusive c change r) h = omega arith
-names-more m n count few held Table.yield h = h
-names-more m n count few held (Table.join target) h = omega arith
-names-more m n count few held (Table.jump target) h = h
-names-more m n count few held (Table.jumpIf r a target) h = h
-names-more m n count few held (Table.jumpUnless r a target) h = h
-names-more m n count few held (Table.check r a) h = h
-names-more m n count few held Table.critical h = h
-names-more m n count few held Table.exploreState h = h
-names-more m n count few held Table.skipBranch h = h
-names-more m n count few held (Table.spurious r) h = h
+-- the room of a thread of so many rows, in a table with as many of each as there can be
+abbrev pub widest : ℕ → Room
+widest count = record { threads = threads; cells = cells; plains = plains; rows = count }
 
-row-more : (m n count : ℕ) → m ≤ threads → n ≤ cells → (d : Decoded Op) → RowNames m n count d → RowNames threads cells count d
-unfolding RowNames
-row-more m n count few held refused h = tt
-row-more m n count few held (decoded op) h = names-more m n count few held op h
+module _ (room : Room) (few : room .threads ≤ threads) (held : room .cells ≤ cells) (plain : room .plains ≤ plains) where
+  pub names-more : (op : Op) → Names room op → Names (widest (room .rows)) op
+  names-more (Table.load c o r) h = omega arith
+  names-more (Table.store c o a) h = omega arith
+  names-more (Table.storeRegister c o r) h = omega arith
+  names-more (Table.rmw c o f change r) h = omega arith
+  names-more (Table.fence o) h = h
+  names-more (Table.unsyncLoad c r) h = omega arith
+  names-more (Table.exclusive c change r) h = omega arith
+  names-more Table.yield h = h
+  names-more (Table.join target) h = omega arith
+  names-more (Table.jump target) h = h
+  names-more (Table.jumpIf r a target) h = h
+  names-more (Table.jumpUnless r a target) h = h
+  names-more (Table.check r a) h = h
+  names-more Table.critical h = h
+  names-more Table.exploreState h = h
+  names-more Table.skipBranch h = h
+  names-more (Table.spurious r) h = h
+  names-more (Table.plainRead c r) h = omega arith
+  names-more (Table.plainWrite c a) h = omega arith
 
--- with more cells than there can be, no row is one
-no-row : (m n count : ℕ) → RowNames threads cells count (rowDecoded m n count Table.noRow)
-unfolding rowDecoded
-no-row m n count = none threads cells count
+  row-more : (d : Decoded Op) → RowNames room d → RowNames (widest (room .rows)) d
+  unfolding RowNames
+  row-more refused h = tt
+  row-more (decoded op) h = names-more op h
 
-row-at-in : (t : List ℕ) (m n count index : ℕ) → m ≤ threads → RowNames threads cells count (rowDecoded m n count (rowAt t n index))
-unfolding rowAt
-row-at-in t m n count index few =
-    let many = leb n Table.maxCells in
-    let held = leb (Table.sizeOf n index + Table.rowBytes) (length t) in
-    pick (λ (r : Row). RowNames threads cells count (rowDecoded m n count r)) (many && ltb index Table.allRows && held)
-    (λ e. row-more m n count few (leb-true _ _ (both-left many _ (both-left _ held e))) _ (row-names m n count _))
-    (λ e. no-row m n count)
-
-pub row-in-place : (p : Program) (t k : ℕ) → RowNames threads cells (rowCount p t) (rowOf p t k)
+pub row-in-place : (p : Program) (t k : ℕ) → RowNames (widest (rowCount p t)) (rowOf p t k)
 unfolding opAt
 row-in-place p t k =
-    pick (RowNames threads cells (rowCount p t)) (leb (Table.threadsOf (p .table)) Table.maxThreads)
-    (λ e. row-at-in (p .table) _ _ _ _ (leb-true _ _ e)) (λ e. none _ _ _)
+    let room = Table.roomOf (p .table) (rowCount p t) in
+    let few = leb (room .threads) Table.maxThreads in
+    let held = leb (room .cells) Table.maxCells in
+    let plain = leb (room .plains) Table.maxPlains in
+    pick (RowNames (widest (rowCount p t))) (fewEnough room)
+    (λ e. row-more room (leb-true _ _ (both-left few _ (both-left _ plain e))) (leb-true _ _ (both-right few held (both-left _ plain e)))
+    (leb-true _ _ (both-right (few && held) plain e)) _ (row-names room _))
+    (λ e. none (widest (rowCount p t)))
 
 -- Pending operations
 
@@ -189,29 +202,31 @@ unfoldable pub RowOnCell : Decoded Op → Type 0
 RowOnCell refused = Unit
 RowOnCell (decoded op) = OnCell (pendingOf op)
 
-pub on-cell : (m count : ℕ) (op : Op) → Names m cells count op → OnCell (pendingOf op)
-on-cell m count (Table.load c o r) h = h
-on-cell m count (Table.store c o a) h = h
-on-cell m count (Table.storeRegister c o r) h = h
-on-cell m count (Table.rmw c o f change r) h = h
-on-cell m count (Table.fence o) h = tt
-on-cell m count (Table.unsyncLoad c r) h = tt
-on-cell m count (Table.exclusive c change r) h = tt
-on-cell m count Table.yield h = tt
-on-cell m count (Table.join target) h = tt
-on-cell m count (Table.jump target) h = tt
-on-cell m count (Table.jumpIf r a target) h = tt
-on-cell m count (Table.jumpUnless r a target) h = tt
-on-cell m count (Table.check r a) h = tt
-on-cell m count Table.critical h = tt
-on-cell m count Table.exploreState h = tt
-on-cell m count Table.skipBranch h = tt
-on-cell m count (Table.spurious r) h = tt
+pub on-cell : (count : ℕ) (op : Op) → Names (widest count) op → OnCell (pendingOf op)
+on-cell count (Table.load c o r) h = h
+on-cell count (Table.store c o a) h = h
+on-cell count (Table.storeRegister c o r) h = h
+on-cell count (Table.rmw c o f change r) h = h
+on-cell count (Table.fence o) h = tt
+on-cell count (Table.unsyncLoad c r) h = tt
+on-cell count (Table.exclusive c change r) h = tt
+on-cell count Table.yield h = tt
+on-cell count (Table.join target) h = tt
+on-cell count (Table.jump target) h = tt
+on-cell count (Table.jumpIf r a target) h = tt
+on-cell count (Table.jumpUnless r a target) h = tt
+on-cell count (Table.check r a) h = tt
+on-cell count Table.critical h = tt
+on-cell count Table.exploreState h = tt
+on-cell count Table.skipBranch h = tt
+on-cell count (Table.spurious r) h = tt
+on-cell count (Table.plainRead c r) h = tt
+on-cell count (Table.plainWrite c a) h = tt
 
-row-on : (m count : ℕ) (d : Decoded Op) → RowNames m cells count d → RowOnCell d
+row-on : (count : ℕ) (d : Decoded Op) → RowNames (widest count) d → RowOnCell d
 unfolding RowOnCell RowNames
-row-on m count refused h = tt
-row-on m count (decoded op) h = on-cell m count op h
+row-on count refused h = tt
+row-on count (decoded op) h = on-cell count op h
 
 pub row-on-cell : (p : Program) (t k : ℕ) → RowOnCell (rowOf p t k)
-row-on-cell p t k = row-on threads (rowCount p t) (rowOf p t k) (row-in-place p t k)
+row-on-cell p t k = row-on (rowCount p t) (rowOf p t k) (row-in-place p t k)

@@ -6,17 +6,18 @@
 use Prim.Native.Nat.{ℕ, zero, suc, _+_, _*_, _≤_, _<_}
 use mathlib.Core.List.{List}
 use mathlib.Core.Bool.{Bool, cond}
-use mathlib.Core.Path.{_≡_, ap, sym, _∙_}
+use mathlib.Core.Path.{_≡_, refl, ap, sym, _∙_}
 use mathlib.Core.Logic.{_≢_, _⊎_, inl, inr}
 use native.Mathlib.Omega.{arith}
 use native.Mathlib.Nat.{add-zero, zero-add}
 use lib.Dec.{eqb}
 use lib.ListN.{length, replicate, length-replicate, getD-replicate}
 use Rattle.rules.specs.Vector.{oneMore}
-use Rattle.rules.specs.Table.{threadsOf, cellsOf}
+use Rattle.rules.specs.Table.{threadsOf, cellsOf, plainsOf}
 use Rattle.rules.specs.State as State
 use Rattle.rules.specs.State.{State, Numbers, Number, number, withNumber, numberAt, numbersHeld, threads, cells, none, operatesOn, phase, activeThread, count, isSeqCst, lastYield, accessBranch, nonLoadBranch, exploring, storeAt}
 use Rattle.rules.specs.Cell.{storeDone, slotOf}
+use Rattle.rules.specs.Plain.{plainWriteDone}
 use Rattle.rules.specs.Machine
 use Rattle.rules.specs.Machine.{Program, start, absent, runnable, toBegin, ended}
 use Rattle.rules.specs.Measure.{ticksLeft, ticksLeftOf, measure, Ready}
@@ -122,6 +123,12 @@ cells-new table (suc n) c st h u =
     let e : c + 1 + n ≡ c + suc n = omega arith in
     rw (sym e) (cells-new table n (c + 1) (Machine.cellMade table st c) (omega arith) (cell-new table c st (omega arith) u))
 
+-- "thread 0 makes them as writes after the atomic cells": no number of the state is theirs
+plains-new : (table : List ℕ) (n c : ℕ) (st : State) → Machine.plainsMade table st n c .numbers ≡ st .numbers
+unfolding Machine.plainsMade plainWriteDone
+plains-new table zero c st = refl
+plains-new table (suc n) c st = plains-new table n (c + 1) (Machine.plainMade table st c)
+
 -- "All are runnable"
 threads-new : (made n t : ℕ) (st : State) → t + n ≤ threads → New made t (st .numbers) →
     New made (t + n) (Machine.threadsStarted st n t .numbers)
@@ -147,7 +154,9 @@ module _ (p : Program) (few : threadsOf (p .table) ≤ threads) (held : cellsOf 
       let made = Machine.cellsMade (p .table) first (cellsOf (p .table)) 0 in
       let cellsAre : New (cellsOf (p .table)) 0 (made .numbers) =
       rw (zero-add (cellsOf (p .table))) at (cells-new (p .table) (cellsOf (p .table)) 0 first (omega arith) (blank-new (p .exploring))) in
-      rw (zero-add (threadsOf (p .table))) at (threads-new (cellsOf (p .table)) (threadsOf (p .table)) 0 made (omega arith) cellsAre)
+      let all = Machine.plainsMade (p .table) made (plainsOf (p .table)) 0 in
+      let allAre : New (cellsOf (p .table)) 0 (all .numbers) = rw (plains-new (p .table) (plainsOf (p .table)) 0 made) cellsAre in
+      rw (zero-add (threadsOf (p .table))) at (threads-new (cellsOf (p .table)) (threadsOf (p .table)) 0 all (omega arith) allAre)
 
 module _ (p : Program) (some : 1 ≤ threadsOf (p .table)) (few : threadsOf (p .table) ≤ threads) (held : cellsOf (p .table) ≤ cells) where
   pub start-ready : Ready (start p)

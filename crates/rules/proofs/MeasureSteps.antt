@@ -17,13 +17,14 @@ use Rattle.rules.specs.Event.{Entry, Question, whichThread, whichSlot, w
 use Rattle.rules.specs.State as State
 use Rattle.rules.specs.State.{State, number, withNumber, threads, cells, phase, begun, nextRow, yields, lastYield, operation, awaits, count, isSeqCst, exploring, skipping, storeAt}
 use Rattle.rules.specs.Cell.{version, storeDone, slotOf, Access, raced, read, Race, noRace, raceOf, loadDone, rmwDone, unsyncLoadDone, mutDone, storeRace, storeTracked, withClocks}
+use Rattle.rules.specs.Plain.{plainReadDone, plainWriteRace, plainWriteDone}
 use Rattle.rules.specs.Machine
 use Rattle.rules.specs.Machine.{Program, pendingOf, active, blocked, yielded, ended, toBegin, toAct, completed}
 use Rattle.rules.specs.Measure.{ticksLeft, ticksLeftOf, measure, Whole, CanAct, Ready}
 use Rattle.rules.proofs.Measure.{Is, aside, toState, toPhase, seen, otherWork, has-part}
 use Rattle.rules.proofs.MeasureLoops.{acts-same}
 use Rattle.rules.proofs.MeasureRows.{pick, OnCell, RowOnCell}
-use Rattle.rules.proofs.AccessLaws.{Leaves, isRead, load-leaves, rmw-leaves, unsync-leaves, mut-leaves}
+use Rattle.rules.proofs.AccessLaws.{Leaves, isRead, load-leaves, rmw-leaves, unsync-leaves, mut-leaves, plain-leaves}
 
 -- the active thread's row is to act
 pub record Acting (p : Program) (n : ℕ) (st : State) : Type 0 where
@@ -122,6 +123,12 @@ module _ (p : Program) (t s ph b m n : ℕ) (below : t < threads) (can : CanAct 
       let up = Machine.versionRaised st t in
       stores-unless (storeRace (up .clocks) t c) up (withClocks up (storeTracked (up .clocks) t c)) k opcode c o v h is
 
+  writes-unless : (x : Race) (st : State) (k opcode c v : ℕ) → At st →
+      Lower p n (Machine.writesUnless x st (plainWriteDone st t c v) t k opcode v)
+  unfolding plainWriteDone
+  writes-unless (raceOf kind other) st k opcode c v is = stopping
+  writes-unless noRace st k opcode c v is = finished _ _ _ is
+
   -- a scheduling, where a row or a thread's state has lowered the measure
   schedules-lower : {s′ x : ℕ} (st : State) (es : List Entry) → Is t s′ x b m (st .numbers) → ticksLeft s′ x < 7 →
       Lower p n (Machine.schedules st es)
@@ -179,6 +186,8 @@ module _ (p : Program) (t s ph b m n : ℕ) (below : t < threads) (can : CanAct 
   acts-lower st k Table.skipBranch h is =
       finished (Machine.skipped st) (oneMore k) _ (aside below (aside below is exploring 0 (omega arith)) skipping 1 (omega arith))
   acts-lower st k (Table.spurious r) h is = asking (acting st is)
+  acts-lower st k (Table.plainRead c r) h is = reads-lower (plainReadDone st t c) k 17 r _ 0 (plain-leaves (Is t s ph b m) st t c is)
+  acts-lower st k (Table.plainWrite c a) h is = writes-unless (plainWriteRace (st .clocks) t c) st k 18 c a is
 
   -- a load or an RMW reads its slot
   pub read-lower : (st : State) (k slot mask : ℕ) (row : Decoded Op) → RowOnCell row → At st →
@@ -206,6 +215,8 @@ module _ (p : Program) (t s ph b m n : ℕ) (below : t < threads) (can : CanAct 
   read-lower st k slot mask (decoded Table.exploreState) h is = stopping
   read-lower st k slot mask (decoded Table.skipBranch) h is = stopping
   read-lower st k slot mask (decoded (Table.spurious r)) h is = stopping
+  read-lower st k slot mask (decoded (Table.plainRead c r)) h is = stopping
+  read-lower st k slot mask (decoded (Table.plainWrite c a)) h is = stopping
 
   -- "16 `branch_spurious` into register (0 or 1)"
   pub bit-lower : (st : State) (k v : ℕ) (row : Decoded Op) → At st → Lower p n (Machine.bitTaken st t k v row)
@@ -228,3 +239,5 @@ module _ (p : Program) (t s ph b m n : ℕ) (below : t < threads) (can : CanAct 
   bit-lower st k v (decoded Table.critical) is = stopping
   bit-lower st k v (decoded Table.exploreState) is = stopping
   bit-lower st k v (decoded Table.skipBranch) is = stopping
+  bit-lower st k v (decoded (Table.plainRead c r)) is = stopping
+  bit-lower st k v (decoded (Table.plainWrite c a)) is = stopping

@@ -77,6 +77,8 @@ inVectors (State.lastNonLoad c) = c < 4
 inVectors (State.happensBefore s) = s < 28
 inVectors (State.order s) = s < 28
 inVectors (State.sync s) = s < 28
+inVectors (State.readAccess c) = c < 4
+inVectors (State.writeAccess c) = c < 4
 
 vectorNamed : ℕ → State.Vector
 vectorNamed n =
@@ -92,7 +94,9 @@ vectorNamed n =
     (cond (ltb n 40) (State.lastNonLoad (n - 36))
     (cond (ltb n 68) (State.happensBefore (n - 40))
     (cond (ltb n 96) (State.order (n - 68))
-    (State.sync (n - 96)))))))))))))
+    (cond (ltb n 124) (State.sync (n - 96))
+    (cond (ltb n 128) (State.readAccess (n - 124))
+    (State.writeAccess (n - 128)))))))))))))))
 
 -- the number within its sort
 within : (base k : ℕ) → (base + k) - base ≡ k
@@ -116,7 +120,9 @@ vector-found (State.lastAccess c) h = rw (past (32 + c) 5 (omega arith), past (3
 vector-found (State.lastNonLoad c) h = rw (past (36 + c) 5 (omega arith), past (36 + c) 10 (omega arith), past (36 + c) 15 (omega arith), past (36 + c) 16 (omega arith), past (36 + c) 20 (omega arith), past (36 + c) 24 (omega arith), past (36 + c) 28 (omega arith), past (36 + c) 32 (omega arith), past (36 + c) 36 (omega arith), lt-ltb (36 + c) 40 (omega arith), within 36 c)
 vector-found (State.happensBefore s) h = rw (past (40 + s) 5 (omega arith), past (40 + s) 10 (omega arith), past (40 + s) 15 (omega arith), past (40 + s) 16 (omega arith), past (40 + s) 20 (omega arith), past (40 + s) 24 (omega arith), past (40 + s) 28 (omega arith), past (40 + s) 32 (omega arith), past (40 + s) 36 (omega arith), past (40 + s) 40 (omega arith), lt-ltb (40 + s) 68 (omega arith), within 40 s)
 vector-found (State.order s) h = rw (past (68 + s) 5 (omega arith), past (68 + s) 10 (omega arith), past (68 + s) 15 (omega arith), past (68 + s) 16 (omega arith), past (68 + s) 20 (omega arith), past (68 + s) 24 (omega arith), past (68 + s) 28 (omega arith), past (68 + s) 32 (omega arith), past (68 + s) 36 (omega arith), past (68 + s) 40 (omega arith), past (68 + s) 68 (omega arith), lt-ltb (68 + s) 96 (omega arith), within 68 s)
-vector-found (State.sync s) h = rw (past (96 + s) 5 (omega arith), past (96 + s) 10 (omega arith), past (96 + s) 15 (omega arith), past (96 + s) 16 (omega arith), past (96 + s) 20 (omega arith), past (96 + s) 24 (omega arith), past (96 + s) 28 (omega arith), past (96 + s) 32 (omega arith), past (96 + s) 36 (omega arith), past (96 + s) 40 (omega arith), past (96 + s) 68 (omega arith), past (96 + s) 96 (omega arith), within 96 s)
+vector-found (State.sync s) h = rw (past (96 + s) 5 (omega arith), past (96 + s) 10 (omega arith), past (96 + s) 15 (omega arith), past (96 + s) 16 (omega arith), past (96 + s) 20 (omega arith), past (96 + s) 24 (omega arith), past (96 + s) 28 (omega arith), past (96 + s) 32 (omega arith), past (96 + s) 36 (omega arith), past (96 + s) 40 (omega arith), past (96 + s) 68 (omega arith), past (96 + s) 96 (omega arith), lt-ltb (96 + s) 124 (omega arith), within 96 s)
+vector-found (State.readAccess c) h = rw (past (124 + c) 5 (omega arith), past (124 + c) 10 (omega arith), past (124 + c) 15 (omega arith), past (124 + c) 16 (omega arith), past (124 + c) 20 (omega arith), past (124 + c) 24 (omega arith), past (124 + c) 28 (omega arith), past (124 + c) 32 (omega arith), past (124 + c) 36 (omega arith), past (124 + c) 40 (omega arith), past (124 + c) 68 (omega arith), past (124 + c) 96 (omega arith), past (124 + c) 124 (omega arith), lt-ltb (124 + c) 128 (omega arith), within 124 c)
+vector-found (State.writeAccess c) h = rw (past (128 + c) 5 (omega arith), past (128 + c) 10 (omega arith), past (128 + c) 15 (omega arith), past (128 + c) 16 (omega arith), past (128 + c) 20 (omega arith), past (128 + c) 24 (omega arith), past (128 + c) 28 (omega arith), past (128 + c) 32 (omega arith), past (128 + c) 36 (omega arith), past (128 + c) 40 (omega arith), past (128 + c) 68 (omega arith), past (128 + c) 96 (omega arith), past (128 + c) 124 (omega arith), past (128 + c) 128 (omega arith), within 128 c)
 
 pub vectorAt-apart : (v w : State.Vector) → inVectors v → inVectors w → State.vectorAt v ≡ State.vectorAt w → v ≡ w
 vectorAt-apart v w h k e = sym (vector-found v h) ∙ (ap vectorNamed e ∙ vector-found w k)
@@ -124,16 +130,19 @@ vectorAt-apart v w h k e = sym (vector-found v h) ∙ (ap vectorNamed e ∙ vect
 abbrev pub inValues : State.Value → Type 0
 inValues (State.ofStore s) = s < 28
 inValues (State.ofRegister r) = r < 20
+inValues (State.ofPlain c) = c < 4
 
 valueNamed : ℕ → State.Value
 valueNamed n =
     cond (ltb n 28) (State.ofStore (n - 0))
-    (State.ofRegister (n - 28))
+    (cond (ltb n 48) (State.ofRegister (n - 28))
+    (State.ofPlain (n - 48)))
 
 value-found : (v : State.Value) → inValues v → valueNamed (State.valueAt v) ≡ v
 unfolding valueNamed
 value-found (State.ofStore s) h = rw (lt-ltb (0 + s) 28 (omega arith), within 0 s)
-value-found (State.ofRegister r) h = rw (past (28 + r) 28 (omega arith), within 28 r)
+value-found (State.ofRegister r) h = rw (past (28 + r) 28 (omega arith), lt-ltb (28 + r) 48 (omega arith), within 28 r)
+value-found (State.ofPlain c) h = rw (past (48 + c) 28 (omega arith), past (48 + c) 48 (omega arith), within 48 c)
 
 pub valueAt-apart : (v w : State.Value) → inValues v → inValues w → State.valueAt v ≡ State.valueAt w → v ≡ w
 valueAt-apart v w h k e = sym (value-found v h) ∙ (ap valueNamed e ∙ value-found w k)
@@ -215,10 +224,13 @@ vectorAt-within (State.lastNonLoad c) h = omega arith
 vectorAt-within (State.happensBefore s) h = omega arith
 vectorAt-within (State.order s) h = omega arith
 vectorAt-within (State.sync s) h = omega arith
+vectorAt-within (State.readAccess c) h = omega arith
+vectorAt-within (State.writeAccess c) h = omega arith
 
 pub valueAt-within : (v : State.Value) → inValues v → State.valueAt v < State.valuesHeld
 valueAt-within (State.ofStore s) h = omega arith
 valueAt-within (State.ofRegister r) h = omega arith
+valueAt-within (State.ofPlain c) h = omega arith
 
 pub numberAt-within : (k : State.Number) → inNumbers k → State.numberAt k < State.numbersHeld
 numberAt-within (State.state t) h = omega arith

@@ -10,9 +10,9 @@ use mathlib.Core.Bool.{Bool, true, false, cond, _&&_, _||_}
 use lib.Dec.{ltb, leb, eqb}
 use lib.ListN.{length, getD, set, take}
 use Rattle.rules.specs.Vector.{equal}
-use Rattle.rules.specs.Table.{loadOrder, storeOrder, fenceOrder}
+use Rattle.rules.specs.Table.{Room, loadOrder, storeOrder, fenceOrder}
 use Rattle.rules.specs.Event.{little}
-use Rattle.rules.specs.Token.{bytesOf, isEmpty, endsLine, skip, token, pastToken, nextLine, Found, nothing, found, onlyIf, only, numberIn, registerIn, placeIn}
+use Rattle.rules.specs.Token.{bytesOf, isEmpty, endsLine, skip, token, pastToken, nextLine, Found, nothing, found, onlyIf, only, numberIn, registerIn, plainIn, placeIn}
 
 -- "Orders: 0 Relaxed, 1 Release, 2 Acquire, 3 AcqRel, 4 SeqCst."
 abbrev pub orders : List (List ℕ)
@@ -23,14 +23,8 @@ orderIn bs = placeIn 0 bs orders
 
 -- Rows
 
--- what may be named: "A cell or thread named must exist.", "jump target .. (0..row count)"
-pub record Room : Type 0 where
-  pub threads : ℕ
-  pub cells : ℕ
-  pub rows : ℕ
-
--- How a row is written: its opcode and change kind, and its words. A capital letter stands for a field: R register, C cell, T thread,
--- J jump target, A and B operands, L, S, O, F the order of a load, a store, an RMW, a fence, X the failure order
+-- How a row is written: its opcode and change kind, and its words. A capital letter stands for a field: R register, C cell, P plain cell,
+-- T thread, J jump target, A and B operands, L, S, O, F the order of a load, a store, an RMW, a fence, X the failure order
 pub record Form : Type 0 where
   pub opcode : ℕ
   pub kind : ℕ
@@ -82,6 +76,8 @@ forms =
     ∷ form 14 0 "explore_state"
     ∷ form 15 0 "skip_branch"
     ∷ form 16 0 "R = branch_spurious"
+    ∷ form 17 0 "R = read P"
+    ∷ form 18 0 "write A to P"
     ∷ []
 
 -- a row's fields in the order in which they stand in its bytes: opcode, cell or thread, order, failure order, change kind, register,
@@ -89,7 +85,7 @@ forms =
 unfoldable pub fieldOf : ℕ → ℕ
 fieldOf b =
     cond (eqb b 82) 5
-    (cond (eqb b 67 || eqb b 84) 1
+    (cond (eqb b 67 || eqb b 84 || eqb b 80) 1
     (cond (eqb b 74) 6
     (cond (eqb b 65) 7
     (cond (eqb b 66) 8
@@ -102,13 +98,14 @@ unfoldable pub letterIn : Room → ℕ → List ℕ → Found
 letterIn room b word =
     cond (eqb b 82) (registerIn word)
     (cond (eqb b 67) (only (λ (v : ℕ). ltb v (room .cells)) (numberIn word))
+    (cond (eqb b 80) (only (λ (v : ℕ). ltb v (room .plains)) (plainIn word))
     (cond (eqb b 84) (only (λ (v : ℕ). ltb v (room .threads)) (numberIn word))
     (cond (eqb b 74) (only (λ (v : ℕ). leb v (room .rows)) (numberIn word))
     (cond (eqb b 65 || eqb b 66) (numberIn word)
     (cond (eqb b 76 || eqb b 88) (only loadOrder (orderIn word))
     (cond (eqb b 83) (only storeOrder (orderIn word))
     (cond (eqb b 70) (only fenceOrder (orderIn word))
-    (orderIn word))))))))
+    (orderIn word)))))))))
 
 -- a letter alone stands for a field, every other word for itself
 abbrev pub isField : List ℕ → Bool

@@ -13,13 +13,14 @@ use lib.ListN.{getD, set, replicate}
 use Rattle.rules.specs.Vector.{zeros, joined, atMost, raised, oneMore, Whom, nobody, thread}
 use Rattle.rules.specs.Seen.{unseens}
 use Rattle.rules.specs.Table as Table
-use Rattle.rules.specs.Table.{Op, Decoded, refused, decoded, opAt, opcodeOf, startValue, threadsOf, cellsOf, countsOf, firstRows}
+use Rattle.rules.specs.Table.{Op, Decoded, refused, decoded, opAt, opcodeOf, roomOf, startValue, threadsOf, cellsOf, plainsOf, countsOf, firstRows}
 use Rattle.rules.specs.Condition.{holds}
 use Rattle.rules.specs.Event as Event
 use Rattle.rules.specs.Event.{Entry, Matched, Place, nowhere, branch, Standing, whichThread, whichSlot, whichBit, Answer, runThread, readSlot, takeBit, noSite, Move, Machine, moves, asks, stops, ends}
 use Rattle.rules.specs.State as State
 use Rattle.rules.specs.State.{State, Clocks, Numbers, vector, withVector, value, withValue, number, withNumber, marksOf, registerAt, vectorsHeld, valuesHeld, numbersHeld, threads, cells, history, none}
 use Rattle.rules.specs.State.{causality, scheduleOf, mutated, lastAccess, lastNonLoad, ofRegister, ofStore, nextRow, rowsOf, yields, lastYield, operation, operatesOn, phase, awaits, count, accessBranch, nonLoadBranch, activeThread, begun, exploring, skipping}
+use Rattle.rules.specs.Plain.{plainReadDone, plainWriteRace, plainWriteDone}
 use Rattle.rules.specs.Cell.{joinInto, version, slotOf, newest, storeDone, storeRace, storeTracked, loadDone, rmwDone, unsyncLoadDone, mutDone, newestOf, fenced, matchedLoad, matchedRmw, Access, raced, read, Race, noRace, raceOf, withClocks, withValues}
 
 -- A program: the bytes of its table and of its final condition, the operation limit, and whether it is exploring on start
@@ -35,7 +36,7 @@ rowCount p t = getD (countsOf (p .table)) t 0
 -- what the row at a place of a thread does
 abbrev pub rowOf : Program → ℕ → ℕ → Decoded Op
 rowOf p t k =
-    opAt (p .table) (threadsOf (p .table)) (cellsOf (p .table)) (rowCount p t) (getD (firstRows 0 (countsOf (p .table))) t 0 + k)
+    opAt (p .table) (roomOf (p .table) (rowCount p t)) (getD (firstRows 0 (countsOf (p .table))) t 0 + k)
 
 -- Threads
 
@@ -114,6 +115,14 @@ unfoldable pub cellsMade : List ℕ → State → ℕ → ℕ → State
 cellsMade table st zero c = st
 cellsMade table st (suc n) c = cellsMade table (cellMade table st c) n (c + 1)
 
+-- "thread 0 makes them as writes after the atomic cells", "their starting values follow the atomic ones" (document 02, §5)
+abbrev pub plainMade : List ℕ → State → ℕ → State
+plainMade table st c = plainWriteDone st 0 c (startValue table (cellsOf table + c))
+
+unfoldable pub plainsMade : List ℕ → State → ℕ → ℕ → State
+plainsMade table st zero c = st
+plainsMade table st (suc n) c = plainsMade table (plainMade table st c) n (c + 1)
+
 -- "then thread 0 is (2,0,0,0,0), each other thread has 1 at place 0 and 1 at its own"
 abbrev pub firstCausality : ℕ → List ℕ
 firstCausality t = cond (eqb t 0) (set (zeros threads) 0 2) (set (set (zeros threads) 0 1) t 1)
@@ -136,7 +145,7 @@ thread0Making st = withClocks st (withVector (st .clocks) (causality 0) (set (ze
 unfoldable pub start : Program → State
 start p =
     threadsStarted
-    (cellsMade (p .table) (thread0Making (blank (p .exploring))) (cellsOf (p .table)) 0)
+    (plainsMade (p .table) (cellsMade (p .table) (thread0Making (blank (p .exploring))) (cellsOf (p .table)) 0) (plainsOf (p .table)) 0)
     (threadsOf (p .table)) 0
 
 -- Scheduling
@@ -315,6 +324,11 @@ leavesIn (read v st) t k opcode c r =
     moves (completed (withRegister st t r v) t (oneMore k))
     (entry t k opcode (newest (number (st .numbers) (count c))) 0 (value (st .values) (ofStore (newestOf (st .numbers) c))))
 
+-- "the trace gives the value read or written, slot 255" (document 02, §5)
+abbrev pub writesUnless : Race → State → State → ℕ → ℕ → ℕ → ℕ → Move State
+writesUnless (raceOf kind other) st written t k opcode v = stops st (Event.race kind other)
+writesUnless noRace st written t k opcode v = moves (completed written t (oneMore k)) (entry t k opcode noSlot 0 v)
+
 -- "4 fence"
 abbrev pub fences : Program → State → ℕ → ℕ → State
 fences p st t o =
@@ -398,13 +412,16 @@ actsAs p st t k n Table.critical = explores st t k n false
 actsAs p st t k n Table.exploreState = explores st t k n true
 actsAs p st t k n Table.skipBranch = done (skipped st) t k n
 actsAs p st t k n (Table.spurious r) = asks st [] (isExploring (st .numbers)) whichBit
+actsAs p st t k n (Table.plainRead c r) = reads (plainReadDone st t c) t k n r noSlot 0
+actsAs p st t k n (Table.plainWrite c a) = writesUnless (plainWriteRace (st .clocks) t c) st (plainWriteDone st t c a) t k n a
 
 abbrev pub acts : Program → State → ℕ → ℕ → Op → Move State
 acts p st t k op = actsAs p st t k (opcodeOf op) op
 
 -- A row begins
 
--- the pending operation of a row of opcodes 0 to 3, and its cell; other rows have none
+-- the pending operation of a row of opcodes 0 to 3, and its cell; other rows have none. "Neither schedules nor raises the version."
+-- (document 02, §5)
 pub data Pending : Type 0 where
   nothing : Pending
   pends : (operation cell : ℕ) → Pending
@@ -427,6 +444,8 @@ pendingOf Table.critical = nothing
 pendingOf Table.exploreState = nothing
 pendingOf Table.skipBranch = nothing
 pendingOf (Table.spurious r) = nothing
+pendingOf (Table.plainRead c r) = nothing
+pendingOf (Table.plainWrite c a) = nothing
 
 -- "rows begun is a counted number"
 abbrev pub rowBegun : State → ℕ → State
@@ -522,6 +541,8 @@ readFrom st t k slot mask (decoded Table.critical) = stops st Event.impossible
 readFrom st t k slot mask (decoded Table.exploreState) = stops st Event.impossible
 readFrom st t k slot mask (decoded Table.skipBranch) = stops st Event.impossible
 readFrom st t k slot mask (decoded (Table.spurious r)) = stops st Event.impossible
+readFrom st t k slot mask (decoded (Table.plainRead c r)) = stops st Event.impossible
+readFrom st t k slot mask (decoded (Table.plainWrite c a)) = stops st Event.impossible
 
 -- "16 `branch_spurious` into register (0 or 1)"; no other row is given a bit
 unfoldable pub bitTaken : State → ℕ → ℕ → ℕ → Decoded Op → Move State
@@ -543,6 +564,8 @@ bitTaken st t k v (decoded (Table.check r a)) = stops st Event.impossible
 bitTaken st t k v (decoded Table.critical) = stops st Event.impossible
 bitTaken st t k v (decoded Table.exploreState) = stops st Event.impossible
 bitTaken st t k v (decoded Table.skipBranch) = stops st Event.impossible
+bitTaken st t k v (decoded (Table.plainRead c r)) = stops st Event.impossible
+bitTaken st t k v (decoded (Table.plainWrite c a)) = stops st Event.impossible
 
 -- what the active thread's row does
 abbrev pub activeOp : Program → State → Decoded Op

@@ -4,13 +4,13 @@
 -- that docs/DECISIONS.md settles, 1 to 32; (path.rs: step) is a function of loom 0.7.2's source.
 --     vector, withVector     a vector of five parts, by its name
 --     marksOf, withMarks     a cell's marks of first sight
---     value, withValue       a store's value or a register
+--     value, withValue       a store's value, a register or what a plain cell holds
 --     number, withNumber     a number
 use Prim.Native.Nat.{ℕ, _+_, _*_}
 use mathlib.Core.List.{List, []}
 use lib.ListN.{getD, set}
 
--- "MAX_THREADS is 5, MAX_ATOMIC_HISTORY 7.", "cells 1..4", "register 0..3"
+-- "MAX_THREADS is 5, MAX_ATOMIC_HISTORY 7.", "cells 1..4", "register 0..3"; "up to four unsynchronised cells" (document 02, §5)
 abbrev pub threads : ℕ
 threads = 5
 
@@ -19,6 +19,9 @@ history = 7
 
 abbrev pub cells : ℕ
 cells = 4
+
+abbrev pub plains : ℕ
+plains = 4
 
 -- a number that stands for none: no last yield, no last access (docs/DECISIONS.md, 50)
 abbrev pub none : ℕ
@@ -52,6 +55,9 @@ pub data Vector : Type 0 where
   happensBefore : ℕ → Vector
   order : ℕ → Vector
   sync : ℕ → Vector
+  -- of a plain cell: the accesses that races are judged by (cell.rs: State)
+  readAccess : ℕ → Vector
+  writeAccess : ℕ → Vector
 
 abbrev pub vectorAt : Vector → ℕ
 vectorAt (causality t) = 0 + t
@@ -67,6 +73,8 @@ vectorAt (lastNonLoad c) = 36 + c
 vectorAt (happensBefore s) = 40 + s
 vectorAt (order s) = 68 + s
 vectorAt (sync s) = 96 + s
+vectorAt (readAccess c) = 124 + c
+vectorAt (writeAccess c) = 128 + c
 
 abbrev pub Clocks : Type 0
 Clocks = List (List ℕ)
@@ -93,10 +101,12 @@ withMarks marks cell rows = set marks cell rows
 pub data Value : Type 0 where
   ofStore : ℕ → Value
   ofRegister : ℕ → Value
+  ofPlain : ℕ → Value
 
 abbrev pub valueAt : Value → ℕ
 valueAt (ofStore s) = 0 + s
 valueAt (ofRegister r) = 28 + r
+valueAt (ofPlain c) = 48 + c
 
 abbrev pub Values : Type 0
 Values = List ℕ
@@ -171,10 +181,10 @@ pub record State : Type 0 where
 
 -- how long the tables are: every name is within
 abbrev pub vectorsHeld : ℕ
-vectorsHeld = 124
+vectorsHeld = 132
 
 abbrev pub valuesHeld : ℕ
-valuesHeld = 48
+valuesHeld = 52
 
 abbrev pub numbersHeld : ℕ
 numbersHeld = 89

@@ -3,7 +3,7 @@
 --     headerFine             whether the header and the length are those of a table
 --     Op, rowDecoded         what a row does, by its opcode with just the fields that the opcode uses; or that it is refused
 --     judged                 the whole table, and its first bad row
---     startValue, rowAt      a cell's start value, and a row's fields by its number among all rows
+--     startValue, rowAt      a start value, and a row's fields by its number among all rows
 use Prim.Native.Nat.{ℕ, zero, suc, _+_, _*_}
 use mathlib.Core.List.{List, [], _∷_, _++_}
 use mathlib.Core.Bool.{Bool, true, false, cond, not, _&&_, _||_}
@@ -21,6 +21,14 @@ maxThreads = 5
 -- "cells 1..4"
 abbrev pub maxCells : ℕ
 maxCells = 4
+
+-- "Add up to four unsynchronised cells" (document 02, §5): plain cells
+abbrev pub maxPlains : ℕ
+maxPlains = 4
+
+-- the start values of the largest table
+abbrev pub maxValues : ℕ
+maxValues = maxCells + maxPlains
 
 -- "Raise rows for each thread from 32 to 64" (document 02, §4)
 abbrev pub maxRows : ℕ
@@ -70,6 +78,14 @@ cellsOf t = getD t 1 0
 unfoldable pub countsOf : List ℕ → List ℕ
 countsOf t = take maxThreads (drop 2 t)
 
+-- "The table header's last byte becomes the plain-cell count" (document 02, §5)
+abbrev pub plainsOf : List ℕ → ℕ
+plainsOf t = getD t 7 0
+
+-- "their starting values follow the atomic ones": so many start values in all
+abbrev pub valuesOf : List ℕ → ℕ
+valuesOf t = cellsOf t + plainsOf t
+
 -- "five row counts .. (0 past the thread count)"
 abbrev pub countFine : ℕ → ℕ → ℕ → Bool
 countFine threads i c = cond (ltb i threads) (leb c maxRows) (eqb c 0)
@@ -84,35 +100,37 @@ total [] = 0
 total (c ∷ cs) = c + total cs
 
 -- "Then a u64 start value for each cell, then rows of 24 bytes, thread 0 first. No byte more or less.": the bytes of a table
--- of so many cells and rows, which is where the next row would stand
+-- of so many start values and rows, which is where the next row would stand
 abbrev pub sizeOf : ℕ → ℕ → ℕ
-sizeOf cells rows = headerBytes + valueBytes * cells + rowBytes * rows
+sizeOf values rows = headerBytes + valueBytes * values + rowBytes * rows
 
--- "Header of 8 bytes: threads 1..5, cells 1..4, five row counts .. (0 past the thread count), a zero.", and the length [Q14]
+-- "Header of 8 bytes: threads 1..5, cells 1..4, five row counts .. (0 past the thread count)", the plain-cell count, and the length [Q14]
 unfoldable pub headerFine : List ℕ → Bool
 headerFine t =
     leb headerBytes (length t)
     && (leb 1 (threadsOf t) && leb (threadsOf t) maxThreads)
     && (leb 1 (cellsOf t) && leb (cellsOf t) maxCells)
     && countsFine (threadsOf t) 0 (countsOf t)
-    && eqb (getD t 7 0) 0
-    && eqb (length t) (sizeOf (cellsOf t) (total (countsOf t)))
+    && leb (plainsOf t) maxPlains
+    && eqb (length t) (sizeOf (valuesOf t) (total (countsOf t)))
 
 -- the number of each thread's first row among all rows: "thread 0 first"
 unfoldable pub firstRows : ℕ → List ℕ → List ℕ
 firstRows n [] = []
 firstRows n (c ∷ cs) = n ∷ firstRows (n + c) cs
 
--- threads, cells, five row counts, five first rows; zeros where there is no header
+-- threads, cells, five row counts, five first rows, plain cells; zeros where there is no header
 unfoldable pub shapeOf : List ℕ → List ℕ
 shapeOf t =
-    cond (leb headerBytes (length t)) (threadsOf t ∷ cellsOf t ∷ (countsOf t ++ firstRows 0 (countsOf t))) (replicate 12 0)
+    cond (leb headerBytes (length t))
+    (threadsOf t ∷ cellsOf t ∷ (countsOf t ++ (firstRows 0 (countsOf t) ++ (plainsOf t ∷ []))))
+    (replicate 13 0)
 
--- "Then a u64 start value for each cell": 0 where the table has no such value
+-- "Then a u64 start value for each cell", "their starting values follow the atomic ones" (document 02, §5): 0 where the table has no such value
 unfoldable pub startValue : List ℕ → ℕ → ℕ
-startValue t cell =
-    cond (ltb cell maxCells && leb (headerBytes + valueBytes * cell + valueBytes) (length t))
-    (u64At t (headerBytes + valueBytes * cell))
+startValue t i =
+    cond (ltb i maxValues && leb (headerBytes + valueBytes * i + valueBytes) (length t))
+    (u64At t (headerBytes + valueBytes * i))
     0
 
 -- Rows
@@ -146,11 +164,11 @@ rowFrom t at = record {
 abbrev pub noRow : Row
 noRow = record { opcode = 255; object = 0; order = 0; failure = 0; kind = 0; register = 0; target = 0; a = 0; b = 0 }
 
--- the row of this number among all rows of a table with this many cells
+-- the row of this number among all rows of a table with this many start values
 unfoldable pub rowAt : List ℕ → ℕ → ℕ → Row
-rowAt t cells index =
-    cond (leb cells maxCells && ltb index allRows && leb (sizeOf cells index + rowBytes) (length t))
-    (rowFrom t (sizeOf cells index))
+rowAt t values index =
+    cond (leb values maxValues && ltb index allRows && leb (sizeOf values index + rowBytes) (length t))
+    (rowFrom t (sizeOf values index))
     noRow
 
 -- What a row does
@@ -166,7 +184,8 @@ onlyIf false x = refused
 
 -- "Opcodes: 0 load; 1 store a; 2 store register; 3 RMW; 4 fence; 5 unsynchronised load; 6 exclusive change (`with_mut`); 7 yield; 8
 -- join thread; 9 jump; 10 jump if register = a; 11 jump if not; 12 check register = a; 13 `critical`; 14 `explore_state`; 15
--- `skip_branch`; 16 `branch_spurious` into register (0 or 1)." Each with the fields that it uses, and no others [Q15]
+-- `skip_branch`; 16 `branch_spurious` into register (0 or 1)." "a plain read (opcode 17) and a plain write (opcode 18)" (document 02, §5).
+-- Each with the fields that it uses, and no others [Q15]
 pub data Op : Type 0 where
   load : (cell order register : ℕ) → Op
   store : (cell order a : ℕ) → Op
@@ -185,6 +204,8 @@ pub data Op : Type 0 where
   exploreState : Op
   skipBranch : Op
   spurious : (register : ℕ) → Op
+  plainRead : (plain register : ℕ) → Op
+  plainWrite : (plain a : ℕ) → Op
 
 -- the opcode's number
 abbrev pub opcodeOf : Op → ℕ
@@ -205,6 +226,8 @@ opcodeOf critical = 13
 opcodeOf exploreState = 14
 opcodeOf skipBranch = 15
 opcodeOf (spurious register) = 16
+opcodeOf (plainRead plain register) = 17
+opcodeOf (plainWrite plain a) = 18
 
 -- of a row that is none, 255
 abbrev pub opcodeIn : Decoded Op → ℕ
@@ -261,7 +284,18 @@ changeDecoded kind a b =
     (cond (eqb kind 12) (onlyIf (eqb a 0 && eqb b 0) Change.decrement)
     refused))))))))))))
 
--- A row of each opcode, in a table of so many cells or threads, in a thread of so many rows. "A cell or thread named must exist."
+-- What a row may name: "A cell or thread named must exist.", "jump target u16 (0..row count)"
+pub record Room : Type 0 where
+  pub threads : ℕ
+  pub cells : ℕ
+  pub plains : ℕ
+  pub rows : ℕ
+
+-- in a thread of so many rows
+abbrev pub roomOf : List ℕ → ℕ → Room
+roomOf t rows = record { threads = threadsOf t; cells = cellsOf t; plains = plainsOf t; rows = rows }
+
+-- A row of each opcode, in a table of so many cells or threads, in a thread of so many rows
 
 abbrev pub loadRow : ℕ → Row → Decoded Op
 loadRow cells r =
@@ -355,37 +389,56 @@ spuriousRow r =
     (isRegister (r .register) && unused (r .object ∷ r .order ∷ r .failure ∷ r .kind ∷ r .target ∷ r .a ∷ r .b ∷ []))
     (spurious (r .register))
 
--- by the opcode. "Every opcode from 17 to 255 is refused."
-unfoldable pub rowDecoded : ℕ → ℕ → ℕ → Row → Decoded Op
-rowDecoded threads cells count r =
-    cond (eqb (r .opcode) 0) (loadRow cells r)
-    (cond (eqb (r .opcode) 1) (storeRow cells r)
-    (cond (eqb (r .opcode) 2) (storeRegisterRow cells r)
-    (cond (eqb (r .opcode) 3) (rmwRow cells r (changeDecoded (r .kind) (r .a) (r .b)))
+-- "Opcode 17 puts the value in the register, 18 writes operand a" (document 02, §5)
+abbrev pub plainReadRow : ℕ → Row → Decoded Op
+plainReadRow plains r =
+    onlyIf
+    (ltb (r .object) plains && isRegister (r .register)
+    && unused (r .order ∷ r .failure ∷ r .kind ∷ r .target ∷ r .a ∷ r .b ∷ []))
+    (plainRead (r .object) (r .register))
+
+abbrev pub plainWriteRow : ℕ → Row → Decoded Op
+plainWriteRow plains r =
+    onlyIf
+    (ltb (r .object) plains
+    && unused (r .order ∷ r .failure ∷ r .kind ∷ r .register ∷ r .target ∷ r .b ∷ []))
+    (plainWrite (r .object) (r .a))
+
+-- by the opcode. "Opcodes from 19 are refused." (document 02, §5)
+unfoldable pub rowDecoded : Room → Row → Decoded Op
+rowDecoded room r =
+    cond (eqb (r .opcode) 0) (loadRow (room .cells) r)
+    (cond (eqb (r .opcode) 1) (storeRow (room .cells) r)
+    (cond (eqb (r .opcode) 2) (storeRegisterRow (room .cells) r)
+    (cond (eqb (r .opcode) 3) (rmwRow (room .cells) r (changeDecoded (r .kind) (r .a) (r .b)))
     (cond (eqb (r .opcode) 4) (fenceRow r)
-    (cond (eqb (r .opcode) 5) (unsyncLoadRow cells r)
-    (cond (eqb (r .opcode) 6) (exclusiveRow cells r (changeDecoded (r .kind) (r .a) (r .b)))
+    (cond (eqb (r .opcode) 5) (unsyncLoadRow (room .cells) r)
+    (cond (eqb (r .opcode) 6) (exclusiveRow (room .cells) r (changeDecoded (r .kind) (r .a) (r .b)))
     (cond (eqb (r .opcode) 7) (bareRow yield r)
-    (cond (eqb (r .opcode) 8) (joinRow threads r)
-    (cond (eqb (r .opcode) 9) (jumpRow count r)
-    (cond (eqb (r .opcode) 10) (jumpOnRow jumpIf count r)
-    (cond (eqb (r .opcode) 11) (jumpOnRow jumpUnless count r)
+    (cond (eqb (r .opcode) 8) (joinRow (room .threads) r)
+    (cond (eqb (r .opcode) 9) (jumpRow (room .rows) r)
+    (cond (eqb (r .opcode) 10) (jumpOnRow jumpIf (room .rows) r)
+    (cond (eqb (r .opcode) 11) (jumpOnRow jumpUnless (room .rows) r)
     (cond (eqb (r .opcode) 12) (checkRow r)
     (cond (eqb (r .opcode) 13) (bareRow critical r)
     (cond (eqb (r .opcode) 14) (bareRow exploreState r)
     (cond (eqb (r .opcode) 15) (bareRow skipBranch r)
     (cond (eqb (r .opcode) 16) (spuriousRow r)
-    refused))))))))))))))))
+    (cond (eqb (r .opcode) 17) (plainReadRow (room .plains) r)
+    (cond (eqb (r .opcode) 18) (plainWriteRow (room .plains) r)
+    refused))))))))))))))))))
 
 -- a row is fine where it says something
 abbrev pub isFine : Decoded Op → Bool
 isFine refused = false
 isFine (decoded op) = true
 
--- in a table of so many threads and cells: the row of this number among all rows, which is one of a thread of so many rows.
--- With more threads or cells than there can be, no row is one
-unfoldable pub opAt : List ℕ → ℕ → ℕ → ℕ → ℕ → Decoded Op
-opAt t threads cells count index = cond (leb threads maxThreads) (rowDecoded threads cells count (rowAt t cells index)) refused
+-- the row of this number among all rows, in this room. With more threads, cells or plain cells than there can be, no row is one
+unfoldable pub opAt : List ℕ → Room → ℕ → Decoded Op
+opAt t room index =
+    cond (leb (room .threads) maxThreads && leb (room .cells) maxCells && leb (room .plains) maxPlains)
+    (rowDecoded room (rowAt t (room .cells + room .plains) index))
+    refused
 
 -- The whole table
 
@@ -395,8 +448,8 @@ firstNot fine zero i = i
 firstNot fine (suc n) i = cond (fine i) (firstNot fine n (i + 1)) i
 
 -- the first bad row of a thread of c rows, of which the first has this number among all rows; c where there is none
-unfoldable pub firstBad : List ℕ → ℕ → ℕ → ℕ → ℕ → ℕ
-firstBad t threads cells first c = firstNot (λ (i : ℕ). isFine (opAt t threads cells c (first + i))) c 0
+unfoldable pub firstBad : List ℕ → ℕ → ℕ → ℕ
+firstBad t first c = firstNot (λ (i : ℕ). isFine (opAt t (roomOf t c) (first + i))) c 0
 
 pub data Verdict : Type 0 where
   good : Verdict
@@ -405,13 +458,13 @@ pub data Verdict : Type 0 where
 
 -- "the first bad row", thread and row within the thread: of the threads from this one on, whose counts are these and whose
 -- rows begin at this number [Q14]
-unfoldable pub rowsJudged : List ℕ → ℕ → ℕ → ℕ → ℕ → List ℕ → Verdict
-rowsJudged t threads cells thread first [] = good
-rowsJudged t threads cells thread first (c ∷ cs) =
-    cond (ltb (firstBad t threads cells first c) c)
-    (badRow thread (firstBad t threads cells first c))
-    (rowsJudged t threads cells (thread + 1) (first + c) cs)
+unfoldable pub rowsJudged : List ℕ → ℕ → ℕ → List ℕ → Verdict
+rowsJudged t thread first [] = good
+rowsJudged t thread first (c ∷ cs) =
+    cond (ltb (firstBad t first c) c)
+    (badRow thread (firstBad t first c))
+    (rowsJudged t (thread + 1) (first + c) cs)
 
 -- "for 5 the first bad row, or 255, 255 if header or length is bad, which is judged first"
 unfoldable pub judged : List ℕ → Verdict
-judged t = cond (headerFine t) (rowsJudged t (threadsOf t) (cellsOf t) 0 0 (countsOf t)) badHeader
+judged t = cond (headerFine t) (rowsJudged t 0 0 (countsOf t)) badHeader

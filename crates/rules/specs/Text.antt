@@ -10,7 +10,7 @@ use mathlib.Core.Bool.{Bool, true, false, cond, not, _&&_, _||_}
 use lib.Dec.{ltb, leb, eqb}
 use lib.ListN.{length, getD, set, take, replicate}
 use Rattle.rules.specs.Vector.{equal}
-use Rattle.rules.specs.Table.{maxThreads, maxCells, maxRows, allRows, sizeOf}
+use Rattle.rules.specs.Table.{maxThreads, maxCells, maxPlains, maxValues, maxRows, allRows, sizeOf}
 use Rattle.rules.specs.Event.{little}
 use Rattle.rules.specs.Condition.{Read, bad, read, conditionAt, isSign, groupsDeep, conditionBytes}
 use Rattle.rules.specs.Token.{bytesOf, lineFeed, isBetween, isEmpty, endsLine, skip, token, pastToken, nextLine, content, Found, nothing, found, onlyIf, only, numberIn, placeIn}
@@ -99,22 +99,44 @@ module _ (lines : ℕ) where
 
 -- The whole text
 
--- what was read of a program: cells, threads, five row counts, and the bytes behind the header
+-- what was read of a program: cells, plain cells, threads, five row counts, and the bytes behind the header
 pub record Made : Type 0 where
   pub cells : ℕ
+  pub plains : ℕ
   pub threads : ℕ
   pub counts : List ℕ
   pub body : List ℕ
 
 abbrev pub nothingMade : Made
-nothingMade = record { cells = 0; threads = 0; counts = replicate maxThreads 0; body = [] }
+nothingMade = record { cells = 0; plains = 0; threads = 0; counts = replicate maxThreads 0; body = [] }
 
--- one cell more, one thread more, one row more
+-- one cell more, one plain cell more, one thread more, one row more
 abbrev pub withCell : Made → ℕ → Made
-withCell m v = record { cells = m .cells + 1; threads = m .threads; counts = m .counts; body = m .body ++ little 8 v }
+withCell m v = record {
+  cells = m .cells + 1;
+  plains = m .plains;
+  threads = m .threads;
+  counts = m .counts;
+  body = m .body ++ little 8 v;
+}
+
+abbrev pub withPlain : Made → ℕ → Made
+withPlain m v = record {
+  cells = m .cells;
+  plains = m .plains + 1;
+  threads = m .threads;
+  counts = m .counts;
+  body = m .body ++ little 8 v;
+}
 
 abbrev pub withThread : Made → Made
-withThread m = record { cells = m .cells; threads = m .threads + 1; counts = m .counts; body = m .body }
+withThread m = record {
+  cells = m .cells;
+  plains = m .plains;
+  threads = m .threads + 1;
+  counts = m .counts;
+  body = m .body;
+}
 
 -- the rows so far of the thread that was begun last
 abbrev pub rowsSoFar : Made → ℕ
@@ -123,14 +145,15 @@ rowsSoFar m = getD (m .counts) (m .threads - 1) 0
 abbrev pub withRow : Made → List ℕ → Made
 withRow m fields = record {
   cells = m .cells;
+  plains = m .plains;
   threads = m .threads;
   counts = set (m .counts) (m .threads - 1) (rowsSoFar m + 1);
   body = m .body ++ rowBytes fields;
 }
 
--- "Header of 8 bytes: threads .., cells .., five row counts .., a zero."
+-- "Header of 8 bytes: threads .., cells .., five row counts ..", and the plain-cell count
 abbrev pub tableOf : Made → List ℕ
-tableOf m = m .threads ∷ m .cells ∷ (m .counts ++ (0 ∷ m .body))
+tableOf m = m .threads ∷ m .cells ∷ (m .counts ++ (m .plains ∷ m .body))
 
 -- The first word of a line says what it is
 abbrev pub says : String → List ℕ → Bool
@@ -169,18 +192,28 @@ pub data Line : Type 0 where
 abbrev pub bareThen : ℕ → Made → List ℕ → Line
 bareThen rows m bs = cond (isBare bs) (goesOn rows m (nextLine (skip bs))) (refusedLine (skip bs))
 
--- "cells" and one to four start values; n more may come
-unfoldable pub cellsLine : ℕ → Made → List ℕ → Line
-cellsLine zero m bs = bareThen 0 m bs
-cellsLine (suc n) m bs =
+-- start values, of cells or of plain cells, one at least: each is one more, and n more may come
+unfoldable pub valuesLine : (Made → ℕ → Made) → (Made → ℕ) → ℕ → Made → List ℕ → Line
+valuesLine more many zero m bs = bareThen 0 m bs
+valuesLine more many (suc n) m bs =
     elim (numberIn (token (skip bs))) [
-      | found v ↦ cellsLine n (withCell m v) (pastToken (skip bs))
-      | nothing ↦ cond (leb 1 (m .cells)) (bareThen 0 m bs) (refusedLine (skip bs))
+      | found v ↦ valuesLine more many n (more m v) (pastToken (skip bs))
+      | nothing ↦ cond (leb 1 (many m)) (bareThen 0 m bs) (refusedLine (skip bs))
     ]
 
--- the first line that says anything
+-- the first line that says anything: "cells" and one to four start values
 abbrev pub firstLine : Made → List ℕ → Line
-firstLine m bs = cond (says "cells" bs) (cellsLine maxCells m (pastToken (skip bs))) (refusedLine (skip bs))
+firstLine m bs =
+    cond (says "cells" bs)
+    (valuesLine withCell (λ (made : Made). made .cells) maxCells m (pastToken (skip bs)))
+    (refusedLine (skip bs))
+
+-- "plain" and one to four start values: behind the cells, ahead of the threads, once
+abbrev pub isPlainLine : Made → List ℕ → Bool
+isPlainLine m bs = eqb (m .threads) 0 && eqb (m .plains) 0 && says "plain" bs
+
+abbrev pub plainLine : Made → List ℕ → Line
+plainLine m bs = valuesLine withPlain (λ (made : Made). made .plains) maxPlains m (pastToken (skip bs))
 
 abbrev pub rowLine : ℕ → Made → Followed → Line
 rowLine rows m (stuck rest) = refusedLine rest
@@ -190,7 +223,7 @@ rowLine rows m (fits fields rest) = goesOn rows (withRow m fields) rest
 abbrev pub aRow : ℕ → ℕ → Made → List ℕ → Line
 aRow all rows m bs =
     cond (leb 1 (m .threads) && ltb (rowsSoFar m) maxRows)
-    (rowLine rows m (rowIn (record { threads = all; cells = m .cells; rows = rows }) bs))
+    (rowLine rows m (rowIn (record { threads = all; cells = m .cells; plains = m .plains; rows = rows }) bs))
     (refusedLine (skip bs))
 
 -- "thread", and its rows
@@ -213,9 +246,10 @@ lineOf lines all rows m bs =
     cond (isEmpty (skip bs)) (theEnd m bs)
     (cond (isBare bs) (goesOn rows m (nextLine (skip bs)))
     (cond (eqb (m .cells) 0) (firstLine m bs)
+    (cond (isPlainLine m bs) (plainLine m bs)
     (cond (says "thread" bs) (aThread lines m bs)
     (cond (says "finally" bs) (theCondition m bs)
-    (aRow all rows m bs)))))
+    (aRow all rows m bs))))))
 
 pub data TextRead : Type 0 where
   refusedAt : List ℕ → TextRead
@@ -268,7 +302,7 @@ placeOf text rest = placeBehind 1 1 (take (length text - length rest) text)
 
 -- the bytes of the largest table
 abbrev pub tableBytes : ℕ
-tableBytes = sizeOf maxCells allRows
+tableBytes = sizeOf maxValues allRows
 
 -- what a text's reader answers, and what it leaves in the two buffers that it is lent
 pub data TextAnswer : Type 0 where

@@ -115,10 +115,18 @@ unfoldable pub numberIn : List ℕ → Found
 numberIn bs =
     cond (isEmpty bs || (eqb (getD bs 0 0) 48 && not (eqb (length bs) 1))) nothing (digitsBehind 0 bs)
 
+-- a letter, and a number from 0 to 3 behind it
+abbrev pub fourth : ℕ → List ℕ → Found
+fourth letter bs =
+    onlyIf (eqb (length bs) 2 && eqb (getD bs 0 0) letter && isBetween 48 51 (getD bs 1 0)) (getD bs 1 0 - 48)
+
 -- "r0 to r3"
 unfoldable pub registerIn : List ℕ → Found
-registerIn bs =
-    onlyIf (eqb (length bs) 2 && eqb (getD bs 0 0) 114 && isBetween 48 51 (getD bs 1 0)) (getD bs 1 0 - 48)
+registerIn bs = fourth 114 bs
+
+-- "p0 to p3"
+unfoldable pub plainIn : List ℕ → Found
+plainIn bs = fourth 112 bs
 
 -- the place of a word in a list, from place i on
 unfoldable pub placeIn : ℕ → List ℕ → List (List ℕ) → Found

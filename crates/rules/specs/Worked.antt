@@ -1,6 +1,6 @@
--- Small hand-offs with known outcomes: document 01's cases P, in one table, and some of them under a final condition. Each has
--- what the definition gives and what the document says; that the two columns are equal is one statement, computed by the checker
--- (proofs/Worked.antt).
+-- Small hand-offs with known outcomes: document 01's cases P, in one table, some of them under a final condition, and some with plain
+-- cells. Each has what the definition gives and what the document says; that the two columns are equal is one statement, computed
+-- by the checker (proofs/Worked.antt).
 use Prim.Native.Nat.{ℕ, zero, suc, _+_, _-_, _*_, _^_}
 use mathlib.Core.List.{List, [], _∷_, _++_, map}
 use mathlib.Core.Bool.{true, cond}
@@ -53,13 +53,18 @@ unfoldable pub valuesAsBytes : List ℕ → List ℕ
 valuesAsBytes [] = []
 valuesAsBytes (v ∷ values) = little 8 v ++ valuesAsBytes values
 
--- a cell for each of these start values, and these threads
-unfoldable pub table : List ℕ → List (List Row) → List ℕ
-table starts threads =
+-- a cell for each of these start values, a plain cell for each of those, and these threads
+unfoldable pub tableWith : List ℕ → List ℕ → List (List Row) → List ℕ
+tableWith starts plains threads =
     length threads
     ∷ length starts
     ∷ (map (λ (rows : List Row). length rows) threads
-    ++ (replicate (5 - length threads) 0 ++ (0 ∷ (valuesAsBytes starts ++ threadsAsBytes threads))))
+    ++ (replicate (5 - length threads) 0
+    ++ (length plains ∷ (valuesAsBytes starts ++ (valuesAsBytes plains ++ threadsAsBytes threads)))))
+
+-- without plain cells
+abbrev pub table : List ℕ → List (List Row) → List ℕ
+table starts threads = tableWith starts [] threads
 
 -- Rows: loads and changes of a cell, by register 0; stores in cell 0
 
@@ -89,6 +94,13 @@ join t = row 8 t 0 0 0 0
 
 abbrev pub check : ℕ → Row
 check a = row 12 0 0 0 0 a
+
+-- the only plain cell, by register 1
+abbrev pub plainRead : Row
+plainRead = row 17 0 0 0 1 0
+
+abbrev pub plainWrite : ℕ → Row
+plainWrite a = row 18 0 0 0 0 a
 
 -- Settings: "All explore on start; no bound unless named."
 abbrev pub limits : ℕ → ℕ → Bound → Settings
@@ -291,6 +303,34 @@ p1NoThread = record {
   said = 5 ∷ 255 ∷ 255 ∷ 0 ∷ 255 ∷ 0 ∷ [];
 }
 
+-- One plain cell: thread 0 has one of these rows or two, thread 1 the next. "A read is refused if a write vector has a thread ahead
+-- (race kind 10). A write is refused if a read vector (kind 11), then a write vector (kind 12), has one." (document 02, §5)
+abbrev pub plainRace : List Row → Row → List ℕ
+plainRace first second = raceAndBegun (run (tableWith (0 ∷ []) (9 ∷ []) (first ∷ (second ∷ []) ∷ [])) (limits 8 4 unbounded))
+
+abbrev pub readOfWritten : Worked
+readOfWritten = record { given = plainRace (plainWrite 7 ∷ []) plainRead; said = 14 ∷ 10 ∷ 0 ∷ 1 ∷ [] }
+
+abbrev pub writeOfRead : Worked
+writeOfRead = record { given = plainRace (plainRead ∷ []) (plainWrite 7); said = 14 ∷ 11 ∷ 0 ∷ 1 ∷ [] }
+
+abbrev pub writeOfWritten : Worked
+writeOfWritten = record { given = plainRace (plainWrite 7 ∷ []) (plainWrite 8); said = 14 ∷ 12 ∷ 0 ∷ 1 ∷ [] }
+
+abbrev pub writeOfBoth : Worked
+writeOfBoth = record { given = plainRace (plainWrite 7 ∷ plainRead ∷ []) (plainWrite 8); said = 14 ∷ 11 ∷ 0 ∷ 1 ∷ [] }
+
+-- reads race with no read, and the start value is ahead of nobody
+abbrev pub readOfRead : Worked
+readOfRead = record { given = plainRace (plainRead ∷ []) plainRead; said = 0 ∷ 0 ∷ 255 ∷ 1 ∷ [] }
+
+-- "the trace gives the value read or written, slot 255": the start value is read, then 7 written
+abbrev pub plainTrace : Worked
+plainTrace = record {
+  given = run (tableWith (0 ∷ []) (9 ∷ []) ((plainRead ∷ plainWrite 7 ∷ []) ∷ [])) (limits 3 2 unbounded) .trace;
+  said = 0 ∷ 0 ∷ 17 ∷ 255 ∷ (replicate 4 0 ++ (9 ∷ (replicate 7 0 ++ (0 ∷ 1 ∷ 18 ∷ 255 ∷ (replicate 4 0 ++ (7 ∷ replicate 7 0))))));
+}
+
 abbrev pub worked : List Worked
 worked =
     p1
@@ -316,4 +356,10 @@ worked =
     ∷ p1Unmet
     ∷ p1Leaves
     ∷ p1NoThread
+    ∷ readOfWritten
+    ∷ writeOfRead
+    ∷ writeOfWritten
+    ∷ writeOfBoth
+    ∷ readOfRead
+    ∷ plainTrace
     ∷ []

@@ -9,7 +9,7 @@ use Rattle.rules.specs.Condition.{equals, opens, closes, either, conditi
 use Rattle.rules.specs.Token.{bytesOf}
 use Rattle.rules.specs.Text.{TextRead, TextAnswer, refused, readText, readInto, tableBytes}
 use Rattle.rules.specs.Writer.{writtenText}
-use Rattle.rules.specs.Worked.{row, table}
+use Rattle.rules.specs.Worked.{row, table, tableWith}
 
 -- The example
 
@@ -30,6 +30,17 @@ handOffTable =
 
 abbrev pub handOffCondition : List ℕ
 handOffCondition = opens ∷ ((equals ∷ 1 ∷ 0 ∷ little 8 0) ++ (either ∷ ((equals ∷ 1 ∷ 1 ∷ little 8 7) ++ (closes ∷ []))))
+
+-- the buffer as a plain cell
+abbrev pub handOffPlain : String
+handOffPlain = "cells 0\nplain 0 5\nthread\n  write 7 to p1\n  store 1 to 0 release\nthread\n  r0 = load 0 acquire\n  r3 = read p1\n"
+
+abbrev pub handOffPlainTable : List ℕ
+handOffPlainTable =
+    tableWith (0 ∷ []) (0 ∷ 5 ∷ []) (
+    (row 18 1 0 0 0 7 ∷ row 1 0 1 0 0 1 ∷ [])
+    ∷ (row 0 0 2 0 0 0 ∷ row 17 1 0 0 3 0 ∷ [])
+    ∷ [])
 
 -- Texts that are refused
 
@@ -69,6 +80,15 @@ refusals =
     ∷ at "cells 0\nthread\nfinally (0.r0 = 7\n and 0.r1 = 1 or 0.r2 = 2)" 4 15
     ∷ at "cells 0\nthread\nfinally (((((((((0.r0 = 1)))))))))" 3 17
     ∷ at "cells 0\nthread\nfinally 0.r0 = 7\nthread" 4 1
+    ∷ at "plain 1\ncells 0\nthread\n" 1 1
+    ∷ at "cells 0\nplain\nthread\n" 2 6
+    ∷ at "cells 0\nplain x\nthread\n" 2 7
+    ∷ at "cells 0\nplain 1 2 3 4 5\nthread\n" 2 15
+    ∷ at "cells 0\nplain 1\nplain 1\nthread\n" 3 1
+    ∷ at "cells 0\nthread\nplain 1\n" 3 1
+    ∷ at "cells 0\nthread\n  r0 = read p0\n" 3 13
+    ∷ at "cells 0\nplain 1\nthread\n  r0 = read p1\n" 4 13
+    ∷ at "cells 0\nplain 1\nthread\n  write 7 to 0\n" 4 14
     ∷ []
 
 abbrev pub answered : Refusal → TextAnswer

@@ -8,7 +8,7 @@ use mathlib.Core.List.{List, [], _∷_, _++_}
 use mathlib.Core.Bool.{Bool, true, false, cond, _&&_, _||_}
 use lib.Dec.{ltb, leb, eqb}
 use lib.ListN.{length, getD, drop}
-use Rattle.rules.specs.Table.{Row, rowAt, u64At, judged, good, badHeader, badRow, threadsOf, cellsOf, countsOf, firstRows, startValue}
+use Rattle.rules.specs.Table.{Row, rowAt, u64At, judged, good, badHeader, badRow, threadsOf, cellsOf, plainsOf, valuesOf, countsOf, firstRows, startValue}
 use Rattle.rules.specs.Condition.{isSign, isCondition, opens, closes}
 use Rattle.rules.specs.Token.{bytesOf, space, lineFeed}
 use Rattle.rules.specs.Form.{orders, Form, forms, fieldOf}
@@ -33,8 +33,9 @@ orderShown o = getD orders o []
 unfoldable pub letterShown : ℕ → List ℕ → List ℕ
 letterShown b fields =
     cond (eqb b 82) (114 ∷ shown (getD fields 5 0))
+    (cond (eqb b 80) (112 ∷ shown (getD fields 1 0))
     (cond (eqb (fieldOf b) 2 || eqb (fieldOf b) 3) (orderShown (getD fields (fieldOf b) 0))
-    (shown (getD fields (fieldOf b) 0)))
+    (shown (getD fields (fieldOf b) 0))))
 
 -- the words of a form, with the fields for the letters that stand alone
 unfoldable pub formShown : List ℕ → List ℕ → List ℕ
@@ -56,16 +57,25 @@ rowShown r = space ∷ space ∷ (formShown (formIn (r .opcode) (r .kind) forms 
 -- n rows from this one on, by their numbers among all rows
 unfoldable pub rowsShown : List ℕ → ℕ → ℕ → List ℕ
 rowsShown table zero i = []
-rowsShown table (suc n) i = rowShown (rowAt table (cellsOf table) i) ++ rowsShown table n (i + 1)
+rowsShown table (suc n) i = rowShown (rowAt table (valuesOf table) i) ++ rowsShown table n (i + 1)
 
 unfoldable pub threadsShown : List ℕ → ℕ → ℕ → List ℕ
 threadsShown table zero t = []
 threadsShown table (suc n) t =
     bytesOf "thread" ++ (lineFeed ∷ (rowsShown table (getD (countsOf table) t 0) (getD (firstRows 0 (countsOf table)) t 0) ++ threadsShown table n (t + 1)))
 
+-- n start values from this one on
 unfoldable pub valuesShown : List ℕ → ℕ → ℕ → List ℕ
-valuesShown table zero cell = []
-valuesShown table (suc n) cell = space ∷ (shown (startValue table cell) ++ valuesShown table n (cell + 1))
+valuesShown table zero i = []
+valuesShown table (suc n) i = space ∷ (shown (startValue table i) ++ valuesShown table n (i + 1))
+
+-- a line for the plain cells, where there are any
+unfoldable pub plainsShown : List ℕ → List ℕ
+plainsShown table =
+    elim (leb 1 (plainsOf table)) [
+      | true ↦ bytesOf "plain" ++ (valuesShown table (plainsOf table) (cellsOf table) ++ (lineFeed ∷ []))
+      | false ↦ []
+    ]
 
 -- a condition's bytes as text: a blank before each word, but not behind "(" and not before ")"
 abbrev pub blankBefore : Bool → ℕ → List ℕ
@@ -88,7 +98,9 @@ conditionShown (b ∷ bs) = bytesOf "finally" ++ (unitsShown (length (b ∷ bs))
 
 unfoldable pub writtenText : List ℕ → List ℕ → List ℕ
 writtenText table condition =
-    bytesOf "cells" ++ (valuesShown table (cellsOf table) 0 ++ (lineFeed ∷ (threadsShown table (threadsOf table) 0 ++ conditionShown condition)))
+    bytesOf "cells"
+    ++ (valuesShown table (cellsOf table) 0
+    ++ (lineFeed ∷ (plainsShown table ++ (threadsShown table (threadsOf table) 0 ++ conditionShown condition))))
 
 -- what the writer answers, and what it leaves in the buffer
 pub data Written : Type 0 where

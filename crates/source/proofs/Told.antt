@@ -8,7 +8,7 @@ use borrow.Author.Tests.{le-leb, lt-leb}
 use lib.Dec.{leb, eqb}
 use lib.ListN.{length, getD}
 use Rattle.rules.specs.Vector.{equal}
-use Rattle.rules.specs.Table.{Verdict, headerBytes, maxThreads, judged, good, badHeader, headerFine, rowsJudged, threadsOf, cellsOf, countsOf}
+use Rattle.rules.specs.Table.{Verdict, headerBytes, maxThreads, judged, good, badHeader, headerFine, rowsJudged, countsOf}
 use Rattle.rules.specs.Token.{run, endsLine, tokenLength, bytesOf}
 use Rattle.rules.specs.Text.{Made, Line, goesOn, refusedLine, ended, concludes, TextRead, refusedAt, accepted, tableOf, concluded, nothingMade, lineOf, linesFrom, readText, linesIn, threadsAhead}
 use Rattle.source.specs.Told.{holdsTable, Told}
@@ -98,7 +98,7 @@ by-header false rows e = let z : _≡_ {A = ℕ} 0 1 = cc in absurd (omega arith
 
 table-told : (bytes : List ℕ) → judged bytes ≡ good → holdsTable bytes ≡ true
 unfolding judged
-table-told bytes e = fine bytes (by-header (headerFine bytes) (rowsJudged bytes (threadsOf bytes) (cellsOf bytes) 0 0 (countsOf bytes)) e)
+table-told bytes e = fine bytes (by-header (headerFine bytes) (rowsJudged bytes 0 0 (countsOf bytes)) e)
 
 pub told : Told
 told = record { text = text-told; table = table-told }

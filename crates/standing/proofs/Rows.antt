@@ -9,7 +9,7 @@ use native.Mathlib.Decide.{ℕ-discrete}
 use lib.Dec.{ltb}
 use lib.ListN.{getD}
 use borrow.Author.Tests.{ltb-false}
-use Rattle.rules.specs.Table.{Op, Decoded, refused, decoded, opAt, isFine, firstNot, firstBad, rowsJudged, firstRows, Verdict, good, badRow, judged, threadsOf, cellsOf, countsOf}
+use Rattle.rules.specs.Table.{Op, Room, Decoded, refused, decoded, opAt, roomOf, isFine, firstNot, firstBad, rowsJudged, firstRows, Verdict, good, badRow, judged, countsOf}
 use Rattle.rules.specs.Machine.{Program, rowCount, rowOf}
 use Rattle.rules.proofs.MeasureRows.{Names, RowNames, is-named, op-names}
 use Rattle.rules.proofs.MeasureAccepted.{good-header}
@@ -26,36 +26,36 @@ all-fine fine m (suc n) i s e k h l = by (fine i) refl e (λ f d. all-fine fine 
     by false f e more = absurd (omega (arith, ltb-false))
 
 -- the counts of the threads from some thread on, whose rows begin at this number
-module _ (t : List ℕ) (threads cells : ℕ) where
+module _ (t : List ℕ) where
   first-good : (b : Bool) (x k : ℕ) (more : Verdict) → cond b (badRow x k) more ≡ good → (b ≡ false) × (more ≡ good)
   first-good true x k more e = (cc, cc)
   first-good false x k more e = (refl, e)
 
-  rows-fine : (cs : List ℕ) (thread first : ℕ) → rowsJudged t threads cells thread first cs ≡ good → (i k : ℕ) → k < getD cs i 0 →
-      isFine (opAt t threads cells (getD cs i 0) (getD (firstRows first cs) i 0 + k)) ≡ true
+  rows-fine : (cs : List ℕ) (thread first : ℕ) → rowsJudged t thread first cs ≡ good → (i k : ℕ) → k < getD cs i 0 →
+      isFine (opAt t (roomOf t (getD cs i 0)) (getD (firstRows first cs) i 0 + k)) ≡ true
   unfolding rowsJudged firstRows firstBad
   rows-fine [] thread first e i k h = absurd (omega arith)
   rows-fine (c ∷ cs) thread first e zero k h =
       let f = first-good _ thread _ _ e in
-      all-fine (λ (i : ℕ). isFine (opAt t threads cells c (first + i))) c c 0 (omega arith) (f .0) k (omega arith) h
+      all-fine (λ (i : ℕ). isFine (opAt t (roomOf t c) (first + i))) c c 0 (omega arith) (f .0) k (omega arith) h
   rows-fine (c ∷ cs) thread first e (suc i) k h =
-      let bad = firstBad t threads cells first c in
+      let bad = firstBad t first c in
       rows-fine cs (thread + 1) (first + c) (first-good (ltb bad c) thread bad _ e .1) i k h
 
 -- a row that is fine says something, and what it names is there
-says : (threads cells count : ℕ) (d : Decoded Op) → isFine d ≡ true → RowNames threads cells count d →
-    (op : Op) × (d ≡ decoded op) × Names threads cells count op
-says threads cells count refused e h = absurd (false≢true e)
-says threads cells count (decoded op) e h = (op, refl, is-named threads cells count op h)
+says : (room : Room) (d : Decoded Op) → isFine d ≡ true → RowNames room d →
+    (op : Op) × (d ≡ decoded op) × Names room op
+says room refused e h = absurd (false≢true e)
+says room (decoded op) e h = (op, refl, is-named room op h)
 
 module _ (p : Program) (accepted : judged (p .table) ≡ good) where
-  all-good : rowsJudged (p .table) (threadsOf (p .table)) (cellsOf (p .table)) 0 0 (countsOf (p .table)) ≡ good
+  all-good : rowsJudged (p .table) 0 0 (countsOf (p .table)) ≡ good
   unfolding judged
   all-good = rw (good-header (p .table) accepted) at accepted
 
   pub accepted-row : (t k : ℕ) → k < rowCount p t →
-      (op : Op) × (rowOf p t k ≡ decoded op) × Names (threadsOf (p .table)) (cellsOf (p .table)) (rowCount p t) op
+      (op : Op) × (rowOf p t k ≡ decoded op) × Names (roomOf (p .table) (rowCount p t)) op
   accepted-row t k h =
-      says _ _ _ (rowOf p t k)
-      (rows-fine (p .table) (threadsOf (p .table)) (cellsOf (p .table)) (countsOf (p .table)) 0 0 all-good t k h)
-      (op-names _ _ _ (p .table) _)
+      says _ (rowOf p t k)
+      (rows-fine (p .table) (countsOf (p .table)) 0 0 all-good t k h)
+      (op-names _ (p .table) _)

@@ -15,12 +15,13 @@ use borrow.Author.Tests.{lt-ltb, eqb-false}
 use Rattle.rules.specs.Vector.{oneMore}
 use Rattle.rules.specs.Change.{Change}
 use Rattle.rules.specs.Table as Table
-use Rattle.rules.specs.Table.{Op, decoded, threadsOf, cellsOf}
+use Rattle.rules.specs.Table.{Op, decoded, roomOf, threadsOf, cellsOf}
 use Rattle.rules.specs.Event as Event
 use Rattle.rules.specs.Event.{Fault, impossible, faultNumber, Entry, Matched, Question, whichSlot, whichBit, Move, moves, asks, stops, ends}
 use Rattle.rules.specs.State as State
 use Rattle.rules.specs.State.{State, Numbers, number, withNumber, threads, cells, phase, nextRow, yields, lastYield, operation, awaits, count, isSeqCst, exploring, skipping, storeAt}
 use Rattle.rules.specs.Cell.{version, storeDone, slotOf, Access, raced, read, Race, noRace, raceOf, loadDone, rmwDone, unsyncLoadDone, mutDone, storeRace, storeTracked, withClocks}
+use Rattle.rules.specs.Plain.{plainReadDone, plainWriteRace, plainWriteDone}
 use Rattle.rules.specs.Machine as Machine
 use Rattle.rules.specs.Machine.{Program, rowCount, rowOf, activeOp, runnable, blocked, yielded, ended, toBegin, toAct, completed}
 use Rattle.rules.specs.Measure.{CanAct}
@@ -28,7 +29,7 @@ use Rattle.rules.proofs.StateLaws.{number-same, number-other}
 use Rattle.rules.proofs.NumberLaws.{after, more-some}
 use Rattle.rules.proofs.Measure.{Is, aside, toState, toPhase}
 use Rattle.rules.proofs.MeasureRows.{pick, Names}
-use Rattle.rules.proofs.AccessLaws.{Leaves, isRaced, isRead, load-leaves, rmw-leaves, unsync-leaves, mut-leaves}
+use Rattle.rules.proofs.AccessLaws.{Leaves, isRaced, isRead, load-leaves, rmw-leaves, unsync-leaves, mut-leaves, plain-leaves}
 use Rattle.standing.specs.Standing.{Thread, Over, Holds, Schedules, Reading, ofLoad, ofRmw, Reads, Takes, Asked}
 use Rattle.standing.proofs.Facts.{acts-so, Facts, keep, toRow, closed, holding}
 
@@ -150,6 +151,12 @@ module _ (p : Program) (held : cellsOf (p .table) ≤ cells) (few : threadsOf (p
       stores-unless (storeRace (up .clocks) t c) up (withClocks up (storeTracked (up .clocks) t c)) opcode c o v h
       at at
 
+  writes-unless : (x : Race) (st : State) (opcode c v : ℕ) → At st →
+      After p n (Machine.writesUnless x st (plainWriteDone st t c v) t k opcode v)
+  unfolding plainWriteDone
+  writes-unless (raceOf kind other) st opcode c v at = stopped st _ (omega arith) at
+  writes-unless noRace st opcode c v at = finished _ (oneMore k) _ next-row at
+
   -- "7 yield": the row is complete, the thread has yielded
   yield-good : (st : State) (x : Entry) → At st → Good p n (Machine.schedules (completed (Machine.yieldDone st t) t (oneMore k)) (x ∷ []))
   yield-good st x at =
@@ -258,7 +265,7 @@ module _ (p : Program) (held : cellsOf (p .table) ≤ cells) (few : threadsOf (p
       } in
       schedules-good (Machine.blockedOn st t target) [] is f3 (rw awaited stands) (λ g. rw awaited onIt) (omega arith) (omega arith))
 
-  pub acts-good : (st : State) (op : Op) → rowOf p t k ≡ decoded op → Names (threadsOf (p .table)) (cellsOf (p .table)) (rowCount p t) op →
+  pub acts-good : (st : State) (op : Op) → rowOf p t k ≡ decoded op → Names (roomOf (p .table) (rowCount p t)) op →
       At st → Good p n (Machine.acts p st t k op)
   unfolding Machine.actsAs
   acts-good st (Table.load c o r) e h at =
@@ -291,3 +298,6 @@ module _ (p : Program) (held : cellsOf (p .table) ≤ cells) (few : threadsOf (p
   acts-good st Table.skipBranch e h at =
       moving (finished (Machine.skipped st) (oneMore k) _ next-row (skipped-at st at))
   acts-good st (Table.spurious r) e h at = bit-good st _ r at (op-is st at ∙ e)
+  acts-good st (Table.plainRead c r) e h at =
+      moving (reads-after (plainReadDone st t c) 17 r _ 0 (plain-leaves On st t c at))
+  acts-good st (Table.plainWrite c a) e h at = moving (writes-unless (plainWriteRace (st .clocks) t c) st 18 c a at)

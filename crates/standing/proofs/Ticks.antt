@@ -10,7 +10,7 @@ use native.Mathlib.Omega.{arith}
 use lib.Dec.{leb}
 use borrow.Author.Tests.{eqb-true, eqb-false, leb-true, leb-false, lt-ltb}
 use Rattle.rules.specs.Vector.{oneMore, largest}
-use Rattle.rules.specs.Table.{Op, decoded, threadsOf, cellsOf, judged, good}
+use Rattle.rules.specs.Table.{Op, decoded, roomOf, threadsOf, cellsOf, judged, good}
 use Rattle.rules.specs.Event as Event
 use Rattle.rules.specs.State as State
 use Rattle.rules.specs.State.{State, Numbers, number, withNumber, threads, cells, phase, begun, rowsOf, operation, operatesOn, nextRow, awaits}
@@ -20,7 +20,7 @@ use Rattle.rules.specs.Measure.{CanAct}
 use Rattle.rules.proofs.NumberLaws.{five-has, more-below}
 use Rattle.rules.proofs.Measure.{Is, aside, toState, toPhase, toBegun, toCell, seen, otherWork}
 use Rattle.rules.proofs.MeasureLoops.{freed-all}
-use Rattle.rules.proofs.MeasureRows.{pick, both-left, both-right, Names, names-more, OnCell, on-cell}
+use Rattle.rules.proofs.MeasureRows.{pick, both-left, both-right, Names, OnCell, RowOnCell, row-on-cell}
 use Rattle.standing.specs.Standing.{Thread, Over, Holds, Schedules, underWay}
 use Rattle.standing.proofs.Facts.{acts-so, Facts, keep, begunOne, freed-facts, freed-none, opened, closed, holding}
 use Rattle.standing.proofs.Rows.{accepted-row}
@@ -34,7 +34,7 @@ module _ (p : Program) (held : cellsOf (p .table) ≤ cells) (few : threadsOf (p
     begun-holds st is facts = holding p held few t (omega arith) st (n + 0) within can is facts own (omega arith)
 
     begun-good : (st : State) (row : Op) (pending : Pending) → rowOf p t k ≡ decoded row →
-        Names (threadsOf (p .table)) (cellsOf (p .table)) (rowCount p t) row → OnCell pending → Is t s toAct b m (st .numbers) →
+        Names (roomOf (p .table) (rowCount p t)) row → OnCell pending → Is t s toAct b m (st .numbers) →
         Facts p t k q b threads (st .numbers) → Good p n (Machine.begunAs p st t k row pending)
     unfolding Machine.schedules
     begun-good st row nothing e names h is facts =
@@ -85,7 +85,7 @@ module _ (p : Program) (held : cellsOf (p .table) ≤ cells) (few : threadsOf (p
       is-begin = seen a t below (stands .whole) refl refl e
 
       -- "12 a row is to begin with L begun"
-      begins-good : (op : Op) → k < rowCount p t → rowOf p t k ≡ decoded op → Names (threadsOf (p .table)) (cellsOf (p .table)) (rowCount p t) op →
+      begins-good : (op : Op) → k < rowCount p t → rowOf p t k ≡ decoded op → Names (roomOf (p .table) (rowCount p t)) op →
           OnCell (pendingOf op) → Good p n (Machine.begins p st t k op)
       unfolding Machine.begins
       begins-good op row is-row names onCell =
@@ -151,11 +151,15 @@ module _ (p : Program) (held : cellsOf (p .table) ≤ cells) (few : threadsOf (p
 
     -- the row has begun
     acts-next : (op : Op) → number a (phase t) ≡ toAct → rowOf p t k ≡ decoded op →
-        Names (threadsOf (p .table)) (cellsOf (p .table)) (rowCount p t) op → Good p n (Machine.acts p st t k op)
+        Names (roomOf (p .table) (rowCount p t)) op → Good p n (Machine.acts p st t k op)
     acts-next op e row names =
         let is : Is t s toAct (number a begun) (otherWork a t) a = seen a t below (stands .whole) refl refl e in
         acts-good p held few t s k (number a (awaits t)) (number a begun) (otherWork a t) q n (stands .runs) (holds .ready) (rw e at own)
         (omega (arith, stands .entries, phase-in)) (stands .limited) st op row names (record { is = is; facts = facts })
+
+    on-cell : (op : Op) → rowOf p t k ≡ decoded op → OnCell (pendingOf op)
+    unfolding RowOnCell
+    on-cell op e = rw e at (row-on-cell p t k)
 
     module _ (accepted : judged (p .table) ≡ good) where
       -- it begins its row or, where that has begun, acts
@@ -165,7 +169,7 @@ module _ (p : Program) (held : cellsOf (p .table) ≤ cells) (few : threadsOf (p
           let op = said .0 in
           rw (said .1)
           (pick (Good p n) (Machine.isToBegin st t)
-          (λ e. begins-good (eqb-true _ _ e) op row (said .1) (said .2) (on-cell threads (rowCount p t) op (names-more _ _ _ few held op (said .2))))
+          (λ e. begins-good (eqb-true _ _ e) op row (said .1) (said .2) (on-cell op (said .1)))
           (λ e. acts-next op (to-act (eqb-false _ _ e)) (said .1) (said .2)))
         where
           to-act : number a (phase t) ≢ toBegin → number a (phase t) ≡ toAct

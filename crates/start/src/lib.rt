@@ -3,7 +3,7 @@ ghost use mathlib.Core.Path.{_≡_};
 ghost use Prim.Native.Nat.{_<_, _≤_};
 ghost use Rattle.rules.specs.Machine as machine;
 ghost use Rattle.rules.specs.State as rules;
-ghost use Rattle.rules.specs.Table.{threadsOf, cellsOf};
+ghost use Rattle.rules.specs.Table.{threadsOf, cellsOf, plainsOf};
 ghost use Rattle.layout.specs.Tables.{state};
 use layout::Access;
 use layout::CLOCKS;
@@ -20,6 +20,7 @@ use layout::Values;
 use layout::of_cell::ACCESS_BRANCH;
 use layout::of_cell::NON_LOAD_BRANCH;
 use layout::of_cell::UNSYNC_MUT_AT;
+use layout::of_plain;
 use layout::of_run::EXPLORING;
 use layout::of_thread::CAUSALITY;
 use layout::of_thread::LAST_YIELD;
@@ -28,7 +29,7 @@ use layout::order::RELEASE;
 use synchronize::join_into;
 use thread::RUNNABLE;
 
-// Lays the tables anew, whatever they held: cells made by thread 0, then all threads runnable.
+// Lays the tables anew, whatever they held: cells and plain cells made by thread 0, then all threads runnable.
 pub fn start(
     clocks: &mut Clocks,
     marks: &mut Marks,
@@ -37,14 +38,16 @@ pub fn start(
     table: &[u8],
     threads: usize,
     cells: usize,
+    plains: usize,
     exploring: bool,
 )
-    requires { ⌜ (threads ≤ 5) × (cells ≤ 4) ⌝ }
-    ensures { λ _. ⌜ ((p : machine.Program) → p .table ≡ now (table .entry) → p .exploring ≡ exploring → threadsOf (p .table) ≡ threads → cellsOf (p .table) ≡ cells → state (now (clocks .exit)) (now (marks .exit)) (now (values .exit)) (now (numbers .exit)) ≡ machine.start p) ⌝ }
+    requires { ⌜ (threads ≤ 5) × (cells ≤ 4) × (plains ≤ 4) ⌝ }
+    ensures { λ _. ⌜ ((p : machine.Program) → p .table ≡ now (table .entry) → p .exploring ≡ exploring → threadsOf (p .table) ≡ threads → cellsOf (p .table) ≡ cells → plainsOf (p .table) ≡ plains → state (now (clocks .exit)) (now (marks .exit)) (now (values .exit)) (now (numbers .exit)) ≡ machine.start p) ⌝ }
 {
     clear(clocks, marks, values, numbers, exploring);
     clocks[CAUSALITY] = [1, 0, 0, 0, 0];
     make_cells(clocks, marks, values, numbers, table, cells);
+    make_plains(clocks, values, table, cells, plains);
     start_threads(clocks, numbers, threads);
 }
 
@@ -114,6 +117,27 @@ fn make_cell(
         [0; MAX_THREADS],
         value,
     );
+}
+
+// The plain cells, in order.
+fn make_plains(clocks: &mut Clocks, values: &mut Values, table: &[u8], cells: usize, plains: usize)
+    requires { ⌜ (cells ≤ 4) × (plains ≤ 4) ⌝ }
+    ensures { λ _. ⌜ ((marks : rules.Marks) (numbers : rules.Numbers) → cellsOf (now (table .entry)) ≡ cells → state (now (clocks .exit)) marks (now (values .exit)) numbers ≡ machine.plainsMade (now (table .entry)) (state (now (clocks .entry)) marks (now (values .entry)) numbers) plains 0) ⌝ }
+{
+    let mut plain = 0;
+    while plain < plains {
+        make_plain(clocks, values, table, cells, plain);
+        plain += 1;
+    }
+}
+
+// A plain cell is written by thread 0. Its start value stands behind those of the cells.
+fn make_plain(clocks: &mut Clocks, values: &mut Values, table: &[u8], cells: usize, plain: usize)
+    requires { ⌜ (cells ≤ 4) × (plain < 4) ⌝ }
+    ensures { λ _. ⌜ ((marks : rules.Marks) (numbers : rules.Numbers) → cellsOf (now (table .entry)) ≡ cells → state (now (clocks .exit)) marks (now (values .exit)) numbers ≡ machine.plainMade (now (table .entry)) (state (now (clocks .entry)) marks (now (values .entry)) numbers) plain) ⌝ }
+{
+    plain::track_write(clocks, 0, plain);
+    values[of_plain::VALUE + plain] = table::start_value(table, cells + plain);
 }
 
 // Thread 0 is at (2,0,0,0,0), each other has seen its first version and is at 1 itself.

@@ -1,6 +1,6 @@
 -- The laws of a row that was taken apart, and of the arm of a match that takes all other rows together. Assumes nothing.
 --     op-as, says, refuses, changed-as      what is said of a row or a change, from what it was found to be
---     no-cell, no-store, no-jump, no-act    the rows that name no cell, that never store, that do not jump, that change nothing
+--     no-cell, no-store, no-jump, no-act    the rows that name no cell and no plain cell, that never store, that do not jump, that change nothing
 use Prim.Native.Nat.{ℕ, _+_}
 use mathlib.Core.Bool.{false}
 use mathlib.Core.List.{List, [], _∷_}
@@ -33,7 +33,7 @@ module _ {d : Decoded} {x : rules.Decoded rules.Op} (is : decodedOf d ≡ x) whe
 pub changed-as : {A : Type 0} (f : changes.Changed → A) {r m : Changed} {x : changes.Changed} → changedOf r ≡ x → r ≡ m → f (changedOf m) ≡ f x
 changed-as f is e = ap f (sym (ap changedOf e) ∙ is)
 
--- the places among the variants of the rows that name no cell
+-- the places among the variants of the rows that name no cell and no plain cell
 abbrev elsewhere : List ℕ
 elsewhere = 4 ∷ 7 ∷ 8 ∷ 9 ∷ 10 ∷ 11 ∷ 12 ∷ 13 ∷ 14 ∷ 15 ∷ 16 ∷ []
 
@@ -55,10 +55,12 @@ no-cell code.Critical k = refl
 no-cell code.ExploreState k = refl
 no-cell code.SkipBranch k = refl
 no-cell (code.Spurious register) k = refl
+no-cell (code.PlainRead plain register) k = absurd (miss elsewhere 17 tt k)
+no-cell (code.PlainWrite plain value) k = absurd (miss elsewhere 18 tt k)
 
 -- and of those that never store
 abbrev reading : List ℕ
-reading = 0 ∷ 4 ∷ 5 ∷ 6 ∷ 7 ∷ 8 ∷ 9 ∷ 10 ∷ 11 ∷ 12 ∷ 13 ∷ 14 ∷ 15 ∷ 16 ∷ []
+reading = 0 ∷ 4 ∷ 5 ∷ 6 ∷ 7 ∷ 8 ∷ 9 ∷ 10 ∷ 11 ∷ 12 ∷ 13 ∷ 14 ∷ 15 ∷ 16 ∷ 17 ∷ 18 ∷ []
 
 pub no-store : (op : Op) (v : ℕ) → OneOf reading (tagOf the-type op) → false ≡ storesAfter v (opOf op)
 no-store (code.Load order cell register) v k = refl
@@ -78,10 +80,12 @@ no-store code.Critical v k = refl
 no-store code.ExploreState v k = refl
 no-store code.SkipBranch v k = refl
 no-store (code.Spurious register) v k = refl
+no-store (code.PlainRead plain register) v k = refl
+no-store (code.PlainWrite plain value) v k = refl
 
 -- of those that do not jump
 abbrev straight : List ℕ
-straight = 0 ∷ 1 ∷ 2 ∷ 3 ∷ 4 ∷ 5 ∷ 6 ∷ 7 ∷ 8 ∷ 12 ∷ 13 ∷ 14 ∷ 15 ∷ 16 ∷ []
+straight = 0 ∷ 1 ∷ 2 ∷ 3 ∷ 4 ∷ 5 ∷ 6 ∷ 7 ∷ 8 ∷ 12 ∷ 13 ∷ 14 ∷ 15 ∷ 16 ∷ 17 ∷ 18 ∷ []
 
 module _ (h : List ℕ) (t k : ℕ) where
   pub no-jump : (op : Op) → OneOf straight (tagOf the-type op) → k + 1 ≡ nextOf h t k (opOf op)
@@ -103,6 +107,8 @@ module _ (h : List ℕ) (t k : ℕ) where
   no-jump code.ExploreState p = refl
   no-jump code.SkipBranch p = refl
   no-jump (code.Spurious register) p = refl
+  no-jump (code.PlainRead plain register) p = refl
+  no-jump (code.PlainWrite plain value) p = refl
 
 -- of those that change nothing that is held
 abbrev idle : List ℕ
@@ -128,3 +134,5 @@ module _ (h : List ℕ) (t v step : ℕ) where
   no-act code.ExploreState k = refl
   no-act code.SkipBranch k = refl
   no-act (code.Spurious register) k = absurd (miss idle 16 tt k)
+  no-act (code.PlainRead plain register) k = absurd (miss idle 17 tt k)
+  no-act (code.PlainWrite plain value) k = absurd (miss idle 18 tt k)

@@ -12,11 +12,11 @@ use lib.ListN.{length, getD, replicate, take, drop, length-take, List·getD-appe
 use lib.Seq.{getD-append-add, getD-take, getD-drop}
 use borrow.Author.Tests.{lt-ltb, le-ltb, le-leb, lt-leb}
 use Rattle.rules.specs.Machine.{rowOf, rowCount}
-use Rattle.rules.specs.Table.{Op, Decoded, refused, headerBytes, rowBytes, maxThreads, sizeOf, threadsOf, cellsOf, countsOf, firstRows, shapeOf, noRow, rowAt, rowDecoded, opAt}
+use Rattle.rules.specs.Table.{Op, Decoded, refused, headerBytes, rowBytes, maxThreads, maxCells, maxPlains, sizeOf, threadsOf, cellsOf, plainsOf, countsOf, firstRows, shapeOf, noRow, rowAt, Room, rowDecoded, opAt}
 use Rattle.decode.specs.declared.Decoded as code
 use Rattle.decode.specs.Ops.{decodedOf}
-use Rattle.table.proofs.Header.{counts-length}
-use Rattle.table.specs.Answers.{OpAt}
+use Rattle.table.proofs.Header.{counts-length, counts-are}
+use Rattle.table.specs.Answers.{roomIn, OpAt}
 use Rattle.steps.specs.Entries.{program, rowSays}
 
 module _ (t : List ℕ) {i thread : ℕ} (same : i ≡ thread) where
@@ -45,55 +45,69 @@ cond-same : (b : Bool) (d : Decoded Op) → cond b d d ≡ d
 cond-same true d = refl
 cond-same false d = refl
 
-module _ (t : List ℕ) (short : length t < headerBytes) (threads cells count index : ℕ) where
-  no-row : rowAt t cells index ≡ noRow
+module _ (t : List ℕ) (short : length t < headerBytes) (room : Room) (index : ℕ) where
+  no-row : (values : ℕ) → rowAt t values index ≡ noRow
   unfolding rowAt
-  no-row =
-      let e : leb (sizeOf cells index + rowBytes) (length t) ≡ false = lt-leb (sizeOf cells index + rowBytes) (length t) (omega arith) in
+  no-row values =
+      let e : leb (sizeOf values index + rowBytes) (length t) ≡ false = lt-leb (sizeOf values index + rowBytes) (length t) (omega arith) in
       rw (e, and-false)
 
-  short-refused : opAt t threads cells count index ≡ refused
+  short-refused : opAt t room index ≡ refused
   unfolding opAt rowDecoded
-  short-refused = rw no-row (cond-same (leb threads maxThreads) refused)
+  short-refused =
+      rw (no-row (room .cells + room .plains))
+      (cond-same (leb (room .threads) maxThreads && leb (room .cells) maxCells && leb (room .plains) maxPlains) refused)
 
 -- one that has a header has its numbers in its shape
 module _ (t : List ℕ) (long : headerBytes ≤ length t) where
+  abbrev behind : List ℕ
+  behind = firstRows 0 (countsOf t) ++ (plainsOf t ∷ [])
+
   abbrev shape : List ℕ
-  shape = threadsOf t ∷ cellsOf t ∷ (countsOf t ++ firstRows 0 (countsOf t))
+  shape = threadsOf t ∷ cellsOf t ∷ (countsOf t ++ behind)
 
   is-shape : shapeOf t ≡ shape
   unfolding shapeOf
-  is-shape = ap (λ (b : Bool). cond b shape (replicate 12 0)) (le-leb headerBytes (length t) long)
+  is-shape = ap (λ (b : Bool). cond b shape (replicate 13 0)) (le-leb headerBytes (length t) long)
 
   shape-rows : (i : ℕ) → i < maxThreads → getD (shapeOf t) (2 + i) 0 ≡ getD (countsOf t) i 0
   shape-rows i h =
       ap (λ (l : List ℕ). getD l (2 + i) 0) is-shape
-      ∙ getD-append-add (threadsOf t ∷ cellsOf t ∷ []) (countsOf t ++ firstRows 0 (countsOf t)) i 0
-      ∙ List·getD-append (countsOf t) (firstRows 0 (countsOf t)) 0 i (omega (arith, h, counts-length t long))
+      ∙ getD-append-add (threadsOf t ∷ cellsOf t ∷ []) (countsOf t ++ behind) i 0
+      ∙ List·getD-append (countsOf t) behind 0 i (omega (arith, h, counts-length t long))
 
-  shape-first : (i : ℕ) → getD (shapeOf t) (7 + i) 0 ≡ getD (firstRows 0 (countsOf t)) i 0
-  shape-first i =
+  firsts-length : length (firstRows 0 (countsOf t)) ≡ maxThreads
+  unfolding firstRows
+  firsts-length = rw (counts-are t long)
+
+  shape-behind : (i : ℕ) → getD (shapeOf t) (7 + i) 0 ≡ getD behind i 0
+  shape-behind i =
       let e : 7 + i ≡ 2 + (length (countsOf t) + i) = omega (arith, counts-length t long) in
       ap (λ (l : List ℕ). getD l (7 + i) 0) is-shape
       ∙ ap (λ (k : ℕ). getD shape k 0) e
-      ∙ getD-append-add (threadsOf t ∷ cellsOf t ∷ []) (countsOf t ++ firstRows 0 (countsOf t)) (length (countsOf t) + i) 0
-      ∙ getD-append-add (countsOf t) (firstRows 0 (countsOf t)) i 0
+      ∙ getD-append-add (threadsOf t ∷ cellsOf t ∷ []) (countsOf t ++ behind) (length (countsOf t) + i) 0
+      ∙ getD-append-add (countsOf t) behind i 0
 
-  long-said : (i k : ℕ) → i < maxThreads →
-      opAt t (getD (shapeOf t) 0 0) (getD (shapeOf t) 1 0) (getD (shapeOf t) (2 + i) 0) (getD (shapeOf t) (7 + i) 0 + k) ≡ rowOf (program t) i k
-  long-said i k h =
-      rw (shape-rows i h, shape-first i, is-shape)
+  shape-first : (i : ℕ) → i < maxThreads → getD (shapeOf t) (7 + i) 0 ≡ getD (firstRows 0 (countsOf t)) i 0
+  shape-first i h =
+      shape-behind i ∙ List·getD-append (firstRows 0 (countsOf t)) (plainsOf t ∷ []) 0 i (omega (arith, h, firsts-length))
 
-shape-said : (t : List ℕ) (i k : ℕ) → i < maxThreads →
-    opAt t (getD (shapeOf t) 0 0) (getD (shapeOf t) 1 0) (getD (shapeOf t) (2 + i) 0) (getD (shapeOf t) (7 + i) 0 + k) ≡ rowOf (program t) i k
+  shape-plains : getD (shapeOf t) 12 0 ≡ plainsOf t
+  unfolding firstRows
+  shape-plains = rw (is-shape, counts-are t long)
+
+  long-said : (i k : ℕ) → i < maxThreads → opAt t (roomIn (shapeOf t) i) (getD (shapeOf t) (7 + i) 0 + k) ≡ rowOf (program t) i k
+  long-said i k h = rw (shape-rows i h, shape-first i h, shape-plains, is-shape)
+
+shape-said : (t : List ℕ) (i k : ℕ) → i < maxThreads → opAt t (roomIn (shapeOf t) i) (getD (shapeOf t) (7 + i) 0 + k) ≡ rowOf (program t) i k
 shape-said t i k h = elim (decLt (length t) headerBytes) [
-  | yes l ↦ short-refused t l _ _ _ _ ∙ sym (short-refused t l _ _ _ _)
+  | yes l ↦ short-refused t l _ _ ∙ sym (short-refused t l _ _)
   | no l ↦ long-said t (omega arith) i k h
 ]
 
 module _ (t : List ℕ) {i k thread number : ℕ} (same : i ≡ thread) (also : k ≡ number) where
   pub row-said : {s : List ℕ} {d : code.Decoded} → s ≡ shapeOf t → i < maxThreads →
-      OpAt t (getD s 0 0) (getD s 1 0) (getD s (2 + i) 0) (getD s (7 + i) 0 + k) d → decodedOf d ≡ rowSays t thread number
+      OpAt t (roomIn s i) (getD s (7 + i) 0 + k) d → decodedOf d ≡ rowSays t thread number
   unfolding rowSays
   row-said e h o =
       let l : ltb thread maxThreads ≡ true = lt-ltb thread maxThreads (omega arith) in

@@ -1,5 +1,5 @@
--- The steps that access a cell, as a race speaks of them. Assumes nothing.
---     cellIn         the cell that a row names
+-- The steps that access a cell or a plain cell, as a race speaks of them. Assumes nothing.
+--     cellIn         the cell or the plain cell that a row names
 --     lastAccess     the last step in which a thread so accesses a cell
 use Prim.Native.Nat.{ℕ, zero, suc}
 use mathlib.Core.List.{List}
@@ -7,12 +7,12 @@ use mathlib.Core.Bool.{Bool, true, false, cond, _&&_, _||_}
 use lib.Dec.{eqb}
 use Rattle.rules.specs.Change.{Changed, success, failure, applied}
 use Rattle.rules.specs.Event.{Entry}
-use Rattle.rules.specs.Table.{Op, Decoded, refused, decoded, opcodeOf, load, store, storeRegister, rmw, fence, unsyncLoad, exclusive, yield, join, jump, jumpIf, jumpUnless, check, critical, exploreState, skipBranch, spurious}
+use Rattle.rules.specs.Table.{Op, Decoded, refused, decoded, opcodeOf, load, store, storeRegister, rmw, fence, unsyncLoad, exclusive, yield, join, jump, jumpIf, jumpUnless, check, critical, exploreState, skipBranch, spurious, plainRead, plainWrite}
 use Rattle.steps.specs.Entries.{entryAt, operationAt}
 use Rattle.steps.specs.declared.access.Kind.{Kind}
-use Rattle.steps.specs.declared.access.Kind.the-variants.{Load, UnsyncLoad, Store, Exclusive}
+use Rattle.steps.specs.declared.access.Kind.the-variants.{Load, UnsyncLoad, Store, Exclusive, PlainRead, PlainWrite}
 
--- the cell that a row names, or 255
+-- the cell that a row names, or the plain cell, or 255: its opcode says which
 abbrev pub cellIn : Op → ℕ
 cellIn (load c o r) = c
 cellIn (store c o a) = c
@@ -31,12 +31,14 @@ cellIn critical = 255
 cellIn exploreState = 255
 cellIn skipBranch = 255
 cellIn (spurious r) = 255
+cellIn (plainRead c r) = c
+cellIn (plainWrite c a) = c
 
 abbrev pub isSuccess : Changed → Bool
 isSuccess (success v) = true
 isSuccess failure = false
 
--- whether a row stores, where it has read this value: a change that fails does not
+-- whether a row stores to a cell, where it has read this value: a change that fails does not
 abbrev pub storesAfter : ℕ → Op → Bool
 storesAfter v (load c o r) = false
 storesAfter v (store c o a) = true
@@ -55,13 +57,18 @@ storesAfter v critical = false
 storesAfter v exploreState = false
 storesAfter v skipBranch = false
 storesAfter v (spurious r) = false
+storesAfter v (plainRead c r) = false
+storesAfter v (plainWrite c a) = false
 
--- how a row accesses its cell, by its opcode: 0 and 3 load, 5 loads unsynchronised, 6 is exclusive
+-- how a row accesses its cell, by its opcode: 0 and 3 load, 5 loads unsynchronised, 6 is exclusive, 17 and 18 read
+-- and write a plain cell
 abbrev pub accesses : Kind → ℕ → Op → Bool
 accesses Load v op = eqb (opcodeOf op) 0 || eqb (opcodeOf op) 3
 accesses UnsyncLoad v op = eqb (opcodeOf op) 5
 accesses Store v op = storesAfter v op
 accesses Exclusive v op = eqb (opcodeOf op) 6
+accesses PlainRead v op = eqb (opcodeOf op) 17
+accesses PlainWrite v op = eqb (opcodeOf op) 18
 
 -- whether a step that does this, by its entry, is such an access of this thread to this cell
 abbrev pub isAccessBy : ℕ → ℕ → Kind → Entry → Decoded Op → Bool

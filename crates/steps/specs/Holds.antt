@@ -1,4 +1,4 @@
--- What the cells and the registers hold after some of the steps: a table of 61 numbers, and a name for each. Assumes nothing.
+-- What the cells and the registers hold after some of the steps: a table of 65 numbers, and a name for each. Assumes nothing.
 --     held, withHeld     what a place holds, and a number put there
 --     heldAtStart        before the first step
 --     taken              what a step changes
@@ -12,19 +12,20 @@ use Rattle.rules.specs.Cell.{slotOf}
 use Rattle.rules.specs.Cell as cell
 use Rattle.rules.specs.Change.{Change, Changed, success, failure, applied}
 use Rattle.rules.specs.Event.{Entry}
-use Rattle.rules.specs.State.{storeAt, registerAt, threads, cells, history}
-use Rattle.rules.specs.Table.{Op, Decoded, refused, decoded, startValue, registers, load, store, storeRegister, rmw, fence, unsyncLoad, exclusive, yield, join, jump, jumpIf, jumpUnless, check, critical, exploreState, skipBranch, spurious}
+use Rattle.rules.specs.State.{storeAt, registerAt, threads, cells, plains, history}
+use Rattle.rules.specs.Table.{Op, Decoded, refused, decoded, startValue, registers, load, store, storeRegister, rmw, fence, unsyncLoad, exclusive, yield, join, jump, jumpIf, jumpUnless, check, critical, exploreState, skipBranch, spurious, plainRead, plainWrite}
 use Rattle.rules.specs.Vector.{oneMore}
 use Rattle.steps.specs.Entries.{entryAt, operationAt}
 
 -- of a cell: the step that wrote what a slot holds, counted from 1, or 0; how many stores it had; its newest value. Of a thread:
--- a register; the row that it is at
+-- a register; the row that it is at. Of a plain cell: the step that wrote what it holds, or 0
 pub data Place : Type 0 where
   writer : (cell slot : ℕ) → Place
   count : (cell : ℕ) → Place
   newest : (cell : ℕ) → Place
   register : (thread r : ℕ) → Place
   nextRow : (thread : ℕ) → Place
+  plainWriter : (plain : ℕ) → Place
 
 abbrev pub isPlace : Place → Bool
 isPlace (writer c s) = ltb c cells && ltb s history
@@ -32,6 +33,7 @@ isPlace (count c) = ltb c cells
 isPlace (newest c) = ltb c cells
 isPlace (register t r) = ltb t threads && ltb r registers
 isPlace (nextRow t) = ltb t threads
+isPlace (plainWriter c) = ltb c plains
 
 abbrev pub placeOf : Place → ℕ
 placeOf (writer c s) = storeAt c s
@@ -39,6 +41,7 @@ placeOf (count c) = 28 + c
 placeOf (newest c) = 32 + c
 placeOf (register t r) = 36 + registerAt t r
 placeOf (nextRow t) = 56 + t
+placeOf (plainWriter c) = 61 + c
 
 -- what a place holds; 0 where there is no such place, and there nothing is put
 unfoldable pub held : List ℕ → Place → ℕ
@@ -74,14 +77,15 @@ unfoldable pub exclusiveDone : List ℕ → ℕ → ℕ → ℕ → Change → �
 exclusiveDone h t r c change step =
     exclusiveLeft (withHeld h (register t r) (held h (newest c))) c step (applied change (held h (newest c)))
 
--- "cells take a Release store of their start value": no step writes it
+-- "cells take a Release store of their start value": no step writes it, nor that of a plain cell
 abbrev pub cellMade : List ℕ → ℕ → List ℕ → List ℕ
 cellMade table c h = stored h c (startValue table c) 0
 
 unfoldable pub heldAtStart : List ℕ → List ℕ
-heldAtStart table = cellMade table 3 (cellMade table 2 (cellMade table 1 (cellMade table 0 (replicate 61 0))))
+heldAtStart table = cellMade table 3 (cellMade table 2 (cellMade table 1 (cellMade table 0 (replicate 65 0))))
 
--- by its opcode, what a row of thread t changes, with the value of its entry: "read (opcodes 0, 3, 5, 16), stored (1, 2)"
+-- by its opcode, what a row of thread t changes, with the value of its entry: "read (opcodes 0, 3, 5, 16), stored (1, 2)",
+-- "the value read or written" (document 02, §5)
 unfoldable pub acted : List ℕ → ℕ → ℕ → ℕ → Op → List ℕ
 acted h t v step (load c o r) = withHeld h (register t r) v
 acted h t v step (store c o a) = stored h c v step
@@ -100,6 +104,8 @@ acted h t v step critical = h
 acted h t v step exploreState = h
 acted h t v step skipBranch = h
 acted h t v step (spurious r) = withHeld h (register t r) v
+acted h t v step (plainRead c r) = withHeld h (register t r) v
+acted h t v step (plainWrite c a) = withHeld h (plainWriter c) step
 
 -- the row that a thread goes on with
 unfoldable pub nextOf : List ℕ → ℕ → ℕ → Op → ℕ
@@ -120,6 +126,8 @@ nextOf h t k critical = k + 1
 nextOf h t k exploreState = k + 1
 nextOf h t k skipBranch = k + 1
 nextOf h t k (spurious r) = k + 1
+nextOf h t k (plainRead c r) = k + 1
+nextOf h t k (plainWrite c a) = k + 1
 
 -- what a step changes that does this, by its entry
 abbrev pub takenAs : List ℕ → ℕ → Entry → Decoded Op → List ℕ

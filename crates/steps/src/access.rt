@@ -1,4 +1,4 @@
-// The steps that access a cell, as a race speaks of them.
+// The steps that access a cell or a plain cell, as a race speaks of them.
 ghost use mathlib.Core.Path.{_≡_};
 ghost use Rattle.rules.specs.Change.{applied};
 ghost use Rattle.change.specs.Changes.{changeMeant};
@@ -10,15 +10,17 @@ use decode::Decoded;
 use decode::Op;
 use decode::opcode;
 
-// How a step accesses a cell. A change that fails only loads.
+// How a step accesses a cell or, in the last two, a plain cell. A change that fails only loads.
 pub enum Kind {
     Load,
     UnsyncLoad,
     Store,
     Exclusive,
+    PlainRead,
+    PlainWrite,
 }
 
-// The opcodes that access a cell.
+// The opcodes that access one.
 const LOAD: u8 = 0;
 
 const RMW: u8 = 3;
@@ -26,6 +28,10 @@ const RMW: u8 = 3;
 const UNSYNC_LOAD: u8 = 5;
 
 const WITH_MUT: u8 = 6;
+
+const PLAIN_READ: u8 = 17;
+
+const PLAIN_WRITE: u8 = 18;
 
 // The last of the first `n` steps in which a thread so accesses a cell, counted from 1; 0 for none.
 pub fn last(table: &[u8], trace: &[u8], n: usize, thread: u64, cell: u64, kind: Kind) -> u64
@@ -63,10 +69,12 @@ fn is_of(kind: Kind, op: Op, read: u64) -> bool
         Kind::UnsyncLoad => number == UNSYNC_LOAD,
         Kind::Store => stores(op, read),
         Kind::Exclusive => number == WITH_MUT,
+        Kind::PlainRead => number == PLAIN_READ,
+        Kind::PlainWrite => number == PLAIN_WRITE,
     }
 }
 
-// The cell that a row names, or 255.
+// The cell that a row names, or the plain cell, or 255: the row says which.
 pub fn cell_of(op: Op) -> u64
     ensures { λ r. ⌜ r ≡ cellIn (opOf op) ⌝ }
 {
@@ -77,11 +85,13 @@ pub fn cell_of(op: Op) -> u64
         Op::Rmw { cell, .. } => cell as u64,
         Op::UnsyncLoad { cell, .. } => cell as u64,
         Op::WithMut { cell, .. } => cell as u64,
+        Op::PlainRead { plain, .. } => plain as u64,
+        Op::PlainWrite { plain, .. } => plain as u64,
         _ => 255,
     }
 }
 
-// Whether a row stores, where it has read this value.
+// Whether a row stores to a cell, where it has read this value.
 fn stores(op: Op, read: u64) -> bool
     ensures { λ r. ⌜ r ≡ storesAfter read (opOf op) ⌝ }
 {

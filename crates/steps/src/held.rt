@@ -1,5 +1,5 @@
 // What the cells and the registers hold after some of the steps: a cell's newest value, how many stores it had and which step
-// wrote each of its seven slots; a thread's registers and its next row.
+// wrote each of its seven slots; a thread's registers and its next row; which step wrote what a plain cell holds.
 ghost use mathlib.Core.Path.{_≡_};
 ghost use mathlib.Core.Bool.{cond};
 ghost use Rattle.change.specs.Changes.{changeMeant};
@@ -12,12 +12,13 @@ use decode::Decoded;
 use decode::Op;
 use layout::MAX_ATOMIC_HISTORY;
 use layout::MAX_CELLS;
+use layout::MAX_PLAINS;
 use layout::MAX_THREADS;
 use layout::REGISTERS;
 use layout::wide8;
 
-// All of it in one table: 28 writers, 4 counts, 4 values, 20 registers, 5 rows.
-pub type Held = [u64; 61];
+// All of it in one table: 28 writers, 4 counts, 4 values, 20 registers, 5 rows, 4 writers of plain cells.
+pub type Held = [u64; 65];
 
 const COUNT: usize = 28;
 
@@ -27,11 +28,13 @@ const REGISTER: usize = 36;
 
 const NEXT: usize = 56;
 
+const PLAIN_WRITER: usize = 61;
+
 // Before the first step: each cell has had a store of its start value, which no step wrote.
 pub fn start(table: &[u8]) -> Held
     ensures { λ r. ⌜ r ≡ holds.heldAtStart (now (table .entry)) ⌝ }
 {
-    let mut held = [0; 61];
+    let mut held = [0; 65];
     store(&mut held, 0, table::start_value(table, 0), 0);
     store(&mut held, 1, table::start_value(table, 1), 0);
     store(&mut held, 2, table::start_value(table, 2), 0);
@@ -94,6 +97,16 @@ pub fn next_row(held: &Held, thread: u8) -> u64
     let t = wide8(thread);
     if t < MAX_THREADS {
         return held[NEXT + t];
+    }
+    0
+}
+
+// The step that wrote what a plain cell holds, counted from 1; 0 for the start value.
+pub fn plain_writer(held: &Held, plain: usize) -> u64
+    ensures { λ r. ⌜ r ≡ holds.held (now (held .entry)) (holds.plainWriter plain) ⌝ }
+{
+    if plain < MAX_PLAINS {
+        return held[PLAIN_WRITER + plain];
     }
     0
 }
@@ -172,6 +185,8 @@ fn act(held: &mut Held, thread: u8, value: u64, step: u64, op: Op)
             register,
         } => with_mut(held, thread, register, cell, change, step),
         Op::Spurious { register } => put(held, thread, register, value),
+        Op::PlainRead { register, .. } => put(held, thread, register, value),
+        Op::PlainWrite { plain, .. } => write(held, plain, step),
         _ => {}
     }
 }
@@ -185,6 +200,15 @@ fn put(held: &mut Held, thread: u8, register: usize, value: u64)
         if register < REGISTERS {
             held[REGISTER + (REGISTERS * t + register)] = value;
         }
+    }
+}
+
+// Notes the step that wrote a plain cell.
+fn write(held: &mut Held, plain: usize, step: u64)
+    ensures { λ _. ⌜ now (held .exit) ≡ holds.withHeld (now (held .entry)) (holds.plainWriter plain) step ⌝ }
+{
+    if plain < MAX_PLAINS {
+        held[PLAIN_WRITER + plain] = step;
     }
 }
 

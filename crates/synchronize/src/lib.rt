@@ -29,7 +29,7 @@ pub fn join(a: [u16; MAX_THREADS], b: [u16; MAX_THREADS]) -> [u16; MAX_THREADS]
 
 // The vector at `at` takes the one at `from` in.
 pub fn join_into(clocks: &mut Clocks, at: usize, from: usize)
-    requires { ⌜ (at < 124) × (from < 124) ⌝ }
+    requires { ⌜ (at < 132) × (from < 132) ⌝ }
     ensures { λ _. ⌜ now (clocks .exit) ≡ set (now (clocks .entry)) at (joined (getD (now (clocks .entry)) at []) (getD (now (clocks .entry)) from [])) ⌝ }
 {
     let own = clocks[at];

@@ -9,11 +9,11 @@ use lib.Dec.{leb, eqb}
 use lib.ListN.{length, getD, take, drop, replicate, length-take, length-drop}
 use lib.Seq.{drop-cons, getD-take, getD-drop}
 use borrow.Author.Tests.{le-leb, lt-leb, leb-true}
-use Rattle.rules.specs.Table.{maxThreads, maxCells, headerBytes, sizeOf, threadsOf, cellsOf, countsOf, countsFine, total, firstRows, shapeOf, headerFine}
+use Rattle.rules.specs.Table.{maxThreads, maxCells, maxPlains, headerBytes, sizeOf, threadsOf, cellsOf, plainsOf, valuesOf, countsOf, countsFine, total, firstRows, shapeOf, headerFine}
 
 module _ (t : List ℕ) where
   -- no header: a shape of zeros, and a bad one
-  pub shape-short : length t < headerBytes → replicate 12 0 ≡ shapeOf t
+  pub shape-short : length t < headerBytes → replicate 13 0 ≡ shapeOf t
   unfolding shapeOf
   shape-short h = rw (lt-leb headerBytes (length t) h)
 
@@ -49,15 +49,15 @@ module _ (t : List ℕ) (h : headerBytes ≤ length t) where
   -- the shape, number by number
   shape-is :
       getD t 0 0 ∷ getD t 1 0 ∷ getD t 2 0 ∷ getD t 3 0 ∷ getD t 4 0 ∷ getD t 5 0 ∷ getD t 6 0
-      ∷ 0 ∷ getD t 2 0 ∷ (getD t 2 0 + getD t 3 0) ∷ (getD t 2 0 + getD t 3 0 + getD t 4 0) ∷ (getD t 2 0 + getD t 3 0 + getD t 4 0 + getD t 5 0) ∷ [] ≡ shapeOf t
+      ∷ 0 ∷ getD t 2 0 ∷ (getD t 2 0 + getD t 3 0) ∷ (getD t 2 0 + getD t 3 0 + getD t 4 0) ∷ (getD t 2 0 + getD t 3 0 + getD t 4 0 + getD t 5 0) ∷ getD t 7 0 ∷ [] ≡ shapeOf t
   unfolding shapeOf firstRows
   shape-is = rw (le-leb headerBytes (length t) h, counts-are, zero-add)
 
-  pub shape-made : {threads cells n0 n1 n2 n3 n4 : ℕ} →
+  pub shape-made : {threads cells n0 n1 n2 n3 n4 plains : ℕ} →
       threads ≡ getD t 0 0 → cells ≡ getD t 1 0 →
-      n0 ≡ getD t 2 0 → n1 ≡ getD t 3 0 → n2 ≡ getD t 4 0 → n3 ≡ getD t 5 0 → n4 ≡ getD t 6 0 →
-      threads ∷ cells ∷ n0 ∷ n1 ∷ n2 ∷ n3 ∷ n4 ∷ 0 ∷ n0 ∷ (n0 + n1) ∷ (n0 + n1 + n2) ∷ (n0 + n1 + n2 + n3) ∷ [] ≡ shapeOf t
-  shape-made p q e0 e1 e2 e3 e4 = rw (p, q, e0, e1, e2, e3, e4) shape-is
+      n0 ≡ getD t 2 0 → n1 ≡ getD t 3 0 → n2 ≡ getD t 4 0 → n3 ≡ getD t 5 0 → n4 ≡ getD t 6 0 → plains ≡ getD t 7 0 →
+      threads ∷ cells ∷ n0 ∷ n1 ∷ n2 ∷ n3 ∷ n4 ∷ 0 ∷ n0 ∷ (n0 + n1) ∷ (n0 + n1 + n2) ∷ (n0 + n1 + n2 + n3) ∷ plains ∷ [] ≡ shapeOf t
+  shape-made p q e0 e1 e2 e3 e4 e5 = rw (p, q, e0, e1, e2, e3, e4, e5) shape-is
 
   pub rows-all : getD (shapeOf t) 6 0 + getD (shapeOf t) 11 0 ≡ total (countsOf t)
   unfolding total
@@ -67,17 +67,17 @@ module _ (t : List ℕ) (h : headerBytes ≤ length t) where
       (leb 1 (threadsOf t) && leb (threadsOf t) maxThreads)
       && (leb 1 (cellsOf t) && leb (cellsOf t) maxCells)
       && countsFine (threadsOf t) 0 (countsOf t)
-      && eqb (getD t 7 0) 0
-      && eqb (length t) (sizeOf (cellsOf t) (getD (shapeOf t) 6 0 + getD (shapeOf t) 11 0)) ≡ headerFine t
+      && leb (plainsOf t) maxPlains
+      && eqb (length t) (sizeOf (valuesOf t) (getD (shapeOf t) 6 0 + getD (shapeOf t) 11 0)) ≡ headerFine t
   unfolding headerFine
   header-is = rw (le-leb headerBytes (length t) h, rows-all)
 
-  pub header-made : {threads cells last before : ℕ} {fine : Bool} {shape : List ℕ} →
-      threads ≡ threadsOf t → cells ≡ cellsOf t → shape ≡ shapeOf t →
+  pub header-made : {threads cells plains last before : ℕ} {fine : Bool} {shape : List ℕ} →
+      threads ≡ threadsOf t → cells ≡ cellsOf t → plains ≡ plainsOf t → shape ≡ shapeOf t →
       last ≡ getD shape 6 0 → before ≡ getD shape 11 0 → fine ≡ countsFine threads 0 (countsOf t) →
       (leb 1 threads && leb threads maxThreads)
       && (leb 1 cells && leb cells maxCells)
       && fine
-      && eqb (getD t 7 0) 0
-      && eqb (length t) (sizeOf cells (last + before)) ≡ headerFine t
-  header-made p q s e f k = rw (k, p, q, e, f, s) header-is
+      && leb plains maxPlains
+      && eqb (length t) (sizeOf (cells + plains) (last + before)) ≡ headerFine t
+  header-made p q r s e f k = rw (k, p, q, r, e, f, s) header-is

@@ -10,7 +10,7 @@ use lib.ListN.{length, getD, drop, drop-of-length-le}
 use lib.Seq.{drop-cons}
 use borrow.Author.Tests.{lt-ltb, le-ltb}
 use lib.Dec.{ltb}
-use Rattle.rules.specs.Table.{maxThreads, headerBytes, countsOf, countFine, countsFine, firstNot, firstBad, isFine, opAt, rowsJudged, badRow, good, badHeader, judged, headerFine, threadsOf, cellsOf}
+use Rattle.rules.specs.Table.{maxThreads, headerBytes, countsOf, countFine, countsFine, firstNot, firstBad, isFine, opAt, rowsJudged, badRow, good, badHeader, judged, headerFine, Room, roomOf}
 use Rattle.table.proofs.Header.{counts-length, counts-at}
 
 -- a search for the first that is not fine
@@ -30,12 +30,12 @@ module _ (fine : ℕ → Bool) (n i : ℕ) where
   first-none h k = let e : n - i ≡ 0 = omega arith in let d : i ≡ n = omega arith in rw (e, d)
 
 -- the rows of one thread that are left at i
-abbrev pub badLeft : List ℕ → ℕ → ℕ → ℕ → ℕ → ℕ → ℕ
-badLeft t threads cells first c i = firstNot (λ (j : ℕ). isFine (opAt t threads cells c (first + j))) (c - i) i
+abbrev pub badLeft : List ℕ → Room → ℕ → ℕ → ℕ → ℕ
+badLeft t room first c i = firstNot (λ (j : ℕ). isFine (opAt t room (first + j))) (c - i) i
 
-pub bad-all : (t : List ℕ) (threads cells first c : ℕ) → badLeft t threads cells first c 0 ≡ firstBad t threads cells first c
+pub bad-all : (t : List ℕ) {room : Room} (first c : ℕ) → room ≡ roomOf t c → badLeft t room first c 0 ≡ firstBad t first c
 unfolding firstBad
-bad-all t threads cells first c = rw sub-zero
+bad-all t first c e = rw (e, sub-zero)
 
 -- the counts that are left at i
 module _ {A : Type 0} (f : List ℕ → A) (t : List ℕ) (h : headerBytes ≤ length t) (i : ℕ) where
@@ -66,22 +66,22 @@ unfolding countsFine
 counts-none t h threads i k = counts-done (countsFine threads i) t h i k
 
 -- the threads that are left at i, of which the first row has the number n
-module _ (t : List ℕ) (h : headerBytes ≤ length t) (threads cells i n c : ℕ) (k : i < maxThreads) (e : c ≡ getD t (2 + i) 0) where
-  threads-one : rowsJudged t threads cells i n (drop i (countsOf t))
-      ≡ cond (ltb (firstBad t threads cells n c) c) (badRow i (firstBad t threads cells n c)) (rowsJudged t threads cells (i + 1) (n + c) (drop (i + 1) (countsOf t)))
+module _ (t : List ℕ) (h : headerBytes ≤ length t) (i n c : ℕ) (k : i < maxThreads) (e : c ≡ getD t (2 + i) 0) where
+  threads-one : rowsJudged t i n (drop i (countsOf t))
+      ≡ cond (ltb (firstBad t n c) c) (badRow i (firstBad t n c)) (rowsJudged t (i + 1) (n + c) (drop (i + 1) (countsOf t)))
   unfolding rowsJudged
-  threads-one = rw e (counts-more (rowsJudged t threads cells i n) t h i k)
+  threads-one = rw e (counts-more (rowsJudged t i n) t h i k)
 
-  pub threads-on : {b : ℕ} → b ≡ firstBad t threads cells n c → c ≤ b →
-      rowsJudged t threads cells (i + 1) (n + c) (drop (i + 1) (countsOf t)) ≡ rowsJudged t threads cells i n (drop i (countsOf t))
+  pub threads-on : {b : ℕ} → b ≡ firstBad t n c → c ≤ b →
+      rowsJudged t (i + 1) (n + c) (drop (i + 1) (countsOf t)) ≡ rowsJudged t i n (drop i (countsOf t))
   threads-on p l = rw (threads-one, ← p, le-ltb _ c l)
 
-  pub threads-bad : {b : ℕ} → b ≡ firstBad t threads cells n c → b < c → badRow i b ≡ rowsJudged t threads cells i n (drop i (countsOf t))
+  pub threads-bad : {b : ℕ} → b ≡ firstBad t n c → b < c → badRow i b ≡ rowsJudged t i n (drop i (countsOf t))
   threads-bad p l = rw (threads-one, ← p, lt-ltb _ c l)
 
-pub threads-none : (t : List ℕ) (h : headerBytes ≤ length t) (threads cells i n : ℕ) → maxThreads ≤ i → rowsJudged t threads cells i n (drop i (countsOf t)) ≡ good
+pub threads-none : (t : List ℕ) (h : headerBytes ≤ length t) (i n : ℕ) → maxThreads ≤ i → rowsJudged t i n (drop i (countsOf t)) ≡ good
 unfolding rowsJudged
-threads-none t h threads cells i n k = counts-done (rowsJudged t threads cells i n) t h i k
+threads-none t h i n k = counts-done (rowsJudged t i n) t h i k
 
 -- the whole: header first
 module _ (t : List ℕ) where
@@ -89,7 +89,6 @@ module _ (t : List ℕ) where
   unfolding judged
   judged-bad e = rw e
 
-  pub judged-rows : headerFine t ≡ true → {threads cells : ℕ} → threads ≡ threadsOf t → cells ≡ cellsOf t →
-      rowsJudged t threads cells 0 0 (countsOf t) ≡ judged t
+  pub judged-rows : headerFine t ≡ true → rowsJudged t 0 0 (countsOf t) ≡ judged t
   unfolding judged
-  judged-rows e p q = rw (e, p, q)
+  judged-rows e = rw e

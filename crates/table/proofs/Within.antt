@@ -8,7 +8,7 @@ use lib.Dec.{ltb, leb, eqb}
 use lib.ListN.{length}
 use borrow.Author.Tests.{ltb-true, leb-true}
 use Rattle.rules.specs.Change.{Change}
-use Rattle.rules.specs.Table.{maxThreads, maxCells, allRows, rowBytes, Row, Op, Decoded, refused, decoded, onlyIf, isRegister, fenceOrder, load, store, storeRegister, rmw, fence, unsyncLoad, exclusive, yield, join, jump, jumpIf, jumpUnless, check, critical, exploreState, skipBranch, spurious, loadRow, storeRow, storeRegisterRow, rmwRow, fenceRow, unsyncLoadRow, exclusiveRow, bareRow, joinRow, jumpRow, jumpOnRow, checkRow, spuriousRow, changeDecoded, rowDecoded, sizeOf, rowFrom, noRow, rowAt, opAt}
+use Rattle.rules.specs.Table.{maxThreads, maxCells, maxPlains, Row, Room, Op, Decoded, refused, decoded, onlyIf, isRegister, fenceOrder, load, store, storeRegister, rmw, fence, unsyncLoad, exclusive, yield, join, jump, jumpIf, jumpUnless, check, critical, exploreState, skipBranch, spurious, plainRead, plainWrite, loadRow, storeRow, storeRegisterRow, rmwRow, fenceRow, unsyncLoadRow, exclusiveRow, bareRow, joinRow, jumpRow, jumpOnRow, checkRow, spuriousRow, plainReadRow, plainWriteRow, changeDecoded, rowDecoded, rowAt, opAt}
 use Rattle.decode.specs.declared.Decoded as row
 use Rattle.decode.specs.declared.Decoded.the-variants as rows
 use Rattle.decode.specs.declared.Op as code
@@ -58,37 +58,37 @@ module _ (cells object register : ℕ) (small : cells ≤ 4) where
   last : (x y z : Bool) → ltb object cells && x && y && isRegister register && z ≡ true → (object < 4) × (register < 4)
   last x y z e = near (ltb object cells && x && y) z (λ h. first _ x (first _ y h)) e
 
-module _ (threads cells count : ℕ) (r : Row) (few : threads ≤ 5) (small : cells ≤ 4) where
-  rmw-in : (d : Decoded Change) → In (rmwRow cells r d)
+module _ (room : Room) (r : Row) (few : room .threads ≤ 5) (small : room .cells ≤ 4) (plain : room .plains ≤ 4) where
+  rmw-in : (d : Decoded Change) → In (rmwRow (room .cells) r d)
   rmw-in refused = none
   rmw-in (decoded change) =
-      only (ltb (r .object) cells && _ && _ && isRegister (r .register) && _) (rmw (r .object) (r .order) (r .failure) change (r .register)) (λ e. last cells (r .object) (r .register) small _ _ _ e)
+      only (ltb (r .object) (room .cells) && _ && _ && isRegister (r .register) && _) (rmw (r .object) (r .order) (r .failure) change (r .register)) (λ e. last (room .cells) (r .object) (r .register) small _ _ _ e)
 
-  exclusive-in : (d : Decoded Change) → In (exclusiveRow cells r d)
+  exclusive-in : (d : Decoded Change) → In (exclusiveRow (room .cells) r d)
   exclusive-in refused = none
   exclusive-in (decoded change) =
-      only (ltb (r .object) cells && isRegister (r .register) && _) (exclusive (r .object) change (r .register)) (λ e. next cells (r .object) (r .register) small _ e)
+      only (ltb (r .object) (room .cells) && isRegister (r .register) && _) (exclusive (r .object) change (r .register)) (λ e. next (room .cells) (r .object) (r .register) small _ e)
 
-  load-in : In (loadRow cells r)
-  load-in = only (ltb (r .object) cells && _ && isRegister (r .register) && _) (load (r .object) (r .order) (r .register)) (λ e. later cells (r .object) (r .register) small _ _ e)
+  load-in : In (loadRow (room .cells) r)
+  load-in = only (ltb (r .object) (room .cells) && _ && isRegister (r .register) && _) (load (r .object) (r .order) (r .register)) (λ e. later (room .cells) (r .object) (r .register) small _ _ e)
 
-  store-in : In (storeRow cells r)
-  store-in = only (ltb (r .object) cells && _ && _) (store (r .object) (r .order) (r .a)) (λ e. below _ small (first _ _ (first _ _ e)))
+  store-in : In (storeRow (room .cells) r)
+  store-in = only (ltb (r .object) (room .cells) && _ && _) (store (r .object) (r .order) (r .a)) (λ e. below _ small (first _ _ (first _ _ e)))
 
-  store-register-in : In (storeRegisterRow cells r)
-  store-register-in = only (ltb (r .object) cells && _ && isRegister (r .register) && _) (storeRegister (r .object) (r .order) (r .register)) (λ e. later cells (r .object) (r .register) small _ _ e)
+  store-register-in : In (storeRegisterRow (room .cells) r)
+  store-register-in = only (ltb (r .object) (room .cells) && _ && isRegister (r .register) && _) (storeRegister (r .object) (r .order) (r .register)) (λ e. later (room .cells) (r .object) (r .register) small _ _ e)
 
   fence-in : In (fenceRow r)
   fence-in = only (fenceOrder (r .order) && _) (fence (r .order)) (λ e. tt)
 
-  unsync-load-in : In (unsyncLoadRow cells r)
-  unsync-load-in = only (ltb (r .object) cells && isRegister (r .register) && _) (unsyncLoad (r .object) (r .register)) (λ e. next cells (r .object) (r .register) small _ e)
+  unsync-load-in : In (unsyncLoadRow (room .cells) r)
+  unsync-load-in = only (ltb (r .object) (room .cells) && isRegister (r .register) && _) (unsyncLoad (r .object) (r .register)) (λ e. next (room .cells) (r .object) (r .register) small _ e)
 
-  join-in : In (joinRow threads r)
-  join-in = only (ltb (r .object) threads && _) (join (r .object)) (λ e. below _ few (first _ _ e))
+  join-in : In (joinRow (room .threads) r)
+  join-in = only (ltb (r .object) (room .threads) && _) (join (r .object)) (λ e. below _ few (first _ _ e))
 
-  jump-in : In (jumpRow count r)
-  jump-in = only (leb (r .target) count && _) (jump (r .target)) (λ e. tt)
+  jump-in : In (jumpRow (room .rows) r)
+  jump-in = only (leb (r .target) (room .rows) && _) (jump (r .target)) (λ e. tt)
 
   check-in : In (checkRow r)
   check-in = only (isRegister (r .register) && _) (check (r .register) (r .a)) (λ e. register _ (first _ _ e))
@@ -96,13 +96,20 @@ module _ (threads cells count : ℕ) (r : Row) (few : threads ≤ 5) (small : ce
   spurious-in : In (spuriousRow r)
   spurious-in = only (isRegister (r .register) && _) (spurious (r .register)) (λ e. register _ (first _ _ e))
 
+  plain-read-in : In (plainReadRow (room .plains) r)
+  plain-read-in =
+      only (ltb (r .object) (room .plains) && isRegister (r .register) && _) (plainRead (r .object) (r .register)) (λ e. next (room .plains) (r .object) (r .register) plain _ e)
+
+  plain-write-in : In (plainWriteRow (room .plains) r)
+  plain-write-in = only (ltb (r .object) (room .plains) && _) (plainWrite (r .object) (r .a)) (λ e. below _ plain (first _ _ e))
+
   bare-in : (op : Op) → inRange op → In (bareRow op r)
   bare-in op h = only (eqb (r .object) 0 && _) op (λ e. h)
 
-  jump-on-in : (op : ℕ → ℕ → ℕ → Op) → (r .register < 4 → inRange (op (r .register) (r .a) (r .target))) → In (jumpOnRow op count r)
+  jump-on-in : (op : ℕ → ℕ → ℕ → Op) → (r .register < 4 → inRange (op (r .register) (r .a) (r .target))) → In (jumpOnRow op (room .rows) r)
   jump-on-in op h = only (isRegister (r .register) && _ && _) (op (r .register) (r .a) (r .target)) (λ e. h (register _ (first _ _ (first _ _ e))))
 
-  row-in : In (rowDecoded threads cells count r)
+  row-in : In (rowDecoded room r)
   unfolding rowDecoded
   row-in =
       pick (eqb (r .opcode) 0) load-in
@@ -122,38 +129,37 @@ module _ (threads cells count : ℕ) (r : Row) (few : threads ≤ 5) (small : ce
       (pick (eqb (r .opcode) 14) (bare-in exploreState tt)
       (pick (eqb (r .opcode) 15) (bare-in skipBranch tt)
       (pick (eqb (r .opcode) 16) spurious-in
-      none))))))))))))))))
+      (pick (eqb (r .opcode) 17) plain-read-in
+      (pick (eqb (r .opcode) 18) plain-write-in
+      none))))))))))))))))))
 
--- no row, where there are too many cells
-no-row : (threads cells count : ℕ) → In (rowDecoded threads cells count noRow)
-unfolding rowDecoded
-no-row threads cells count = none
-
-module _ (t : List ℕ) (threads cells count index : ℕ) where
-  held : threads ≤ maxThreads → (b : Bool) → b ≡ (leb cells maxCells && ltb index allRows && leb (sizeOf cells index + rowBytes) (length t)) →
-      In (rowDecoded threads cells count (cond b (rowFrom t (sizeOf cells index)) noRow))
-  held few true e = row-in _ _ _ _ few (leb-true cells maxCells (first _ _ (first _ _ (sym e))))
-  held few false e = no-row _ _ _
-
-  asked : (b : Bool) → b ≡ leb threads maxThreads → In (cond b (rowDecoded threads cells count (rowAt t cells index)) refused)
-  unfolding rowAt
-  asked true e = held (leb-true threads maxThreads (sym e)) _ refl
+module _ (t : List ℕ) (room : Room) (index : ℕ) where
+  asked : (b : Bool) → b ≡ (leb (room .threads) maxThreads && leb (room .cells) maxCells && leb (room .plains) maxPlains) →
+      In (cond b (rowDecoded room (rowAt t (room .cells + room .plains) index)) refused)
+  asked true e =
+      let few = leb (room .threads) maxThreads in
+      let small = leb (room .cells) maxCells in
+      let plain = leb (room .plains) maxPlains in
+      let both : few && small ≡ true = first (few && small) plain (sym e) in
+      row-in room _ (leb-true _ maxThreads (first few small both)) (leb-true _ maxCells (second few small both))
+      (leb-true _ maxPlains (second (few && small) plain (sym e)))
   asked false e = none
 
-  op-in : allInRange (opAt t threads cells count index)
+  op-in : allInRange (opAt t room index)
   unfolding opAt
   op-in = asked _ refl .is
 
   -- so what is decoded is within
-  pub op-made : (r : row.Decoded) → decodedOf r ≡ opAt t threads cells count index → OpAt t threads cells count index r
+  pub op-made : (r : row.Decoded) → decodedOf r ≡ opAt t room index → OpAt t room index r
   op-made r e = record { is = e; within = rw e op-in }
 
-pub op-moved : {t : List ℕ} {threads cells count first number threads₁ cells₁ count₁ first₁ number₁ : ℕ} {r : row.Decoded} →
-    threads ≡ threads₁ → cells ≡ cells₁ → count ≡ count₁ → first ≡ first₁ → number ≡ number₁ →
-    OpAt t threads cells count (first + number) r → OpAt t threads₁ cells₁ count₁ (first₁ + number₁) r
-op-moved p q e f g o = rw (← p, ← q, ← e, ← f, ← g) o
+pub op-moved : {t : List ℕ} {threads cells plains rows first number threads₁ cells₁ plains₁ rows₁ first₁ number₁ : ℕ} {r : row.Decoded} →
+    threads ≡ threads₁ → cells ≡ cells₁ → plains ≡ plains₁ → rows ≡ rows₁ → first ≡ first₁ → number ≡ number₁ →
+    OpAt t (record { threads = threads; cells = cells; plains = plains; rows = rows }) (first + number) r →
+    OpAt t (record { threads = threads₁; cells = cells₁; plains = plains₁; rows = rows₁ }) (first₁ + number₁) r
+op-moved p q l e f g o = rw (← p, ← q, ← l, ← e, ← f, ← g) o
 
 -- for callers: what a row names, once it is taken apart
-pub named-in-range : {t : List ℕ} {threads cells count index : ℕ} {r : row.Decoded} {op taken : code.Op} →
-    OpAt t threads cells count index r → r ≡ rows.Row op → op ≡ taken → inRange (opOf taken)
+pub named-in-range : {t : List ℕ} {room : Room} {index : ℕ} {r : row.Decoded} {op taken : code.Op} →
+    OpAt t room index r → r ≡ rows.Row op → op ≡ taken → inRange (opOf taken)
 named-in-range o e f = rw (← f) (rw e at (o .within))

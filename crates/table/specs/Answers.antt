@@ -2,7 +2,7 @@
 use Prim.Native.Nat.{ℕ, _+_, _≤_}
 use mathlib.Core.List.{List}
 use mathlib.Core.Path.{_≡_}
-use lib.ListN.{length}
+use lib.ListN.{length, getD}
 use Rattle.rules.specs.Table as rules
 use Rattle.decode.specs.declared.Decoded.{Decoded}
 use Rattle.decode.specs.Ops.{decodedOf, opWithin}
@@ -17,13 +17,21 @@ judgedOf Header = rules.badHeader
 judgedOf (Row thread row) = rules.badRow thread row
 
 -- where a row stands: there it is what the definition decodes; a row that stands nowhere is refused
-abbrev pub PlaceOf : List ℕ → ℕ → ℕ → ℕ → Place → Type 0
-PlaceOf t threads cells index Nowhere = (count : ℕ) → rules.refused ≡ rules.opAt t threads cells count index
-PlaceOf t threads cells index (At at) =
-    (at + rules.rowBytes ≤ length t)
-    × ((count : ℕ) → rules.rowDecoded threads cells count (rules.rowFrom t at) ≡ rules.opAt t threads cells count index)
+abbrev pub PlaceOf : List ℕ → rules.Room → ℕ → Place → Type 0
+PlaceOf t room index Nowhere = rules.refused ≡ rules.opAt t room index
+PlaceOf t room index (At at) =
+    (at + rules.rowBytes ≤ length t) × (rules.rowDecoded room (rules.rowFrom t at) ≡ rules.opAt t room index)
+
+-- the room of a thread's rows, by the shape
+abbrev pub roomIn : List ℕ → ℕ → rules.Room
+roomIn shape thread = record {
+  threads = getD shape 0 0;
+  cells = getD shape 1 0;
+  plains = getD shape 12 0;
+  rows = getD shape (2 + thread) 0;
+}
 
 -- what is decoded is what the definition says, and names only what there is
-pub record OpAt (t : List ℕ) (threads cells count index : ℕ) (r : Decoded) : Type 0 where
-  pub is : decodedOf r ≡ rules.opAt t threads cells count index
+pub record OpAt (t : List ℕ) (room : rules.Room) (index : ℕ) (r : Decoded) : Type 0 where
+  pub is : decodedOf r ≡ rules.opAt t room index
   pub within : opWithin r

@@ -3,20 +3,23 @@
 ghost use mathlib.Core.Path.{_≡_};
 ghost use Prim.Native.Nat.{_+_, _<_, _≤_, _^_};
 ghost use lib.ListN.{length, getD};
+ghost use Rattle.rules.specs.Table as rules;
 ghost use Rattle.rules.specs.Table.{headerBytes, rowBytes, headerFine, countFine, countsFine, countsOf, firstBad, judged, shapeOf, startValue, rowFrom, opAt, isFine};
-ghost use Rattle.decode.specs.Ops.{rowOf};
-ghost use Rattle.table.specs.Answers.{judgedOf, OpAt, PlaceOf};
+ghost use Rattle.decode.specs.Ops.{rowOf, roomOf};
+ghost use Rattle.table.specs.Answers.{judgedOf, roomIn, OpAt, PlaceOf};
 
 pub mod limits;
 pub mod little;
 
 pub use decode::Decoded;
 pub use decode::Op;
+use decode::Room;
 use decode::Row;
 use decode::is_row;
 pub use decode::opcode;
 use decode::row_decoded;
 use layout::MAX_CELLS;
+use layout::MAX_PLAINS;
 use layout::MAX_THREADS;
 use layout::short8;
 use layout::wide8;
@@ -24,12 +27,13 @@ use layout::wide16;
 use limits::ALL_ROWS;
 use limits::HEADER;
 use limits::MAX_ROWS;
+use limits::MAX_VALUES;
 use limits::ROW;
 use limits::VALUE;
 
-// A table's shape: threads, cells, the five row counts, and the number of each thread's first row among all rows. Its first
-// seven numbers are the header's, in their places.
-pub type Shape = [u16; 12];
+// A table's shape: threads, cells, the five row counts, the number of each thread's first row among all rows, and plain cells. Its
+// first seven numbers are the header's, in their places.
+pub type Shape = [u16; 13];
 
 pub const THREADS: usize = 0;
 
@@ -39,8 +43,10 @@ pub const COUNTS: usize = 2;
 
 pub const FIRSTS: usize = 7;
 
-// Where the header has its zero.
-const ZERO: usize = 7;
+pub const PLAINS: usize = 12;
+
+// Where the header has the plain-cell count.
+const PLAIN_COUNT: usize = 7;
 
 // Where a shape has the last thread's row count and first row, whose sum is the number of all rows.
 const LAST_COUNT: usize = 6;
@@ -67,13 +73,11 @@ pub fn judge(table: &[u8]) -> Judged
     if !header_fine(table) {
         return Judged::Header;
     }
-    let threads = wide8(table[0]);
-    let cells = wide8(table[1]);
     let mut thread = 0;
     let mut first = 0;
     while thread < MAX_THREADS {
         let count = wide8(table[COUNTS + thread]);
-        let row = first_bad(table, threads, cells, first, count);
+        let row = first_bad(table, first, count);
         if row < count {
             return Judged::Row { thread, row };
         }
@@ -88,7 +92,7 @@ pub fn shape(table: &[u8]) -> Shape
     ensures { λ r. ⌜ r ≡ shapeOf (now (table .entry)) ⌝ }
 {
     if table.len() < HEADER {
-        return [0; 12];
+        return [0; 13];
     }
     let threads = short8(table[0]);
     let cells = short8(table[1]);
@@ -97,6 +101,7 @@ pub fn shape(table: &[u8]) -> Shape
     let n2 = short8(table[4]);
     let n3 = short8(table[5]);
     let n4 = short8(table[6]);
+    let plains = short8(table[PLAIN_COUNT]);
     let first2 = n0 + n1;
     let first3 = first2 + n2;
     let first4 = first3 + n3;
@@ -113,15 +118,16 @@ pub fn shape(table: &[u8]) -> Shape
         first2,
         first3,
         first4,
+        plains,
     ]
 }
 
-// The cell's start value; 0 where the table has none for it.
-pub fn start_value(table: &[u8], cell: usize) -> u64
-    ensures { λ r. ⌜ r ≡ startValue (now (table .entry)) cell ⌝ }
+// The start value of this number, those of the plain cells behind those of the cells; 0 where the table has none.
+pub fn start_value(table: &[u8], i: usize) -> u64
+    ensures { λ r. ⌜ r ≡ startValue (now (table .entry)) i ⌝ }
 {
-    if cell < MAX_CELLS {
-        let at = HEADER + VALUE * cell;
+    if i < MAX_VALUES {
+        let at = HEADER + VALUE * i;
         if at + VALUE <= table.len() {
             return little::u64_at(table, at);
         }
@@ -132,46 +138,58 @@ pub fn start_value(table: &[u8], cell: usize) -> u64
 // What row `number` of this thread does, in a table of this shape.
 pub fn row_of(table: &[u8], shape: &Shape, thread: usize, number: u16) -> Decoded
     requires { ⌜ thread < 5 ⌝ }
-    ensures { λ r. ⌜ OpAt (now (table .entry)) (getD (now (shape .entry)) 0 0) (getD (now (shape .entry)) 1 0) (getD (now (shape .entry)) (2 + thread) 0) (getD (now (shape .entry)) (7 + thread) 0 + number) r ⌝ }
+    ensures { λ r. ⌜ OpAt (now (table .entry)) (roomIn (now (shape .entry)) thread) (getD (now (shape .entry)) (7 + thread) 0 + number) r ⌝ }
 {
     let threads = wide16(shape[THREADS]);
     let cells = wide16(shape[CELLS]);
-    let count = wide16(shape[COUNTS + thread]);
+    let plains = wide16(shape[PLAINS]);
+    let rows = wide16(shape[COUNTS + thread]);
+    let room = Room {
+        threads,
+        cells,
+        plains,
+        rows,
+    };
     let first = wide16(shape[FIRSTS + thread]);
-    op_at(table, threads, cells, count, first + wide16(number))
+    op_at(table, room, first + wide16(number))
 }
 
-// What the row of this number among all rows does, in a table of so many threads and cells, as one of a thread of `count` rows.
-// Refused where the table does not hold it, and where there are more threads or cells than there can be.
-pub fn op_at(table: &[u8], threads: usize, cells: usize, count: usize, index: usize) -> Decoded
-    ensures { λ r. ⌜ OpAt (now (table .entry)) threads cells count index r ⌝ }
+// What the row of this number among all rows does, in this room. Refused where the table does not hold it, and where there are
+// more threads, cells or plain cells than there can be.
+pub fn op_at(table: &[u8], room: Room, index: usize) -> Decoded
+    ensures { λ r. ⌜ OpAt (now (table .entry)) (roomOf room) index r ⌝ }
 {
-    let Place::At(at) = place_of(table, threads, cells, index) else {
+    let Place::At(at) = place_of(table, room, index) else {
         return Decoded::Refused;
     };
-    row_decoded(row_from(table, at), threads, cells, count)
+    row_decoded(row_from(table, at), room)
 }
 
 // Whether that row says something.
-fn is_fine(table: &[u8], threads: usize, cells: usize, count: usize, index: usize) -> bool
-    ensures { λ r. ⌜ r ≡ isFine (opAt (now (table .entry)) threads cells count index) ⌝ }
+fn is_fine(table: &[u8], room: Room, index: usize) -> bool
+    ensures { λ r. ⌜ r ≡ isFine (opAt (now (table .entry)) (roomOf room) index) ⌝ }
 {
-    let Place::At(at) = place_of(table, threads, cells, index) else {
+    let Place::At(at) = place_of(table, room, index) else {
         return false;
     };
-    is_row(row_from(table, at), threads, cells, count)
+    is_row(row_from(table, at), room)
 }
 
 // Where the row of this number among all rows stands.
-fn place_of(table: &[u8], threads: usize, cells: usize, index: usize) -> Place
-    ensures { λ r. ⌜ PlaceOf (now (table .entry)) threads cells index r ⌝ }
+fn place_of(table: &[u8], room: Room, index: usize) -> Place
+    ensures { λ r. ⌜ PlaceOf (now (table .entry)) (roomOf room) index r ⌝ }
 {
+    let threads = room.threads;
+    let cells = room.cells;
+    let plains = room.plains;
     if threads <= MAX_THREADS {
         if cells <= MAX_CELLS {
-            if index < ALL_ROWS {
-                let at = HEADER + VALUE * cells + ROW * index;
-                if at + ROW <= table.len() {
-                    return Place::At(at);
+            if plains <= MAX_PLAINS {
+                if index < ALL_ROWS {
+                    let at = HEADER + VALUE * (cells + plains) + ROW * index;
+                    if at + ROW <= table.len() {
+                        return Place::At(at);
+                    }
                 }
             }
         }
@@ -206,13 +224,14 @@ fn header_fine(table: &[u8]) -> bool
     }
     let threads = wide8(table[0]);
     let cells = wide8(table[1]);
+    let plains = wide8(table[PLAIN_COUNT]);
     let s = shape(table);
     let rows = wide16(s[LAST_COUNT]) + wide16(s[LAST_FIRST]);
-    let size = HEADER + VALUE * cells + ROW * rows;
+    let size = HEADER + VALUE * (cells + plains) + ROW * rows;
     ((1 <= threads) & (threads <= MAX_THREADS))
         & ((1 <= cells) & (cells <= MAX_CELLS))
         & counts_fine(table, threads)
-        & (table[ZERO] == 0)
+        & (plains <= MAX_PLAINS)
         & (table.len() == size)
 }
 
@@ -244,16 +263,30 @@ fn count_fine(thread: usize, threads: usize, count: usize) -> bool
 
 // The first row of a thread that is bad, or its row count where none is. The thread's first row has the number `first` among
 // all rows.
-fn first_bad(table: &[u8], threads: usize, cells: usize, first: usize, count: usize) -> usize
-    requires { ⌜ first + count < 2 ^ 64 ⌝ }
-    ensures { λ r. ⌜ r ≡ firstBad (now (table .entry)) threads cells first count ⌝ }
+fn first_bad(table: &[u8], first: usize, count: usize) -> usize
+    requires { ⌜ (headerBytes ≤ length (now table)) × (first + count < 2 ^ 64) ⌝ }
+    ensures { λ r. ⌜ r ≡ firstBad (now (table .entry)) first count ⌝ }
 {
+    let room = room_of(table, count);
     let mut i = 0;
     while i < count {
-        if !is_fine(table, threads, cells, count, first + i) {
+        if !is_fine(table, room, first + i) {
             return i;
         }
         i += 1;
     }
     count
+}
+
+// What a row of a thread of so many rows may name.
+fn room_of(table: &[u8], rows: usize) -> Room
+    requires { ⌜ headerBytes ≤ length (now table) ⌝ }
+    ensures { λ r. ⌜ roomOf r ≡ rules.roomOf (now (table .entry)) rows ⌝ }
+{
+    Room {
+        threads: wide8(table[0]),
+        cells: wide8(table[1]),
+        plains: wide8(table[PLAIN_COUNT]),
+        rows,
+    }
 }

@@ -1,6 +1,10 @@
 // The sizes of a table, here alone. Threads and cells have their limits in crate layout.
 use layout::MAX_CELLS;
+use layout::MAX_PLAINS;
 use layout::MAX_THREADS;
+
+// The start values of the largest table: those of the cells, then those of the plain cells.
+pub const MAX_VALUES: usize = MAX_CELLS + MAX_PLAINS;
 
 // The rows of one thread, and of the largest table.
 pub const MAX_ROWS: usize = 64;
@@ -15,4 +19,4 @@ pub const VALUE: usize = 8;
 pub const ROW: usize = 24;
 
 // The bytes of the largest table.
-pub const TABLE_BYTES: usize = HEADER + VALUE * MAX_CELLS + ROW * ALL_ROWS;
+pub const TABLE_BYTES: usize = HEADER + VALUE * MAX_VALUES + ROW * ALL_ROWS;

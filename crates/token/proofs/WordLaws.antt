@@ -1,7 +1,8 @@
 -- What words stand for. Assumes nothing.
 --     number-..            a leading zero; any other word is a number where decimal finds one
 --     digit-..             a digit that is too small, too great, and one that is neither
---     register-.., thread-register-..     the bytes of a register
+--     fourth-..            the bytes of a register or a plain cell
+--     thread-register-..   those of a thread's register
 use Prim.Native.Nat.{ℕ, _+_, _-_, _*_, _^_, _≤_, _<_}
 use mathlib.Core.List.{List, [], _∷_}
 use mathlib.Core.Bool.{Bool, true, false, cond, _&&_, and-eq-true-iff}
@@ -10,7 +11,7 @@ use native.Mathlib.Omega.{arith}
 use borrow.Author.Tests.{eq-eqb, ne-eqb, le-leb, lt-leb, leb-true}
 use lib.Dec.{ltb, leb, eqb}
 use lib.ListN.{length, getD}
-use Rattle.rules.specs.Token.{Found, nothing, found, onlyIf, isBetween, isDigit, digitsBehind, numberIn, registerIn}
+use Rattle.rules.specs.Token.{Found, nothing, found, onlyIf, isBetween, isDigit, digitsBehind, numberIn, fourth}
 use Rattle.rules.specs.Text.{threadRegisterIn}
 use Rattle.decimal.specs.Decimal.{numberOf, behind, withDigit, extended}
 use Rattle.decimal.specs.declared.Parsed.{Parsed}
@@ -95,19 +96,17 @@ and-false : (t : Bool) → t && false ≡ false
 and-false true = refl
 and-false false = refl
 
+module _ (letter : ℕ) (word : List ℕ) where
+  pub fourth-long : (length word ≡ 2 → ⊥) → nothing ≡ fourth letter word
+  fourth-long n = simp (ne-eqb _ _ n)
+
+  pub fourth-letter : (getD word 0 0 ≡ letter → ⊥) → nothing ≡ fourth letter word
+  fourth-letter n = simp (ne-eqb _ _ n, and-false)
+
+  pub fourth-digit : length word ≡ 2 → getD word 0 0 ≡ letter → onlyIf (isBetween 48 51 (getD word 1 0)) (getD word 1 0 - 48) ≡ fourth letter word
+  fourth-digit h e = simp (eq-eqb _ _ h, eq-eqb _ _ e)
+
 module _ (word : List ℕ) where
-  pub register-long : (length word ≡ 2 → ⊥) → nothing ≡ registerIn word
-  unfolding registerIn
-  register-long n = simp (ne-eqb _ _ n)
-
-  pub register-letter : (getD word 0 0 ≡ 114 → ⊥) → nothing ≡ registerIn word
-  unfolding registerIn
-  register-letter n = simp (ne-eqb _ _ n, and-false)
-
-  pub register-digit : length word ≡ 2 → getD word 0 0 ≡ 114 → onlyIf (isBetween 48 51 (getD word 1 0)) (getD word 1 0 - 48) ≡ registerIn word
-  unfolding registerIn
-  register-digit h e = simp (eq-eqb _ _ h, eq-eqb _ _ e)
-
   -- a test that fails
   pub thread-register-long : (length word ≡ 4 → ⊥) → nothing ≡ threadRegisterIn word
   unfolding threadRegisterIn

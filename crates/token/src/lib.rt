@@ -4,7 +4,7 @@ ghost use mathlib.Core.Path.{_≡_};
 ghost use Prim.Native.Nat.{_+_, _-_, _<_};
 ghost use lib.ListN.{length, drop};
 ghost use Rattle.rules.specs.Vector.{equal};
-ghost use Rattle.rules.specs.Token.{run, isBlank, isLetter, isBetween, endsLine, tokenLength, lineLength, onlyIf, numberIn, registerIn, placeIn};
+ghost use Rattle.rules.specs.Token.{run, isBlank, isLetter, isBetween, endsLine, tokenLength, lineLength, onlyIf, numberIn, fourth, registerIn, plainIn, placeIn};
 ghost use Rattle.rules.specs.Form.{orderIn};
 ghost use Rattle.rules.specs.Text.{markIn, threadRegisterIn};
 ghost use Rattle.token.specs.Places.{isOf, part, Content};
@@ -148,14 +148,14 @@ pub fn number(text: &[u8], from: usize, to: usize) -> Found
 pub fn register(text: &[u8], from: usize, to: usize) -> Found
     ensures { λ r. ⌜ foundOf r ≡ registerIn (part from to (now (text .entry))) ⌝ }
 {
-    let word = part(text, from, to);
-    if word.len() != 2 {
-        return Found::Nothing;
-    }
-    if word[0] != b'r' {
-        return Found::Nothing;
-    }
-    digit(word[1], b'3')
+    fourth(part(text, from, to), b'r')
+}
+
+// A plain cell, `p0` to `p3`.
+pub fn plain(text: &[u8], from: usize, to: usize) -> Found
+    ensures { λ r. ⌜ foundOf r ≡ plainIn (part from to (now (text .entry))) ⌝ }
+{
+    fourth(part(text, from, to), b'p')
 }
 
 // A thread's register, `0.r0` to `4.r3`: 4 times the thread, and the register.
@@ -220,6 +220,19 @@ fn place_in(word: &[u8], words: &[u8], first: u64) -> Found
         left -= 1;
     }
     Found::Nothing
+}
+
+// A letter, and a number from 0 to 3 behind it.
+fn fourth(word: &[u8], letter: u8) -> Found
+    ensures { λ r. ⌜ foundOf r ≡ fourth letter (now (word .entry)) ⌝ }
+{
+    if word.len() != 2 {
+        return Found::Nothing;
+    }
+    if word[0] != letter {
+        return Found::Nothing;
+    }
+    digit(word[1], b'3')
 }
 
 // The number of a digit that is not above the last.

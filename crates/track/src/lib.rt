@@ -27,7 +27,7 @@ pub enum Race {
 
 // A race of this kind where the accesses recorded at `at` have a thread ahead of the current one.
 pub fn race_with(clocks: &Clocks, thread: usize, at: usize, kind: u8) -> Race
-    requires { ⌜ (thread < 5) × (at < 124) ⌝ }
+    requires { ⌜ (thread < 5) × (at < 132) ⌝ }
     ensures { λ r. ⌜ raceOf r ≡ ofKind kind (rules.ahead (vector (now (clocks .entry)) (causality thread)) (getD (now (clocks .entry)) at [])) ⌝ }
 {
     let current = clocks[CAUSALITY + thread];

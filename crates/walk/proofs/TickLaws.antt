@@ -15,6 +15,7 @@ use Rattle.rules.specs.Event.{Move, moves, asks, stops, ends}
 use Rattle.rules.specs.State.{State, Clocks, Marks as MarkTable, Values, Numbers, number}
 use Rattle.rules.specs.State as names
 use Rattle.rules.specs.Cell as cells
+use Rattle.rules.specs.Plain as plains
 use Rattle.rules.specs.Table as Table
 use Rattle.rules.specs.Table.{cellsOf}
 use Rattle.rules.specs.Machine as machines
@@ -105,6 +106,10 @@ module _ (t : ℕ) (st : State) where
   leaves-keep (cells.raced kind other s) k opcode c r = record { is = tt }
   leaves-keep (cells.read v s) k opcode c r = record { is = tt }
 
+  writes-keep : (r : cells.Race) (written : State) (k opcode v : ℕ) → AskKeeps t st (machines.writesUnless r st written t k opcode v)
+  writes-keep (cells.raceOf kind other) written k opcode v = record { is = tt }
+  writes-keep cells.noRace written k opcode v = record { is = tt }
+
   joins-keep : (k opcode target : ℕ) → AskKeeps t st (joins st t k opcode target)
   unfolding joins
   joins-keep k opcode target = by-test (machines.isIn (st .numbers) machines.ended target) (machines.done (machines.joinedWith st t target) t k opcode) (schedules (machines.blockedOn st t target) []) (record { is = tt }) (schedules-keep (machines.blockedOn st t target) [])
@@ -134,6 +139,8 @@ module _ (t : ℕ) (st : State) where
   acts-keep p k n Table.exploreState = explores-keep k n true
   acts-keep p k n Table.skipBranch = record { is = tt }
   acts-keep p k n (Table.spurious r) = record { is = record { who = refl; row = refl } }
+  acts-keep p k n (Table.plainRead c r) = reads-keep (plains.plainReadDone st t c) k n r machines.noSlot 0
+  acts-keep p k n (Table.plainWrite c a) = writes-keep (plains.plainWriteRace (st .clocks) t c) (plains.plainWriteDone st t c a) k n a
 
 module _ (t : ℕ) (below : t < 5) (st : State) where
   begun-keeps : (p : Program) (k : ℕ) (op : Table.Op) (x : Pending) → AskKeeps t st (begunAs p (rowBegun st t) t k op x)

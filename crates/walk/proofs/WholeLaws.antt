@@ -12,13 +12,13 @@ use lib.ListN.{getD}
 use Rattle.rules.specs.Event as rules
 use Rattle.rules.specs.Event.{noSite}
 use Rattle.rules.specs.State.{State, Clocks, Marks as MarkTable, Values, Numbers, number, activeThread, nextRow}
-use Rattle.rules.specs.Table.{opAt, shapeOf, threadsOf, cellsOf, countsOf, firstRows}
+use Rattle.rules.specs.Table.{opAt, roomOf, shapeOf, cellsOf, countsOf, firstRows}
 use Rattle.rules.specs.Machine.{Program, machine, active, next, rowOf}
 use Rattle.rules.specs.Explorer as explorer
 use Rattle.rules.specs.Explorer.{Walk, Tick, faulted}
 use Rattle.layout.specs.Tables.{state}
 use Rattle.decode.specs.Ops.{decodedOf}
-use Rattle.table.specs.Answers.{OpAt}
+use Rattle.table.specs.Answers.{OpAt, roomIn}
 use Rattle.event.specs.declared.Fault.the-variants as fault
 use Rattle.event.specs.declared.Site.{Site}
 use Rattle.meeting.specs.Stands.{Lent, lent, Stands, Comes, Stopped, siteOf}
@@ -29,7 +29,7 @@ use Rattle.meeting.proofs.ComesLaws.{comes-stops, same-stands}
 use Rattle.walk.specs.Walks.{Placed, Runs, Ticks}
 use Rattle.walk.specs.Parts.{Goes, ticksAt, tickedAt, AtRow}
 use Rattle.walk.specs.declared.Limits.{Limits}
-use Rattle.walk.proofs.ShapeLaws.{shape-threads, shape-cells, shape-rows, shape-first}
+use Rattle.walk.proofs.ShapeLaws.{shape-threads, shape-cells, shape-plains, shape-rows, shape-first}
 
 nobody-tick : (p : Program) (L : explorer.Limits) (w : Walk State) → ltb (active (w .state)) 5 ≡ false → explorer.tick (machine p) L w ≡ faulted rules.impossible noSite w
 unfolding explorer.tick next
@@ -64,7 +64,7 @@ module _ (table shape : List ℕ) (limits : Limits) (c : Cursor) (r : Ticked) (c
       }
 
   module _ (h : Here) (who : h .site .thread ≡ number numbers activeThread) (number-is : h .site .row ≡ number numbers (nextRow (h .site .thread))) (few : h .site .thread < 5)
-      (row : OpAt table (getD shape 0 0) (getD shape 1 0) (getD shape (2 + h .site .thread) 0) (getD shape (7 + h .site .thread) 0 + h .site .row) (h .row)) where
+      (row : OpAt table (roomIn shape (h .site .thread)) (getD shape (7 + h .site .thread) 0 + h .site .row) (h .row)) where
     abbrev t : ℕ
     t = h .site .thread
 
@@ -82,9 +82,10 @@ module _ (table shape : List ℕ) (limits : Limits) (c : Cursor) (r : Ticked) (c
         let a = s 0 ∙ shape-threads table (runs .header) in
         let b = s 1 ∙ shape-cells table (runs .header) in
         let d = s (2 + t) ∙ shape-rows table (runs .header) t few in
-        let e = s (7 + t) ∙ shape-first table (runs .header) t in
-        subst (λ (x : List ℕ). opAt x (threadsOf x) (cellsOf x) (getD (countsOf x) t 0) (getD (firstRows 0 (countsOf x)) t 0 + h .site .row) ≡ decodedOf (h .row)) (sym (runs .is-table))
-        (sym (row .is ∙ simp (a, b, d, e)))
+        let e = s (7 + t) ∙ shape-first table (runs .header) t few in
+        let f = s 12 ∙ shape-plains table (runs .header) in
+        subst (λ (x : List ℕ). opAt x (roomOf x (getD (countsOf x) t 0)) (getD (firstRows 0 (countsOf x)) t 0 + h .site .row) ≡ decodedOf (h .row)) (sym (runs .is-table))
+        (sym (row .is ∙ simp (a, b, d, e, f)))
 
     pub tick-someone : (exit : Lent) → Goes entry exit c r 60 h (ticksAt shape limits h) (tickedAt h) → Ticks entry exit table shape limits c r
     tick-someone exit g =

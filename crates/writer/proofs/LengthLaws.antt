@@ -10,13 +10,13 @@ use borrow.Author.Tests.{leb-true}
 use lib.Dec.{ltb, leb, eqb}
 use lib.ListN.{length, getD, take, drop, length-append, length-take, List·getD-eq-default}
 use lib.Seq.{getD-drop, getD-take}
-use Rattle.rules.specs.Table.{Row, u64At, rowAt, cellsOf, threadsOf, countsOf, firstRows, startValue}
+use Rattle.rules.specs.Table.{Row, u64At, rowAt, cellsOf, plainsOf, valuesOf, threadsOf, countsOf, firstRows, startValue}
 use Rattle.rules.specs.Condition.{conditionBytes, isSign, opens, closes}
 use Rattle.rules.specs.Token.{bytesOf, space}
 use Rattle.rules.specs.Form.{Form, forms, fieldOf}
 use Rattle.rules.specs.Text.{marks}
 use Rattle.put.specs.Puts.{last}
-use Rattle.rules.specs.Writer.{digitsOf, shown, orderShown, letterShown, formShown, formIn, fieldsOf, rowShown, rowsShown, threadsShown, valuesShown, blankBefore, unitsShown, conditionShown, writtenText}
+use Rattle.rules.specs.Writer.{digitsOf, shown, orderShown, letterShown, formShown, formIn, fieldsOf, rowShown, rowsShown, threadsShown, valuesShown, plainsShown, blankBefore, unitsShown, conditionShown, writtenText}
 
 abbrev digit : ℕ → ℕ → List ℕ → Bool → List ℕ
 digit n v behind t = elim t [ true ↦ (48 + v) ∷ behind | false ↦ digitsOf n (v / 10) ((48 + v % 10) ∷ behind) ]
@@ -65,7 +65,8 @@ letter-short : (b : ℕ) (fields : List ℕ) → length (letterShown b fields) �
 unfolding letterShown
 letter-short b fields =
     either-short (eqb b 82) _ _ 21 (omega (arith, shown-short (getD fields 5 0)))
-    (either-short (eqb (fieldOf b) 2 || eqb (fieldOf b) 3) _ _ 21 (omega (arith, order-short (getD fields (fieldOf b) 0))) (omega (arith, shown-short (getD fields (fieldOf b) 0))))
+    (either-short (eqb b 80) _ _ 21 (omega (arith, shown-short (getD fields 1 0)))
+    (either-short (eqb (fieldOf b) 2 || eqb (fieldOf b) 3) _ _ 21 (omega (arith, order-short (getD fields (fieldOf b) 0))) (omega (arith, shown-short (getD fields (fieldOf b) 0)))))
 
 words-short : (words fields : List ℕ) → length (formShown words fields) ≤ 21 * length words
 unfolding formShown
@@ -105,13 +106,25 @@ rows-short : (t : List ℕ) (n i : ℕ) → length (rowsShown t n i) ≤ 1000 * 
 unfolding rowsShown
 rows-short t zero i = omega arith
 rows-short t (suc n) i =
-    omega (arith, length-append (rowShown (rowAt t (cellsOf t) i)) (rowsShown t n (i + 1)), row-short (rowAt t (cellsOf t) i), rows-short t n (i + 1))
+    omega (arith, length-append (rowShown (rowAt t (valuesOf t) i)) (rowsShown t n (i + 1)), row-short (rowAt t (valuesOf t) i), rows-short t n (i + 1))
 
 values-short : (t : List ℕ) (n i : ℕ) → length (valuesShown t n i) ≤ 21 * n
 unfolding valuesShown
 values-short t zero i = omega arith
 values-short t (suc n) i =
     omega (arith, length-append (shown (startValue t i)) (valuesShown t n (i + 1)), shown-short (startValue t i), values-short t n (i + 1))
+
+abbrev plainly : List ℕ → Bool → List ℕ
+plainly t some =
+    elim some [ true ↦ bytesOf "plain" ++ (valuesShown t (plainsOf t) (cellsOf t) ++ (10 ∷ [])) | false ↦ [] ]
+
+plains-short : (t : List ℕ) → length (plainsShown t) ≤ 6 + 21 * plainsOf t
+unfolding plainsShown bytesOf
+plains-short t =
+    elim (leb 1 (plainsOf t)) as (λ some. length (plainly t some) ≤ 6 + 21 * plainsOf t) [
+      | true ↦ omega (arith, length-append (valuesShown t (plainsOf t) (cellsOf t)) (10 ∷ []), values-short t (plainsOf t) (cellsOf t))
+      | false ↦ omega arith
+    ]
 
 -- a table's bytes
 module _ (t : List ℕ) (bytes : (i : ℕ) → getD t i 0 ≤ 255) where
@@ -173,9 +186,12 @@ pub text-short : (t c : List ℕ) → ((i : ℕ) → getD t i 0 ≤ 255) → len
 unfolding writtenText bytesOf
 text-short t c bytes h =
     let values = values-short t (cellsOf t) 0 in
+    let plain = plains-short t in
     let threads = threads-short t bytes (threadsOf t) 0 in
     let condition = condition-short c in
     let cells = bytes 1 in
+    let plains = bytes 7 in
     let all = bytes 0 in
     let rest = length-append (threadsShown t (threadsOf t) 0) (conditionShown c) in
-    omega (arith, length-append (valuesShown t (cellsOf t) 0) (10 ∷ (threadsShown t (threadsOf t) 0 ++ conditionShown c)))
+    let lines = length-append (plainsShown t) (threadsShown t (threadsOf t) 0 ++ conditionShown c) in
+    omega (arith, length-append (valuesShown t (cellsOf t) 0) (10 ∷ (plainsShown t ++ (threadsShown t (threadsOf t) 0 ++ conditionShown c))))

@@ -4,7 +4,7 @@ ghost use Prim.Native.Nat.{_+_, _<_, _≤_, _^_};
 ghost use lib.ListN.{length, take};
 ghost use Rattle.rules.specs.Table.{threadsOf, judged, good};
 ghost use Rattle.rules.specs.Text.{filled};
-ghost use Rattle.rules.specs.Writer.{rowsShown, threadsShown, valuesShown, writtenText, writtenInto};
+ghost use Rattle.rules.specs.Writer.{rowsShown, threadsShown, valuesShown, plainsShown, writtenText, writtenInto};
 ghost use Rattle.put.specs.Puts.{Puts};
 ghost use Rattle.claim.specs.Units.{Units};
 ghost use Rattle.writer.specs.Answers.{Fit, answered};
@@ -18,6 +18,11 @@ use row_line::put_row;
 use table::COUNTS;
 use table::FIRSTS;
 use table::Judged;
+
+// Where the header counts the cells, and the plain cells.
+const CELLS: usize = 1;
+
+const PLAINS: usize = 7;
 
 // What became of it: a table or a condition that is none; too small a buffer, with the bytes that are needed; or the text's length.
 pub enum Written {
@@ -73,23 +78,40 @@ fn put_text(text: &mut [u8], table: &[u8], condition: &[u8]) -> usize
     ensures { λ r. ⌜ Puts (now (text .entry)) (now (text .exit)) 0 (writtenText (now (table .entry)) (now (condition .entry))) r ⌝ }
 {
     let first = put_bytes(text, 0, b"cells");
-    let values = put_values(text, first, table, wide8(table[1]));
+    let values = put_values(text, first, table, 0, wide8(table[CELLS]));
     let feed = put_byte(text, values, b'\n');
-    let threads = put_threads(text, feed, table);
+    let plains = put_plains(text, feed, table);
+    let threads = put_threads(text, plains, table);
     put_condition(text, threads, condition)
 }
 
-// So many start values, from the first cell's on.
-fn put_values(text: &mut [u8], at: usize, table: &[u8], cells: usize) -> usize
-    ensures { λ r. ⌜ Puts (now (text .entry)) (now (text .exit)) at (valuesShown (now (table .entry)) cells 0) r ⌝ }
+// The line of the plain cells, where there are any.
+fn put_plains(text: &mut [u8], at: usize, table: &[u8]) -> usize
+    requires { ⌜ Fit (now table) ⌝ }
+    ensures { λ r. ⌜ Puts (now (text .entry)) (now (text .exit)) at (plainsShown (now (table .entry))) r ⌝ }
+{
+    let cells = wide8(table[CELLS]);
+    let plains = wide8(table[PLAINS]);
+    if plains == 0 {
+        return at;
+    }
+    let word = put_bytes(text, at, b"plain");
+    let values = put_values(text, word, table, cells, plains);
+    put_byte(text, values, b'\n')
+}
+
+// So many start values, from this one on.
+fn put_values(text: &mut [u8], at: usize, table: &[u8], first: usize, count: usize) -> usize
+    requires { ⌜ first + count < 2 ^ 64 ⌝ }
+    ensures { λ r. ⌜ Puts (now (text .entry)) (now (text .exit)) at (valuesShown (now (table .entry)) count first) r ⌝ }
 {
     let mut to = at;
-    let mut cell = 0;
-    let mut left = cells;
+    let mut i = first;
+    let mut left = count;
     while 0 < left {
         let blank = put_byte(text, to, b' ');
-        to = put_number(text, blank, table::start_value(table, cell));
-        cell += 1;
+        to = put_number(text, blank, table::start_value(table, i));
+        i += 1;
         left -= 1;
     }
     to
@@ -120,12 +142,12 @@ fn put_rows(text: &mut [u8], at: usize, table: &[u8], first: usize, count: usize
     requires { ⌜ Fit (now table) × (first + count < 2 ^ 64) ⌝ }
     ensures { λ r. ⌜ Puts (now (text .entry)) (now (text .exit)) at (rowsShown (now (table .entry)) count first) r ⌝ }
 {
-    let cells = wide8(table[1]);
+    let values = wide8(table[CELLS]) + wide8(table[PLAINS]);
     let mut to = at;
     let mut index = first;
     let mut left = count;
     while 0 < left {
-        to = put_row(text, to, table, cells, index);
+        to = put_row(text, to, table, values, index);
         index += 1;
         left -= 1;
     }

@@ -49,9 +49,10 @@ fn places(program: &Program) -> Vec<Place> {
     let mut places: Vec<Place> = Vec::new();
     for (thread, rows) in program.threads.iter().enumerate() {
         let thread = thread as u8;
-        for row in rows.iter().filter(|row| matches!(row.opcode, 0 | 3 | 5 | 6 | 16)) {
+        for row in rows.iter().filter(|row| matches!(row.opcode, 0 | 3 | 5 | 6 | 16 | 17)) {
             let values = match row.opcode {
                 16 => vec![0, 1],
+                17 => plain_values(program, row.place),
                 _ => values(program, row.place),
             };
             let same =
@@ -83,6 +84,14 @@ fn values(program: &Program, cell: u8) -> Vec<u64> {
         }
     }
     values
+}
+
+/// What the plain cell may hold: its start, and what is written to it.
+fn plain_values(program: &Program, plain: u8) -> Vec<u64> {
+    let start = program.plains.get(usize::from(plain)).copied().unwrap_or(0);
+    let rows = program.threads.iter().flatten();
+    let written = rows.filter(|row| row.opcode == 18 && row.place == plain).map(|row| row.a);
+    [start].into_iter().chain(written).collect()
 }
 
 fn place<'a>(r: &mut Random, places: &'a [Place]) -> &'a Place {

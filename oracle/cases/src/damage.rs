@@ -58,13 +58,14 @@ fn spoil_length(r: &mut Random, table: &mut Vec<u8>) {
 }
 
 fn spoil_header(r: &mut Random, table: &mut [u8]) {
-    let (threads, cells) = (usize::from(table[0]), table[1]);
+    let (threads, cells, plains) = (usize::from(table[0]), table[1], table[7]);
     match r.below(6) {
         0 => table[0] = r.pick(&[0, 6, 255, threads as u8 % 5 + 1]),
         1 => table[1] = r.pick(&[0, 5, 255, cells % 4 + 1]),
         2 => table[2 + r.position(threads)] = r.pick(&[MAX_ROWS as u8 + 1, 255]),
         3 => table[2 + r.position(threads)] ^= 1,
         4 if threads < 5 => table[r.between(2 + threads as u64, 6) as usize] = 1,
+        _ if plains > 0 && r.chance(1, 2) => table[7] = r.pick(&[0, 5, 255, plains % 4 + 1]),
         _ => table[7] = r.between(1, 255) as u8,
     }
 }
@@ -82,12 +83,13 @@ fn random_bytes(r: &mut Random) -> Vec<u8> {
 
 /// Changes a byte or two anywhere.
 fn scatter(r: &mut Random, table: &mut [u8]) {
+    let small = if table[7] == 0 { 18 } else { 20 };
     for _ in 0..r.between(1, 2) {
         let at = r.position(table.len());
         table[at] = match r.below(3) {
             0 => r.number() as u8,
             1 => table[at] ^ (1 << r.below(8)),
-            _ => r.below(18) as u8,
+            _ => r.below(small) as u8,
         };
     }
 }
@@ -103,6 +105,7 @@ fn spoil_row(r: &mut Random, case: &mut Case, program: &Program) {
         let at = program.row_at(thread, r.position(rows));
         let room = Room {
             cells: program.starts.len() as u8,
+            plains: program.plains.len() as u8,
             threads: program.threads.len() as u8,
             rows: rows as u16,
         };
@@ -118,9 +121,12 @@ fn spoil_row(r: &mut Random, case: &mut Case, program: &Program) {
 }
 
 fn spoil_field(r: &mut Random, row: &mut Row, room: Room) {
+    // The first opcode that is none: without plain cells there is none to read or write.
+    let none: u8 = if room.plains == 0 { 17 } else { 19 };
     match r.below(10) {
-        0 if r.chance(1, 2) => row.opcode = r.pick(&[17, 18, 32, 128, 255]),
-        0 => row.opcode = r.between(17, 255) as u8,
+        0 if r.chance(1, 2) => row.opcode = r.pick(&[none, none + 1, 32, 128, 255]),
+        0 => row.opcode = r.between(none.into(), 255) as u8,
+        1 if row.has_plain() => row.place = r.pick(&[room.plains, 4, 5, 255]),
         1 => row.place = r.pick(&[room.cells, room.threads, 5, 255]),
         2 => row.order = r.pick(&[0, 1, 2, 3, 4, 1, 2, 3, 5, 255]),
         3 => row.failure = r.pick(&[1, 3, 5, 2, 255]),
@@ -129,6 +135,6 @@ fn spoil_field(r: &mut Random, row: &mut Row, room: Room) {
         6 => row.target = r.pick(&[room.rows + 1, u16::MAX, 1, 256]),
         7 => row.a = r.pick(&[1, 1 << 56, 1 << 63]),
         8 => row.b = r.pick(&[1, 1 << 56, 1 << 63]),
-        _ => row.opcode = r.below(17) as u8,
+        _ => row.opcode = r.below(none.into()) as u8,
     }
 }

@@ -66,15 +66,25 @@ pub fn any_exclusive(r: &mut Random, cell: u8) -> Row {
 #[derive(Clone, Copy, Debug)]
 pub struct Room {
     pub cells: u8,
+    pub plains: u8,
     pub threads: u8,
     /// Row count of the thread the row goes to.
     pub rows: u16,
 }
 
+/// A plain read or write of one of so many plain cells.
+pub fn any_plain(r: &mut Random, plains: u8) -> Row {
+    let plain = r.below(u64::from(plains)) as u8;
+    match r.below(2) {
+        0 => plain_read(plain, register(r)),
+        _ => plain_write(plain, value(r)),
+    }
+}
+
 /// Any row at all; accesses come more often than the rest.
 pub fn any_row(r: &mut Random, room: Room) -> Row {
     let cell = r.below(u64::from(room.cells)) as u8;
-    match r.below(40) {
+    match r.below(if room.plains == 0 { 40 } else { 48 }) {
         0..=9 => load(cell, load_order(r), register(r)),
         10..=16 => store(cell, store_order(r), value(r)),
         17..=18 => store_register(cell, store_order(r), register(r)),
@@ -87,7 +97,8 @@ pub fn any_row(r: &mut Random, room: Room) -> Row {
         34..=36 => any_jump(r, room.rows),
         37 => check(register(r), r.below(3)),
         38 => spurious(register(r)),
-        _ => r.pick(&[critical(), explore_state(), skip_branch()]),
+        39 => r.pick(&[critical(), explore_state(), skip_branch()]),
+        _ => any_plain(r, room.plains),
     }
 }
 

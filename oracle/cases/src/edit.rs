@@ -8,7 +8,7 @@ use oracle::limits::MAX_ROWS;
 
 /// Makes one random change.
 pub fn once(r: &mut Random, program: &mut Program) {
-    match r.below(16) {
+    match r.below(if program.plains.is_empty() { 16 } else { 19 }) {
         0..=3 => reorder(r, program),
         4 => revalue(r, program),
         5 => move_cell(r, program),
@@ -19,6 +19,8 @@ pub fn once(r: &mut Random, program: &mut Program) {
         12 => program.threads.rotate_left(1),
         13 => repeat_thread(r, program),
         14 => add_cell(r, program),
+        16 => add_plain(r, program),
+        17..=18 => insert_plain(r, program),
         _ => {
             let thread = r.position(program.threads.len());
             let row = r.pick(&[yields(), critical(), explore_state(), skip_branch()]);
@@ -38,6 +40,7 @@ fn somewhere(r: &mut Random, program: &Program) -> Option<(usize, usize)> {
 fn room(program: &Program, thread: usize) -> Room {
     Room {
         cells: program.starts.len() as u8,
+        plains: program.plains.len() as u8,
         threads: program.threads.len() as u8,
         rows: program.threads[thread].len() as u16,
     }
@@ -80,14 +83,24 @@ fn move_cell(r: &mut Random, program: &mut Program) {
     let Some((t, i)) = somewhere(r, program) else {
         return;
     };
-    if program.threads[t][i].has_cell() {
-        program.threads[t][i].place = cell;
+    let row = &mut program.threads[t][i];
+    if row.has_cell() {
+        row.place = cell;
+    } else if row.has_plain() {
+        row.place = r.position(program.plains.len()) as u8;
     }
 }
 
 fn insert_any(r: &mut Random, program: &mut Program) {
     let thread = r.position(program.threads.len());
     let row = any_row(r, room(program, thread));
+    insert_somewhere(r, program, thread, row);
+}
+
+/// Puts a plain access in.
+pub fn insert_plain(r: &mut Random, program: &mut Program) {
+    let thread = r.position(program.threads.len());
+    let row = any_plain(r, program.plains.len() as u8);
     insert_somewhere(r, program, thread, row);
 }
 
@@ -136,6 +149,12 @@ fn repeat_thread(r: &mut Random, program: &mut Program) {
 fn add_cell(r: &mut Random, program: &mut Program) {
     if program.starts.len() < 4 {
         program.starts.push(value(r));
+    }
+}
+
+fn add_plain(r: &mut Random, program: &mut Program) {
+    if program.plains.len() < 4 {
+        program.plains.push(value(r));
     }
 }
 

@@ -10,8 +10,12 @@ use terms::Settings;
 
 /// The case of this seed and index, the same on every machine.
 pub fn case(seed: u64, index: u64) -> Case {
-    let r = &mut Random::new(seed, index);
+    // Those with plain cells are drawn apart: the others are what they were before there were any.
+    let mut apart = Random::new(seed ^ 0x70_6c61_696e, index);
+    let plain = apart.chance(1, 4);
+    let r = &mut if plain { apart } else { Random::new(seed, index) };
     let (program, settings) = match r.below(1_500) {
+        _ if plain => edited(r, recipes::plain_program),
         0 => (recipes::ping_pong(r), far_settings(r)),
         1..=120 => edited(r, recipes::left_alone),
         _ => edited(r, recipes::program),
@@ -39,7 +43,8 @@ pub fn case(seed: u64, index: u64) -> Case {
 
 /// A program by one of the recipes, with a few changes.
 pub fn program(r: &mut Random) -> Program {
-    edited(r, recipes::program).0
+    let recipe = if r.chance(1, 3) { recipes::plain_program } else { recipes::program };
+    edited(r, recipe).0
 }
 
 /// A program of the recipe with a few changes, and settings for it.

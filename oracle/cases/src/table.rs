@@ -42,7 +42,7 @@ pub const CHANGES: [&str; 13] = [
 ];
 
 /// The names of the opcodes, by number.
-pub const OPCODES: [&str; 17] = [
+pub const OPCODES: [&str; 19] = [
     "load",
     "store a",
     "store register",
@@ -60,6 +60,8 @@ pub const OPCODES: [&str; 17] = [
     "explore_state",
     "skip_branch",
     "branch_spurious",
+    "plain read",
+    "plain write",
 ];
 
 /// Bytes of one row.
@@ -71,7 +73,7 @@ pub const HEADER: usize = 8;
 #[derive(Clone, Copy, Debug, Default, PartialEq, Eq)]
 pub struct Row {
     pub opcode: u8,
-    /// Cell or thread.
+    /// Atomic cell, plain cell or thread.
     pub place: u8,
     pub order: u8,
     pub failure: u8,
@@ -133,9 +135,14 @@ impl Row {
         self.opcode == 3 && self.change >= COMPARE
     }
 
-    /// Whether the row names a cell.
+    /// Whether the row names an atomic cell.
     pub fn has_cell(&self) -> bool {
         matches!(self.opcode, 0..=3 | 5 | 6)
+    }
+
+    /// Whether the row names a plain cell.
+    pub fn has_plain(&self) -> bool {
+        matches!(self.opcode, 17 | 18)
     }
 
     /// Whether the row names a jump target.
@@ -146,7 +153,7 @@ impl Row {
     /// Whether the row uses operand a.
     pub fn has_a(&self) -> bool {
         match self.opcode {
-            1 | 10..=12 => true,
+            1 | 10..=12 | 18 => true,
             3 | 6 => self.change <= COMPARE,
             _ => false,
         }
@@ -154,7 +161,7 @@ impl Row {
 
     /// Whether the row names a register.
     pub fn has_register(&self) -> bool {
-        matches!(self.opcode, 0 | 2 | 3 | 5 | 6 | 10..=12 | 16)
+        matches!(self.opcode, 0 | 2 | 3 | 5 | 6 | 10..=12 | 16 | 17)
     }
 }
 
@@ -247,17 +254,34 @@ pub fn spurious(register: u8) -> Row {
     Row { register, ..row(16) }
 }
 
-/// A whole program: the start value of each cell and the rows of each thread.
+pub fn plain_read(plain: u8, register: u8) -> Row {
+    Row { place: plain, register, ..row(17) }
+}
+
+pub fn plain_write(plain: u8, a: u64) -> Row {
+    Row { place: plain, a, ..row(18) }
+}
+
+/// A whole program: the start values of its cells and the rows of each thread.
 #[derive(Clone, Debug, Default, PartialEq, Eq)]
 pub struct Program {
+    /// Of the atomic cells.
     pub starts: Vec<u64>,
+    /// Of the plain cells.
+    pub plains: Vec<u64>,
     pub threads: Vec<Vec<Row>>,
 }
 
 impl Program {
-    /// A program without threads; the cells start at these values.
+    /// A program without threads or plain cells; the atomic cells start at these values.
     pub fn new(starts: &[u64]) -> Program {
-        Program { starts: starts.to_vec(), threads: Vec::new() }
+        Program { starts: starts.to_vec(), ..Program::default() }
+    }
+
+    /// The same with plain cells that start at these values.
+    pub fn plain(mut self, starts: &[u64]) -> Program {
+        self.plains = starts.to_vec();
+        self
     }
 
     /// The same with one thread more.
@@ -272,10 +296,11 @@ impl Program {
         let mut out = vec![0; HEADER];
         out[0] = self.threads.len() as u8;
         out[1] = self.starts.len() as u8;
+        out[7] = self.plains.len() as u8;
         for (t, rows) in self.threads.iter().take(5).enumerate() {
             out[2 + t] = rows.len() as u8;
         }
-        for start in &self.starts {
+        for start in self.starts.iter().chain(&self.plains) {
             out.extend_from_slice(&start.to_le_bytes());
         }
         for rows in &self.threads {
@@ -289,18 +314,20 @@ impl Program {
     /// Where a row's bytes begin in the table.
     pub fn row_at(&self, thread: usize, row: usize) -> usize {
         let before: usize = self.threads[..thread].iter().map(Vec::len).sum();
-        HEADER + 8 * self.starts.len() + ROW * (before + row)
+        HEADER + 8 * (self.starts.len() + self.plains.len()) + ROW * (before + row)
     }
 
     /// The program of an accepted table. Nothing is checked but that the bytes are there.
     pub fn read(table: &[u8]) -> Option<Program> {
-        let (&threads, &cells) = (table.first()?, table.get(1)?);
+        let (&threads, &cells, &plains) = (table.first()?, table.get(1)?, table.get(7)?);
         let mut at = HEADER;
         let mut program = Program::default();
-        for _ in 0..cells {
-            let eight = table.get(at..at + 8)?.try_into().ok()?;
-            program.starts.push(u64::from_le_bytes(eight));
-            at += 8;
+        for (starts, count) in [(&mut program.starts, cells), (&mut program.plains, plains)] {
+            for _ in 0..count {
+                let eight = table.get(at..at + 8)?.try_into().ok()?;
+                starts.push(u64::from_le_bytes(eight));
+                at += 8;
+            }
         }
         for t in 0..usize::from(threads) {
             let mut rows = Vec::new();
@@ -329,5 +356,11 @@ mod tests {
         assert_eq!(program.row_at(2, 0), 8 + 16 + 48);
         assert_eq!(Program::read(&table), Some(program));
         assert_eq!(Program::read(&table[..95]), None);
+        let plain =
+            Program::new(&[7]).plain(&[8, 9]).thread(&[plain_write(1, 5), plain_read(0, 3)]);
+        let table = plain.table();
+        assert_eq!((table.len(), table[7]), (8 + 24 + 48, 2));
+        assert_eq!((plain.row_at(0, 1), table[plain.row_at(0, 1)]), (8 + 24 + 24, 17));
+        assert_eq!(Program::read(&table), Some(plain));
     }
 }

@@ -20,7 +20,7 @@ pub const ASKED_FROM: u64 = 20_000;
 /// Counts over rows.
 #[derive(Clone, Debug, Default, PartialEq, Eq)]
 pub struct Rows {
-    pub opcodes: [u64; 17],
+    pub opcodes: [u64; OPCODES.len()],
     /// By opcode 0 to 4, then by order.
     pub orders: [[u64; 5]; 5],
     /// Failure orders.
@@ -53,9 +53,11 @@ pub struct Tally {
     pub cases: u64,
     pub executions: u64,
     pub answers: [u64; 19],
-    pub races: [u64; 10],
+    pub races: [u64; 13],
     pub lists: u64,
     pub bounds: u64,
+    /// Cases with plain cells, not refused.
+    pub plains: u64,
     /// Runs that stop at a fault of a thread that goes on yielded, since it was picked so.
     pub picked: u64,
     pub claims: Claims,
@@ -183,6 +185,7 @@ impl Tally {
         let Some(program) = program else {
             return;
         };
+        self.plains += u64::from(!program.plains.is_empty());
         program.threads.iter().flatten().for_each(|row| self.held.take(row));
         self.picked += u64::from(goes_on_yielded(&program, answer));
         if let Left::Bytes(trace) = &answer.trace {
@@ -200,6 +203,7 @@ impl Tally {
         self.executions += other.executions;
         self.lists += other.lists;
         self.bounds += other.bounds;
+        self.plains += other.plains;
         self.picked += other.picked;
         self.claims.add(&other.claims);
         add_each(&mut self.answers, &other.answers);
@@ -225,6 +229,7 @@ impl fmt::Display for Tally {
         writeln!(f, "executions {}", self.executions)?;
         writeln!(f, "with a list {}", self.lists)?;
         writeln!(f, "with a bound {}", self.bounds)?;
+        writeln!(f, "with plain cells {}", self.plains)?;
         for (answer, n) in self.answers.iter().enumerate() {
             if !(6..=9).contains(&answer) {
                 writeln!(f, "answer {answer}: {n}")?;

@@ -156,7 +156,7 @@ fn runs_on(left: &[u8], right: &[u8]) -> bool {
 }
 
 /// Words that a text may have somewhere, and some that it may not.
-const WORDS: [&str; 64] = [
+const WORDS: [&str; 71] = [
     "cells",
     "thread",
     "finally",
@@ -176,6 +176,9 @@ const WORDS: [&str; 64] = [
     "explore_state",
     "skip_branch",
     "branch_spurious",
+    "plain",
+    "read",
+    "write",
     "swap",
     "add",
     "sub",
@@ -199,6 +202,10 @@ const WORDS: [&str; 64] = [
     "r2",
     "r3",
     "r4",
+    "p0",
+    "p1",
+    "p3",
+    "p4",
     "0",
     "1",
     "2",
@@ -249,7 +256,7 @@ fn spoil(r: &mut Random, pieces: &mut Vec<Piece>) {
         return;
     }
     let at = r.position(pieces.len());
-    match r.below(16) {
+    match r.below(18) {
         0..=1 => pieces[at].text = r.pick(&WORDS).to_string(),
         2 => drop(pieces.remove(at)),
         3 => pieces.insert(at, Piece { text: r.pick(&WORDS).to_string(), first: false }),
@@ -268,6 +275,8 @@ fn spoil(r: &mut Random, pieces: &mut Vec<Piece>) {
         }
         12..=13 => reclaim(r, pieces),
         14 => pieces.truncate(at),
+        15 => insert_plain(r, pieces),
+        16 => replain(r, pieces),
         _ => {
             let other = r.position(pieces.len());
             pieces[at].text = pieces[other].text.clone();
@@ -287,6 +296,27 @@ fn renumber(r: &mut Random, pieces: &mut [Piece]) {
         0 => text.insert(0, '0'),
         1 => text.push(r.pick(&['0', '1', '5'])),
         _ => *text = r.pick(&NUMBERS).to_string(),
+    }
+}
+
+/// Puts a line of plain cells in, with up to five numbers.
+fn insert_plain(r: &mut Random, pieces: &mut Vec<Piece>) {
+    let (from, to) = some_line(r, pieces);
+    let at = r.pick(&[from, to, 0]);
+    let mut line = vec![Piece { text: "plain".to_string(), first: true }];
+    for _ in 0..r.pick(&[0, 1, 2, 4, 5]) {
+        line.push(Piece { text: r.below(3).to_string(), first: false });
+    }
+    pieces.splice(at..at, line);
+}
+
+/// Respells a plain cell.
+fn replain(r: &mut Random, pieces: &mut [Piece]) {
+    let is_plain = |piece: &Piece| piece.text.len() == 2 && piece.text.starts_with('p');
+    let plains: Vec<usize> = (0..pieces.len()).filter(|&at| is_plain(&pieces[at])).collect();
+    if !plains.is_empty() {
+        let names = ["p0", "p1", "p2", "p3", "p4", "p9", "p00", "p", "P0", "0", "r0", "p0.", "pp"];
+        pieces[r.pick(&plains)].text = r.pick(&names).to_string();
     }
 }
 

@@ -28,6 +28,7 @@ fn every_answer_and_row_comes_up() {
         }
         assert!([0, 2, 4].iter().all(|&order| done.failures[order] >= OFTEN));
         assert!(tally.lists > CASES / 4 && tally.bounds > CASES / 4);
+        assert!(tally.plains > CASES / 6, "seed {seed}: {}", tally.plains);
         assert!(tally.picked > CASES / 50, "seed {seed}: {}", tally.picked);
         conditions_come_up(&tally.claims);
     }

@@ -133,13 +133,32 @@ fn p3_reads_0_1_0_0_1() {
 
 #[test]
 fn each_race_kind_is_there() {
-    for kind in 1..=9 {
+    for kind in 1..=12 {
         let numbers = answered(&format!("race-{kind}")).numbers;
         assert_eq!((numbers[7], numbers[8]), (kind, 0));
+    }
+    for kind in 10..=12 {
+        let numbers = answered(&format!("race-{kind}-turned")).numbers;
+        assert_eq!((numbers[5], numbers[7], numbers[8]), (0, kind, 1));
     }
     assert_eq!(answered("other-lowest").numbers[7..9], [2, 0]);
     assert_eq!(answered("other-made").numbers[7..9], [2, 1]);
     assert_eq!(answered("other-loaded-at").numbers[7..9], [6, 1]);
+}
+
+/// What a plain row's entry has, and that it raises no version.
+#[test]
+fn plain_rows_to_the_byte() {
+    let answer = answered("plain-branches");
+    let entry = |row: u8, opcode: u8, value: u8| {
+        [0, row, opcode, 255, 0, 0, 0, 0, value, 0, 0, 0, 0, 0, 0, 0]
+    };
+    assert_eq!(trace(&answer), [entry(0, 17, 7), entry(1, 18, 1), entry(2, 17, 1)]);
+    assert_eq!(records(&answer.path).len(), 1);
+    assert_eq!(answer.numbers[9..13], [4, 3, 0, 2]);
+    let raced = answered("plain-race-begun");
+    assert_eq!(raced.numbers[..9], [14, 1, 0, 0, 3, 1, 1, 10, 0]);
+    assert_eq!(trace(&raced).len(), 2);
 }
 
 /// The schedulings that meet a full path or too many preemptions.

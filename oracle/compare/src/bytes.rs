@@ -102,16 +102,18 @@ fn table(r: &mut Random, seed: u64, index: u64) -> Vec<u8> {
 /// A sound header, the right length, and rows of small numbers, most of them zero.
 fn likely_rows(r: &mut Random) -> Vec<u8> {
     let (threads, cells) = (r.between(1, 5), r.between(1, 4));
-    let mut table = vec![threads as u8, cells as u8, 0, 0, 0, 0, 0, 0];
+    let plains = r.pick(&[0, 0, 1, 2, 4]);
+    let mut table = vec![threads as u8, cells as u8, 0, 0, 0, 0, 0, plains as u8];
     let mut rows = 0;
     for thread in 0..threads as usize {
         let count = r.pick(&[0, 1, 1, 2, 3, MAX_ROWS]);
         table[2 + thread] = count as u8;
         rows += count;
     }
-    table.resize(HEADER + 8 * cells as usize + ROW * rows, 0);
-    for row in table[HEADER + 8 * cells as usize..].chunks_mut(ROW) {
-        row[0] = r.below(17) as u8;
+    let starts = HEADER + 8 * (cells + plains) as usize;
+    table.resize(starts + ROW * rows, 0);
+    for row in table[starts..].chunks_mut(ROW) {
+        row[0] = r.below(19) as u8;
         for _ in 0..r.below(5) {
             row[r.position(9)] = r.below(5) as u8;
         }

@@ -11,10 +11,10 @@ use cases::texts::{large, text};
 use std::collections::BTreeMap;
 use std::fmt::{self, Write};
 use std::panic::{catch_unwind, UnwindSafe};
-use text::{Place, Program, Refused, CELLS, ROWS, THREADS};
+use text::{Place, Program, Refused, CELLS, PLAINS, ROWS, THREADS};
 
 /// Bytes of the largest table and of the longest condition: a reader's buffers have no less.
-const TABLE: usize = HEADER + 8 * CELLS + ROW * ROWS * THREADS;
+const TABLE: usize = HEADER + 8 * (CELLS + PLAINS) + ROW * ROWS * THREADS;
 const CONDITION: usize = LONGEST;
 
 /// Numbers that the two entries take, exactly.

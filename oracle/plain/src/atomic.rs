@@ -335,7 +335,7 @@ impl FirstSeen {
 }
 
 /// Whether all that `accesses` stands for happened before the thread's present step.
-fn ordered(thread: &Thread, accesses: &VersionVec, kind: u8) -> Result<(), Race> {
+pub fn ordered(thread: &Thread, accesses: &VersionVec, kind: u8) -> Result<(), Race> {
     match thread.causality.ahead(accesses) {
         None => Ok(()),
         Some(other) => Err(Race {

@@ -1,11 +1,12 @@
 //! One execution: the interpreter of rows, and the scheduling that loom has in `rt/execution.rs`.
 
 use crate::atomic::{Access, State};
+use crate::cell::PlainCell;
 use crate::claim::Claim;
 use crate::fault::Fault;
 use crate::op::{Cell, Change, Op, Order, Orders, Register, Row};
 use crate::path::{self, Path, Seed};
-use crate::table::{Program, MAX_CELLS};
+use crate::table::{Program, MAX_CELLS, MAX_PLAINS};
 use crate::thread::{Run, Thread};
 use crate::trace::{Done, Trace};
 use crate::vv::{VersionVec, MAX_THREADS};
@@ -19,6 +20,7 @@ pub struct Execution<'a> {
     pub trace: Trace<'a>,
     threads: [Thread; MAX_THREADS],
     cells: [State; MAX_CELLS],
+    plains: [PlainCell; MAX_PLAINS],
     /// What all sequentially consistent fences have brought together.
     seq_cst: VersionVec,
     /// The thread that runs.
@@ -37,6 +39,7 @@ impl<'a> Execution<'a> {
             trace,
             threads: array::from_fn(Thread::new),
             cells: array::from_fn(|_| State::unmade()),
+            plains: [PlainCell::UNMADE; MAX_PLAINS],
             seq_cst: VersionVec::new(),
             current: 0,
             rows: 0,
@@ -88,6 +91,10 @@ impl<'a> Execution<'a> {
             .zip(&self.program.values[..self.program.cells])
         {
             cell.make(&first, value);
+        }
+        let plains = &self.program.plain_values[..self.program.plains];
+        for (cell, &value) in self.plains.iter_mut().zip(plains) {
+            *cell = PlainCell::make(&first, value);
         }
         for id in 1..self.program.threads {
             let mut thread = Thread::new(id);
@@ -197,6 +204,8 @@ impl<'a> Execution<'a> {
             Op::ExploreState => self.path.explore_state().map(|()| Done::BARE)?,
             Op::SkipBranch => self.skip_branch(),
             Op::Spurious(register) => self.spurious(register)?,
+            Op::PlainRead(cell, register) => self.plain_read(cell, register)?,
+            Op::PlainWrite(cell, value) => self.plain_write(cell, value)?,
         };
         self.complete(op, done);
         self.advance(self.current, next);
@@ -330,6 +339,19 @@ impl<'a> Execution<'a> {
     fn spurious(&mut self, register: Register) -> Result<Done, Fault> {
         let value = self.path.branch_spurious()?.into();
         self.threads[self.current].set_register(register, value);
+        Ok(Done::value(value))
+    }
+
+    fn plain_read(&mut self, cell: Cell, register: Register) -> Result<Done, Fault> {
+        let thread = &mut self.threads[self.current];
+        let value = self.plains[usize::from(cell)].read(thread)?;
+        thread.set_register(register, value);
+        Ok(Done::value(value))
+    }
+
+    fn plain_write(&mut self, cell: Cell, value: u64) -> Result<Done, Fault> {
+        let thread = &self.threads[self.current];
+        self.plains[usize::from(cell)].write(thread, value)?;
         Ok(Done::value(value))
     }
 

@@ -1,4 +1,4 @@
-//! A model checker for small programs over atomic cells, after loom 0.7.2: it runs a program again
+//! A model checker for small programs over atomic and plain cells, after loom 0.7.2: it runs a program again
 //! and again, each time taking another choice of thread or of store read, until none is left open.
 //!
 //! This one is written for speed in ordinary Rust: state changed in place, no allocation in a run,
@@ -7,6 +7,7 @@
 #![forbid(unsafe_code)]
 
 mod atomic;
+mod cell;
 mod claim;
 mod execution;
 mod fault;

@@ -60,7 +60,7 @@ impl Change {
     }
 }
 
-/// Position of a cell.
+/// Position of a cell among those of its sort.
 pub type Cell = u8;
 /// Position of a register.
 pub type Register = u8;
@@ -102,6 +102,8 @@ pub enum Op {
     ExploreState,
     SkipBranch,
     Spurious(Register),
+    PlainRead(Cell, Register),
+    PlainWrite(Cell, u64),
 }
 
 /// How a pending access depends on others of its cell. A read-modify-write counts as a store, also
@@ -140,6 +142,8 @@ impl Op {
             Op::ExploreState => 14,
             Op::SkipBranch => 15,
             Op::Spurious(..) => 16,
+            Op::PlainRead(..) => 17,
+            Op::PlainWrite(..) => 18,
         }
     }
 

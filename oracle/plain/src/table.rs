@@ -6,8 +6,10 @@ use crate::thread::{Thread, REGISTERS};
 use crate::vv::MAX_THREADS;
 use std::mem::take;
 
-/// Cells in a program at most.
+/// Atomic cells in a program at most.
 pub const MAX_CELLS: usize = 4;
+/// Plain cells in a program at most.
+pub const MAX_PLAINS: usize = 4;
 /// Rows in a thread at most.
 pub const MAX_ROWS: usize = 64;
 const HEADER: usize = 8;
@@ -17,10 +19,14 @@ const ROW: usize = 24;
 pub struct Program {
     /// How many threads there are.
     pub threads: usize,
-    /// How many cells there are.
+    /// How many atomic cells there are.
     pub cells: usize,
-    /// Start values of the cells.
+    /// Start values of the atomic cells.
     pub values: [u64; MAX_CELLS],
+    /// How many plain cells there are.
+    pub plains: usize,
+    /// Start values of the plain cells.
+    pub plain_values: [u64; MAX_PLAINS],
     /// Row count of each thread.
     pub counts: [u8; MAX_THREADS],
     /// Rows of each thread; those past its count are never looked at.
@@ -62,11 +68,12 @@ impl Program {
 
     /// A program still without its rows, and their bytes.
     fn decode_header(table: &[u8]) -> Option<(Program, &[[u8; ROW]])> {
-        let (&[threads, cells, counts @ .., 0], rest) = table.split_first_chunk::<HEADER>()? else {
-            return None;
-        };
-        let (threads, cells) = (usize::from(threads), usize::from(cells));
+        let (&[threads, cells, counts @ .., plains], rest) = table.split_first_chunk::<HEADER>()?;
+        let [threads, cells, plains] = [threads, cells, plains].map(usize::from);
         if !(1..=MAX_THREADS).contains(&threads) || !(1..=MAX_CELLS).contains(&cells) {
+            return None;
+        }
+        if plains > MAX_PLAINS {
             return None;
         }
         let (present, absent) = counts.split_at(threads);
@@ -74,15 +81,14 @@ impl Program {
         if present.iter().any(too_many) || absent.iter().any(|&count| count != 0) {
             return None;
         }
-        let (starts, rest) = rest.split_at_checked(8 * cells)?;
-        let mut values = [0; MAX_CELLS];
-        for (value, bytes) in values.iter_mut().zip(starts.as_chunks().0) {
-            *value = u64::from_le_bytes(*bytes);
-        }
+        let (values, rest) = start_values(rest, cells)?;
+        let (plain_values, rest) = start_values(rest, plains)?;
         let program = Program {
             threads,
             cells,
             values,
+            plains,
+            plain_values,
             counts,
             rows: [[Op::Yield; MAX_ROWS]; MAX_THREADS],
         };
@@ -100,15 +106,27 @@ impl Program {
         Limits {
             threads: self.threads,
             cells: self.cells,
+            plains: self.plains,
             rows: self.counts[thread],
         }
     }
+}
+
+/// So many start values, and the bytes behind them. Places past the count are zero.
+fn start_values<const N: usize>(bytes: &[u8], count: usize) -> Option<([u64; N], &[u8])> {
+    let (starts, rest) = bytes.split_at_checked(8 * count)?;
+    let mut values = [0; N];
+    for (value, bytes) in values.iter_mut().zip(starts.as_chunks().0) {
+        *value = u64::from_le_bytes(*bytes);
+    }
+    Some((values, rest))
 }
 
 /// What the fields of a row may name.
 struct Limits {
     threads: usize,
     cells: usize,
+    plains: usize,
     rows: u8,
 }
 
@@ -165,7 +183,9 @@ impl Fields {
             14 => Op::ExploreState,
             15 => Op::SkipBranch,
             16 => Op::Spurious(f.register()?),
-            17..=255 => return None,
+            17 => Op::PlainRead(f.plain()?, f.register()?),
+            18 => Op::PlainWrite(f.plain()?, f.a()),
+            19..=255 => return None,
         };
         self.nothing_left().then_some(op)
     }
@@ -216,6 +236,11 @@ impl Fields {
     fn cell(&mut self) -> Option<u8> {
         let cell = take(&mut self.place);
         (usize::from(cell) < self.limits.cells).then_some(cell)
+    }
+
+    fn plain(&mut self) -> Option<u8> {
+        let plain = take(&mut self.place);
+        (usize::from(plain) < self.limits.plains).then_some(plain)
     }
 
     fn thread(&mut self) -> Option<u8> {

@@ -154,12 +154,27 @@ fn races_of_every_kind() {
         (3, by_rmw, plain_load),
         (5, plain_load, by_rmw),
         (6, by_rmw, exclusive),
+        (10, plain_write(0, 1), plain_read(0, 0)),
+        (11, plain_read(0, 0), plain_write(0, 1)),
+        (12, plain_write(0, 1), plain_write(0, 1)),
     ] {
-        let left = run(&table(&[0], &[&[first], &[second]]), &settings());
+        let threads: [&[Row]; 2] = [&[first], &[second]];
+        let left = run(&table_with(&[0], &[0], &threads), &settings());
         assert_eq!(at_fault(&left), (14, 1, 0));
         assert_eq!((left.report.kind, left.report.other), (kind, 0));
         assert_eq!((left.report.executions, left.entries().len()), (1, 1));
     }
+}
+
+#[test]
+fn a_plain_write_looks_at_readers_first() {
+    let (read, write) = (plain_read(0, 0), plain_write(0, 1));
+    for first in [[read, write], [write, read]] {
+        let left = run(&table_with(&[0], &[0], &[&first, &[write]]), &settings());
+        assert_eq!((left.report.kind, left.report.other), (11, 0));
+    }
+    let readers = run(&table_with(&[0], &[0], &[&[read], &[read]]), &settings());
+    assert_eq!(readers.report.answer, 0);
 }
 
 #[test]

@@ -278,3 +278,43 @@ fn a_shorter_execution_leaves_no_old_bytes() {
     assert_eq!(left.history[0].0.len(), 14 * 16);
     assert_eq!(left.history[1].0.len(), 2 * 16);
 }
+
+#[test]
+fn a_plain_buffer_is_handed_over() {
+    let hand_off = |stored, loaded| {
+        let writer = [plain_write(1, 7), store(0, stored, 1)];
+        let reader = [
+            load(0, loaded, 0),
+            jump_unless(0, 1, 4),
+            plain_read(1, 1),
+            check(1, 7),
+        ];
+        run(&table_with(&[0], &[3, 0], &[&writer, &reader]), &settings())
+    };
+    let left = hand_off(RELEASE, ACQUIRE);
+    assert_eq!((left.report.answer, left.values(17)), (0, vec![7, 7]));
+    assert!(left.values(18).iter().all(|&value| value == 7));
+    for (stored, loaded) in [(RELAXED, ACQUIRE), (RELEASE, RELAXED)] {
+        let report = hand_off(stored, loaded).report;
+        assert_eq!((report.answer, report.kind, report.other), (14, 10, 0));
+        assert_eq!((report.thread, report.row), (1, 2));
+    }
+}
+
+#[test]
+fn plain_rows_are_never_scheduled() {
+    let rows = [plain_read(0, 0), plain_write(0, 9), plain_read(0, 1)];
+    let left = run(
+        &table_with(&[0], &[5], &[&rows]),
+        &Settings {
+            branches: 1,
+            operations: 3,
+            ..settings()
+        },
+    );
+    assert_eq!((left.report.answer, left.report.threads[0].version), (0, 2));
+    let entry =
+        |row: u8, opcode, value| [0, row, opcode, 255, 0, 0, 0, 0, value, 0, 0, 0, 0, 0, 0, 0];
+    let entries = [entry(0, 17, 5), entry(1, 18, 9), entry(2, 17, 9)];
+    assert_eq!(left.trace, entries.as_flattened());
+}

@@ -24,12 +24,12 @@ impl Numbers {
     }
 }
 
-/// A row that is accepted in a program of `cells` and `threads`, in a thread of `rows`.
+/// A row that is accepted in a program of `cells`, as many plain ones, and `threads`, in a thread of `rows`.
 fn row(n: &mut Numbers, cells: u64, threads: u64, rows: u64) -> Row {
     let register = n.below(2) as u8;
     let a = n.below(3);
     let target = n.below(rows + 1) as u16;
-    match n.below(24) {
+    match n.below(27) {
         0..=14 => access(n, cells, register, a),
         15..=16 => yield_now(),
         17 => join(n.below(threads) as u8),
@@ -38,6 +38,8 @@ fn row(n: &mut Numbers, cells: u64, threads: u64, rows: u64) -> Row {
         20 => jump_unless(register, a, target),
         21 => check(register, a),
         22 => bare(13 + n.below(3) as u8),
+        23..=24 => plain_read(n.below(cells) as u8, register),
+        25 => plain_write(n.below(cells) as u8, a),
         _ => spurious(register),
     }
 }
@@ -89,7 +91,7 @@ fn program(n: &mut Numbers) -> Vec<u8> {
         })
         .collect();
     let rows: Vec<&[Row]> = rows.iter().map(Vec::as_slice).collect();
-    table(&[0, 1][..cells as usize], &rows)
+    table_with(&[0, 1][..cells as usize], &[2, 0][..cells as usize], &rows)
 }
 
 fn limits(n: &mut Numbers) -> Settings {
@@ -106,14 +108,16 @@ fn limits(n: &mut Numbers) -> Settings {
 #[test]
 fn accepted_programs() {
     let mut n = Numbers(0x9E37_79B9_7F4A_7C15);
-    let mut answers = [0; 18];
+    let (mut answers, mut kinds) = ([0; 18], [0; 13]);
     for _ in 0..6_000 {
         let report = run(&program(&mut n), &limits(&mut n)).report;
         answers[report.answer as usize] += 1;
+        kinds[report.kind as usize] += 1;
     }
     for answer in [0, 1, 10, 11, 12, 14, 15, 16] {
         assert!(answers[answer] > 50, "{answers:?}");
     }
+    assert!(kinds[10..].iter().all(|&kind| kind > 20), "{kinds:?}");
     assert_eq!(answers[2..=5], [0; 4]);
 }
 
@@ -125,7 +129,7 @@ fn damaged_programs() {
         let mut table = program(&mut n);
         for _ in 0..1 + n.below(3) {
             let at = n.below(table.len() as u64) as usize;
-            table[at] = n.pick(&[0, 1, 2, 4, 17, 255]);
+            table[at] = n.pick(&[0, 1, 2, 4, 17, 18, 19, 255]);
         }
         let settings = Settings {
             executions: 20,

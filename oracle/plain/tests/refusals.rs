@@ -108,6 +108,8 @@ fn header_and_length() {
         (3, 1),
         (6, 1),
         (7, 1),
+        (7, 5),
+        (7, 255),
     ] {
         let mut bad = good.clone();
         bad[at] = byte;
@@ -115,7 +117,7 @@ fn header_and_length() {
     }
     // The layout is judged before the rows.
     let mut both = good.clone();
-    both[16] = 17;
+    both[16] = 19;
     refused(&both, 0, 0);
     both.push(0);
     refused(&both, 255, 255);
@@ -123,7 +125,7 @@ fn header_and_length() {
 
 #[test]
 fn the_first_bad_row_is_named() {
-    let bad = bare(17);
+    let bad = bare(19);
     let row = yield_now();
     refused(&table(&[0], &[&[row, row, bad, bad]]), 0, 2);
     refused(&table(&[0], &[&[], &[row], &[row, bad], &[bad]]), 2, 1);
@@ -135,14 +137,30 @@ fn the_first_bad_row_is_named() {
 
 #[test]
 fn opcodes_past_the_last() {
-    for opcode in 17..=255 {
-        refused(&table(&[0], &[&[bare(opcode)]]), 0, 0);
+    for opcode in 19..=255 {
+        refused(&table_with(&[0], &[0], &[&[bare(opcode)]]), 0, 0);
+    }
+}
+
+#[test]
+fn plain_cells_that_are_not_there() {
+    refused(&table_with(&[0], &[0; 5], &[&[]]), 255, 255);
+    for plains in 0..=4 {
+        for place in 0..=255 {
+            for row in [plain_read(place, 3), plain_write(place, 1)] {
+                let one = table_with(&[0], &[0, 0, 0, 0][..plains], &[&[yield_now(), row]]);
+                match usize::from(place) < plains {
+                    true => assert_eq!(run(&one, &settings()).report.answer, 0),
+                    false => refused(&one, 0, 1),
+                }
+            }
+        }
     }
 }
 
 /// A good row for every opcode, for each change kind where there is one.
 fn good_rows() -> Vec<Fields> {
-    let mut rows: Vec<Fields> = (0..=16)
+    let mut rows: Vec<Fields> = (0..=18)
         .map(|opcode| Fields {
             opcode,
             ..Fields::default()
@@ -181,6 +199,8 @@ fn used(row: &Fields) -> [bool; 8] {
         10 | 11 => [false, false, false, false, true, true, true, false],
         12 => [false, false, false, false, true, false, true, false],
         16 => [false, false, false, false, true, false, false, false],
+        17 => [true, false, false, false, true, false, false, false],
+        18 => [true, false, false, false, false, false, true, false],
         _ => [false; 8],
     }
 }
@@ -218,7 +238,7 @@ fn unused_fields_are_zero() {
 fn used_fields_stay_in_range() {
     for row in good_rows() {
         let [place, order, _, change, register, target, _, _] = used(&row);
-        let one = |fields: Fields| refused(&table(&[0], &[&[fields.row()]]), 0, 0);
+        let one = |fields: Fields| refused(&table_with(&[0], &[0], &[&[fields.row()]]), 0, 0);
         if place {
             one(Fields { place: 1, ..row });
         }
@@ -240,7 +260,7 @@ fn used_fields_stay_in_range() {
 }
 
 fn is_accepted(row: Fields) -> bool {
-    let table = table(&[0, 0], &[&[row.row()], &[]]);
+    let table = table_with(&[0, 0], &[0, 0], &[&[row.row()], &[]]);
     run(&table, &settings()).report.answer != 5
 }
 

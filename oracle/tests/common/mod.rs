@@ -176,12 +176,31 @@ pub fn spurious(register: u8) -> Row {
     Row { register, ..op(16) }
 }
 
+pub fn plain_read(place: u8, register: u8) -> Row {
+    Row {
+        place,
+        register,
+        ..op(17)
+    }
+}
+
+pub fn plain_write(place: u8, a: u64) -> Row {
+    Row { place, a, ..op(18) }
+}
+
 /// A table with these start values and these rows for each thread.
 pub fn table(cells: &[u64], threads: &[&[Row]]) -> Vec<u8> {
+    table_with(cells, &[], threads)
+}
+
+/// The same with plain cells.
+pub fn table_with(cells: &[u64], plains: &[u64], threads: &[&[Row]]) -> Vec<u8> {
     let mut bytes = vec![threads.len() as u8, cells.len() as u8];
     bytes.extend(threads.iter().map(|rows| rows.len() as u8));
-    bytes.resize(8, 0);
-    bytes.extend(cells.iter().flat_map(|start| start.to_le_bytes()));
+    bytes.resize(7, 0);
+    bytes.push(plains.len() as u8);
+    let starts = cells.iter().chain(plains);
+    bytes.extend(starts.flat_map(|start| start.to_le_bytes()));
     let rows = threads.iter().flat_map(|rows| rows.iter());
     bytes.extend(rows.flat_map(Row::bytes));
     bytes

@@ -1,7 +1,7 @@
 //! Tokens one after another, each asked for what may stand there.
 
 use crate::token::Token;
-use crate::{Place, Refused, ORDERS, REGISTERS};
+use crate::{Place, Refused, ORDERS, PLAIN_CELLS, REGISTERS};
 
 pub struct Cursor<'a> {
     rest: &'a [Token<'a>],
@@ -49,6 +49,11 @@ impl<'a> Cursor<'a> {
 
     pub fn register(&mut self) -> Result<u8, Refused> {
         self.expect(register)
+    }
+
+    /// A plain cell, where there are so many.
+    pub fn plain(&mut self, count: usize) -> Result<u8, Refused> {
+        self.expect(|text| one_of(&PLAIN_CELLS[..count], text))
     }
 
     /// An order whose number is one of these.

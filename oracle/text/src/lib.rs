@@ -10,7 +10,7 @@ mod row;
 mod token;
 mod write;
 
-pub use read::{read, CELLS, ROWS, THREADS};
+pub use read::{read, CELLS, PLAINS, ROWS, THREADS};
 pub use write::write;
 
 /// What a text stands for: the bytes of a table, and those of a final condition, none where it has none.
@@ -46,6 +46,9 @@ const DECREMENT: u8 = 12;
 const SIGNS: [&str; 6] = ["=", "!=", "<", "<=", ">", ">="];
 
 const REGISTERS: [&str; 4] = ["r0", "r1", "r2", "r3"];
+
+/// The names of the plain cells.
+const PLAIN_CELLS: [&str; 4] = ["p0", "p1", "p2", "p3"];
 
 /// Bytes of a table's header and of a row.
 const HEADER: usize = 8;

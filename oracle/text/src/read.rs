@@ -1,12 +1,13 @@
-//! The text: cells, threads with their rows, and the condition.
+//! The text: cells, plain cells, threads with their rows, and the condition.
 
 use crate::cursor::Cursor;
 use crate::row::{row, Room};
 use crate::token::{lines, Line, Token};
 use crate::{condition, Place, Program, Refused, HEADER};
 
-/// Cells, threads and rows of a thread that a text has at most.
+/// Cells, plain cells, threads and rows of a thread that a text has at most.
 pub const CELLS: usize = 4;
+pub const PLAINS: usize = 4;
 pub const THREADS: usize = 5;
 pub const ROWS: usize = 64;
 
@@ -14,11 +15,16 @@ pub const ROWS: usize = 64;
 pub fn read(text: &[u8]) -> Result<Program, Refused> {
     let (lines, end) = lines(text);
     let (cells, rest) = lines.split_first().ok_or(Refused(end))?;
-    let starts = starts(cells)?;
+    let cells = starts(cells, "cells", CELLS)?;
+    let (plains, rest) = match rest.split_first() {
+        Some((line, rest)) if line.begins(b"plain") => (starts(line, "plain", PLAINS)?, rest),
+        _ => (Vec::new(), rest),
+    };
     let last = rest.iter().position(|line| line.begins(b"finally")).unwrap_or(rest.len());
     let (program, claim) = rest.split_at(last);
     let threads = program.iter().filter(|line| line.begins(b"thread")).count();
-    let (counts, rows) = rows(program, starts.len(), threads)?;
+    let room = Room { cells: cells.len(), plains: plains.len(), threads, rows: 0 };
+    let (counts, rows) = rows(program, room)?;
     if counts.is_empty() {
         return Err(Refused(claim.first().map_or(end, |line| line.tokens[0].place)));
     }
@@ -26,7 +32,7 @@ pub fn read(text: &[u8]) -> Result<Program, Refused> {
         true => Vec::new(),
         false => claimed(claim, end, threads)?,
     };
-    Ok(Program { table: table(&starts, &counts, &rows), condition })
+    Ok(Program { table: table(&cells, &plains, &counts, &rows), condition })
 }
 
 impl Line<'_> {
@@ -39,12 +45,12 @@ impl Line<'_> {
     }
 }
 
-/// The line of the start values.
-fn starts(line: &Line<'_>) -> Result<Vec<u64>, Refused> {
+/// A line of start values behind this word, one at least.
+fn starts(line: &Line<'_>, word: &str, most: usize) -> Result<Vec<u64>, Refused> {
     let mut tokens = line.cursor();
-    tokens.word("cells")?;
+    tokens.word(word)?;
     let mut starts = vec![tokens.number()?];
-    while starts.len() < CELLS && !tokens.is_done() {
+    while starts.len() < most && !tokens.is_done() {
         starts.push(tokens.number()?);
     }
     tokens.finish()?;
@@ -52,13 +58,8 @@ fn starts(line: &Line<'_>) -> Result<Vec<u64>, Refused> {
 }
 
 /// How many rows each thread has, and the bytes of all.
-fn rows(
-    lines: &[Line<'_>],
-    cells: usize,
-    threads: usize,
-) -> Result<(Vec<usize>, Vec<u8>), Refused> {
+fn rows(lines: &[Line<'_>], mut room: Room) -> Result<(Vec<usize>, Vec<u8>), Refused> {
     let (mut counts, mut bytes) = (Vec::new(), Vec::new());
-    let mut room = Room { cells, threads, rows: 0 };
     for (at, line) in lines.iter().enumerate() {
         let first = Refused(line.tokens[0].place);
         if line.begins(b"thread") {
@@ -87,11 +88,12 @@ fn claimed(lines: &[Line<'_>], end: Place, threads: usize) -> Result<Vec<u8>, Re
     condition::condition(Cursor::new(&tokens[1..], end), threads)
 }
 
-fn table(starts: &[u64], counts: &[usize], rows: &[u8]) -> Vec<u8> {
-    let mut table = vec![counts.len() as u8, starts.len() as u8];
+fn table(cells: &[u64], plains: &[u64], counts: &[usize], rows: &[u8]) -> Vec<u8> {
+    let mut table = vec![counts.len() as u8, cells.len() as u8];
     table.extend(counts.iter().map(|&count| count as u8));
-    table.resize(HEADER, 0);
-    table.extend(starts.iter().flat_map(|start| start.to_le_bytes()));
+    table.resize(HEADER - 1, 0);
+    table.push(plains.len() as u8);
+    table.extend([cells, plains].concat().iter().flat_map(|start| start.to_le_bytes()));
     table.extend_from_slice(rows);
     table
 }

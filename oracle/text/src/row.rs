@@ -6,6 +6,7 @@ use crate::{Refused, CHANGES, COMPARE_EXCHANGE, DECREMENT, ROW};
 /// What a row may name.
 pub struct Room {
     pub cells: usize,
+    pub plains: usize,
     pub threads: usize,
     /// Rows of its thread.
     pub rows: usize,
@@ -15,7 +16,7 @@ pub struct Room {
 #[derive(Default)]
 struct Row {
     opcode: u8,
-    /// Cell or thread.
+    /// Cell, plain cell or thread.
     place: u8,
     order: u8,
     failure: u8,
@@ -50,6 +51,11 @@ pub fn row(mut tokens: Cursor<'_>, room: &Room) -> Result<[u8; ROW], Refused> {
         b"critical" => Row { opcode: 13, ..Row::default() },
         b"explore_state" => Row { opcode: 14, ..Row::default() },
         b"skip_branch" => Row { opcode: 15, ..Row::default() },
+        b"write" => {
+            let a = t.number()?;
+            t.word("to")?;
+            Row { opcode: 18, a, place: t.plain(room.plains)?, ..Row::default() }
+        }
         _ => {
             let register = register(first).ok_or(t.refused())?;
             t.word("=")?;
@@ -94,6 +100,7 @@ fn into_register(t: &mut Cursor<'_>, room: &Room) -> Result<Row, Refused> {
         }
         b"unsync_load" => Row { opcode: 5, place: t.below(room.cells)?, ..Row::default() },
         b"branch_spurious" => Row { opcode: 16, ..Row::default() },
+        b"read" => Row { opcode: 17, place: t.plain(room.plains)?, ..Row::default() },
         b"with_mut" => {
             let what = t.take()?;
             Row { opcode: 6, ..change(t, what, room)? }

@@ -1,7 +1,8 @@
 //! The one text that is written for a table and a condition.
 
 use crate::{
-    read, Program, CHANGES, COMPARE_EXCHANGE, DECREMENT, HEADER, ORDERS, REGISTERS, ROW, SIGNS,
+    read, Program, CHANGES, COMPARE_EXCHANGE, DECREMENT, HEADER, ORDERS, PLAIN_CELLS, REGISTERS,
+    ROW, SIGNS,
 };
 
 /// Writes the text; none where the table is not accepted or the condition is none.
@@ -15,12 +16,12 @@ pub fn write(table: &[u8], condition: &[u8]) -> Option<Vec<u8>> {
 
 fn spelled(table: &[u8], condition: &[u8]) -> Option<String> {
     let (header, rest) = table.split_first_chunk::<HEADER>()?;
-    let (starts, mut rows) = rest.split_at_checked(8 * usize::from(header[1]))?;
-    let mut text = "cells".to_string();
-    for start in starts.as_chunks().0 {
-        text += &format!(" {}", u64::from_le_bytes(*start));
+    let (cells, rest) = rest.split_at_checked(8 * usize::from(header[1]))?;
+    let (plains, mut rows) = rest.split_at_checked(8 * usize::from(header[7]))?;
+    let mut text = starts("cells", cells);
+    if !plains.is_empty() {
+        text += &starts("plain", plains);
     }
-    text += "\n";
     let counts = header.get(2..2 + usize::from(header[0]))?;
     for &count in counts {
         text += "thread\n";
@@ -36,6 +37,15 @@ fn spelled(table: &[u8], condition: &[u8]) -> Option<String> {
     Some(text)
 }
 
+/// A line of start values behind this word.
+fn starts(word: &str, values: &[u8]) -> String {
+    let mut line = word.to_string();
+    for start in values.as_chunks().0 {
+        line += &format!(" {}", u64::from_le_bytes(*start));
+    }
+    line + "\n"
+}
+
 fn row(bytes: &[u8; ROW]) -> Option<String> {
     let number = |at: usize| -> Option<u64> {
         Some(u64::from_le_bytes(bytes.get(at..at + 8)?.try_into().ok()?))
@@ -45,6 +55,7 @@ fn row(bytes: &[u8; ROW]) -> Option<String> {
     let [opcode, place, order, failure, change, register, ..] = *bytes;
     let register = REGISTERS.get(usize::from(register))?;
     let name = |order: u8| ORDERS.get(usize::from(order)).copied();
+    let plain = || PLAIN_CELLS.get(usize::from(place)).copied();
     let change = match change {
         COMPARE_EXCHANGE => format!("compare_exchange {a} {b}"),
         DECREMENT => "decrement".to_string(),
@@ -72,6 +83,8 @@ fn row(bytes: &[u8; ROW]) -> Option<String> {
         14 => "explore_state".to_string(),
         15 => "skip_branch".to_string(),
         16 => format!("{register} = branch_spurious"),
+        17 => format!("{register} = read {}", plain()?),
+        18 => format!("write {a} to {}", plain()?),
         _ => return None,
     })
 }

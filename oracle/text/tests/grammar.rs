@@ -22,22 +22,25 @@ fn column(text: &str, word: &str) -> u64 {
     text.find(word).expect(word) as u64 + 1
 }
 
-/// A program with this row as the second of three in thread 1 of two, over three cells.
+/// A program with this row as the second of three in thread 1 of two, over three cells and two plain ones.
 fn around(row: &str) -> String {
-    format!("cells 0 0 0\nthread\nthread\nyield\n{row}\nyield\n")
+    format!("cells 0 0 0\nplain 0 0\nthread\nthread\nyield\n{row}\nyield\n")
 }
+
+/// The line that it stands in.
+const AROUND: u64 = 6;
 
 /// The row's 24 bytes.
 fn row(text: &str) -> Vec<u8> {
     let program = program(&around(text));
-    assert_eq!(program.table.len(), 8 + 24 + 3 * 24);
-    program.table[8 + 24 + 24..8 + 24 + 48].to_vec()
+    assert_eq!(program.table.len(), 8 + 40 + 3 * 24);
+    program.table[8 + 40 + 24..8 + 40 + 48].to_vec()
 }
 
 /// The row is refused at this word, or at its end.
 fn refused_row(text: &str, word: &str) {
     let at = if word.is_empty() { text.len() as u64 + 1 } else { column(text, word) };
-    refused(&around(text), 5, at);
+    refused(&around(text), AROUND, at);
 }
 
 /// The bytes of a condition over two threads.
@@ -205,6 +208,32 @@ fn registers() {
     }
 }
 
+#[test]
+fn plain_cells() {
+    let text = |plains: usize, row: &str| {
+        format!("cells 0\nplain{}\nthread\n{row}\n", " 7".repeat(plains))
+    };
+    for plains in 1..=4 {
+        for plain in 0..plains {
+            let read = program(&text(plains, &format!("r2 = read p{plain}"))).table;
+            assert_eq!(read[8 * (2 + plains)..][..2], [17, plain as u8]);
+            let write = program(&text(plains, &format!("write 5 to p{plain}"))).table;
+            assert_eq!(write[8 * (2 + plains)..][..2], [18, plain as u8]);
+        }
+        for plain in plains..12 {
+            refused(&text(plains, &format!("r2 = read p{plain}")), 4, 11);
+            refused(&text(plains, &format!("write 5 to p{plain}")), 4, 12);
+        }
+    }
+    for wrong in ["p", "p00", "p01", "0", "p_0", "p0.", "P0", "r0", "p-1"] {
+        refused(&around(&format!("r0 = read {wrong}")), AROUND, 11);
+        refused(&around(&format!("write 1 to {wrong}")), AROUND, 12);
+    }
+    // Without any there is none to name.
+    refused("cells 0\nthread\nr0 = read p0\n", 3, 11);
+    refused("cells 0\nthread\nwrite 1 to p0\n", 3, 12);
+}
+
 // The text
 
 #[test]
@@ -223,6 +252,38 @@ fn cells_come_first() {
     refused("cells 1,2\n", 1, 8);
     refused("cells 0\ncells 0\nthread\n", 2, 1);
     refused("cells 0\nthread\ncells 0\n", 3, 1);
+}
+
+#[test]
+fn plain_cells_come_second() {
+    let table = |text: &str| program(text).table;
+    assert_eq!(table("cells 5\nplain 6\nthread\n")[..8], [1, 1, 0, 0, 0, 0, 0, 1]);
+    let six: Vec<u8> = (1..7_u64).flat_map(u64::to_le_bytes).collect();
+    let both = table("cells 1 2\nplain 3 4 5 6\nthread\n");
+    assert_eq!(both, [&[1, 2, 0, 0, 0, 0, 0, 4][..], &six].concat());
+    refused("cells 0\nplain 1 2 3 4 5\nthread\n", 2, 15);
+    refused("cells 0\nplain 1 2 3 4 x\nthread\n", 2, 15);
+    refused("cells 0\nplain\nthread\n", 2, 6);
+    refused("cells 0\nplain # none\nthread\n", 2, 7);
+    refused("cells 0\nplain \r\nthread\n", 2, 7);
+    refused("cells 0\nplain", 2, 6);
+    refused("cells 0\nplain x\nthread\n", 2, 7);
+    refused("cells 0\nplain 1 x\n", 2, 9);
+    refused("cells 0\nplain 1 thread\n", 2, 9);
+    refused("cells 0 plain 1\nthread\n", 1, 9);
+    refused("plain 1\ncells 0\nthread\n", 1, 1);
+    refused("cells 0\nplain 1\n plain 1\nthread\n", 3, 2);
+    refused("cells 0\nplain 1\nyield\nthread\n", 3, 1);
+    refused("cells 0\nplain 1\ncells 0\nthread\n", 3, 1);
+    refused("cells 0\nthread\nplain 1\n", 3, 1);
+    refused("cells 0\nthread\nplain 1\nthread\n", 3, 1);
+    refused("cells 0\nplain 1", 2, 8);
+    refused("cells 0\nplain 1\n", 3, 1);
+    refused("cells 0\nplain 1\nfinally 0.r0 = 0\n", 3, 1);
+    refused("cells 0\nthread\nfinally 0.r0 = 0\nplain 1\n", 4, 1);
+    // In a thread it counts as a row, until it is come to.
+    refused("cells 0\nthread\njump 2\nplain 1\n", 4, 1);
+    refused("cells 0\nthread\njump 3\nplain 1\n", 3, 6);
 }
 
 #[test]
@@ -289,7 +350,7 @@ fn the_condition_may_run_over_several_lines() {
 
 #[test]
 fn every_form() {
-    let forms: [(&str, [u8; 6], u16, u64, u64); 47] = [
+    let forms: [(&str, [u8; 6], u16, u64, u64); 51] = [
         ("r3 = load 2 relaxed", [0, 2, 0, 0, 0, 3], 0, 0, 0),
         ("r3 = load 2 acquire", [0, 2, 2, 0, 0, 3], 0, 0, 0),
         ("r3 = load 0 seqcst", [0, 0, 4, 0, 0, 3], 0, 0, 0),
@@ -337,6 +398,10 @@ fn every_form() {
         ("skip_branch", [15, 0, 0, 0, 0, 0], 0, 0, 0),
         ("r3 = branch_spurious", [16, 0, 0, 0, 0, 3], 0, 0, 0),
         ("r0 = branch_spurious", [16, 0, 0, 0, 0, 0], 0, 0, 0),
+        ("r0 = read p1", [17, 1, 0, 0, 0, 0], 0, 0, 0),
+        ("r3 = read p0", [17, 0, 0, 0, 0, 3], 0, 0, 0),
+        ("write 9 to p1", [18, 1, 0, 0, 0, 0], 0, 9, 0),
+        ("write 0 to p0", [18, 0, 0, 0, 0, 0], 0, 0, 0),
     ];
     for (text, fields, target, a, b) in forms {
         let wanted =
@@ -350,7 +415,7 @@ fn every_form() {
             }
         }
         for more in ["0", "relaxed", "=", ")"] {
-            refused(&around(&format!("{text} {more}")), 5, text.len() as u64 + 2);
+            refused(&around(&format!("{text} {more}")), AROUND, text.len() as u64 + 2);
         }
     }
 }
@@ -376,12 +441,12 @@ fn orders_by_form() {
             let text = around(&form.replace('O', order));
             match allowed.contains(&order) {
                 true => drop(program(&text)),
-                false => refused(&text, 5, at),
+                false => refused(&text, AROUND, at),
             }
         }
         for wrong in ["sequential", "seq_cst", "acq_rel", "0", "r0", "consume"] {
             if form != "r0 = unsync_load O" || wrong != "0" {
-                refused(&around(&form.replace('O', wrong)), 5, at);
+                refused(&around(&form.replace('O', wrong)), AROUND, at);
             }
         }
     }
@@ -420,6 +485,19 @@ fn a_line_of_no_form_is_refused_at_the_first_token_that_no_form_has_there() {
     refused_row("check r0 != 1", "!=");
     refused_row("check r0 = r1", "r1");
     refused_row("fence relaxed", "relaxed");
+    refused_row("read p0", "read");
+    refused_row("r1 = read 0", "0");
+    refused_row("r0 = read r1", "r1");
+    refused_row("r0 = read p0 relaxed", "relaxed");
+    refused_row("r0 = write 1 to p0", "write");
+    refused_row("write r0 to p0", "r0");
+    refused_row("write 1 on p0", "on");
+    refused_row("write 1 to 0", "0");
+    refused_row("write 1 to p0 release", "release");
+    refused_row("store 1 to p0 relaxed", "p0");
+    refused_row("r0 = load p0 relaxed", "p0");
+    refused_row("p0 = read p0", "p0");
+    refused_row("plain 0", "plain");
     // The first of two.
     refused_row("r0 = load 9 release", "9");
     refused_row("jump 9 9", "9");
@@ -456,7 +534,7 @@ fn what_is_not_there_is_refused_at_its_number() {
         program(&with(&most.to_string()));
         for wrong in [&(most + 1).to_string(), "255", "256", "65536", "18446744073709551615", "00"]
         {
-            refused(&with(wrong), 5, column(form, "N"));
+            refused(&with(wrong), AROUND, column(form, "N"));
         }
     }
 }
@@ -631,4 +709,16 @@ fn the_text_that_is_written() {
                    finally ((0.r0 <= 1 or (1.r2 != 0)) and 0.r3 > 7)\n";
     let Program { table, condition } = program(text);
     assert_eq!(write(&table, &condition).as_deref(), Some(written.as_bytes()));
+    let text = " cells 0\n\n\tplain  7 18446744073709551615#\nthread\nr1=read p1\nwrite 3   to p0";
+    let written =
+        "cells 0\nplain 7 18446744073709551615\nthread\n  r1 = read p1\n  write 3 to p0\n";
+    let Program { table, .. } = program(text);
+    assert_eq!(write(&table, &[]).as_deref(), Some(written.as_bytes()));
+    // A plain cell that is not there, and a table with more of them than there may be.
+    let mut other = table.clone();
+    other[8 + 24 + 1] = 2;
+    assert_eq!(write(&other, &[]), None);
+    let five = [&[1, 1, 0, 0, 0, 0, 0, 5][..], &[0; 48]].concat();
+    assert_eq!(write(&five, &[]), None);
+    assert!(write(&[&[1, 1, 0, 0, 0, 0, 0, 4][..], &[0; 40]].concat(), &[]).is_some());
 }

@@ -55,6 +55,12 @@ enum-told-16 c = search needs
 enum-told-17 : tie.Need-enum-told-17
 enum-told-17 c = search needs
 
+enum-told-18 : tie.Need-enum-told-18
+enum-told-18 c = search needs
+
+enum-told-19 : tie.Need-enum-told-19
+enum-told-19 c = search needs
+
 returns : tie.Need-returns
 returns c = told _ (c .enum-told .given .1) refl
 
@@ -106,6 +112,12 @@ returns-16 c = told _ (c .enum-told16 .given .1) refl
 returns-17 : tie.Need-returns-17
 returns-17 c = told _ (c .enum-told17 .given .1) refl
 
+returns-18 : tie.Need-returns-18
+returns-18 c = told _ (c .enum-told18 .given .1) refl
+
+returns-19 : tie.Need-returns-19
+returns-19 c = told _ (c .enum-told19 .given .1) refl
+
 pub opcode-spec : {M : Type 1} → statement M
 opcode-spec =
     tie.close
@@ -127,6 +139,8 @@ opcode-spec =
     enum-told-15
     enum-told-16
     enum-told-17
+    enum-told-18
+    enum-told-19
     returns
     returns-2
     returns-3
@@ -143,4 +157,6 @@ opcode-spec =
     returns-14
     returns-15
     returns-16
-    returns-17)
+    returns-17
+    returns-18
+    returns-19)

@@ -1,7 +1,7 @@
 use mathlib.Core.Path.{refl}
 use Rattle.rules.specs.Machine.{actsAs}
 use Rattle.layout.specs.Tables.{state}
-use Rattle.execution.proofs.ActLaws.{op-within, alone-of, act-as, asks-as, stores-from}
+use Rattle.execution.proofs.ActLaws.{op-within, unsync-of, act-as, asks-as, stores-from}
 use borrow.Author.Needs.{needs}
 use Rattle.execution.proofs.act.Statement.{statement}
 use Rattle.execution.proofs.act.Tie as tie
@@ -48,44 +48,26 @@ enum-known-op-3 c = search needs
 fence-row-requires : tie.Need-fence-row-requires
 fence-row-requires c κs = search needs
 
-enum-known-op-4 : tie.Need-enum-known-op-4
-enum-known-op-4 c = search needs
-
-unsync-load-row-requires : tie.Need-unsync-load-row-requires
-unsync-load-row-requires c κs =
-    let op = c .before .before .before .before in
-    let pre = op .before .before .pre in
-    (pre .0, op-within _ _ (op .op4 .given .1) (pre .2) .0, op-within _ _ (op .op4 .given .1) (pre .2) .1)
-
-enum-known-op-5 : tie.Need-enum-known-op-5
-enum-known-op-5 c = search needs
-
-with-mut-row-requires : tie.Need-with-mut-row-requires
-with-mut-row-requires c κs =
-    let op = c .before .before .before .before in
-    let pre = op .before .before .pre in
-    (pre .0, op-within _ _ (op .op5 .given .1) (pre .2) .0, op-within _ _ (op .op5 .given .1) (pre .2) .1)
-
 enum-told-3 : tie.Need-enum-told-3
 enum-told-3 c = search needs
 
 yield-row-requires : tie.Need-yield-row-requires
 yield-row-requires c κs = search needs
 
-enum-known-op-6 : tie.Need-enum-known-op-6
-enum-known-op-6 c = search needs
+enum-known-op-4 : tie.Need-enum-known-op-4
+enum-known-op-4 c = search needs
 
 join-row-requires : tie.Need-join-row-requires
 join-row-requires c κs =
     let op = c .before .before .before in
     let pre = op .before .before .pre in
-    (pre .0, op-within _ _ (op .op6 .given .1) (pre .2))
+    (pre .0, op-within _ _ (op .op4 .given .1) (pre .2))
 
-act-alone-requires : tie.Need-act-alone-requires
-act-alone-requires c κs =
-    let match = c .before .before in
+act-unsync-requires : tie.Need-act-unsync-requires
+act-unsync-requires c κs =
+    let match = c .before .before .before in
     let start = match .before in
-    (start .pre .0, start .pre .2, alone-of (start .args .op) (match .match .keys10))
+    (start .pre .0, start .pre .2, unsync-of (start .args .op) (match .match .keys8))
 
 returns : tie.Need-returns
 unfolding actsAs
@@ -134,35 +116,21 @@ returns-5 c =
 returns-6 : tie.Need-returns-6
 unfolding actsAs
 returns-6 c =
-    let op = c .before .before .before .before .before in
-    let args = op .before .before .args in
-    λ p e. act-as p (c .unsync-load-row .result) (state (args .clocks .now) (args .marks .now) (args .values .now) (args .numbers .now)) _ (args .site .thread) (args .site .row) _ _ (op .op4 .given .1) (c .unsync-load-row .ensures (args .marks .now) 5 _)
-
-returns-7 : tie.Need-returns-7
-unfolding actsAs
-returns-7 c =
-    let op = c .before .before .before .before .before in
-    let args = op .before .before .args in
-    λ p e. act-as p (c .with-mut-row .result) (state (args .clocks .now) (args .marks .now) (args .values .now) (args .numbers .now)) _ (args .site .thread) (args .site .row) _ _ (op .op5 .given .1) (c .with-mut-row .ensures (args .marks .now) 6 _)
-
-returns-8 : tie.Need-returns-8
-unfolding actsAs
-returns-8 c =
     let op = c .before .before .before in
     let args = op .before .before .args in
     λ p e. act-as p (c .yield-row .result) (state (args .clocks .now) (args .marks .now) (args .values .now) (args .numbers .now)) _ (args .site .thread) (args .site .row) _ _ (op .enum-told3 .given .1) (c .yield-row .ensures (args .marks .now) (args .values .now) 7 _)
 
-returns-9 : tie.Need-returns-9
+returns-7 : tie.Need-returns-7
 unfolding actsAs
-returns-9 c =
+returns-7 c =
     let op = c .before .before .before .before in
     let args = op .before .before .args in
-    λ p e. act-as p (c .join-row .result) (state (args .clocks .now) (args .marks .now) (args .values .now) (args .numbers .now)) _ (args .site .thread) (args .site .row) _ _ (op .op6 .given .1) (c .join-row .ensures (args .marks .now) (args .values .now) 8 _)
+    λ p e. act-as p (c .join-row .result) (state (args .clocks .now) (args .marks .now) (args .values .now) (args .numbers .now)) _ (args .site .thread) (args .site .row) _ _ (op .op4 .given .1) (c .join-row .ensures (args .marks .now) (args .values .now) 8 _)
 
-returns-10 : tie.Need-returns-10
-returns-10 c =
-    let args = c .before .before .before .before .args in
-    λ p e. c .act-alone .ensures p (args .clocks .now) (args .marks .now) _
+returns-8 : tie.Need-returns-8
+returns-8 c =
+    let args = c .before .before .before .before .before .args in
+    λ p e. c .act-unsync .ensures p (args .marks .now) _
 
 pub act-spec : {M : Type 1} → statement M
 act-spec =
@@ -179,15 +147,11 @@ act-spec =
     ask-slot-requires-2
     enum-known-op-3
     fence-row-requires
-    enum-known-op-4
-    unsync-load-row-requires
-    enum-known-op-5
-    with-mut-row-requires
     enum-told-3
     yield-row-requires
-    enum-known-op-6
+    enum-known-op-4
     join-row-requires
-    act-alone-requires
+    act-unsync-requires
     returns
     returns-2
     returns-3
@@ -195,6 +159,4 @@ act-spec =
     returns-5
     returns-6
     returns-7
-    returns-8
-    returns-9
-    returns-10)
+    returns-8)

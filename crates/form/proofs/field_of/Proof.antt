@@ -12,7 +12,7 @@ returns c = ap fieldOf (sym (c .match .keys1))
 
 returns-2 : tie.Need-returns-2
 unfolding fieldOf
-returns-2 c = ⊎-elim (λ e. ap fieldOf (sym e)) (λ e. ap fieldOf (sym e)) (c .match .keys2)
+returns-2 c = ⊎-elim (λ e. ap fieldOf (sym e)) (⊎-elim (λ e. ap fieldOf (sym e)) (λ e. ap fieldOf (sym e))) (c .match .keys2)
 
 returns-3 : tie.Need-returns-3
 unfolding fieldOf
@@ -37,7 +37,7 @@ returns-7 c = ap fieldOf (sym (c .match .keys7))
 returns-8 : tie.Need-returns-8
 returns-8 c =
     let none = c .match .rest in
-    field-none _ (none .0 .0 .0 .0 .0 .0 .1) (λ e. none .0 .0 .0 .0 .0 .1 (inl e)) (λ e. none .0 .0 .0 .0 .0 .1 (inr e)) (none .0 .0 .0 .0 .1) (none .0 .0 .0 .1) (none .0 .0 .1) (λ e. none .0 .1 (inr (inl e))) (λ e. none .0 .1 (inr (inr (inr e)))) (λ e. none .0 .1 (inr (inr (inl e)))) (λ e. none .0 .1 (inl e)) (none .1)
+    field-none _ (none .0 .0 .0 .0 .0 .0 .1) (λ e. none .0 .0 .0 .0 .0 .1 (inl e)) (λ e. none .0 .0 .0 .0 .0 .1 (inr (inr e))) (λ e. none .0 .0 .0 .0 .0 .1 (inr (inl e))) (none .0 .0 .0 .0 .1) (none .0 .0 .0 .1) (none .0 .0 .1) (λ e. none .0 .1 (inr (inl e))) (λ e. none .0 .1 (inr (inr (inr e)))) (λ e. none .0 .1 (inr (inr (inl e)))) (λ e. none .0 .1 (inl e)) (none .1)
 
 pub field-of-spec : {M : Type 1} → statement M
 field-of-spec =

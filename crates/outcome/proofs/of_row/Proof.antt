@@ -60,6 +60,15 @@ enum-told-4 c = search needs
 enum-told-5 : tie.Need-enum-told-5
 enum-told-5 c = search needs
 
+enum-known-op-7 : tie.Need-enum-known-op-7
+enum-known-op-7 c = search needs
+
+plain-writer-requires : tie.Need-plain-writer-requires
+plain-writer-requires c κs = search needs
+
+enum-told-6 : tie.Need-enum-told-6
+enum-told-6 c = search needs
+
 returns : tie.Need-returns
 unfolding cameOf
 returns c =
@@ -138,7 +147,21 @@ returns-11 c =
     op-as (cameOf (g .held .now) (g .thread) (g .slot) (g .value)) (op .enum-told5 .given .1) (refl)
 
 returns-12 : tie.Need-returns-12
-returns-12 c = let g = c .before .args in no-came (g .held .now) (g .thread) (g .slot) (g .value) (g .op) (c .match .keys12)
+unfolding cameOf
+returns-12 c =
+    let op = c .before .before in
+    let g = op .before .before .args in
+    op-as (cameOf (g .held .now) (g .thread) (g .slot) (g .value)) (op .op7 .given .1) (read-as _ _ (c .plain-writer .ensures) _)
+
+returns-13 : tie.Need-returns-13
+unfolding cameOf
+returns-13 c =
+    let op = c in
+    let g = op .before .before .args in
+    op-as (cameOf (g .held .now) (g .thread) (g .slot) (g .value)) (op .enum-told6 .given .1) (refl)
+
+returns-14 : tie.Need-returns-14
+returns-14 c = let g = c .before .args in no-came (g .held .now) (g .thread) (g .slot) (g .value) (g .op) (c .match .keys14)
 
 pub of-row-spec : {M : Type 1} → statement M
 of-row-spec =
@@ -162,6 +185,9 @@ of-row-spec =
     register-requires-2
     enum-told-4
     enum-told-5
+    enum-known-op-7
+    plain-writer-requires
+    enum-told-6
     returns
     returns-2
     returns-3
@@ -173,4 +199,6 @@ of-row-spec =
     returns-9
     returns-10
     returns-11
-    returns-12)
+    returns-12
+    returns-13
+    returns-14)

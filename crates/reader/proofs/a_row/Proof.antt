@@ -1,17 +1,24 @@
 use Prim.Native.Nat.{ℕ, _-_, _≤_, _<_}
-use mathlib.Core.Path.{_≡_, ap, sym, _∙_}
+use mathlib.Core.List.{List}
+use mathlib.Core.Path.{_≡_, sym, _∙_}
 use native.Mathlib.Omega.{arith}
 use borrow.Author.Tests.{not-true, not-false}
 use lib.ListN.{getD, drop}
 use Rattle.rules.specs.Table.{maxRows}
 use Rattle.rules.specs.Form.{rowIn}
-use Rattle.rules.specs.Text.{rowsSoFar, withRow}
+use Rattle.rules.specs.Text.{Made, rowsSoFar, withRow}
 use Rattle.rules.proofs.LimitLaws.{rows-fit}
-use Rattle.reader.proofs.HeldLaws.{held-threads, held-cells, within, begun, count-there}
+use Rattle.reader.specs.Tables.{Held}
+use Rattle.reader.proofs.HeldLaws.{held-threads, held-cells, held-plains, within, begun, count-there}
 use Rattle.reader.proofs.LineLaws.{row-early, row-full, row-stuck, row-fits, followed-stuck, followed-fits}
 use borrow.Author.Needs.{needs}
 use Rattle.reader.proofs.a_row.Statement.{statement}
 use Rattle.reader.proofs.a_row.Tie as tie
+
+-- what a row may name, by the header
+named : (b : List ℕ) (n : ℕ) (m : Made) → Held b n m → (all rows : ℕ) (bs : List ℕ)
+    → rowIn (record { threads = all; cells = m .cells; plains = m .plains; rows = rows }) bs ≡ rowIn (record { threads = all; cells = getD b 1 0; plains = getD b 7 0; rows = rows }) bs
+named b n m held all rows bs = rw (held-cells b n m held, held-plains b n m held)
 
 slice-read-threads : tie.Need-slice-read-threads
 slice-read-threads c =
@@ -87,6 +94,18 @@ cast-t20 c =
     let t = held-threads (a .table .now) (a .length) (start .pre .made) h in
     omega (arith, held-cells (a .table .now) (a .length) (start .pre .made) h, h .cells)
 
+slice-read-t22 : tie.Need-slice-read-t22
+slice-read-t22 c =
+    let start = c .before .before .before .before .before .before .before .before in
+    omega (arith, start .pre .held .room)
+
+cast-t23 : tie.Need-cast-t23
+cast-t23 c =
+    let start = c .before .before .before .before .before .before .before .before in
+    let a = start .args in
+    let h = start .pre .held in
+    omega (arith, held-plains (a .table .now) (a .length) (start .pre .made) h, h .plains)
+
 row-in-requires : tie.Need-row-in-requires
 row-in-requires c κs = search needs
 
@@ -94,26 +113,26 @@ returns-3 : tie.Need-returns-3
 returns-3 c = record {
   is = λ m held.
       let got = c .before .before in
-      let two = got .before .before in
+      let two = got .before .before .before in
       let one = two .before .before in
       let a = one .before .before .before .before .args in
       let some : 1 ≤ getD (a .table .now) 0 0 = omega (arith, one .if1 .left) in
       let few : rowsSoFar m < maxRows = omega (arith, two .if2 .left, count-there (a .table .now) (a .length) m held some) in
-      let read = ap (λ (k : ℕ). rowIn (record { threads = a .all; cells = k; rows = a .rows }) (drop (a .from) (a .text .now))) (sym (held-cells (a .table .now) (a .length) m held)) ∙ sym (got .row-in .ensures .follows .said) in
+      let read = named (a .table .now) (a .length) m held (a .all) (a .rows) (drop (a .from) (a .text .now)) ∙ sym (got .row-in .ensures .follows .said) in
       row-stuck (a .all) (a .rows) m (drop (a .from) (a .text .now)) (drop (a .here) (a .text .now)) (begun (a .table .now) (a .length) m held some) few _ (read ∙ followed-stuck (a .text .now) (got .row-in .result) (not-true _ (c .if3 .taken)));
 }
 
 add-row-requires : tie.Need-add-row-requires
 add-row-requires c κs =
     let got = c .before .before .before .before in
-    let two = got .before .before in
+    let two = got .before .before .before in
     let one = two .before .before in
     record { holds = one .before .before .before .before .pre; some = omega (arith, one .if1 .left); fewer = two .if2 .left }
 
 add-t16 : tie.Need-add-t16
 add-t16 c =
     let got = c .before .before .before .before .before .before .before in
-    let start = got .before .before .before .before .before .before .before .before in
+    let start = got .before .before .before .before .before .before .before .before .before in
     omega (arith, within (start .args .table .now) (start .args .length) (start .pre .made) (start .pre .held))
 
 same-length : tie.Need-same-length
@@ -125,12 +144,12 @@ returns-4 c = record {
       let put = c .before .before in
       let all = put .before .before .before in
       let got = all .before .before in
-      let two = got .before .before in
+      let two = got .before .before .before in
       let one = two .before .before in
       let a = one .before .before .before .before .args in
       let some : 1 ≤ getD (a .table .now) 0 0 = omega (arith, one .if1 .left) in
       let few : rowsSoFar m < maxRows = omega (arith, two .if2 .left, count-there (a .table .now) (a .length) m held some) in
-      let read = ap (λ (k : ℕ). rowIn (record { threads = a .all; cells = k; rows = a .rows }) (drop (a .from) (a .text .now))) (sym (held-cells (a .table .now) (a .length) m held)) ∙ sym (got .row-in .ensures .follows .said) in (
+      let read = named (a .table .now) (a .length) m held (a .all) (a .rows) (drop (a .from) (a .text .now)) ∙ sym (got .row-in .ensures .follows .said) in (
         withRow m (got .row-in .result .fields),
         (
           row-fits (a .all) (a .rows) m (drop (a .from) (a .text .now)) (drop (a .here) (a .text .now)) (begun (a .table .now) (a .length) m held some) few _ _ (read ∙ followed-fits (a .text .now) (got .row-in .result) (not-false _ (all .if3 .left))),
@@ -152,6 +171,8 @@ a-row-spec =
     returns-2
     slice-read-t14
     cast-t20
+    slice-read-t22
+    cast-t23
     row-in-requires
     returns-3
     add-row-requires

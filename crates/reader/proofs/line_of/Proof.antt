@@ -1,5 +1,6 @@
 use mathlib.Core.Bool.{true, false}
-use mathlib.Core.Path.{_≡_, ap, sym, _∙_}
+use mathlib.Core.Logic.{inl, inr}
+use mathlib.Core.Path.{_≡_, refl, ap, sym, _∙_}
 use native.Mathlib.Omega.{arith}
 use lib.ListN.{drop}
 use Rattle.rules.specs.Token.{skip}
@@ -8,7 +9,7 @@ use Rattle.token.proofs.PlaceLaws.{left-by}
 use Rattle.ahead.proofs.AheadLaws.{says-thread, says-finally}
 use Rattle.reader.proofs.HeldLaws.{held-threads, held-cells}
 use Rattle.reader.proofs.LineLaws.{lined-steps}
-use Rattle.reader.proofs.OneLaws.{says-cells, line-early-end, line-end, line-bare, line-cells, line-no-cells, line-thread, line-early-finally, line-finally, line-row}
+use Rattle.reader.proofs.OneLaws.{says-cells, plains-none, plains-held, line-early-end, line-end, line-bare, line-cells, line-no-cells, line-plains, line-thread, line-early-finally, line-finally, line-row}
 use borrow.Author.Needs.{needs}
 use Rattle.reader.proofs.line_of.Statement.{statement}
 use Rattle.reader.proofs.line_of.Tie as tie
@@ -76,10 +77,10 @@ slice-aggregate-is-word c = search needs
 is-word-requires : tie.Need-is-word-requires
 is-word-requires c κs = search needs
 
-cells-line-requires : tie.Need-cells-line-requires
-cells-line-requires c κs =
+values-line-requires : tie.Need-values-line-requires
+values-line-requires c κs =
     let four = c .before .before .before .before in
-    (four .before .before .before .before .before .before .before .before .before .pre, four .if4 .taken)
+    (four .before .before .before .before .before .before .before .before .before .pre, inl refl, four .if4 .taken, omega arith)
 
 same-length : tie.Need-same-length
 same-length c = search needs
@@ -95,7 +96,7 @@ returns-4 c = record {
       let got = ends .before .before in
       let start = got .before .before .before in
       let a = start .args in
-      lined-steps (a .text .now) _ _ (a .length) (put .cells-line .result) _ (put .cells-line .ensures) m held _ (line-cells (a .text .now) (a .lines) (a .all) (a .rows) m (a .from) (got .skip .result) (skipped got) (ends .before .if1 .left) (sym (ends .ends-line .ensures) ∙ tok .before .if3 .left) (tok .token-end .result) (tok .token-end .ensures) (sym (held-cells (a .table .now) (a .length) m held) ∙ four .if4 .taken) (says-cells (a .text .now) (got .skip .result) (tok .token-end .result) _ (five .before .is-word .ensures) true (five .if5 .taken)));
+      lined-steps (a .text .now) _ _ (a .length) (put .values-line .result) _ (put .values-line .ensures) m held _ (line-cells (a .text .now) (a .lines) (a .all) (a .rows) m (a .from) (got .skip .result) (skipped got) (ends .before .if1 .left) (sym (ends .ends-line .ensures) ∙ tok .before .if3 .left) (tok .token-end .result) (tok .token-end .ensures) (sym (held-cells (a .table .now) (a .length) m held) ∙ four .if4 .taken) (says-cells (a .text .now) (got .skip .result) (tok .token-end .result) _ (five .before .is-word .ensures) true (five .if5 .taken)));
 }
 
 returns-5 : tie.Need-returns-5
@@ -110,14 +111,17 @@ returns-5 c = record {
       line-no-cells (a .text .now) (a .lines) (a .all) (a .rows) m (a .from) (got .skip .result) (skipped got) (ends .before .if1 .left) (sym (ends .ends-line .ensures) ∙ tok .before .if3 .left) (tok .token-end .result) (tok .token-end .ensures) (sym (held-cells (a .table .now) (a .length) m held) ∙ four .if4 .taken) (says-cells (a .text .now) (got .skip .result) (tok .token-end .result) _ (c .before .is-word .ensures) false (c .if5 .left));
 }
 
-slice-aggregate-is-word-2 : tie.Need-slice-aggregate-is-word-2
-slice-aggregate-is-word-2 c = search needs
+is-plain-line-requires : tie.Need-is-plain-line-requires
+is-plain-line-requires c κs =
+    let four = c .before in
+    omega (arith, four .before .before .before .before .before .before .before .before .before .pre .held .room)
 
-is-word-requires-2 : tie.Need-is-word-requires-2
-is-word-requires-2 c κs = search needs
-
-a-thread-requires : tie.Need-a-thread-requires
-a-thread-requires c κs = c .before .before .before .before .before .before .before .before .before .before .before .before .before .pre
+values-line-requires-2 : tie.Need-values-line-requires-2
+values-line-requires-2 c κs =
+    let six = c .before in
+    let four = six .before .before .before in
+    let start = four .before .before .before .before .before .before .before .before .before in
+    (start .pre, inr refl, plains-none (start .args .table .now) _ _ (six .before .is-plain-line .ensures) (six .if6 .taken), omega arith)
 
 same-length-2 : tie.Need-same-length-2
 same-length-2 c = search needs
@@ -133,55 +137,23 @@ returns-6 c = record {
       let got = ends .before .before in
       let start = got .before .before .before in
       let a = start .args in
-      lined-steps (a .text .now) _ _ (a .length) (put .a-thread .result) _ (put .a-thread .ensures) m held _ (line-thread (a .text .now) (a .lines) (a .all) (a .rows) m (a .from) (got .skip .result) (skipped got) (ends .before .if1 .left) (sym (ends .ends-line .ensures) ∙ tok .before .if3 .left) (tok .token-end .result) (tok .token-end .ensures) (λ (z : m .cells ≡ 0). four .if4 .left (held-cells (a .table .now) (a .length) m held ∙ z)) (says-thread (a .text .now) (got .skip .result) (tok .token-end .result) _ (six .before .is-word2 .ensures) true (six .if6 .taken)));
+      lined-steps (a .text .now) _ _ (a .length) (put .values-line2 .result) _ (put .values-line2 .ensures) m held _ (line-plains (a .text .now) (a .lines) (a .all) (a .rows) m (a .from) (got .skip .result) (skipped got) (ends .before .if1 .left) (sym (ends .ends-line .ensures) ∙ tok .before .if3 .left) (tok .token-end .result) (tok .token-end .ensures) (λ (z : m .cells ≡ 0). four .if4 .left (held-cells (a .table .now) (a .length) m held ∙ z)) (plains-held (a .table .now) _ (a .length) m held _ (six .before .is-plain-line .ensures) true (six .if6 .taken)));
 }
 
-slice-aggregate-is-word-3 : tie.Need-slice-aggregate-is-word-3
-slice-aggregate-is-word-3 c = search needs
+slice-aggregate-is-word-2 : tie.Need-slice-aggregate-is-word-2
+slice-aggregate-is-word-2 c = search needs
 
-is-word-requires-3 : tie.Need-is-word-requires-3
-is-word-requires-3 c κs = search needs
+is-word-requires-2 : tie.Need-is-word-requires-2
+is-word-requires-2 c κs = search needs
 
-slice-read-if8 : tie.Need-slice-read-if8
-slice-read-if8 c =
-    omega (arith, c .before .before .before .before .before .before .before .before .before .before .before .before .before .before .before .before .pre .held .room)
-
-returns-7 : tie.Need-returns-7
-returns-7 c = record {
-  is = λ m held.
-      let seven = c .before .before in
-      let six = seven .before .before .before in
-      let four = six .before .before .before in
-      let tok = four .before .before in
-      let ends = tok .before .before in
-      let got = ends .before .before in
-      let start = got .before .before .before in
-      let a = start .args in
-      (m, (line-finally (a .text .now) (a .lines) (a .all) (a .rows) m (a .from) (got .skip .result) (skipped got) (ends .before .if1 .left) (sym (ends .ends-line .ensures) ∙ tok .before .if3 .left) (tok .token-end .result) (tok .token-end .ensures) (λ (z : m .cells ≡ 0). four .if4 .left (held-cells (a .table .now) (a .length) m held ∙ z)) (says-thread (a .text .now) (got .skip .result) (tok .token-end .result) _ (six .before .is-word2 .ensures) false (six .if6 .left)) (says-finally (a .text .now) (got .skip .result) (tok .token-end .result) _ (seven .before .is-word3 .ensures) true (seven .if7 .taken)) (omega (arith, c .if8 .taken, held-threads (a .table .now) (a .length) m held)), held));
-}
-
-returns-8 : tie.Need-returns-8
-returns-8 c = record {
-  is = λ m held.
-      let seven = c .before .before in
-      let six = seven .before .before .before in
-      let four = six .before .before .before in
-      let tok = four .before .before in
-      let ends = tok .before .before in
-      let got = ends .before .before in
-      let start = got .before .before .before in
-      let a = start .args in
-      line-early-finally (a .text .now) (a .lines) (a .all) (a .rows) m (a .from) (got .skip .result) (skipped got) (ends .before .if1 .left) (sym (ends .ends-line .ensures) ∙ tok .before .if3 .left) (tok .token-end .result) (tok .token-end .ensures) (λ (z : m .cells ≡ 0). four .if4 .left (held-cells (a .table .now) (a .length) m held ∙ z)) (says-thread (a .text .now) (got .skip .result) (tok .token-end .result) _ (six .before .is-word2 .ensures) false (six .if6 .left)) (says-finally (a .text .now) (got .skip .result) (tok .token-end .result) _ (seven .before .is-word3 .ensures) true (seven .if7 .taken)) (omega (arith, c .if8 .left, held-threads (a .table .now) (a .length) m held));
-}
-
-a-row-requires : tie.Need-a-row-requires
-a-row-requires c κs = c .before .before .before .before .before .before .before .before .before .before .before .before .before .before .before .before .pre
+a-thread-requires : tie.Need-a-thread-requires
+a-thread-requires c κs = c .before .before .before .before .before .before .before .before .before .before .before .before .before .before .before .before .pre
 
 same-length-3 : tie.Need-same-length-3
 same-length-3 c = search needs
 
-returns-9 : tie.Need-returns-9
-returns-9 c = record {
+returns-7 : tie.Need-returns-7
+returns-7 c = record {
   is = λ m held.
       let put = c .before .before in
       let seven = put .before .before in
@@ -192,7 +164,75 @@ returns-9 c = record {
       let got = ends .before .before in
       let start = got .before .before .before in
       let a = start .args in
-      lined-steps (a .text .now) _ _ (a .length) (put .a-row .result) _ (put .a-row .ensures) m held _ (line-row (a .text .now) (a .lines) (a .all) (a .rows) m (a .from) (got .skip .result) (skipped got) (ends .before .if1 .left) (sym (ends .ends-line .ensures) ∙ tok .before .if3 .left) (tok .token-end .result) (tok .token-end .ensures) (λ (z : m .cells ≡ 0). four .if4 .left (held-cells (a .table .now) (a .length) m held ∙ z)) (says-thread (a .text .now) (got .skip .result) (tok .token-end .result) _ (six .before .is-word2 .ensures) false (six .if6 .left)) (says-finally (a .text .now) (got .skip .result) (tok .token-end .result) _ (seven .before .is-word3 .ensures) false (seven .if7 .left)));
+      lined-steps (a .text .now) _ _ (a .length) (put .a-thread .result) _ (put .a-thread .ensures) m held _ (line-thread (a .text .now) (a .lines) (a .all) (a .rows) m (a .from) (got .skip .result) (skipped got) (ends .before .if1 .left) (sym (ends .ends-line .ensures) ∙ tok .before .if3 .left) (tok .token-end .result) (tok .token-end .ensures) (λ (z : m .cells ≡ 0). four .if4 .left (held-cells (a .table .now) (a .length) m held ∙ z)) (plains-held (a .table .now) _ (a .length) m held _ (six .before .is-plain-line .ensures) false (six .if6 .left)) (says-thread (a .text .now) (got .skip .result) (tok .token-end .result) _ (seven .before .is-word2 .ensures) true (seven .if7 .taken)));
+}
+
+slice-aggregate-is-word-3 : tie.Need-slice-aggregate-is-word-3
+slice-aggregate-is-word-3 c = search needs
+
+is-word-requires-3 : tie.Need-is-word-requires-3
+is-word-requires-3 c κs = search needs
+
+slice-read-if9 : tie.Need-slice-read-if9
+slice-read-if9 c =
+    omega (arith, c .before .before .before .before .before .before .before .before .before .before .before .before .before .before .before .before .before .before .before .pre .held .room)
+
+same-length-4 : tie.Need-same-length-4
+same-length-4 c = search needs
+
+returns-8 : tie.Need-returns-8
+returns-8 c = record {
+  is = λ m held.
+      let eight = c .before .before in
+      let seven = eight .before .before .before in
+      let six = seven .before .before .before in
+      let four = six .before .before .before in
+      let tok = four .before .before in
+      let ends = tok .before .before in
+      let got = ends .before .before in
+      let start = got .before .before .before in
+      let a = start .args in
+      (m, (line-finally (a .text .now) (a .lines) (a .all) (a .rows) m (a .from) (got .skip .result) (skipped got) (ends .before .if1 .left) (sym (ends .ends-line .ensures) ∙ tok .before .if3 .left) (tok .token-end .result) (tok .token-end .ensures) (λ (z : m .cells ≡ 0). four .if4 .left (held-cells (a .table .now) (a .length) m held ∙ z)) (plains-held (a .table .now) _ (a .length) m held _ (six .before .is-plain-line .ensures) false (six .if6 .left)) (says-thread (a .text .now) (got .skip .result) (tok .token-end .result) _ (seven .before .is-word2 .ensures) false (seven .if7 .left)) (says-finally (a .text .now) (got .skip .result) (tok .token-end .result) _ (eight .before .is-word3 .ensures) true (eight .if8 .taken)) (omega (arith, c .if9 .taken, held-threads (a .table .now) (a .length) m held)), held));
+}
+
+same-length-5 : tie.Need-same-length-5
+same-length-5 c = search needs
+
+returns-9 : tie.Need-returns-9
+returns-9 c = record {
+  is = λ m held.
+      let eight = c .before .before in
+      let seven = eight .before .before .before in
+      let six = seven .before .before .before in
+      let four = six .before .before .before in
+      let tok = four .before .before in
+      let ends = tok .before .before in
+      let got = ends .before .before in
+      let start = got .before .before .before in
+      let a = start .args in
+      line-early-finally (a .text .now) (a .lines) (a .all) (a .rows) m (a .from) (got .skip .result) (skipped got) (ends .before .if1 .left) (sym (ends .ends-line .ensures) ∙ tok .before .if3 .left) (tok .token-end .result) (tok .token-end .ensures) (λ (z : m .cells ≡ 0). four .if4 .left (held-cells (a .table .now) (a .length) m held ∙ z)) (plains-held (a .table .now) _ (a .length) m held _ (six .before .is-plain-line .ensures) false (six .if6 .left)) (says-thread (a .text .now) (got .skip .result) (tok .token-end .result) _ (seven .before .is-word2 .ensures) false (seven .if7 .left)) (says-finally (a .text .now) (got .skip .result) (tok .token-end .result) _ (eight .before .is-word3 .ensures) true (eight .if8 .taken)) (omega (arith, c .if9 .left, held-threads (a .table .now) (a .length) m held));
+}
+
+a-row-requires : tie.Need-a-row-requires
+a-row-requires c κs = c .before .before .before .before .before .before .before .before .before .before .before .before .before .before .before .before .before .before .before .pre
+
+same-length-6 : tie.Need-same-length-6
+same-length-6 c = search needs
+
+returns-10 : tie.Need-returns-10
+returns-10 c = record {
+  is = λ m held.
+      let put = c .before .before in
+      let eight = put .before .before in
+      let seven = eight .before .before .before in
+      let six = seven .before .before .before in
+      let four = six .before .before .before in
+      let tok = four .before .before in
+      let ends = tok .before .before in
+      let got = ends .before .before in
+      let start = got .before .before .before in
+      let a = start .args in
+      lined-steps (a .text .now) _ _ (a .length) (put .a-row .result) _ (put .a-row .ensures) m held _ (line-row (a .text .now) (a .lines) (a .all) (a .rows) m (a .from) (got .skip .result) (skipped got) (ends .before .if1 .left) (sym (ends .ends-line .ensures) ∙ tok .before .if3 .left) (tok .token-end .result) (tok .token-end .ensures) (λ (z : m .cells ≡ 0). four .if4 .left (held-cells (a .table .now) (a .length) m held ∙ z)) (plains-held (a .table .now) _ (a .length) m held _ (six .before .is-plain-line .ensures) false (six .if6 .left)) (says-thread (a .text .now) (got .skip .result) (tok .token-end .result) _ (seven .before .is-word2 .ensures) false (seven .if7 .left)) (says-finally (a .text .now) (got .skip .result) (tok .token-end .result) _ (eight .before .is-word3 .ensures) false (eight .if8 .left)));
 }
 
 pub line-of-spec : {M : Type 1} → statement M
@@ -210,20 +250,26 @@ line-of-spec =
     slice-read-if4
     slice-aggregate-is-word
     is-word-requires
-    cells-line-requires
+    values-line-requires
     same-length
     returns-4
     returns-5
+    is-plain-line-requires
+    values-line-requires-2
+    same-length-2
+    returns-6
     slice-aggregate-is-word-2
     is-word-requires-2
     a-thread-requires
-    same-length-2
-    returns-6
+    same-length-3
+    returns-7
     slice-aggregate-is-word-3
     is-word-requires-3
-    slice-read-if8
-    returns-7
+    slice-read-if9
+    same-length-4
     returns-8
+    same-length-5
+    returns-9
     a-row-requires
-    same-length-3
-    returns-9)
+    same-length-6
+    returns-10)

@@ -10,7 +10,7 @@ is-row-requires : tie.Need-is-row-requires
 is-row-requires c κs = search needs
 
 returns : tie.Need-returns
-returns c = fit-as _ _ _ _ _ _ _ (c .is-row .ensures) (c .before .first-fields .ensures)
+returns c = fit-as _ _ _ _ _ (c .is-row .ensures) (c .before .first-fields .ensures)
 
 pub is-fit-spec : {M : Type 1} → statement M
 is-fit-spec = tie.close (tie.spec first-fields-requires is-row-requires returns)

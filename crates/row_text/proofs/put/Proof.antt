@@ -21,17 +21,26 @@ array-read-wide16 c = search needs
 wide16-requires : tie.Need-wide16-requires
 wide16-requires c κs = search needs
 
+array-read-wide16-2 : tie.Need-array-read-wide16-2
+array-read-wide16-2 c = search needs
+
+wide16-requires-2 : tie.Need-wide16-requires-2
+wide16-requires-2 c κs = search needs
+
+add-values : tie.Need-add-values
+add-values c = search needs
+
 add-wide16 : tie.Need-add-wide16
 add-wide16 c = search needs
 
 mul-wide16 : tie.Need-mul-wide16
 mul-wide16 c = search needs
 
-array-read-wide16-2 : tie.Need-array-read-wide16-2
-array-read-wide16-2 c = search needs
+array-read-wide16-3 : tie.Need-array-read-wide16-3
+array-read-wide16-3 c = search needs
 
-wide16-requires-2 : tie.Need-wide16-requires-2
-wide16-requires-2 c κs = search needs
+wide16-requires-3 : tie.Need-wide16-requires-3
+wide16-requires-3 c κs = search needs
 
 wide8-requires-2 : tie.Need-wide8-requires-2
 wide8-requires-2 c κs = search needs
@@ -46,10 +55,11 @@ returns-2 : tie.Need-returns-2
 returns-2 c =
     let number = c .before in
     let first = number .before .before in
-    let cells = first .before in
+    let plains = first .before in
+    let cells = plains .before in
     let shape = cells .before in
     let thread = shape .before in
-    c .put-at .ensures ∙ ap (putText _) (said-some _ _ _ _ _ _ _ _ (thread .before .wide8 .ensures .same) (omega arith) (shape .shape .ensures) (cells .wide16 .ensures .same) (first .wide162 .ensures .same) (number .wide82 .ensures .same))
+    c .put-at .ensures ∙ ap (putText _) (said-some _ _ _ _ _ _ _ _ _ (thread .before .wide8 .ensures .same) (omega arith) (shape .shape .ensures) (cells .wide16 .ensures .same) (plains .wide162 .ensures .same) (first .wide163 .ensures .same) (number .wide82 .ensures .same))
 
 pub put-spec : {M : Type 1} → statement M
 put-spec =
@@ -60,10 +70,13 @@ put-spec =
     shape-requires
     array-read-wide16
     wide16-requires
-    add-wide16
-    mul-wide16
     array-read-wide16-2
     wide16-requires-2
+    add-values
+    add-wide16
+    mul-wide16
+    array-read-wide16-3
+    wide16-requires-3
     wide8-requires-2
     add-put-at
     put-at-requires

@@ -2,20 +2,24 @@ use Prim.Native.Nat.{_≤_, _-_}
 use mathlib.Core.Path.{_≡_, sym, _∙_}
 use borrow.Author.Tests.{not-true, not-false}
 use Rattle.rules.specs.Table.{firstBad}
+use Rattle.decode.specs.Ops.{roomOf}
 use Rattle.table.proofs.Walks.{badLeft, bad-all, first-on, first-found, first-none}
 use borrow.Author.Needs.{needs}
 use Rattle.table.proofs.first_bad.Statement.{statement}
 use Rattle.table.proofs.first_bad.Tie as tie
 
 abbrev Inv-loop : tie.InvT-loop
-Inv-loop table threads cells first count i₀ i =
-    (i ≤ count) × (badLeft table threads cells first count i ≡ firstBad table threads cells first count)
+Inv-loop table first count room i₀ i =
+    (i ≤ count) × (badLeft table (roomOf room) first count i ≡ firstBad table first count)
 
 abbrev μ-loop : tie.MeasureT-loop
-μ-loop table threads cells first count i₀ i = count - i
+μ-loop table first count room i₀ i = count - i
+
+room-of-requires : tie.Need-room-of-requires Inv-loop μ-loop
+room-of-requires c κs = search needs
 
 loop-holds : tie.Need-loop-holds Inv-loop μ-loop
-loop-holds c = (search needs, bad-all _ _ _ _ _)
+loop-holds c = (search needs, bad-all _ _ _ (c .room-of .ensures))
 
 add-is-fine : tie.Need-add-is-fine Inv-loop μ-loop
 add-is-fine c = search needs
@@ -52,6 +56,7 @@ first-bad-spec =
     (tie.spec
     Inv-loop
     μ-loop
+    room-of-requires
     loop-holds
     add-is-fine
     is-fine-requires

@@ -18,6 +18,12 @@ shared-slice-read-wide8-2 c = search needs
 wide8-requires-2 : tie.Need-wide8-requires-2
 wide8-requires-2 c κs = search needs
 
+shared-slice-read-wide8-3 : tie.Need-shared-slice-read-wide8-3
+shared-slice-read-wide8-3 c = search needs
+
+wide8-requires-3 : tie.Need-wide8-requires-3
+wide8-requires-3 c κs = search needs
+
 shape-requires : tie.Need-shape-requires
 shape-requires c κs = search needs
 
@@ -48,22 +54,23 @@ mul-size-2 c = search needs
 add-size-2 : tie.Need-add-size-2
 add-size-2 c = search needs
 
+add-size-3 : tie.Need-add-size-3
+add-size-3 c = search needs
+
 counts-fine-requires : tie.Need-counts-fine-requires
 counts-fine-requires c κs = search needs
 
-shared-slice-read-result : tie.Need-shared-slice-read-result
-shared-slice-read-result c = search needs
-
 returns-2 : tie.Need-returns-2
 returns-2 c =
-    let read = c .before .before .before .before in
-    header-made _ (read .before .before .before .before .before .if1 .left)
-    (read .before .before .before .wide8 .ensures .same)
-    (read .before .wide82 .ensures .same)
+    let read = c .before .before .before in
+    header-made _ (read .before .before .before .before .before .before .before .if1 .left)
+    (read .before .before .before .before .before .wide8 .ensures .same)
+    (read .before .before .before .wide82 .ensures .same)
+    (read .before .wide83 .ensures .same)
     (read .shape .ensures)
-    (c .before .before .before .wide16 .ensures .same)
-    (c .before .before .wide162 .ensures .same)
-    (c .before .counts-fine .ensures)
+    (c .before .before .wide16 .ensures .same)
+    (c .before .wide162 .ensures .same)
+    (c .counts-fine .ensures)
 
 pub header-fine-spec : {M : Type 1} → statement M
 header-fine-spec =
@@ -74,16 +81,18 @@ header-fine-spec =
     wide8-requires
     shared-slice-read-wide8-2
     wide8-requires-2
+    shared-slice-read-wide8-3
+    wide8-requires-3
     shape-requires
     array-read-wide16
     wide16-requires
     array-read-wide16-2
     wide16-requires-2
     add-rows
-    mul-size
     add-size
-    mul-size-2
+    mul-size
     add-size-2
+    mul-size-2
+    add-size-3
     counts-fine-requires
-    shared-slice-read-result
     returns-2)

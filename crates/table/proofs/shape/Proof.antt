@@ -48,6 +48,12 @@ shared-slice-read-short8-7 c = search needs
 short8-requires-7 : tie.Need-short8-requires-7
 short8-requires-7 c κs = search needs
 
+shared-slice-read-short8-8 : tie.Need-shared-slice-read-short8-8
+shared-slice-read-short8-8 c = search needs
+
+short8-requires-8 : tie.Need-short8-requires-8
+short8-requires-8 c κs = search needs
+
 add-first2 : tie.Need-add-first2
 add-first2 c = search needs
 
@@ -59,14 +65,15 @@ add-first4 c = search needs
 
 returns-2 : tie.Need-returns-2
 returns-2 c =
-    shape-made _ (c .before .before .before .before .before .before .before .before .before .before .before .before .before .before .if1 .left)
-    (c .before .before .before .before .before .before .before .before .before .before .before .before .short8 .ensures .same)
-    (c .before .before .before .before .before .before .before .before .before .before .short82 .ensures .same)
-    (c .before .before .before .before .before .before .before .before .short83 .ensures .same)
-    (c .before .before .before .before .before .before .short84 .ensures .same)
-    (c .before .before .before .before .short85 .ensures .same)
-    (c .before .before .short86 .ensures .same)
-    (c .short87 .ensures .same)
+    shape-made _ (c .before .before .before .before .before .before .before .before .before .before .before .before .before .before .before .before .if1 .left)
+    (c .before .before .before .before .before .before .before .before .before .before .before .before .before .before .short8 .ensures .same)
+    (c .before .before .before .before .before .before .before .before .before .before .before .before .short82 .ensures .same)
+    (c .before .before .before .before .before .before .before .before .before .before .short83 .ensures .same)
+    (c .before .before .before .before .before .before .before .before .short84 .ensures .same)
+    (c .before .before .before .before .before .before .short85 .ensures .same)
+    (c .before .before .before .before .short86 .ensures .same)
+    (c .before .before .short87 .ensures .same)
+    (c .short88 .ensures .same)
 
 pub shape-spec : {M : Type 1} → statement M
 shape-spec =
@@ -87,6 +94,8 @@ shape-spec =
     short8-requires-6
     shared-slice-read-short8-7
     short8-requires-7
+    shared-slice-read-short8-8
+    short8-requires-8
     add-first2
     add-first3
     add-first4

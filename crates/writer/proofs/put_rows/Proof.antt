@@ -10,16 +10,25 @@ use Rattle.writer.proofs.put_rows.Statement.{statement}
 use Rattle.writer.proofs.put_rows.Tie as tie
 
 abbrev Inv-loop : tie.InvT-loop
-Inv-loop text₀ at table first count cells to₀ index₀ left₀ text to index left = Coming text₀ text at to (rowsShown table count first) (rowsShown table left index) × (index + left ≡ first + count)
+Inv-loop text₀ at table first count values to₀ index₀ left₀ text to index left = Coming text₀ text at to (rowsShown table count first) (rowsShown table left index) × (index + left ≡ first + count)
 
 abbrev μ-loop : tie.MeasureT-loop
-μ-loop text₀ at table first count cells to₀ index₀ left₀ text to index left = left
+μ-loop text₀ at table first count values to₀ index₀ left₀ text to index left = left
 
 shared-slice-read-wide8 : tie.Need-shared-slice-read-wide8 Inv-loop μ-loop
 shared-slice-read-wide8 c = omega (arith, c .before .before .before .pre .0 .header)
 
 wide8-requires : tie.Need-wide8-requires Inv-loop μ-loop
 wide8-requires c κs = search needs
+
+shared-slice-read-wide8-2 : tie.Need-shared-slice-read-wide8-2 Inv-loop μ-loop
+shared-slice-read-wide8-2 c = omega (arith, c .before .before .before .before .before .pre .0 .header)
+
+wide8-requires-2 : tie.Need-wide8-requires-2 Inv-loop μ-loop
+wide8-requires-2 c κs = search needs
+
+add-values : tie.Need-add-values Inv-loop μ-loop
+add-values c = omega (arith, c .before .before .wide8 .ensures .bounded, c .wide82 .ensures .bounded)
 
 loop-holds : tie.Need-loop-holds Inv-loop μ-loop
 loop-holds c = (coming-all _ _ _ (omega arith) (omega arith), omega arith)
@@ -41,8 +50,9 @@ loop-again c =
     let row = c .before .before in
     let turn = row .before .before in
     let at = turn .before in
-    let wide = at .before in (
-      coming-on _ _ _ _ _ _ _ _ _ _ (rows-next (wide .before .before .before .before .args .table .now) (at .loop .left) (at .loop .index) (turn .loop-test .taken) _ (wide .wide8 .ensures .same)) (at .loop .inv .0) (row .put-row .ensures),
+    let plains = at .before in
+    let cells = plains .before .before in (
+      coming-on _ _ _ _ _ _ _ _ _ _ (rows-next (cells .before .before .before .before .args .table .now) (at .loop .left) (at .loop .index) (turn .loop-test .taken) _ (omega (arith, cells .wide8 .ensures .same, plains .wide82 .ensures .same))) (at .loop .inv .0) (row .put-row .ensures),
       omega arith,
     )
 
@@ -52,7 +62,7 @@ same-length c = search needs
 returns : tie.Need-returns Inv-loop μ-loop
 returns c =
     let at = c .before in
-    come _ _ _ _ _ _ (rows-out (at .before .before .before .before .before .args .table .now) (at .loop .left) (at .loop .index) (c .loop-test .left)) (at .loop .inv .0)
+    come _ _ _ _ _ _ (rows-out (at .before .before .before .before .before .before .before .args .table .now) (at .loop .left) (at .loop .index) (c .loop-test .left)) (at .loop .inv .0)
 
 pub put-rows-spec : {M : Type 1} → statement M
 put-rows-spec =
@@ -62,6 +72,9 @@ put-rows-spec =
     μ-loop
     shared-slice-read-wide8
     wide8-requires
+    shared-slice-read-wide8-2
+    wide8-requires-2
+    add-values
     loop-holds
     put-row-requires
     add-index

@@ -33,6 +33,9 @@ put-values-requires c κs = search needs
 put-byte-requires : tie.Need-put-byte-requires
 put-byte-requires c κs = search needs
 
+put-plains-requires : tie.Need-put-plains-requires
+put-plains-requires c κs = search needs
+
 put-threads-requires : tie.Need-put-threads-requires
 put-threads-requires c κs = search needs
 
@@ -47,7 +50,8 @@ unfolding bytesOf
 returns c =
     let claim = c .before .before in
     let threads = claim .before .before .before .before in
-    let feed = threads .before .before .before .before in
+    let plains = threads .before .before .before .before in
+    let feed = plains .before .before .before .before in
     let values = feed .before .before .before .before in
     let wide = values .before in
     let word = wide .before .before .before .before .before in
@@ -57,7 +61,8 @@ returns c =
     let one = coming-on _ _ _ _ _ _ _ _ _ _ (sym (text-whole (a .table .now) (a .condition .now) _ (wide .wide8 .ensures .same))) all (word .put-bytes .ensures) in
     let two = coming-on _ _ _ _ _ _ _ _ _ _ refl one (values .put-values .ensures) in
     let three = coming-on _ _ _ _ _ _ _ _ _ _ refl two (feed .put-byte .ensures) in
-    coming-on _ _ _ _ _ _ _ _ _ _ refl three (threads .put-threads .ensures) .whole _ _ (claim .put-condition .ensures)
+    let four = coming-on _ _ _ _ _ _ _ _ _ _ refl three (plains .put-plains .ensures) in
+    coming-on _ _ _ _ _ _ _ _ _ _ refl four (threads .put-threads .ensures) .whole _ _ (claim .put-condition .ensures)
 
 pub put-text-spec : {M : Type 1} → statement M
 put-text-spec =
@@ -69,6 +74,7 @@ put-text-spec =
     wide8-requires
     put-values-requires
     put-byte-requires
+    put-plains-requires
     put-threads-requires
     put-condition-requires
     same-length

@@ -11,10 +11,10 @@ use Rattle.writer.proofs.put_values.Statement.{statement}
 use Rattle.writer.proofs.put_values.Tie as tie
 
 abbrev Inv-loop : tie.InvT-loop
-Inv-loop text₀ at table cells to₀ cell₀ left₀ text to cell left = Coming text₀ text at to (valuesShown table cells 0) (valuesShown table left cell) × (cell + left ≡ cells)
+Inv-loop text₀ at table first count to₀ i₀ left₀ text to i left = Coming text₀ text at to (valuesShown table count first) (valuesShown table left i) × (i + left ≡ first + count)
 
 abbrev μ-loop : tie.MeasureT-loop
-μ-loop text₀ at table cells to₀ cell₀ left₀ text to cell left = left
+μ-loop text₀ at table first count to₀ i₀ left₀ text to i left = left
 
 loop-holds : tie.Need-loop-holds Inv-loop μ-loop
 loop-holds c = (coming-all _ _ _ (omega arith) (omega arith), omega arith)
@@ -28,8 +28,8 @@ start-value-requires c κs = search needs
 put-number-requires : tie.Need-put-number-requires Inv-loop μ-loop
 put-number-requires c κs = search needs
 
-add-cell : tie.Need-add-cell Inv-loop μ-loop
-add-cell c = search needs
+add-i : tie.Need-add-i Inv-loop μ-loop
+add-i c = search needs
 
 sub-left : tie.Need-sub-left Inv-loop μ-loop
 sub-left c = search needs
@@ -45,8 +45,8 @@ loop-again c =
     let turn = blank .before .before in
     let at = turn .before in
     let table = at .before .before .before .args .table .now in (
-      coming-on _ _ _ _ _ _ _ _ _ _ (ap (λ (v : ℕ). shown v ++ valuesShown table (at .loop .left - 1) (at .loop .cell + 1)) (sym (value .start-value .ensures)))
-          (coming-on _ _ _ _ _ _ _ _ _ _ (values-next table (at .loop .left) (at .loop .cell) (turn .loop-test .taken)) (at .loop .inv .0) (blank .put-byte .ensures))
+      coming-on _ _ _ _ _ _ _ _ _ _ (ap (λ (v : ℕ). shown v ++ valuesShown table (at .loop .left - 1) (at .loop .i + 1)) (sym (value .start-value .ensures)))
+          (coming-on _ _ _ _ _ _ _ _ _ _ (values-next table (at .loop .left) (at .loop .i) (turn .loop-test .taken)) (at .loop .inv .0) (blank .put-byte .ensures))
           (number .put-number .ensures),
       omega arith,
     )
@@ -57,7 +57,7 @@ same-length c = search needs
 returns : tie.Need-returns Inv-loop μ-loop
 returns c =
     let at = c .before in
-    come _ _ _ _ _ _ (values-out (at .before .before .before .args .table .now) (at .loop .left) (at .loop .cell) (c .loop-test .left)) (at .loop .inv .0)
+    come _ _ _ _ _ _ (values-out (at .before .before .before .args .table .now) (at .loop .left) (at .loop .i) (c .loop-test .left)) (at .loop .inv .0)
 
 pub put-values-spec : {M : Type 1} → statement M
 put-values-spec =
@@ -69,7 +69,7 @@ put-values-spec =
     put-byte-requires
     start-value-requires
     put-number-requires
-    add-cell
+    add-i
     sub-left
     loop-less
     loop-again

@@ -153,7 +153,7 @@ fn sizes() -> Vec<Hand> {
             .shows("a thread of all its rows")
             .list(5),
         hand("rows-most-five", 1, five_full(|_| jump_if_not(0, 0, 0)))
-            .shows("five threads of all their rows, four cells: the longest table, L just enough")
+            .shows("five threads of all their rows, four cells, L just enough")
             .limits(64, 5 * MAX_ROWS as u64, 20)
             .list(5),
         hand("rows-most-turns", 1, turns())

@@ -5,6 +5,7 @@ mod fences;
 mod flags;
 mod limits;
 mod orders;
+mod plain;
 mod races;
 mod refused;
 mod rows;
@@ -36,6 +37,7 @@ pub fn all() -> Vec<Hand> {
         races::all(),
         fences::all(),
         orders::all(),
+        plain::all(),
         refused::all(),
         claims::all(),
     ]

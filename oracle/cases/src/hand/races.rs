@@ -1,4 +1,4 @@
-//! Every race kind, and what is not a race.
+//! Every race kind of atomic cells, and what is not a race.
 
 use super::{hand, Hand};
 use crate::table::*;

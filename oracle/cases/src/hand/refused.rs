@@ -14,6 +14,7 @@ pub(super) fn all() -> Vec<Hand> {
     all.extend(unused());
     all.extend(ranges());
     all.extend(orders());
+    all.extend(plain_cells());
     all
 }
 
@@ -82,7 +83,7 @@ fn check_order() -> Vec<Hand> {
 /// One byte of the header changed, the rest as it was.
 fn headers() -> Vec<Hand> {
     let many = MAX_ROWS as u8 + 1;
-    let bytes: [(&str, usize, u8); 14] = [
+    let bytes: [(&str, usize, u8); 16] = [
         ("no threads", 0, 0),
         ("one thread of two", 0, 1),
         ("six threads", 0, 6),
@@ -94,9 +95,11 @@ fn headers() -> Vec<Hand> {
         ("255 rows", 3, 255),
         ("rows past the thread count", 4, 1),
         ("rows at the fifth place", 6, 1),
-        ("the last byte 1", 7, 1),
-        ("the last byte 255", 7, 255),
+        ("a plain cell that the bytes do not have", 7, 1),
+        ("255 plain cells", 7, 255),
         ("a row fewer than the bytes have", 3, 1),
+        ("five plain cells", 7, 5),
+        ("four plain cells that the bytes do not have", 7, 4),
     ];
     let mut all = Vec::new();
     for (n, (shows, at, byte)) in bytes.into_iter().enumerate() {
@@ -122,17 +125,17 @@ fn first_bad() -> Vec<Hand> {
     let at = |thread: usize, row: usize| sound().row_at(thread, row);
     vec![
         spoilt("bad-two", 5, "of two bad rows the first in byte order: thread 0, row 1", |c| {
-            c.table[at(0, 1)] = 17;
-            c.table[at(1, 0)] = 17;
+            c.table[at(0, 1)] = 19;
+            c.table[at(1, 0)] = 19;
         }),
         spoilt("bad-second-thread", 5, "thread 1, row 0", |c| c.table[at(1, 0)] = 200),
         spoilt("bad-last", 5, "thread 1, row 1", |c| c.table[at(1, 1)] = 255),
         spoilt("bad-and-header", 5, "the header is judged before the rows", |c| {
-            c.table[at(0, 0)] = 17;
+            c.table[at(0, 0)] = 19;
             c.table[7] = 1;
         }),
         spoilt("bad-and-length", 5, "the length is judged before the rows", |c| {
-            c.table[at(0, 0)] = 17;
+            c.table[at(0, 0)] = 19;
             c.table.push(0);
         }),
     ]
@@ -163,12 +166,17 @@ fn examples() -> Vec<(&'static str, Row)> {
         ("op14", explore_state()),
         ("op15", skip_branch()),
         ("op16", spurious(1)),
+        ("op17", plain_read(0, 1)),
+        ("op18", plain_write(0, 1)),
     ]
 }
 
-/// The row as thread 1's second of two, in a program of two threads and two cells.
+/// The row as thread 1's second of two, in a program of two threads and two cells, and of two plain ones
+/// where it names one.
 fn holding(name: &str, answer: u64, shows: &str, row: Row) -> Hand {
-    let program = Program::new(&[0, 0]).thread(&[]).thread(&[fence(RELEASE), row]);
+    let plains: &[u64] = if row.has_plain() { &[0, 0] } else { &[] };
+    let program = Program::new(&[0, 0]).plain(plains);
+    let program = program.thread(&[]).thread(&[fence(RELEASE), row]);
     hand(name, answer, program).shows(shows).limits(16, 8, 20)
 }
 
@@ -176,7 +184,7 @@ fn holding(name: &str, answer: u64, shows: &str, row: Row) -> Hand {
 fn unused_fields(row: &Row) -> Vec<&'static str> {
     let compares = row.has_change() && row.change == COMPARE;
     let used = [
-        ("place", row.has_cell() || row.opcode == 8),
+        ("place", row.has_cell() || row.has_plain() || row.opcode == 8),
         ("order", row.has_order()),
         ("failure", row.has_failure()),
         ("change", row.has_change()),
@@ -250,7 +258,7 @@ fn ranges() -> Vec<Hand> {
             all.push(holding(&case_name, 5, &shows, with_field(row, field, value)));
         }
     }
-    for opcode in [17, 18, 31, 32, 64, 127, 128, 254, 255] {
+    for opcode in [19, 20, 31, 32, 64, 127, 128, 254, 255] {
         let row = Row { opcode, ..Row::default() };
         let shows = format!("opcode {opcode} is none");
         all.push(holding(&format!("opcode-{opcode}"), 5, &shows, row));
@@ -258,6 +266,7 @@ fn ranges() -> Vec<Hand> {
     all.push(holding("target-end", 0, "a jump to the row count is sound", jump(2)));
     all.push(holding("register-3", 0, "the last register", spurious(3)));
     all.push(holding("cell-last", 0, "the last cell", unsync_load(1, 3)));
+    all.push(holding("plain-last", 0, "the last plain cell", plain_write(1, 3)));
     all.push(holding("join-last", 10, "the last thread, here the row's own", join(1)));
     all
 }
@@ -283,6 +292,62 @@ fn orders() -> Vec<Hand> {
             let answer = if allowed { 0 } else { 5 };
             all.push(holding(&format!("order-{name}-{order}"), answer, &shows, row));
         }
+    }
+    all
+}
+
+/// Plain cells that are not there, and tables that have too many of them, or too few bytes for them.
+fn plain_cells() -> Vec<Hand> {
+    let over = |plains: &[u64], row: Row| {
+        let program = Program::new(&[0, 0, 0]).plain(plains);
+        program.thread(&[yields(), row]).thread(&[])
+    };
+    let judged = |name: &str, answer: u64, shows: &str, program: Program| {
+        hand(name, answer, program).shows(shows).limits(16, 8, 20)
+    };
+    let mut all = vec![
+        judged(
+            "plain-none-read",
+            5,
+            "no plain cell is there to be read",
+            over(&[], plain_read(0, 0)),
+        ),
+        judged("plain-none-write", 5, "nor to be written", over(&[], plain_write(0, 0))),
+        judged("plain-not-atomic", 5, "atomic cells are none", over(&[0], plain_read(1, 0))),
+        judged(
+            "plain-past",
+            5,
+            "four plain cells, the fifth read",
+            over(&[0; 4], plain_read(4, 0)),
+        ),
+        judged(
+            "plain-fourth",
+            0,
+            "four plain cells, the fourth read",
+            over(&[0; 4], plain_read(3, 0)),
+        ),
+        judged("atomic-not-plain", 5, "plain cells are no atomic ones", {
+            over(&[0; 4], load(3, RELAXED, 0))
+        }),
+        judged("plain-five", 5, "five plain cells, with their bytes", over(&[0; 5], yields())),
+        judged(
+            "plain-five-named",
+            5,
+            "the header is judged first",
+            over(&[0; 5], plain_read(4, 0)),
+        ),
+    ];
+    let whole = over(&[1, 2], plain_write(1, 3)).table();
+    for (cut, shows) in [
+        (8 + 24, "the bytes end before the plain cells"),
+        (8 + 24 + 15, "a byte of the last plain cell is missing"),
+        (whole.len() - 8, "a start value is missing"),
+        (whole.len() + 8, "a start value more than there are plain cells"),
+    ] {
+        let mut case = judged(&format!("plain-length-{cut}"), 5, shows, over(&[1, 2], yields()));
+        case.case.table = whole.clone();
+        case.case.table.resize(cut, 0);
+        all.push(case);
     }
     all
 }

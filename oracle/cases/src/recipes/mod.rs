@@ -4,6 +4,7 @@
 
 mod flags;
 mod messages;
+mod plain;
 mod races;
 mod stores;
 mod waiting;
@@ -58,9 +59,33 @@ const RECIPES: [Recipe; 37] = [
     soup,
 ];
 
+/// The same for programs with plain cells.
+const PLAIN: [Recipe; 15] = [
+    plain::handed_over,
+    plain::handed_over,
+    plain::fenced,
+    plain::joined,
+    plain::joined,
+    plain::at_once,
+    plain::at_once,
+    plain::handed_back,
+    plain::locked,
+    plain::release_sequence,
+    plain::third_party,
+    plain::many_readers,
+    plain::sprinkled,
+    plain::sprinkled,
+    plain::soup,
+];
+
 /// A program by one of the recipes.
 pub fn program(r: &mut Random) -> Program {
     r.pick(&RECIPES)(r)
+}
+
+/// A program with plain cells by one of the recipes.
+pub fn plain_program(r: &mut Random) -> Program {
+    r.pick(&PLAIN)(r)
 }
 
 /// A write of the data that a flag then guards, and the matching read.
@@ -79,13 +104,23 @@ fn guarded(r: &mut Random, cell: u8) -> (Row, Row) {
 
 /// Rows without any plan.
 fn soup(r: &mut Random) -> Program {
+    soup_over(r, &[])
+}
+
+/// The same with plain cells that start at these values.
+fn soup_over(r: &mut Random, plains: &[u64]) -> Program {
     let threads = r.pick(&[1, 2, 2, 2, 3, 3, 4, 5]);
     let cells = r.pick(&[1, 1, 1, 2, 2, 3, 4]);
     let starts: Vec<u64> = (0..cells).map(|_| value(r)).collect();
-    let mut program = Program::new(&starts);
+    let mut program = Program::new(&starts).plain(plains);
     for _ in 0..threads {
         let rows = if r.chance(1, 40) { r.between(20, MAX_ROWS as u64) } else { r.below(7) };
-        let room = Room { cells: cells as u8, threads: threads as u8, rows: rows as u16 };
+        let room = Room {
+            cells: cells as u8,
+            plains: plains.len() as u8,
+            threads: threads as u8,
+            rows: rows as u16,
+        };
         let rows: Vec<Row> = (0..rows).map(|_| any_row(r, room)).collect();
         program = program.thread(&rows);
     }

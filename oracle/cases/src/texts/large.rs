@@ -1,4 +1,4 @@
-//! Texts at the limits, on either side: as many cells, threads and rows as there may be, or one more, and
+//! Texts at the limits, on either side: as many cells of both sorts, threads and rows as there may be, or one more, and
 //! conditions of about as many bytes and as deep as they may be.
 
 use super::{loose, pieces, spoil, tight, Piece};
@@ -6,7 +6,7 @@ use crate::condition::{self, Word, Words, DEEPEST, LONGEST};
 use crate::draw::{any_row, value, Room};
 use crate::random::Random;
 use crate::table::Program;
-use text::{CELLS, ROWS, THREADS};
+use text::{CELLS, PLAINS, ROWS, THREADS};
 
 /// The text of this seed and index, the same on every machine.
 pub fn large(seed: u64, index: u64) -> Vec<u8> {
@@ -33,28 +33,45 @@ pub fn large(seed: u64, index: u64) -> Vec<u8> {
 /// Most threads have all their rows, or nearly.
 fn program(r: &mut Random) -> Program {
     let cells = r.pick(&[1, CELLS, CELLS]);
+    let plains = r.pick(&[0, 1, PLAINS, PLAINS]);
     let threads = r.pick(&[1, 2, THREADS, THREADS]);
     let starts: Vec<u64> = (0..cells).map(|_| value(r)).collect();
-    let mut program = Program::new(&starts);
+    let plain_starts: Vec<u64> = (0..plains).map(|_| value(r)).collect();
+    let mut program = Program::new(&starts).plain(&plain_starts);
     for _ in 0..threads {
         let rows = r.pick(&[0, 1, ROWS - 1, ROWS, ROWS, ROWS]);
-        let room = Room { cells: cells as u8, threads: threads as u8, rows: rows as u16 };
+        let room = Room {
+            cells: cells as u8,
+            plains: plains as u8,
+            threads: threads as u8,
+            rows: rows as u16,
+        };
         let rows: Vec<_> = (0..rows).map(|_| any_row(r, room)).collect();
         program = program.thread(&rows);
     }
     program
 }
 
-/// A start value, a thread or a row more than there were.
+/// A start value, a line of plain cells, a thread or a row more than there were.
 fn one_more(r: &mut Random, pieces: &mut Vec<Piece>) {
     let piece = |text: &str, first: bool| Piece { text: text.to_string(), first };
     let lines: Vec<usize> = (1..pieces.len()).filter(|&at| pieces[at].first).collect();
-    match r.below(4) {
+    let threads = lines.iter().position(|&at| pieces[at].text == "thread").unwrap_or(0);
+    match r.below(6) {
         0 => pieces.insert(r.between(1, lines[0] as u64) as usize, piece("7", false)),
         1 => pieces.insert(r.pick(&lines), piece("thread", true)),
         2 => pieces.push(piece("thread", true)),
+        // At the end of the line before the first `thread`, be it that of the plain cells or not.
+        3 => pieces.insert(lines[threads], piece("7", false)),
+        4 => {
+            let at = lines[threads];
+            pieces.splice(at..at, [piece("plain", true), piece("7", false)]);
+        }
         // Behind the first `thread` a row may stand anywhere.
-        _ => pieces.insert(r.pick(&[&lines[1..], &[pieces.len()]].concat()), piece("yield", true)),
+        _ => {
+            let rows = &lines[threads + 1..];
+            pieces.insert(r.pick(&[rows, &[pieces.len()]].concat()), piece("yield", true));
+        }
     }
 }
 

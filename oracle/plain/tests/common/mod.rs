@@ -196,15 +196,41 @@ pub fn spurious(register: u8) -> Row {
     .row()
 }
 
+pub fn plain_read(place: u8, register: u8) -> Row {
+    Fields {
+        opcode: 17,
+        place,
+        register,
+        ..Fields::default()
+    }
+    .row()
+}
+
+pub fn plain_write(place: u8, a: u64) -> Row {
+    Fields {
+        opcode: 18,
+        place,
+        a,
+        ..Fields::default()
+    }
+    .row()
+}
+
 /// A table of these cells and threads.
 pub fn table(cells: &[u64], threads: &[&[Row]]) -> Vec<u8> {
+    table_with(cells, &[], threads)
+}
+
+/// A table of these atomic cells, plain cells and threads.
+pub fn table_with(cells: &[u64], plains: &[u64], threads: &[&[Row]]) -> Vec<u8> {
     let mut bytes = vec![0; 8];
     bytes[0] = threads.len() as u8;
     bytes[1] = cells.len() as u8;
+    bytes[7] = plains.len() as u8;
     for (count, rows) in bytes[2..7].iter_mut().zip(threads) {
         *count = rows.len() as u8;
     }
-    for cell in cells {
+    for cell in cells.iter().chain(plains) {
         bytes.extend(cell.to_le_bytes());
     }
     for row in threads.iter().copied().flatten() {

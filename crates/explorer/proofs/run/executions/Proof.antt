@@ -44,7 +44,7 @@ execute-requires c κs =
     let loop = c .before .before .before .before .before .before .before .before in
     let run = loop .loop .inv .0 in
     let shape = ready-shape (run .ready) (loop .before .before .before .shape .ensures) in
-    (shape .0, shape .1, run .within, omega (arith, run .allowed, run .few, ready-executions (run .ready)))
+    (shape .0, shape .1, shape .2, run .within, omega (arith, run .allowed, run .few, ready-executions (run .ready)))
 
 further-requires : tie.Need-further-requires Inv-loop μ-loop
 further-requires c κs =

@@ -23,6 +23,12 @@ enum-known-op-5 c = search needs
 enum-known-op-6 : tie.Need-enum-known-op-6
 enum-known-op-6 c = search needs
 
+enum-known-op-7 : tie.Need-enum-known-op-7
+enum-known-op-7 c = search needs
+
+enum-known-op-8 : tie.Need-enum-known-op-8
+enum-known-op-8 c = search needs
+
 returns : tie.Need-returns
 returns c = op-as cellIn (c .before .op .given .1) refl
 
@@ -42,7 +48,13 @@ returns-6 : tie.Need-returns-6
 returns-6 c = op-as cellIn (c .before .op6 .given .1) refl
 
 returns-7 : tie.Need-returns-7
-returns-7 c = no-cell (c .before .args .op) (c .match .keys7)
+returns-7 c = op-as cellIn (c .before .op7 .given .1) refl
+
+returns-8 : tie.Need-returns-8
+returns-8 c = op-as cellIn (c .before .op8 .given .1) refl
+
+returns-9 : tie.Need-returns-9
+returns-9 c = no-cell (c .before .args .op) (c .match .keys9)
 
 pub cell-of-spec : {M : Type 1} → statement M
 cell-of-spec =
@@ -54,10 +66,14 @@ cell-of-spec =
     enum-known-op-4
     enum-known-op-5
     enum-known-op-6
+    enum-known-op-7
+    enum-known-op-8
     returns
     returns-2
     returns-3
     returns-4
     returns-5
     returns-6
-    returns-7)
+    returns-7
+    returns-8
+    returns-9)

@@ -46,6 +46,18 @@ enum-known-op-7 c = search needs
 put-requires-3 : tie.Need-put-requires-3
 put-requires-3 c κs = search needs
 
+enum-known-op-8 : tie.Need-enum-known-op-8
+enum-known-op-8 c = search needs
+
+put-requires-4 : tie.Need-put-requires-4
+put-requires-4 c κs = search needs
+
+enum-known-op-9 : tie.Need-enum-known-op-9
+enum-known-op-9 c = search needs
+
+write-requires : tie.Need-write-requires
+write-requires c κs = search needs
+
 returns : tie.Need-returns
 unfolding acted
 returns c =
@@ -96,7 +108,21 @@ returns-7 c =
     op-as (acted (g .held .now) (g .thread) (g .value) (g .step)) (op .op7 .given .1) (c .put3 .ensures)
 
 returns-8 : tie.Need-returns-8
-returns-8 c = let g = c .before .args in no-act (g .held .now) (g .thread) (g .value) (g .step) (g .op) (c .match .keys8)
+unfolding acted
+returns-8 c =
+    let op = c .before .before .before in
+    let g = op .before .before .args in
+    op-as (acted (g .held .now) (g .thread) (g .value) (g .step)) (op .op8 .given .1) (c .put4 .ensures)
+
+returns-9 : tie.Need-returns-9
+unfolding acted
+returns-9 c =
+    let op = c .before .before .before in
+    let g = op .before .before .args in
+    op-as (acted (g .held .now) (g .thread) (g .value) (g .step)) (op .op9 .given .1) (c .write .ensures)
+
+returns-10 : tie.Need-returns-10
+returns-10 c = let g = c .before .args in no-act (g .held .now) (g .thread) (g .value) (g .step) (g .op) (c .match .keys10)
 
 pub act-spec : {M : Type 1} → statement M
 act-spec =
@@ -116,6 +142,10 @@ act-spec =
     with-mut-requires
     enum-known-op-7
     put-requires-3
+    enum-known-op-8
+    put-requires-4
+    enum-known-op-9
+    write-requires
     returns
     returns-2
     returns-3
@@ -123,4 +153,6 @@ act-spec =
     returns-5
     returns-6
     returns-7
-    returns-8)
+    returns-8
+    returns-9
+    returns-10)

@@ -1,0 +1,56 @@
+use borrow.Author.Needs.{needs}
+use Rattle.rules.specs.Plain.{plainReadRace, plainReadTracked}
+use Rattle.rules.specs.State.{readAccess}
+use Rattle.track.proofs.TrackLaws.{answered, raced, clear}
+use Rattle.plain.proofs.track_read.Statement.{statement}
+use Rattle.plain.proofs.track_read.Tie as tie
+
+add-race-with : tie.Need-add-race-with
+add-race-with c = search needs
+
+race-with-requires : tie.Need-race-with-requires
+race-with-requires c κs = search needs
+
+enum-known-kind : tie.Need-enum-known-kind
+enum-known-kind c = search needs
+
+returns : tie.Need-returns
+unfolding plainReadRace plainReadTracked
+returns c =
+    let call = c .before .before .before in
+    let args = call .before .before .args in
+    raced _ (readAccess (args .plain)) (args .thread) _ _ _ (answered _ _ _ (c .before .kind .given .1) (call .race-with .ensures))
+
+enum-told : tie.Need-enum-told
+enum-told c = search needs
+
+add-join-into : tie.Need-add-join-into
+add-join-into c = search needs
+
+add-join-into-2 : tie.Need-add-join-into-2
+add-join-into-2 c = search needs
+
+join-into-requires : tie.Need-join-into-requires
+join-into-requires c κs = search needs
+
+returns-2 : tie.Need-returns-2
+unfolding plainReadRace plainReadTracked
+returns-2 c =
+    let told = c .before .before in
+    let call = told .before .before in
+    let args = call .before .before .args in
+    clear _ (readAccess (args .plain)) (args .thread) _ _ (answered _ _ _ (told .enum-told .given .1) (call .race-with .ensures)) (c .join-into .ensures)
+
+pub track-read-spec : {M : Type 1} → statement M
+track-read-spec =
+    tie.close
+    (tie.spec
+    add-race-with
+    race-with-requires
+    enum-known-kind
+    returns
+    enum-told
+    add-join-into
+    add-join-into-2
+    join-into-requires
+    returns-2)

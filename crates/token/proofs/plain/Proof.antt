@@ -1,0 +1,18 @@
+use mathlib.Core.Path.{ap, _∙_}
+use Rattle.rules.specs.Token.{plainIn}
+use borrow.Author.Needs.{needs}
+use Rattle.token.proofs.plain.Statement.{statement}
+use Rattle.token.proofs.plain.Tie as tie
+
+part-requires : tie.Need-part-requires
+part-requires c κs = search needs
+
+fourth-requires : tie.Need-fourth-requires
+fourth-requires c κs = search needs
+
+returns : tie.Need-returns
+unfolding plainIn
+returns c = c .fourth .ensures ∙ ap plainIn (c .before .part .ensures)
+
+pub plain-spec : {M : Type 1} → statement M
+plain-spec = tie.close (tie.spec part-requires fourth-requires returns)
