@@ -1,5 +1,5 @@
 //! The table: which bytes are accepted, and the rows they hold. Document 01, "Table"; plain cells
-//! are those of document 02, section 5.
+//! are those of document 02, section 5, and a jump to itself is refused by its section 6.
 
 use crate::limits::MAX_ROWS;
 use crate::rt::MAX_THREADS;
@@ -54,7 +54,7 @@ impl Program {
         program.rows = rows.chunks_exact(ROW).map(Row::read).collect();
         for thread in 0..program.threads {
             for (number, row) in program.of(thread).iter().enumerate() {
-                if !program.accepts(thread, row) {
+                if !program.accepts(thread, number, row) {
                     return Err(Bad {
                         thread: thread as u64,
                         row: number as u64,
@@ -112,8 +112,9 @@ impl Program {
         &self.starts[self.cells..]
     }
 
-    /// A used field is in range, any other is zero.
-    fn accepts(&self, thread: usize, row: &Row) -> bool {
+    /// A used field is in range, any other is zero, and the row does not jump to itself whatever
+    /// comes. With a condition it may: that is the mistake that answer 12 is there for.
+    fn accepts(&self, thread: usize, number: usize, row: &Row) -> bool {
         let Some(used) = Used::of(row) else {
             return false;
         };
@@ -134,6 +135,7 @@ impl Program {
             && row.change <= if used.change { 12 } else { 0 }
             && row.register <= if used.register { 3 } else { 0 }
             && usize::from(row.target) <= targets
+            && !(row.opcode == 9 && usize::from(row.target) == number)
             && (used.a || row.a == 0)
             && (used.b || row.b == 0)
     }

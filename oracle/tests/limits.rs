@@ -35,7 +35,8 @@ fn the_greatest_b_is_filled() {
 
 #[test]
 fn the_greatest_l_is_filled() {
-    let ran = run(&table(&[0], &[&[jump(0)]]), &settings(1, MAX_OPERATIONS, 1));
+    let rows = [jump_if(0, 0, 0)];
+    let ran = run(&table(&[0], &[&rows]), &settings(1, MAX_OPERATIONS, 1));
     assert_eq!(ran.fault(), [12, 0, 0]);
     assert_eq!(ran.report.rows, MAX_OPERATIONS);
     assert_eq!(ran.last_path(), []);
@@ -44,7 +45,7 @@ fn the_greatest_l_is_filled() {
     let jump = Entry {
         thread: 0,
         row: 0,
-        opcode: 9,
+        opcode: 10,
         slot: 255,
         mask: 0,
         value: 0,

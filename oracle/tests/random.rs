@@ -21,7 +21,7 @@ impl Random {
 }
 
 /// A row that is accepted; atomic rows are the most frequent.
-fn row(random: &mut Random, threads: u64, [cells, plains]: [u64; 2], rows: u64) -> Row {
+fn row(random: &mut Random, threads: u64, [cells, plains]: [u64; 2], [own, rows]: [u64; 2]) -> Row {
     let place = random.below(cells) as u8;
     let register = random.below(4) as u8;
     let a = random.below(3);
@@ -39,8 +39,8 @@ fn row(random: &mut Random, threads: u64, [cells, plains]: [u64; 2], rows: u64) 
         26 => exclusive(place, random.below(11) as u8, register, a),
         27..=29 => yields(),
         30 => join(random.below(threads) as u8),
-        31 => jump(target),
-        32 => jump_if(register, a, target),
+        31 if u64::from(target) != own => jump(target),
+        31 | 32 => jump_if(register, a, target),
         33 => jump_unless(register, a, target),
         34 => check(register, a),
         35 => critical(),
@@ -65,7 +65,7 @@ fn random_table(random: &mut Random) -> Vec<u8> {
     let thread = |random: &mut Random| -> Vec<Row> {
         let rows = random.below(6);
         (0..rows)
-            .map(|_| row(random, threads, [cells, plains], rows))
+            .map(|own| row(random, threads, [cells, plains], [own, rows]))
             .collect()
     };
     let rows: Vec<Vec<Row>> = (0..threads).map(|_| thread(random)).collect();

@@ -314,15 +314,64 @@ fn places_and_targets() {
             };
             assert_eq!(accepted(place), value <= last, "{place:?}");
         }
-        for target in [0, 1, 3, 4, 255, 256, 65535] {
+        for target in [0, 1, 2, 3, 4, 255, 256, 257, 65535] {
             let row = Row {
                 target,
                 ..plain(opcode)
             };
             let targets = if matches!(opcode, 9..=11) { 3 } else { 0 };
-            assert_eq!(accepted(row), target <= targets, "{row:?}");
+            let itself = opcode == 9 && target == 1;
+            assert_eq!(accepted(row), target <= targets && !itself, "{row:?}");
         }
     }
+}
+
+/// Five threads of three rows; this one of this thread is as given.
+fn five(thread: usize, number: usize, row: Row) -> Vec<u8> {
+    let mut rows = vec![vec![check(0, 0); 3]; 5];
+    rows[thread][number] = row;
+    let rows: Vec<&[Row]> = rows.iter().map(Vec::as_slice).collect();
+    table(&[0], &rows)
+}
+
+/// The row's own number is that within its thread. With a condition it may jump there.
+#[test]
+fn a_jump_to_itself() {
+    for (thread, number, target) in (0..60).map(|n| (n / 12, n / 4 % 3, n % 4)) {
+        let at = |row: Row| five(thread, number, row);
+        let runs = |row: Row| run(&at(row), &settings(64, 64, 1)).report.answer;
+        let to = target as u16;
+        if target == number {
+            let refusal = Report::refusal(5, thread as u64, number as u64);
+            assert_eq!(judged(&at(jump(to))), refusal);
+        } else {
+            assert_eq!(runs(jump(to)), if target < number { 12 } else { 0 });
+        }
+        let taken = if target <= number { 12 } else { 0 };
+        assert_eq!(runs(jump_if(0, 0, to)), taken);
+        assert_eq!(runs(jump_if(0, 1, to)), 0);
+        assert_eq!(runs(jump_unless(0, 1, to)), taken);
+        assert_eq!(runs(jump_unless(0, 0, to)), 0);
+    }
+    let mut last = [yields(); MAX_ROWS];
+    last[MAX_ROWS - 1] = jump(MAX_ROWS as u16 - 1);
+    let refusal = Report::refusal(5, 0, MAX_ROWS as u64 - 1);
+    assert_eq!(judged(&table(&[0], &[&last])), refusal);
+}
+
+/// It is one bad row among others: the first in the order of the bytes is named.
+#[test]
+fn a_jump_to_itself_among_other_bad_rows() {
+    let bad = check(4, 0);
+    let rows: [&[Row]; 2] = [&[yields(), jump(1), bad], &[jump(0)]];
+    assert_eq!(judged(&table(&[0], &rows)), Report::refusal(5, 0, 1));
+    let rows: [&[Row]; 2] = [&[yields(), bad, jump(2)], &[jump(0)]];
+    assert_eq!(judged(&table(&[0], &rows)), Report::refusal(5, 0, 1));
+    let rows: [&[Row]; 2] = [&[jump(1), jump(0)], &[jump(0), bad]];
+    assert_eq!(judged(&table(&[0], &rows)), Report::refusal(5, 1, 0));
+    let mut short = table(&[0], &rows);
+    short.pop();
+    bad_header(&short);
 }
 
 #[test]

@@ -28,8 +28,9 @@ pub fn print(table: &[u8], thread: u8, number: u8) {
         cells: wide16(shape[CELLS]),
         plains: wide16(shape[PLAINS]),
         rows: wide16(shape[COUNTS + t]),
+        row: wide8(number),
     };
-    let index = wide16(shape[FIRSTS + t]) + wide8(number);
+    let index = wide16(shape[FIRSTS + t]) + room.row;
     let values = room.cells + room.plains;
     let row = fields(table, HEADER + VALUE * values + ROW * index);
     let mut line = [0u8; 256];

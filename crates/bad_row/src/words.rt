@@ -89,6 +89,14 @@ fn put_may(line: &mut Line, at: usize, may: May, room: Room) -> usize {
             0,
             0,
         ),
+        May::OtherTarget => line::fill(
+            line,
+            at,
+            b": it may be up to #, the thread's end, but not #: a jump to its own row never ends",
+            room.rows as u64,
+            room.row as u64,
+            0,
+        ),
         _ => at,
     }
 }

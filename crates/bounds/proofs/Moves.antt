@@ -118,7 +118,7 @@ module _ (p : Program) (fits : Fits p) (t n : ℕ) (rows owing waits least : ℕ
       of-given (λ (x : ℕ). x ≤ given t 1 waits u) t 0 waits u (λ e. omega arith) (λ d. omega (arith, given-other t 1 waits u d))
 
   -- a row that sets no operation acts at once
-  begun-acts : (was st : State) (k : ℕ) (op : Op) → Names (widest (rowCount p t)) op → version (st .clocks) t ≤ least t → Begun was st →
+  begun-acts : (was st : State) (k : ℕ) (op : Op) → Names (widest (rowCount p t) k) op → version (st .clocks) t ≤ least t → Begun was st →
       Going p n (Machine.acts p st t k op)
   begun-acts was st k op h v s =
       acts-going p fits t n (rowsThen was) (given t 1 owing) waits least below (given-own t 1 owing) st k op h v
@@ -128,7 +128,7 @@ module _ (p : Program) (fits : Fits p) (t n : ℕ) (rows owing waits least : ℕ
       s)
 
   -- "Scheduling is called before opcodes 0, 1, 2, 3 act (pending operation set first)"
-  begun-going : (was st : State) (k : ℕ) (row : Op) (pending : Pending) → Names (widest (rowCount p t)) row → version (st .clocks) t ≤ least t →
+  begun-going : (was st : State) (k : ℕ) (row : Op) (pending : Pending) → Names (widest (rowCount p t) k) row → version (st .clocks) t ≤ least t →
       Begun was st → Going p n (Machine.begunAs p st t k row pending)
   unfolding Machine.schedules
   begun-going was st k row nothing h v s = begun-acts was st k row h v s
@@ -146,7 +146,7 @@ module _ (p : Program) (fits : Fits p) (t n : ℕ) (rows owing waits least : ℕ
       } in
       no-more (Bounds.Scheduling p st′) n (asks-thread st′ at (λ u b. omega arith) (λ u b. omega arith))
 
-  begins-going : (st : State) (k : ℕ) (op : Op) → Names (widest (rowCount p t)) op → version (st .clocks) t ≤ least t → Idle st →
+  begins-going : (st : State) (k : ℕ) (op : Op) → Names (widest (rowCount p t) k) op → version (st .clocks) t ≤ least t → Idle st →
       Going p n (Machine.begins p st t k op)
   unfolding Machine.begins
   begins-going st k op h v s =
@@ -180,7 +180,7 @@ module _ (p : Program) (fits : Fits p) (st : State) (n : ℕ) (s : Holds p st n)
   one-owed : Machine.isToBegin st now ≡ false → owed (st .numbers) now ≡ 1
   one-owed e = rw e refl
 
-  row-going : (k : ℕ) (row : Decoded Op) → RowNames (widest (rowCount p now)) row → Going p n (Machine.ofRow p st now k row)
+  row-going : (k : ℕ) (row : Decoded Op) → RowNames (widest (rowCount p now) k) row → Going p n (Machine.ofRow p st now k row)
   unfolding RowNames
   row-going k refused h = over st (opened st s)
   row-going k (decoded op) h =

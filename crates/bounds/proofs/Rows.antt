@@ -337,7 +337,7 @@ module _ (p : Program) (fits : Fits p) (t n : ℕ) (rows owing waits least : ℕ
   slot-going st fate cnt s = (asks-now (Machine.versionRaised st t) (raise st s), slots-few fate cnt)
 
   -- What each row does, where it has begun
-  pub acts-going : (st : State) (k : ℕ) (op : Op) → Names (widest (rowCount p t)) op → version (st .clocks) t ≤ least t → Acting st →
+  pub acts-going : (st : State) (k : ℕ) (op : Op) → Names (widest (rowCount p t) k) op → version (st .clocks) t ≤ least t → Acting st →
       Going p n (Machine.acts p st t k op)
   unfolding Machine.actsAs Cell.matchedLoad Cell.matchedRmw
   acts-going st k (Table.load c o r) h v s = slot-going st _ (number (st .numbers) (count c)) s
@@ -375,7 +375,7 @@ module _ (p : Program) (fits : Fits p) (t n : ℕ) (rows owing waits least : ℕ
 
   -- a load or an RMW reads its slot
   pub read-ending : (st : State) (k slot mask : ℕ) (row : Decoded Op) → slot < history →
-      RowNames (widest (rowCount p t)) row → Raised st →
+      RowNames (widest (rowCount p t) k) row → Raised st →
       Ending p n (Machine.readFrom st t k slot mask row)
   unfolding Machine.readFrom RowNames
   read-ending st k slot mask refused d h s = over st s

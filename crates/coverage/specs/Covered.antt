@@ -20,7 +20,7 @@ abbrev pub countOf : List ℕ → ℕ → ℕ
 countOf shape thread = getD shape (2 + thread) 0
 
 abbrev pub rowOp : List ℕ → List ℕ → ℕ → ℕ → Decoded Op
-rowOp t shape thread row = opAt t (roomIn shape thread) (getD shape (7 + thread) 0 + row)
+rowOp t shape thread row = opAt t (roomIn shape thread row) (getD shape (7 + thread) 0 + row)
 
 -- Rows that switch exploring
 

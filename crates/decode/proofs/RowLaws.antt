@@ -6,7 +6,7 @@
 --     fields-told, rmw-judged                    an RMW's tests alone
 use Prim.Native.Nat.{ℕ, zero, suc, _≤_, _<_, zero-le}
 use native.Mathlib.Omega.{arith}
-use mathlib.Core.Bool.{Bool, true, false, _&&_, and-assoc, and-true}
+use mathlib.Core.Bool.{Bool, true, false, not, _&&_, and-assoc, and-true}
 use mathlib.Core.List.{[], _∷_}
 use mathlib.Core.Path.{_≡_, refl, _∙_}
 use lib.Dec.{ltb, leb, eqb}
@@ -172,11 +172,11 @@ pub join-made : (threads : ℕ) (r : Row) {n p q : Bool} {cell : ℕ} {d : Decod
     d ≡ joinRow threads r
 join-made threads r h e0 e1 e2 e3 = h ∙ rw (e0, e1, e2, e3) (simp (and-assoc, and-true))
 
-pub jump-made : (count : ℕ) (r : Row) {t p q : Bool} {d : Decoded Op} →
-    d ≡ onlyIf (t && eqb (r .object) 0 && eqb (r .order) 0 && p && eqb (r .register) 0 && q) (jump (r .target)) →
-    t ≡ leb (r .target) count → p ≡ unchanging r → q ≡ bare r →
-    d ≡ jumpRow count r
-jump-made count r h e0 e1 e2 = h ∙ rw (e0, e1, e2) (simp (and-assoc, and-true))
+pub jump-made : (count own : ℕ) (r : Row) {t o p q : Bool} {d : Decoded Op} →
+    d ≡ onlyIf (t && o && eqb (r .object) 0 && eqb (r .order) 0 && p && eqb (r .register) 0 && q) (jump (r .target)) →
+    t ≡ leb (r .target) count → o ≡ not (eqb (r .target) own) → p ≡ unchanging r → q ≡ bare r →
+    d ≡ jumpRow count own r
+jump-made count own r h e0 e1 e2 e3 = h ∙ rw (e0, e1, e2, e3) (simp (and-assoc, and-true))
 
 pub jump-on-made : (count : ℕ) (r : Row) (op : Op) {g t p : Bool} {d : Decoded Op} →
     d ≡ onlyIf (g && t && eqb (r .object) 0 && eqb (r .order) 0 && p && eqb (r .b) 0) (op) →

@@ -55,7 +55,7 @@ rowOf r = record {
 }
 
 abbrev pub roomOf : Room → rules.Room
-roomOf r = record { threads = r .threads; cells = r .cells; plains = r .plains; rows = r .rows }
+roomOf r = record { threads = r .threads; cells = r .cells; plains = r .plains; rows = r .rows; row = r .row }
 
 -- every cell, plain cell and register that is named is below 4, every thread below 5
 abbrev pub inRange : rules.Op → Type 0

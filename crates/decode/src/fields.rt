@@ -1,6 +1,6 @@
 // What a field of a row may be, and the change that three of them say.
 ghost use mathlib.Core.Path.{_≡_};
-ghost use mathlib.Core.Bool.{_&&_};
+ghost use mathlib.Core.Bool.{not, _&&_};
 ghost use lib.Dec.{ltb, leb, eqb};
 ghost use Rattle.rules.specs.Table as rules;
 ghost use Rattle.change.specs.Changes.{changeMeant};
@@ -74,6 +74,13 @@ pub fn reached(target: u16, count: usize) -> bool
     ensures { λ r. ⌜ r ≡ leb target count ⌝ }
 {
     (target as usize) <= count
+}
+
+// Whether a jump ends at another row than its own.
+pub fn leads_on(target: u16, own: usize) -> bool
+    ensures { λ r. ⌜ r ≡ not (eqb target own) ⌝ }
+{
+    (target as usize) != own
 }
 
 // The orders of a load, and of a change that failed.

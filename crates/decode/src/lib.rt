@@ -14,6 +14,7 @@ use fields::ChangeDecoded;
 use fields::change_of;
 use fields::failure_order;
 use fields::is_register;
+use fields::leads_on;
 use fields::load_order;
 use fields::named;
 use fields::no_change;
@@ -104,12 +105,14 @@ pub enum Decoded {
     Row(Op),
 }
 
-// What a row may name: so many threads, cells and plain cells, and the rows of its thread, which a jump may lead to.
+// What a row may name: so many threads, cells and plain cells, and the rows of its thread, which a jump may lead to; and the row's
+// own number, which a jump without a test may not have as its target.
 pub struct Room {
     pub threads: usize,
     pub cells: usize,
     pub plains: usize,
     pub rows: usize,
+    pub row: usize,
 }
 
 // The fields of a row as they stand. `object` is the cell, the plain cell or the thread.
@@ -140,7 +143,7 @@ pub fn row_decoded(row: Row, room: Room) -> Decoded
         6 => with_mut_row(row, room.cells),
         7 => bare_row(row, Op::Yield),
         8 => join_row(row, room.threads),
-        9 => jump_row(row, room.rows),
+        9 => jump_row(row, room.rows, room.row),
         10 => jump_if_row(row, room.rows),
         11 => jump_unless_row(row, room.rows),
         12 => check_row(row),
@@ -169,7 +172,7 @@ pub fn is_row(row: Row, room: Room) -> bool
         6 => is_decoded(with_mut_row(row, room.cells)),
         7 => is_decoded(bare_row(row, Op::Yield)),
         8 => is_decoded(join_row(row, room.threads)),
-        9 => is_decoded(jump_row(row, room.rows)),
+        9 => is_decoded(jump_row(row, room.rows, room.row)),
         10 => is_decoded(jump_if_row(row, room.rows)),
         11 => is_decoded(jump_unless_row(row, room.rows)),
         12 => is_decoded(check_row(row)),
@@ -378,12 +381,13 @@ fn join_row(row: Row, threads: usize) -> Decoded
     )
 }
 
-// A jump uses the target, which may be the row count.
-fn jump_row(row: Row, count: usize) -> Decoded
-    ensures { λ r. ⌜ decodedOf r ≡ rules.jumpRow count (rowOf row) ⌝ }
+// A jump uses the target, which may be the row count but not the jump's own number: it would never end.
+fn jump_row(row: Row, count: usize, own: usize) -> Decoded
+    ensures { λ r. ⌜ decodedOf r ≡ rules.jumpRow count own (rowOf row) ⌝ }
 {
     only_if(
         reached(row.target, count)
+            & leads_on(row.target, own)
             & (row.object == 0)
             & (row.order == 0)
             & no_change(row)

@@ -1,3 +1,4 @@
 mod BeforeLaws
 mod LineLaws
+mod RowLaws
 mod SeenLaws

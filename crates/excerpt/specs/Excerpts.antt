@@ -1,5 +1,6 @@
 -- A line of a text around a place, and a caret below it. Assumes nothing.
 --     beginOf             where a line begins
+--     rowsBefore          how many rows its thread has before it
 --     shownLength         how long it is without its end
 --     placeFrom           the place of a column
 --     tokenBefore         the last token before a place
@@ -10,7 +11,8 @@ use mathlib.Core.List.{List, [], _∷_, _++_, map}
 use mathlib.Core.Bool.{Bool, true, false, cond, _&&_, _||_}
 use lib.Dec.{ltb, leb, eqb}
 use lib.ListN.{getD, drop}
-use Rattle.rules.specs.Token.{lineFeed, isBlank, run, tokenLength, lineLength, nextLine, bytesOf}
+use Rattle.rules.specs.Vector.{equal}
+use Rattle.rules.specs.Token.{lineFeed, isBlank, run, skip, token, tokenLength, endsLine, lineLength, nextLine, bytesOf}
 use Rattle.token.specs.Places.{part}
 
 -- behind so many lines
@@ -21,6 +23,19 @@ behind (suc n) bs = lineLength bs + behind n (nextLine bs)
 -- lines count from 1
 abbrev pub beginOf : ℕ → List ℕ → ℕ
 beginOf line text = behind (line - 1) text
+
+-- with one line more: each with a token is a row, and "thread" begins anew
+abbrev pub withLine : ℕ → List ℕ → ℕ
+withLine rows bs = cond (endsLine (skip bs)) rows (cond (equal (token (skip bs)) (bytesOf "thread")) 0 (rows + 1))
+
+-- behind so many lines, with the rows so far
+unfoldable pub rowsBehind : ℕ → ℕ → List ℕ → ℕ
+rowsBehind zero rows bs = rows
+rowsBehind (suc n) rows bs = rowsBehind n (withLine rows bs) (nextLine bs)
+
+-- before a line: a row's own number
+abbrev pub rowsBefore : ℕ → List ℕ → ℕ
+rowsBefore line text = rowsBehind (line - 1) 0 text
 
 -- "A line ends at a line feed, or at a carriage return with a line feed behind it"
 unfoldable pub feeds : List ℕ → Bool

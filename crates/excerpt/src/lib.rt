@@ -1,10 +1,10 @@
 // A line of a text, with a caret under one of its bytes: for a person whose text is refused. A long line is cut around the caret.
 ghost use mathlib.Core.Path.{_≡_};
 ghost use mathlib.Core.List.{map};
-ghost use Prim.Native.Nat.{_+_};
+ghost use Prim.Native.Nat.{_+_, _<_, _^_};
 ghost use lib.ListN.{length, drop};
 ghost use Rattle.put.specs.Puts.{Puts};
-ghost use Rattle.excerpt.specs.Excerpts.{beginOf, shownLength, feeds, placeFrom, tokenBefore, firstShown, lastShown, seenAs, dots, lineShown, caretShown};
+ghost use Rattle.excerpt.specs.Excerpts.{beginOf, withLine, rowsBefore, shownLength, feeds, placeFrom, tokenBefore, firstShown, lastShown, seenAs, dots, lineShown, caretShown};
 use libc::STDOUT_FILENO;
 use put::put_byte;
 use put::put_bytes;
@@ -23,7 +23,8 @@ pub fn print(name: &[u8], text: &[u8], line: usize, column: usize) {
     let end = line_end(text, begin);
     let at = place_in(begin, end, column);
     saying::place(name, line, column);
-    saying::what(text, begin, token_before(text, begin, at), at);
+    let row = rows_before(text, line);
+    saying::what(text, row, begin, token_before(text, begin, at), at);
     let mut lines = [0u8; 512];
     let behind = put_line(&mut lines, 0, text, begin, end, at);
     let all = put_caret(&mut lines, behind, text, begin, at);
@@ -41,6 +42,37 @@ pub fn line_begin(text: &[u8], line: usize) -> usize
         left -= 1;
     }
     at
+}
+
+// How many rows stand before a line in its thread, the first line being 1: the number of the row in it.
+pub fn rows_before(text: &[u8], line: usize) -> usize
+    ensures { λ r. ⌜ r ≡ rowsBefore line (now (text .entry)) ⌝ }
+{
+    let mut rows = 0;
+    let mut at = 0;
+    let mut left = line;
+    while 1 < left {
+        rows = with_line(text, at, rows);
+        at = token::next_line(text, at);
+        left -= 1;
+    }
+    rows
+}
+
+// The rows of a thread with the line that begins here: one more where it has a token, and none where that says "thread".
+fn with_line(text: &[u8], at: usize, rows: usize) -> usize
+    requires { ⌜ rows + 1 < 2 ^ 64 ⌝ }
+    ensures { λ r. ⌜ r ≡ withLine rows (drop at (now (text .entry))) ⌝ }
+{
+    let here = token::skip(text, at);
+    if token::ends_line(text, here) {
+        return rows;
+    }
+    let to = token::token_end(text, here);
+    if token::is_word(text, here, to, b"thread") {
+        return 0;
+    }
+    rows + 1
 }
 
 // Where the line that goes on here ends: at a line feed, at a carriage return before one, or at the text's end. A comment is a part of it.

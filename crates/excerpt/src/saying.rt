@@ -19,8 +19,9 @@ pub fn place(name: &[u8], line: usize, column: usize) {
     say(b": ");
 }
 
-// What stands there, and where that is clear from the line's first token and the one before, why it cannot; or that something is missing.
-pub fn what(text: &[u8], begin: usize, before: usize, at: usize) {
+// What stands there, and where that is clear from the line's first token and the one before, why it cannot; or that something is missing. `row` is
+// the number of the row in the line.
+pub fn what(text: &[u8], row: usize, begin: usize, before: usize, at: usize) {
     if token::ends_line(text, at) {
         say(b"something is missing here\n");
         return;
@@ -34,7 +35,7 @@ pub fn what(text: &[u8], begin: usize, before: usize, at: usize) {
         if names_plain(text, begin, before) {
             why_no_plain(text, at, to);
         } else {
-            why(text, before, at, to);
+            why(text, row, before, at, to);
         }
     } else {
         say(b"this cannot stand here");
@@ -69,18 +70,27 @@ fn why_no_plain(text: &[u8], at: usize, to: usize) {
     }
 }
 
-// Why a number cannot stand there: behind these words only one that is too large is refused.
-fn why(text: &[u8], before: usize, at: usize, to: usize) {
+// Why a number cannot stand there: behind these words only one that is too large is refused, and a jump to its own row.
+fn why(text: &[u8], row: usize, before: usize, at: usize, to: usize) {
     let Found::Value(number) = token::number(text, at, to) else {
         return;
     };
     let end = token::token_end(text, before);
     if token::is_word(text, before, end, b"jump") {
-        say(b": its thread has no such row");
+        why_no_row(number, row);
     } else if token::is_word(text, before, end, b"join") {
         say(b": there is no such thread");
     } else if names_cell(text, before, end) {
         say(b": there is no such cell");
+    }
+}
+
+// Why a jump may not lead to the row of this number.
+fn why_no_row(number: u64, row: usize) {
+    if number == row as u64 {
+        say(b": a jump to its own row never ends");
+    } else {
+        say(b": its thread has no such row");
     }
 }
 

@@ -25,10 +25,10 @@ abbrev pub No : ℕ → ℕ → Type 0
 No b k = b ≡ k → ⊥
 
 module _ (b : ℕ) where
-  pub field-none : No b 82 → No b 67 → No b 84 → No b 80 → No b 74 → No b 65 → No b 66 → No b 76 → No b 83 → No b 79 → No b 70 → No b 88 → 9 ≡ fieldOf b
+  pub field-none : No b 82 → No b 67 → No b 84 → No b 80 → No b 74 → No b 71 → No b 65 → No b 66 → No b 76 → No b 83 → No b 79 → No b 70 → No b 88 → 9 ≡ fieldOf b
   unfolding fieldOf
-  field-none r c t p j x y l s o f z =
-      rw (ne-eqb b 82 r, ne-eqb b 67 c, ne-eqb b 84 t, ne-eqb b 80 p, ne-eqb b 74 j, ne-eqb b 65 x, ne-eqb b 66 y, ne-eqb b 76 l, ne-eqb b 83 s, ne-eqb b 79 o, ne-eqb b 70 f, ne-eqb b 88 z)
+  field-none r c t p j g x y l s o f z =
+      rw (ne-eqb b 82 r, ne-eqb b 67 c, ne-eqb b 84 t, ne-eqb b 80 p, ne-eqb b 74 j, ne-eqb b 71 g, ne-eqb b 65 x, ne-eqb b 66 y, ne-eqb b 76 l, ne-eqb b 83 s, ne-eqb b 79 o, ne-eqb b 70 f, ne-eqb b 88 z)
 
   pub kind-register : (word : List ℕ) → b ≡ 82 → registerIn word ≡ kindIn b word
   unfolding kindIn
@@ -38,21 +38,21 @@ module _ (b : ℕ) where
   unfolding kindIn
   kind-plain word e = rw e
 
-  pub kind-number : (word : List ℕ) → No b 82 → No b 80 → eqb b 67 || eqb b 84 || eqb b 74 || eqb b 65 || eqb b 66 ≡ true → numberIn word ≡ kindIn b word
+  pub kind-number : (word : List ℕ) → No b 82 → No b 80 → eqb b 67 || eqb b 84 || eqb b 74 || eqb b 71 || eqb b 65 || eqb b 66 ≡ true → numberIn word ≡ kindIn b word
   unfolding kindIn
   kind-number word r p t = rw (ne-eqb b 82 r, ne-eqb b 80 p, t)
 
-  pub kind-order : (word : List ℕ) → No b 82 → No b 80 → eqb b 67 || eqb b 84 || eqb b 74 || eqb b 65 || eqb b 66 ≡ false → orderIn word ≡ kindIn b word
+  pub kind-order : (word : List ℕ) → No b 82 → No b 80 → eqb b 67 || eqb b 84 || eqb b 74 || eqb b 71 || eqb b 65 || eqb b 66 ≡ false → orderIn word ≡ kindIn b word
   unfolding kindIn
   kind-order word r p t = rw (ne-eqb b 82 r, ne-eqb b 80 p, t)
 
-  kind-none : (word : List ℕ) → No b 82 → No b 80 → No b 67 → No b 84 → No b 74 → No b 65 → No b 66 → orderIn word ≡ kindIn b word
+  kind-none : (word : List ℕ) → No b 82 → No b 80 → No b 67 → No b 84 → No b 74 → No b 71 → No b 65 → No b 66 → orderIn word ≡ kindIn b word
   unfolding kindIn
-  kind-none word r p c t j x y = rw (ne-eqb b 82 r, ne-eqb b 80 p, ne-eqb b 67 c, ne-eqb b 84 t, ne-eqb b 74 j, ne-eqb b 65 x, ne-eqb b 66 y)
+  kind-none word r p c t j g x y = rw (ne-eqb b 82 r, ne-eqb b 80 p, ne-eqb b 67 c, ne-eqb b 84 t, ne-eqb b 74 j, ne-eqb b 71 g, ne-eqb b 65 x, ne-eqb b 66 y)
 
-  pub may-be-any : (room : Room) (v : ℕ) → No b 67 → No b 80 → No b 84 → No b 74 → No b 76 → No b 88 → No b 83 → No b 70 → true ≡ mayBe room b v
+  pub may-be-any : (room : Room) (v : ℕ) → No b 67 → No b 80 → No b 84 → No b 74 → No b 71 → No b 76 → No b 88 → No b 83 → No b 70 → true ≡ mayBe room b v
   unfolding mayBe
-  may-be-any room v c p t j l z s f = rw (ne-eqb b 67 c, ne-eqb b 80 p, ne-eqb b 84 t, ne-eqb b 74 j, ne-eqb b 76 l, ne-eqb b 88 z, ne-eqb b 83 s, ne-eqb b 70 f)
+  may-be-any room v c p t j g l z s f = rw (ne-eqb b 67 c, ne-eqb b 80 p, ne-eqb b 84 t, ne-eqb b 74 j, ne-eqb b 71 g, ne-eqb b 76 l, ne-eqb b 88 z, ne-eqb b 83 s, ne-eqb b 70 f)
 
 -- which values may be, where that is known
 only-by : (p q : ℕ → Bool) (x : Found) → ((v : ℕ) → p v ≡ q v) → only p x ≡ only q x
@@ -72,12 +72,13 @@ module _ (room : Room) (word : List ℕ) where
   Steps b = only (mayBe room b) (kindIn b word) ≡ letterIn room b word
 
   -- at each letter both sides compute
-  at-letter : Steps 82 × Steps 67 × Steps 80 × Steps 84 × Steps 74 × Steps 65 × Steps 66 × Steps 76 × Steps 88 × Steps 83 × Steps 70
+  at-letter : Steps 82 × Steps 67 × Steps 80 × Steps 84 × Steps 74 × Steps 71 × Steps 65 × Steps 66 × Steps 76 × Steps 88 × Steps 83 × Steps 70
   unfolding kindIn mayBe letterIn
   at-letter = (
     only-any _ (registerIn word) (λ v. refl),
     only-by _ _ (numberIn word) (λ v. refl),
     only-by _ _ (plainIn word) (λ v. refl),
+    only-by _ _ (numberIn word) (λ v. refl),
     only-by _ _ (numberIn word) (λ v. refl),
     only-by _ _ (numberIn word) (λ v. refl),
     only-any _ (numberIn word) (λ v. refl),
@@ -89,11 +90,11 @@ module _ (room : Room) (word : List ℕ) where
   )
 
   -- none of them
-  at-none : (b : ℕ) → No b 82 → No b 67 → No b 80 → No b 84 → No b 74 → No b 65 → No b 66 → No b 76 → No b 88 → No b 83 → No b 70 → Steps b
+  at-none : (b : ℕ) → No b 82 → No b 67 → No b 80 → No b 84 → No b 74 → No b 71 → No b 65 → No b 66 → No b 76 → No b 88 → No b 83 → No b 70 → Steps b
   unfolding letterIn
-  at-none b r c p t j x y l z s f =
-      rw (ne-eqb b 82 r, ne-eqb b 67 c, ne-eqb b 80 p, ne-eqb b 84 t, ne-eqb b 74 j, ne-eqb b 65 x, ne-eqb b 66 y, ne-eqb b 76 l, ne-eqb b 88 z, ne-eqb b 83 s, ne-eqb b 70 f, ← kind-none b word r p c t j x y)
-      (only-any (mayBe room b) (orderIn word) (λ v. may-be-any b room v c p t j l z s f))
+  at-none b r c p t j g x y l z s f =
+      rw (ne-eqb b 82 r, ne-eqb b 67 c, ne-eqb b 80 p, ne-eqb b 84 t, ne-eqb b 74 j, ne-eqb b 71 g, ne-eqb b 65 x, ne-eqb b 66 y, ne-eqb b 76 l, ne-eqb b 88 z, ne-eqb b 83 s, ne-eqb b 70 f, ← kind-none b word r p c t j g x y)
+      (only-any (mayBe room b) (orderIn word) (λ v. may-be-any b room v c p t j g l z s f))
 
   letter-steps : (b : ℕ) → Steps b
   letter-steps b =
@@ -103,13 +104,14 @@ module _ (room : Room) (word : List ℕ) where
       case b 80 (is 80 (at-letter .2)) λ p.
       case b 84 (is 84 (at-letter .3)) λ t.
       case b 74 (is 74 (at-letter .4)) λ j.
-      case b 65 (is 65 (at-letter .5)) λ x.
-      case b 66 (is 66 (at-letter .6)) λ y.
-      case b 76 (is 76 (at-letter .7)) λ l.
-      case b 88 (is 88 (at-letter .8)) λ z.
-      case b 83 (is 83 (at-letter .9)) λ s.
-      case b 70 (is 70 (at-letter .10)) λ f.
-      at-none b r c p t j x y l z s f
+      case b 71 (is 71 (at-letter .5)) λ g.
+      case b 65 (is 65 (at-letter .6)) λ x.
+      case b 66 (is 66 (at-letter .7)) λ y.
+      case b 76 (is 76 (at-letter .8)) λ l.
+      case b 88 (is 88 (at-letter .9)) λ z.
+      case b 83 (is 83 (at-letter .10)) λ s.
+      case b 70 (is 70 (at-letter .11)) λ f.
+      at-none b r c p t j g x y l z s f
 
   -- by the kind of word that stands there
   pub letter-by : (b : ℕ) (x : Found) → kindIn b word ≡ x → only (mayBe room b) x ≡ letterIn room b word

@@ -4,7 +4,7 @@
 --     mayBe       whether a field may have a value
 use Prim.Native.Nat.{ℕ}
 use mathlib.Core.List.{List}
-use mathlib.Core.Bool.{Bool, true, cond, _||_}
+use mathlib.Core.Bool.{Bool, true, cond, not, _&&_, _||_}
 use lib.Dec.{ltb, leb, eqb}
 use lib.ListN.{length, getD}
 use Rattle.rules.specs.Table.{Room, loadOrder, storeOrder, fenceOrder}
@@ -18,7 +18,7 @@ unfoldable pub kindIn : ℕ → List ℕ → Found
 kindIn b word =
     cond (eqb b 82) (registerIn word)
     (cond (eqb b 80) (plainIn word)
-    (cond (eqb b 67 || eqb b 84 || eqb b 74 || eqb b 65 || eqb b 66) (numberIn word)
+    (cond (eqb b 67 || eqb b 84 || eqb b 74 || eqb b 71 || eqb b 65 || eqb b 66) (numberIn word)
     (orderIn word)))
 
 unfoldable pub mayBe : Room → ℕ → ℕ → Bool
@@ -27,7 +27,8 @@ mayBe room b v =
     (cond (eqb b 80) (ltb v (room .plains))
     (cond (eqb b 84) (ltb v (room .threads))
     (cond (eqb b 74) (leb v (room .rows))
+    (cond (eqb b 71) (leb v (room .rows) && not (eqb v (room .row)))
     (cond (eqb b 76 || eqb b 88) (loadOrder v)
     (cond (eqb b 83) (storeOrder v)
     (cond (eqb b 70) (fenceOrder v)
-    true))))))
+    true)))))))

@@ -13,7 +13,7 @@ use Rattle.form.specs.declared.Room.{Room}
 use Rattle.form.specs.declared.Row.{Row}
 
 abbrev pub roomOf : Room → Table.Room
-roomOf room = record { threads = room .threads; cells = room .cells; plains = room .plains; rows = room .rows }
+roomOf room = record { threads = room .threads; cells = room .cells; plains = room .plains; rows = room .rows; row = room .row }
 
 abbrev pub followedOf : List ℕ → Row → rules.Followed
 followedOf text r = cond (r .fits) (rules.fits (r .fields) (drop (r .at) text)) (rules.stuck (drop (r .at) text))

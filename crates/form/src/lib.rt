@@ -18,12 +18,14 @@ use token::Found;
 // No form has as many words.
 const MOST_WORDS: usize = 10;
 
-// What a row may name: so many threads, cells and plain cells, and the rows that a jump may lead to.
+// What a row may name: so many threads, cells and plain cells, and the rows that a jump may lead to; and the row's own number, which a
+// jump without a test may not have as its target.
 pub struct Room {
     pub threads: u64,
     pub cells: u64,
     pub plains: u64,
     pub rows: u64,
+    pub row: u64,
 }
 
 // A row's fields in the order in which they stand in its bytes: opcode, cell or thread, order, failure order, change kind, register, jump
@@ -73,7 +75,7 @@ pub const FORMS: [u8; 904] = *b"\
 \x06\x0cR = with_mut decrement on C
 \x07\x00yield
 \x08\x00join T
-\x09\x00jump J
+\x09\x00jump G
 \x0a\x00if R = A jump J
 \x0b\x00if R != A jump J
 \x0c\x00check R = A
@@ -280,7 +282,7 @@ pub fn field_of(letter: u8) -> usize
     match letter {
         b'R' => 5,
         b'C' | b'T' | b'P' => 1,
-        b'J' => 6,
+        b'J' | b'G' => 6,
         b'A' => 7,
         b'B' => 8,
         b'L' | b'S' | b'O' | b'F' => 2,
@@ -315,6 +317,7 @@ fn kind_in(letter: u8, text: &[u8], at: usize, to: usize) -> Found
     if (letter == b'C')
         | (letter == b'T')
         | (letter == b'J')
+        | (letter == b'G')
         | (letter == b'A')
         | (letter == b'B')
     {
@@ -332,6 +335,7 @@ fn may_be(room: Room, letter: u8, value: u64) -> bool
         b'P' => value < room.plains,
         b'T' => value < room.threads,
         b'J' => value <= room.rows,
+        b'G' => (value <= room.rows) & (value != room.row),
         b'L' | b'X' => (value <= 4) & (value != 1) & (value != 3),
         b'S' => (value <= 4) & (value != 2) & (value != 3),
         b'F' => (value <= 4) & (value != 0),

@@ -75,5 +75,5 @@ module _ (room : Room) (few : room .threads ≤ 5) (r : Row) where
 pub row-joins : (p : Program) (t k : ℕ) → RowJoins (rowOf p t k)
 unfolding opAt
 row-joins p t k =
-    let room = roomOf (p .table) (rowCount p t) in
+    let room = roomOf (p .table) (rowCount p t) k in
     simp (cond-joins, refused-joins) (λ e. decoded-joins room (leb-true _ _ (both-left _ _ (both-left _ _ e))) _, λ e. tt)

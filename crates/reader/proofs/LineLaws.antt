@@ -113,7 +113,7 @@ module _ (lines : ℕ) (m : Made) (here past : List ℕ) where
 module _ (all rows : ℕ) (m : Made) (bs here : List ℕ) where
   -- what it may name
   abbrev room : Room
-  room = record { threads = all; cells = m .cells; plains = m .plains; rows = rows }
+  room = record { threads = all; cells = m .cells; plains = m .plains; rows = rows; row = rowsSoFar m }
 
   abbrev rowBy : Bool → Bool → Followed → rules.Line
   rowBy s t f = cond (s && t) (rules.rowLine rows m f) (rules.refusedLine here)

@@ -51,7 +51,7 @@ threadLine lines m here past =
 abbrev pub rowLine : ℕ → ℕ → Made → List ℕ → List ℕ → rules.Line
 rowLine all rows m bs here =
     cond (leb 1 (m .threads) && ltb (rules.rowsSoFar m) maxRows)
-    (rules.rowLine rows m (rowIn (record { threads = all; cells = m .cells; plains = m .plains; rows = rows }) bs))
+    (rules.rowLine rows m (rowIn (record { threads = all; cells = m .cells; plains = m .plains; rows = rows; row = rules.rowsSoFar m }) bs))
     (rules.refusedLine here)
 
 -- a whole text: the place where it is refused; or its bytes in both buffers

@@ -226,6 +226,7 @@ fn a_row(
         cells: table[CELLS] as u64,
         plains: table[PLAINS] as u64,
         rows: rows as u64,
+        row: before as u64,
     };
     let row = form::row_in(text, from, room);
     if !row.fits {

@@ -1,6 +1,6 @@
 -- Which field is wrong, and what it may be, put together from the tests. Assumes nothing.
 --     test-as                      a choice by a test that equals another
---     object-made, order-made, failure-made      what these fields may be
+--     object-made, order-made, failure-made, target-made      what these fields may be
 --     told                         of a field that was found to be this one
 --     fields-as, fit-as            a row of the first fields, and whether it is one
 --     wrong-0 .. wrong-8           the first of the tests that fails
@@ -13,7 +13,7 @@ use Rattle.reasons.specs.declared.Field.{Field}
 use Rattle.reasons.specs.declared.Field.the-variants.{Opcode, Object, Order, Kind, Failure, Register, Target, A, B}
 use Rattle.reasons.specs.declared.May.{May}
 use Rattle.reasons.specs.declared.May.the-variants as may
-use Rattle.reasons.specs.Wrong.{blankOrder, firstFields, isFit, isOpcode, wrongIn, hasCell, hasPlain, mayObject, mayOrder, mayFailure, mayBe}
+use Rattle.reasons.specs.Wrong.{blankOrder, blankTarget, firstFields, isFit, isOpcode, wrongIn, hasCell, hasPlain, isJump, mayObject, mayOrder, mayFailure, mayTarget, mayBe}
 
 module _ {T : Type 0} (r x y : T) where
   pub test-as : (t u : Bool) → r ≡ cond t x y → t ≡ u → r ≡ cond u x y
@@ -40,6 +40,12 @@ pub failure-made : (opcode kind : ℕ) (used r : May) →
     r ≡ mayFailure opcode kind
 failure-made opcode kind used r u e = rw (e, u)
 
+pub target-made : (opcode : ℕ) (jumps : Bool) (tested r : May) →
+    jumps ≡ isJump opcode → tested ≡ cond jumps may.AnyTarget may.ZeroByOpcode →
+    r ≡ cond (eqb opcode 9) may.OtherTarget tested →
+    r ≡ mayTarget opcode
+target-made opcode jumps tested r j t e = rw (e, t, j)
+
 pub told : (f g : Field) (o k : ℕ) (r : May) → f ≡ g → r ≡ mayBe g o k → r ≡ mayBe f o k
 told f g o k r e h = h ∙ sym (ap (λ (x : Field). mayBe x o k) e)
 
@@ -56,23 +62,24 @@ rowMade opcode object order failure kind register target a b = record {
   b = b;
 }
 
-pub fields-as : (r : Row) (n object blank order failure kind register target a b : ℕ) →
+pub fields-as : (own : ℕ) (r : Row) (n object blank order failure kind register first target a b : ℕ) →
     object ≡ cond (ltb 0 n) (r .object) 0 →
     blank ≡ blankOrder (r .opcode) →
     order ≡ cond (ltb 1 n) (r .order) blank →
     failure ≡ cond (ltb 3 n) (r .failure) 0 →
     kind ≡ cond (ltb 2 n) (r .kind) 0 →
     register ≡ cond (ltb 4 n) (r .register) 0 →
-    target ≡ cond (ltb 5 n) (r .target) 0 →
+    first ≡ blankTarget (r .opcode) own →
+    target ≡ cond (ltb 5 n) (r .target) first →
     a ≡ cond (ltb 6 n) (r .a) 0 →
     b ≡ cond (ltb 7 n) (r .b) 0 →
-    rowMade (r .opcode) object order failure kind register target a b ≡ firstFields r n
+    rowMade (r .opcode) object order failure kind register target a b ≡ firstFields own r n
 unfolding firstFields
-fields-as r n object blank order failure kind register target a b e1 e2 e3 e4 e5 e6 e7 e8 e9 =
-    rw (e1, e3, e2, e4, e5, e6, e7, e8, e9)
+fields-as own r n object blank order failure kind register first target a b e1 e2 e3 e4 e5 e6 e7 e8 e9 e10 =
+    rw (e1, e3, e2, e4, e5, e6, e8, e7, e9, e10)
 
 module _ (room : Room) (r : Row) where
-  pub fit-as : (n : ℕ) (x : Row) (is : Bool) → is ≡ isFine (rowDecoded room x) → x ≡ firstFields r n → is ≡ isFit room r n
+  pub fit-as : (n : ℕ) (x : Row) (is : Bool) → is ≡ isFine (rowDecoded room x) → x ≡ firstFields (room .row) r n → is ≡ isFit room r n
   unfolding isFit
   fit-as n x is e h = e ∙ ap (λ (y : Row). isFine (rowDecoded room y)) h
 

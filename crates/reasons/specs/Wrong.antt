@@ -4,7 +4,7 @@
 --     wrongIn      the first field with which a row is refused
 --     mayBe        what that field may be
 use Prim.Native.Nat.{ℕ}
-use mathlib.Core.Bool.{Bool, cond, _||_}
+use mathlib.Core.Bool.{Bool, cond, _&&_, _||_}
 use lib.Dec.{ltb, leb, eqb}
 use Rattle.rules.specs.Table.{Row, Room, rowDecoded, isFine}
 use Rattle.reasons.specs.declared.Field.{Field}
@@ -16,28 +16,32 @@ use Rattle.reasons.specs.declared.May.the-variants as may
 abbrev pub blankOrder : ℕ → ℕ
 blankOrder opcode = cond (eqb opcode 4) 1 0
 
+-- a jump to itself is refused: at row 0 one leads to row 1 where the target is not looked at
+abbrev pub blankTarget : ℕ → ℕ → ℕ
+blankTarget opcode own = cond (eqb opcode 9 && eqb own 0) 1 0
+
 -- the opcode and so many fields behind it, in the order in which they are judged: cell, plain cell or thread, order, change kind,
--- failure order, register, jump target, operands a and b. The others are as if they were not used
-unfoldable pub firstFields : Row → ℕ → Row
-firstFields r n = record {
+-- failure order, register, jump target, operands a and b. The others are as if they were not used. The row has this number in its thread
+unfoldable pub firstFields : ℕ → Row → ℕ → Row
+firstFields own r n = record {
   opcode = r .opcode;
   object = cond (ltb 0 n) (r .object) 0;
   order = cond (ltb 1 n) (r .order) (blankOrder (r .opcode));
   kind = cond (ltb 2 n) (r .kind) 0;
   failure = cond (ltb 3 n) (r .failure) 0;
   register = cond (ltb 4 n) (r .register) 0;
-  target = cond (ltb 5 n) (r .target) 0;
+  target = cond (ltb 5 n) (r .target) (blankTarget (r .opcode) own);
   a = cond (ltb 6 n) (r .a) 0;
   b = cond (ltb 7 n) (r .b) 0;
 }
 
 -- whether such a row is one, in this room
 unfoldable pub isFit : Room → Row → ℕ → Bool
-isFit room r n = isFine (rowDecoded room (firstFields r n))
+isFit room r n = isFine (rowDecoded room (firstFields (room .row) r n))
 
 -- whether there is such an opcode, be there plain cells or not: a row of it is one where there is a plain cell to name
 unfoldable pub isOpcode : Room → Row → Bool
-isOpcode room r = isFit (record { threads = room .threads; cells = room .cells; plains = 1; rows = room .rows }) r 0
+isOpcode room r = isFit (record { threads = room .threads; cells = room .cells; plains = 1; rows = room .rows; row = room .row }) r 0
 
 -- the field with which it is refused first. Where all before it are fine it is operand b
 unfoldable pub wrongIn : Room → Row → Field
@@ -97,6 +101,10 @@ abbrev pub mayFailure : ℕ → ℕ → May
 mayFailure opcode kind =
     cond (eqb opcode 3) (cond (eqb kind 11 || eqb kind 12) may.LoadOrder may.ZeroByKind) may.ZeroByOpcode
 
+-- "a row that jumps unconditionally to its own row", "Refuse such a table with answer 5 at that row." (document 02, §6)
+abbrev pub mayTarget : ℕ → May
+mayTarget opcode = cond (eqb opcode 9) may.OtherTarget (cond (isJump opcode) may.AnyTarget may.ZeroByOpcode)
+
 -- "A cell or thread named must exist. Fields that the opcode or change kind doesn't use are zero"
 unfoldable pub mayBe : Field → ℕ → ℕ → May
 mayBe Opcode opcode kind = may.AnyOpcode
@@ -105,6 +113,6 @@ mayBe Order opcode kind = mayOrder opcode
 mayBe Kind opcode kind = cond (isChange opcode) may.AnyKind may.ZeroByOpcode
 mayBe Failure opcode kind = mayFailure opcode kind
 mayBe Register opcode kind = cond (hasRegister opcode) may.AnyRegister may.ZeroByOpcode
-mayBe Target opcode kind = cond (isJump opcode) may.AnyTarget may.ZeroByOpcode
+mayBe Target opcode kind = mayTarget opcode
 mayBe A opcode kind = cond (isChange opcode) may.ZeroByKind may.ZeroByOpcode
 mayBe B opcode kind = cond (isChange opcode) may.ZeroByKind may.ZeroByOpcode

@@ -3,7 +3,7 @@
 ghost use mathlib.Core.Path.{_≡_};
 ghost use mathlib.Core.Bool.{cond};
 ghost use Rattle.decode.specs.Ops.{rowOf, roomOf};
-ghost use Rattle.reasons.specs.Wrong.{blankOrder, firstFields, isFit, isOpcode, wrongIn, hasCell, hasPlain, isJump, hasRegister, isChange, mayObject, mayOrder, mayFailure, mayBe};
+ghost use Rattle.reasons.specs.Wrong.{blankOrder, blankTarget, firstFields, isFit, isOpcode, wrongIn, hasCell, hasPlain, isJump, hasRegister, isChange, mayObject, mayOrder, mayFailure, mayTarget, mayBe};
 pub use decode::Room;
 use decode::Row;
 use decode::is_row;
@@ -34,6 +34,7 @@ pub enum May {
     AnyKind,
     AnyRegister,
     AnyTarget,
+    OtherTarget,
     ZeroByOpcode,
     ZeroByKind,
 }
@@ -78,6 +79,7 @@ fn is_opcode(row: Row, room: Room) -> bool
         cells: room.cells,
         plains: 1,
         rows: room.rows,
+        row: room.row,
     };
     is_fit(row, one, 0)
 }
@@ -86,12 +88,12 @@ fn is_opcode(row: Row, room: Room) -> bool
 fn is_fit(row: Row, room: Room, n: usize) -> bool
     ensures { λ r. ⌜ r ≡ isFit (roomOf room) (rowOf row) n ⌝ }
 {
-    is_row(first_fields(row, n), room)
+    is_row(first_fields(row, room.row, n), room)
 }
 
-// The row's opcode and its first `n` fields, on a row that is accepted, if there is one of this opcode.
-fn first_fields(row: Row, n: usize) -> Row
-    ensures { λ r. ⌜ rowOf r ≡ firstFields (rowOf row) n ⌝ }
+// The row's opcode and its first `n` fields, on a row that is accepted, if there is one of this opcode. `own` is its number.
+fn first_fields(row: Row, own: usize, n: usize) -> Row
+    ensures { λ r. ⌜ rowOf r ≡ firstFields own (rowOf row) n ⌝ }
 {
     Row {
         opcode: row.opcode,
@@ -100,7 +102,7 @@ fn first_fields(row: Row, n: usize) -> Row
         failure: byte_if(3 < n, row.failure, 0),
         kind: byte_if(2 < n, row.kind, 0),
         register: byte_if(4 < n, row.register, 0),
-        target: target_if(5 < n, row.target),
+        target: target_if(5 < n, row.target, blank_target(row.opcode, own)),
         a: operand_if(6 < n, row.a),
         b: operand_if(7 < n, row.b),
     }
@@ -113,6 +115,13 @@ fn blank_order(opcode: u8) -> u8
     byte_if(opcode == 4, 1, 0)
 }
 
+// A jump may not lead to its own row, and at row 0 that is where a target of 0 leads.
+fn blank_target(opcode: u8, own: usize) -> u16
+    ensures { λ r. ⌜ r ≡ blankTarget opcode own ⌝ }
+{
+    target_if((opcode == 9) & (own == 0), 1, 0)
+}
+
 fn byte_if(looked: bool, byte: u8, other: u8) -> u8
     ensures { λ r. ⌜ r ≡ cond looked byte other ⌝ }
 {
@@ -122,13 +131,13 @@ fn byte_if(looked: bool, byte: u8, other: u8) -> u8
     other
 }
 
-fn target_if(looked: bool, target: u16) -> u16
-    ensures { λ r. ⌜ r ≡ cond looked target 0 ⌝ }
+fn target_if(looked: bool, target: u16, other: u16) -> u16
+    ensures { λ r. ⌜ r ≡ cond looked target other ⌝ }
 {
     if looked {
         return target;
     }
-    0
+    other
 }
 
 fn operand_if(looked: bool, operand: u64) -> u64
@@ -151,7 +160,7 @@ pub fn may_be(field: Field, opcode: u8, kind: u8) -> May
         Field::Kind => may_if(is_change(opcode), May::AnyKind, May::ZeroByOpcode),
         Field::Failure => failure_may(opcode, kind),
         Field::Register => may_if(has_register(opcode), May::AnyRegister, May::ZeroByOpcode),
-        Field::Target => may_if(is_jump(opcode), May::AnyTarget, May::ZeroByOpcode),
+        Field::Target => target_may(opcode),
         Field::A => may_if(is_change(opcode), May::ZeroByKind, May::ZeroByOpcode),
         Field::B => may_if(is_change(opcode), May::ZeroByKind, May::ZeroByOpcode),
     }
@@ -191,6 +200,14 @@ fn failure_may(opcode: u8, kind: u8) -> May
 {
     let used = may_if((kind == 11) | (kind == 12), May::LoadOrder, May::ZeroByKind);
     may_if(opcode == 3, used, May::ZeroByOpcode)
+}
+
+// The target: a jump without a test may not lead to its own row.
+fn target_may(opcode: u8) -> May
+    ensures { λ r. ⌜ r ≡ mayTarget opcode ⌝ }
+{
+    let tested = may_if(is_jump(opcode), May::AnyTarget, May::ZeroByOpcode);
+    may_if(opcode == 9, May::OtherTarget, tested)
 }
 
 fn has_cell(opcode: u8) -> bool

@@ -26,23 +26,24 @@ test : {A : Type 0} (x : Bool) → (x ≡ true → A) → (x ≡ false → A) �
 test true f g = f refl
 test false f g = g refl
 
--- R, C, P, T, J, A, B, L, S, O, F, X
-pub letter-cases : (P : ℕ → Type 0) (b : ℕ) → isLetterOf b ≡ true → P 82 → P 67 → P 80 → P 84 → P 74 → P 65 → P 66 → P 76 → P 83 → P 79 → P 70 → P 88 → P b
+-- R, C, P, T, J, G, A, B, L, S, O, F, X
+pub letter-cases : (P : ℕ → Type 0) (b : ℕ) → isLetterOf b ≡ true → P 82 → P 67 → P 80 → P 84 → P 74 → P 71 → P 65 → P 66 → P 76 → P 83 → P 79 → P 70 → P 88 → P b
 unfolding fieldOf
-letter-cases P b h pr pc pp pt pj pa pb pl ps po pf px =
+letter-cases P b h pr pc pp pt pj pg pa pb pl ps po pf px =
     test (eqb b 82) (λ e. rw (eqb-true b 82 e) pr)
     (λ e0. test (eqb b 67) (λ e. rw (eqb-true b 67 e) pc)
     (λ e1. test (eqb b 80) (λ e. rw (eqb-true b 80 e) pp)
     (λ e2. test (eqb b 84) (λ e. rw (eqb-true b 84 e) pt)
     (λ e3. test (eqb b 74) (λ e. rw (eqb-true b 74 e) pj)
-    (λ e4. test (eqb b 65) (λ e. rw (eqb-true b 65 e) pa)
-    (λ e5. test (eqb b 66) (λ e. rw (eqb-true b 66 e) pb)
-    (λ e6. test (eqb b 76) (λ e. rw (eqb-true b 76 e) pl)
-    (λ e7. test (eqb b 83) (λ e. rw (eqb-true b 83 e) ps)
-    (λ e8. test (eqb b 79) (λ e. rw (eqb-true b 79 e) po)
-    (λ e9. test (eqb b 70) (λ e. rw (eqb-true b 70 e) pf)
-    (λ e10. test (eqb b 88) (λ e. rw (eqb-true b 88 e) px)
-    (λ e11. absurd (true≢false (sym h ∙ rw (e0, e1, e2, e3, e4, e5, e6, e7, e8, e9, e10, e11) refl))))))))))))))
+    (λ e4. test (eqb b 71) (λ e. rw (eqb-true b 71 e) pg)
+    (λ e5. test (eqb b 65) (λ e. rw (eqb-true b 65 e) pa)
+    (λ e6. test (eqb b 66) (λ e. rw (eqb-true b 66 e) pb)
+    (λ e7. test (eqb b 76) (λ e. rw (eqb-true b 76 e) pl)
+    (λ e8. test (eqb b 83) (λ e. rw (eqb-true b 83 e) ps)
+    (λ e9. test (eqb b 79) (λ e. rw (eqb-true b 79 e) po)
+    (λ e10. test (eqb b 70) (λ e. rw (eqb-true b 70 e) pf)
+    (λ e11. test (eqb b 88) (λ e. rw (eqb-true b 88 e) px)
+    (λ e12. absurd (true≢false (sym h ∙ rw (e0, e1, e2, e3, e4, e5, e6, e7, e8, e9, e10, e11, e12) refl)))))))))))))))
 
 -- What a letter's field may be. Every number below 2^64 may be an operand
 unfoldable pub inRange : Room → ℕ → ℕ → Bool
@@ -52,11 +53,12 @@ inRange room b v =
     (cond (eqb b 80) (ltb v (room .plains))
     (cond (eqb b 84) (ltb v (room .threads))
     (cond (eqb b 74) (leb v (room .rows))
+    (cond (eqb b 71) (leb v (room .rows) && not (eqb v (room .row)))
     (cond (eqb b 65 || eqb b 66) true
     (cond (eqb b 76 || eqb b 88) (loadOrder v)
     (cond (eqb b 83) (storeOrder v)
     (cond (eqb b 70) (fenceOrder v)
-    (anyOrder v)))))))))
+    (anyOrder v))))))))))
 
 pub any-below : (o : ℕ) → anyOrder o ≡ true → o < 5
 any-below o e = omega (arith, leb-true o 4 e)
@@ -96,6 +98,7 @@ module _ (room : Room) (fields : List ℕ) where
       (λ e l. plain-only (λ (v : ℕ). ltb v (room .plains)) (getD fields 1 0) e (omega (arith, ltb-true (getD fields 1 0) (room .plains) e)))
       (λ e l. number-only (λ (v : ℕ). ltb v (room .threads)) (getD fields 1 0) e l)
       (λ e l. number-only (λ (v : ℕ). leb v (room .rows)) (getD fields 6 0) e l)
+      (λ e l. number-only (λ (v : ℕ). leb v (room .rows) && not (eqb v (room .row))) (getD fields 6 0) e l)
       (λ e l. number-back (getD fields 7 0) l)
       (λ e l. number-back (getD fields 8 0) l)
       (λ e l. order-only loadOrder (getD fields 2 0) e (load-any (getD fields 2 0) e))
@@ -111,7 +114,7 @@ module _ (room : Room) (fields : List ℕ) where
   unfolding letterShown fieldOf inRange
   letter-word b h =
       letter-cases Worded b h
-      (λ e. register-word (getD fields 5 0)) (λ e. shown-word (getD fields 1 0)) (λ e. plain-word (getD fields 1 0)) (λ e. shown-word (getD fields 1 0)) (λ e. shown-word (getD fields 6 0))
+      (λ e. register-word (getD fields 5 0)) (λ e. shown-word (getD fields 1 0)) (λ e. plain-word (getD fields 1 0)) (λ e. shown-word (getD fields 1 0)) (λ e. shown-word (getD fields 6 0)) (λ e. shown-word (getD fields 6 0))
       (λ e. shown-word (getD fields 7 0)) (λ e. shown-word (getD fields 8 0))
       (λ e. order-back (getD fields 2 0) (any-below (getD fields 2 0) (load-any (getD fields 2 0) e)) .1)
       (λ e. order-back (getD fields 2 0) (any-below (getD fields 2 0) (store-any (getD fields 2 0) e)) .1)
@@ -146,6 +149,7 @@ module _ (room : Room) (word : List ℕ) (v : ℕ) where
       (λ e. plain-known (λ (x : ℕ). ltb x (room .plains)) e)
       (λ e. number-known (λ (x : ℕ). ltb x (room .threads)) e)
       (λ e. number-known (λ (x : ℕ). leb x (room .rows)) e)
+      (λ e. number-known (λ (x : ℕ). leb x (room .rows) && not (eqb x (room .row))) e)
       (λ e. (refl, number-below word v e))
       (λ e. (refl, number-below word v e))
       (λ e. order-known loadOrder e)

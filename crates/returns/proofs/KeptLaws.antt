@@ -25,7 +25,7 @@ use Rattle.returns.proofs.MadeLaws.{RowFits, Kept}
 -- One row more
 
 module _ (allThreads rows : ℕ) (m : Made) (h : Kept allThreads rows m) (some : 1 ≤ m .threads) (few : rowsSoFar m < maxRows)
-    (bs fields rest : List ℕ) (r : RowRead (roomFor allThreads rows m) bs fields rest) where
+    (bs fields rest : List ℕ) (r : RowRead (roomFor allThreads rows (rowsSoFar m) m) bs fields rest) where
   -- the last thread
   last : ℕ
   last = m .threads - 1
@@ -69,8 +69,8 @@ module _ (allThreads rows : ℕ) (m : Made) (h : Kept allThreads rows m) (some :
   left e k i l n f a b =
       let within = total-take (m .counts) (suc k) in
       let next = total-next (m .counts) k in
-      ap (λ (x : ℕ). isFine (rowDecoded (roomFor allThreads e m) (rowFrom (m .body ++ rowBytes fields) (8 * (m .cells + m .plains) + 24 * (x + i))))) (before-same k l)
-      ∙ ap (λ (x : Row). isFine (rowDecoded (roomFor allThreads e m) x))
+      ap (λ (x : ℕ). isFine (rowDecoded (roomFor allThreads e i m) (rowFrom (m .body ++ rowBytes fields) (8 * (m .cells + m .plains) + 24 * (x + i))))) (before-same k l)
+      ∙ ap (λ (x : Row). isFine (rowDecoded (roomFor allThreads e i m) x))
       (row-kept (m .body) (rowBytes fields) (8 * (m .cells + m .plains) + 24 * (total (take k (m .counts)) + i)) (omega (arith, h .size)))
       ∙ f a b
 
@@ -79,7 +79,7 @@ module _ (allThreads rows : ℕ) (m : Made) (h : Kept allThreads rows m) (some :
   unfolding body
   added a b =
       let place : length (m .body) ≡ 8 * (m .cells + m .plains) + 24 * (total (take last counts) + rowsSoFar m) = h .size ∙ (omega (arith, total-last, before-same last (omega arith))) in
-      ap (λ (x : Row). isFine (rowDecoded (roomFor allThreads rows m) x))
+      ap (λ (x : Row). isFine (rowDecoded (roomFor allThreads rows (rowsSoFar m) m) x))
       (row-new (m .body) fields (8 * (m .cells + m .plains) + 24 * (total (take last counts) + rowsSoFar m)) place (r .long) (r .within (h .cells-few) (h .plains-few) a b))
       ∙ r .fine
 

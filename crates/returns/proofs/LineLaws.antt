@@ -31,8 +31,9 @@ module _ (n lines allThreads rows : ℕ) (m : Made) (bs : List ℕ) where
   unfolding linesFrom
   on-concludes made rest e = rw (linesFrom, e) refl
 
-abbrev pub roomFor : ℕ → ℕ → Made → Room
-roomFor allThreads rows m = record { threads = allThreads; cells = m .cells; plains = m .plains; rows = rows }
+-- the room of a row of this number, in a thread of so many rows
+abbrev pub roomFor : ℕ → ℕ → ℕ → Made → Room
+roomFor allThreads rows row m = record { threads = allThreads; cells = m .cells; plains = m .plains; rows = rows; row = row }
 
 module _ (lines allThreads rows : ℕ) (m : Made) where
   some-cells : 1 ≤ m .cells → eqb (m .cells) 0 ≡ false
@@ -41,7 +42,7 @@ module _ (lines allThreads rows : ℕ) (m : Made) where
   some-threads : 1 ≤ m .threads → eqb (m .threads) 0 ≡ false
   some-threads h = ne-eqb (m .threads) 0 (λ e. omega arith)
 
-  pub row-step : (fields line rest : List ℕ) → RowLine (roomFor allThreads rows m) fields line → 1 ≤ m .cells → 1 ≤ m .threads → rowsSoFar m < maxRows →
+  pub row-step : (fields line rest : List ℕ) → RowLine (roomFor allThreads rows (rowsSoFar m) m) fields line → 1 ≤ m .cells → 1 ≤ m .threads → rowsSoFar m < maxRows →
       lineOf lines allThreads rows m (line ++ rest) ≡ goesOn rows (withRow m fields) rest
   unfolding lineOf
   row-step fields line rest r c t l =

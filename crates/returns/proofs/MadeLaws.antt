@@ -24,7 +24,7 @@ use Rattle.returns.proofs.AppendLaws.{row-behind}
 -- row i of thread k in these bytes is fine, if there are not too many threads and rows
 abbrev pub RowFits : (allThreads rows : ℕ) (m : Made) (counts body : List ℕ) → (k i : ℕ) → Type 0
 RowFits allThreads rows m counts body k i =
-    allThreads ≤ 5 → rows ≤ maxRows → isFine (rowDecoded (roomFor allThreads rows m) (rowFrom body (8 * (m .cells + m .plains) + 24 * (total (take k counts) + i)))) ≡ true
+    allThreads ≤ 5 → rows ≤ maxRows → isFine (rowDecoded (roomFor allThreads rows i m) (rowFrom body (8 * (m .cells + m .plains) + 24 * (total (take k counts) + i)))) ≡ true
 
 pub record Kept (allThreads rows : ℕ) (m : Made) : Type 0 where
   pub five : length (m .counts) ≡ 5
@@ -74,9 +74,9 @@ module _ (allThreads rows : ℕ) (m : Made) (h : Kept allThreads rows m) (some :
   unfolding t
   plains-are = getD-at (m .counts) (m .plains) (m .body) 0 5 (h .five)
 
-  room-is : (n : ℕ) → roomOf t n ≡ roomFor allThreads n m
+  room-is : (n row : ℕ) → roomOf t n row ≡ roomFor allThreads n row m
   unfolding t
-  room-is n = λ i. record { threads = sym every i; cells = m .cells; plains = plains-are i; rows = n }
+  room-is n row = λ i. record { threads = sym every i; cells = m .cells; plains = plains-are i; rows = n; row = row }
 
   header : Header t
   unfolding t
@@ -120,11 +120,11 @@ module _ (allThreads rows : ℕ) (m : Made) (h : Kept allThreads rows m) (some :
       before : (k i : ℕ) → i < getD (m .counts) k 0 → suc k ≢ m .threads → suc k < m .threads
       before k i n d = elim (decLt k (m .threads)) [ yes l ↦ omega arith | no l ↦ absurd (omega (arith, h .past k (omega arith))) ]
 
-  row-in : (k : ℕ) → k < 5 → (i : ℕ) → i < getD (m .counts) k 0 → isFine (opAt t (roomOf t (getD (m .counts) k 0)) (0 + total (take k (m .counts)) + i)) ≡ true
+  row-in : (k : ℕ) → k < 5 → (i : ℕ) → i < getD (m .counts) k 0 → isFine (opAt t (roomOf t (getD (m .counts) k 0) i) (0 + total (take k (m .counts)) + i)) ≡ true
   unfolding opAt
   row-in k l i n =
-      let room = roomFor allThreads (getD (m .counts) k 0) m in
-      ap (λ (x : Room). isFine (opAt t x (0 + total (take k (m .counts)) + i))) (room-is (getD (m .counts) k 0))
+      let room = roomFor allThreads (getD (m .counts) k 0) i m in
+      ap (λ (x : Room). isFine (opAt t x (0 + total (take k (m .counts)) + i))) (room-is (getD (m .counts) k 0) i)
       ∙ rw (le-leb allThreads 5 (omega (arith, h .threads-few)), le-leb (m .cells) 4 (h .cells-few), le-leb (m .plains) 4 (h .plains-few))
       (ap (λ (r : Row). isFine (rowDecoded room r)) (row-place k i l n) ∙ fits-so k i n (omega (arith, h .threads-few)) (h .few k))
 

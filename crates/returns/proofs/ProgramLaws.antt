@@ -40,21 +40,25 @@ module _ (t : List ℕ) (bytes : AllBytes t) (fine : Fine t) where
 
   -- A row
 
-  there-at : (k i : ℕ) → k < 5 → i < getD counts k 0 → There t (getD counts k 0) (before k + i)
+  there-at : (k i : ℕ) → k < 5 → i < getD counts k 0 → There t (getD counts k 0) i (before k + i)
   there-at k i h l =
       let e : 0 + before k + i ≡ before k + i = omega arith in
-      row-there t (getD counts k 0) (before k + i)
+      row-there t (getD counts k 0) i (before k + i)
       (rw e at (thread-rows t 0 counts (fine .rows) k (omega (arith, counts-five)) i l))
 
-  abbrev roomIn : ℕ → Room
-  roomIn k = roomOf t (getD counts k 0)
+  abbrev roomIn : ℕ → ℕ → Room
+  roomIn k i = roomOf t (getD counts k 0) i
 
-  line-at : (k i : ℕ) → k < 5 → i < getD counts k 0 → RowLine (roomIn k) (fieldsOf (rowAt t (valuesOf t) (before k + i))) (rowShown (rowAt t (valuesOf t) (before k + i)))
+  line-at : (k i : ℕ) → k < 5 → i < getD counts k 0 → RowLine (roomIn k i) (fieldsOf (rowAt t (valuesOf t) (before k + i))) (rowShown (rowAt t (valuesOf t) (before k + i)))
   line-at k i h l =
       let r = there-at k i h l in
       let row = rowAt t (valuesOf t) (before k + i) in
       let small : Small (fieldsOf row) = subst (λ (x : Row). Small (fieldsOf x)) (sym (r .is)) (small-row t bytes (sizeOf (valuesOf t) (before k + i))) in
-      row-line (roomIn k) row (row-known (roomIn k) row (fine .header .plains-few) small (r .fine))
+      row-line (roomIn k i) row (row-known (roomIn k i) row (fine .header .plains-few) small (r .fine))
+
+  -- the rows so far of thread k
+  so-far : (k j : ℕ) → k < 5 → getD (soFar counts k j) (k + 1 - 1) 0 ≡ j
+  so-far k j h = let e : k + 1 - 1 ≡ k = omega arith in rw e (so-at counts k j (omega (arith, counts-five)))
 
   row-made : (k j : ℕ) → k < 5 → j < getD counts k 0 →
       withRow (made (k + 1) (soFar counts k j) (before k + j)) (fieldsOf (rowAt t (valuesOf t) (before k + j))) ≡ made (k + 1) (soFar counts k (j + 1)) (before k + j + 1)
@@ -67,15 +71,13 @@ module _ (t : List ℕ) (bytes : AllBytes t) (fine : Fine t) where
       let rowed : rowBytes (fieldsOf (rowAt t (valuesOf t) (before k + j))) ≡ take 24 (drop (8 + n) t) =
       ap (λ (x : Row). rowBytes (fieldsOf x)) (r .is) ∙ row-bytes t bytes (sizeOf (valuesOf t) (before k + j)) (r .within) ∙ ap (λ (x : ℕ). take 24 (drop x t)) (sym f) in
       let more : set (soFar counts k j) (k + 1 - 1) (getD (soFar counts k j) (k + 1 - 1) 0 + 1) ≡ soFar counts k (j + 1) =
-      rw (e, so-at counts k j (omega (arith, counts-five))) (so-more counts k j (j + 1)) in
+      rw (so-far k j h, e) (so-more counts k j (j + 1)) in
       let body : take n (drop 8 t) ++ rowBytes (fieldsOf (rowAt t (valuesOf t) (before k + j))) ≡ take (8 * valuesOf t + 24 * (before k + j + 1)) (drop 8 t) =
       ap (λ (x : List ℕ). take n (drop 8 t) ++ x) rowed ∙ sym (parts t bytes n 24 8) ∙ ap (λ (x : ℕ). take x (drop 8 t)) g in
       λ i. record { cells = cellsOf t; plains = plainsOf t; threads = k + 1; counts = more i; body = body i }
 
   few-rows : (k j : ℕ) → k < 5 → j < getD counts k 0 → getD (soFar counts k j) (k + 1 - 1) 0 < maxRows
-  few-rows k j h l =
-      let e : k + 1 - 1 ≡ k = omega arith in
-      rw (e, so-at counts k j (omega (arith, counts-five))) (omega (arith, count-few (threadsOf t) 0 counts (fine .header .counts) k))
+  few-rows k j h l = rw (so-far k j h) (omega (arith, count-few (threadsOf t) 0 counts (fine .header .counts) k))
 
   -- one row of thread k, in a text of so many lines
   row-on : (lines n k j : ℕ) (rest : List ℕ) → k < 5 → j < getD counts k 0 →
@@ -85,7 +87,8 @@ module _ (t : List ℕ) (bytes : AllBytes t) (fine : Fine t) where
       let row = rowAt t (valuesOf t) (before k + j) in
       let m = made (k + 1) (soFar counts k j) (before k + j) in
       on-goes n lines (threadsOf t) (getD counts k 0) m (rowShown row ++ rest) (getD counts k 0) (withRow m (fieldsOf row)) rest
-      (row-step lines (threadsOf t) (getD counts k 0) m (fieldsOf row) (rowShown row) rest (line-at k j h l) (fine .header .cells-some) (omega arith) (few-rows k j h l))
+      (row-step lines (threadsOf t) (getD counts k 0) m (fieldsOf row) (rowShown row) rest
+      (subst (λ (x : ℕ). RowLine (roomIn k x) (fieldsOf row) (rowShown row)) (sym (so-far k j h)) (line-at k j h l)) (fine .header .cells-some) (omega arith) (few-rows k j h l))
       ∙ ap (λ (x : Made). linesFrom n lines (threadsOf t) (getD counts k 0) x rest) (row-made k j h l)
 
   module _ (lines : ℕ) (answer : TextRead) (rest : List ℕ) where

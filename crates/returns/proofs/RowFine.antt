@@ -141,7 +141,7 @@ module _ (room : Room) (ob or fa re t a b : ℕ) where
     unsyncLoad = only-fine _ _ ∙ turned (ltb ob (room .cells)) (isRegister re) (unused (or ∷ fa ∷ k ∷ t ∷ a ∷ b ∷ []));
     yield = only-fine _ _;
     join = only-fine _ _ ∙ one (ltb ob (room .threads)) (unused (or ∷ fa ∷ k ∷ re ∷ t ∷ a ∷ b ∷ []));
-    jump = only-fine _ _ ∙ one (leb t (room .rows)) (unused (ob ∷ or ∷ fa ∷ k ∷ re ∷ a ∷ b ∷ []));
+    jump = only-fine _ _ ∙ one (leb t (room .rows) && not (eqb t (room .row))) (unused (ob ∷ or ∷ fa ∷ k ∷ re ∷ a ∷ b ∷ []));
     jumpIf = only-fine _ _ ∙ two (isRegister re) (leb t (room .rows)) (unused (ob ∷ or ∷ fa ∷ k ∷ b ∷ []));
     jumpUnless = only-fine _ _ ∙ two (isRegister re) (leb t (room .rows)) (unused (ob ∷ or ∷ fa ∷ k ∷ b ∷ []));
     check = only-fine _ _ ∙ one (isRegister re) (unused (ob ∷ or ∷ fa ∷ k ∷ t ∷ b ∷ []));

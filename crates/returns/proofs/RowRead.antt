@@ -7,7 +7,7 @@ use mathlib.Core.List.{List, [], _∷_}
 use mathlib.Core.Bool.{Bool, true, false, cond, not, _&&_}
 use mathlib.Core.Path.{_≡_, refl, ap, sym, subst, _∙_}
 use native.Mathlib.Omega.{arith}
-use lib.Dec.{ltb, eqb}
+use lib.Dec.{ltb, leb, eqb}
 use lib.ListN.{length, getD}
 use lib.Seq.{ext-getD}
 use borrow.Author.Tests.{eqb-true, ltb-true, leb-true, lt-ltb, not-true}
@@ -91,6 +91,7 @@ letter-limit room v c p t r s b h =
     (λ e. omega (arith, ltb-true v (room .plains) e))
     (λ e. omega (arith, ltb-true v (room .threads) e))
     (λ e. omega (arith, leb-true v (room .rows) e))
+    (λ e. omega (arith, leb-true v (room .rows) (both-left (leb v (room .rows)) _ e)))
     (λ e. s)
     (λ e. s)
     (λ e. omega (arith, any-below v (load-any v e)))

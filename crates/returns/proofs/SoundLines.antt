@@ -188,10 +188,10 @@ module _ (l allThreads : ℕ) where
           fresh : getD (m .counts) (m .threads + 1 - 1) 0 ≡ 0
           fresh = h .past (m .threads + 1 - 1) (omega arith)
 
-      row-after : 1 ≤ m .threads → rowsSoFar m < maxRows → isBare bs ≡ false → says "thread" bs ≡ false → (r : Followed) → rowIn (roomFor allThreads rows m) bs ≡ r → After (rowLine rows m r)
+      row-after : 1 ≤ m .threads → rowsSoFar m < maxRows → isBare bs ≡ false → says "thread" bs ≡ false → (r : Followed) → rowIn (roomFor allThreads rows (rowsSoFar m) m) bs ≡ r → After (rowLine rows m r)
       row-after s f b t (stuck rest) e = tt
       row-after s f b t (fits fields rest) e =
-          let read = row-read (roomFor allThreads rows m) bs fields rest e in
+          let read = row-read (roomFor allThreads rows (rowsSoFar m) m) bs fields rest e in
           let same : rest ≡ nextLine (skip bs) = read .next ∙ sym (next-skip bs) in
           let one : getD (set (m .counts) (m .threads - 1) (rowsSoFar m + 1)) (m .threads - 1) 0 ≡ rowsSoFar m + 1 = getD-set-same (m .counts) (m .threads - 1) (rowsSoFar m + 1) 0 (omega (arith, h .five, h .threads-few)) in (
             kept-row allThreads rows m h s f bs fields rest read,
@@ -235,7 +235,7 @@ module _ (l allThreads : ℕ) where
         pick After (leb 1 (m .threads) && ltb (rowsSoFar m) maxRows)
         (λ s.
         row-after full f (leb-true 1 (m .threads) (both-left (leb 1 (m .threads)) _ s)) (ltb-true (rowsSoFar m) maxRows (both-right (leb 1 (m .threads)) _ s)) b t
-        (rowIn (roomFor allThreads rows m) bs) refl)
+        (rowIn (roomFor allThreads rows (rowsSoFar m) m) bs) refl)
         (λ s. tt)
 
     some-cells : eqb (m .cells) 0 ≡ false → 1 ≤ m .cells

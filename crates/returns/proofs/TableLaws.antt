@@ -41,13 +41,13 @@ module _ (t : List ℕ) where
   -- of the threads whose counts are these and whose rows begin at this number
   abbrev pub RowsFine : ℕ → List ℕ → Type 0
   RowsFine first [] = Unit {0}
-  RowsFine first (c ∷ cs) = ((i : ℕ) → i < c → isFine (opAt t (roomOf t c) (first + i)) ≡ true) × RowsFine (first + c) cs
+  RowsFine first (c ∷ cs) = ((i : ℕ) → i < c → isFine (opAt t (roomOf t c i) (first + i)) ≡ true) × RowsFine (first + c) cs
 
   pub rows-good : (thread first : ℕ) (cs : List ℕ) → RowsFine first cs → rowsJudged t thread first cs ≡ good
   unfolding rowsJudged firstBad
   rows-good thread first [] h = refl
   rows-good thread first (c ∷ cs) h =
-      let e = none-bad (λ (i : ℕ). isFine (opAt t (roomOf t c) (first + i))) c 0 (λ j l m. h .0 j (omega arith)) in
+      let e = none-bad (λ (i : ℕ). isFine (opAt t (roomOf t c i) (first + i))) c 0 (λ j l m. h .0 j (omega arith)) in
       rw (le-ltb (firstBad t first c) c (omega (arith, e))) (rows-good (thread + 1) (first + c) cs (h .1))
 
   pub good-rows : (thread first : ℕ) (cs : List ℕ) → rowsJudged t thread first cs ≡ good → RowsFine first cs
@@ -60,13 +60,13 @@ module _ (t : List ℕ) where
           (rowsJudged t (thread + 1) (first + c) cs ≡ good → RowsFine (first + c) cs) → RowsFine first (c ∷ cs)
       by true e k more = let z : _≡_ {A = ℕ} 0 1 = cc in absurd (omega arith)
       by false e k more = (
-        (λ i l. all-fine (λ (j : ℕ). isFine (opAt t (roomOf t c) (first + j))) c 0 (omega (arith, ltb-false (firstBad t first c) c e)) i (omega arith) (omega arith)),
+        (λ i l. all-fine (λ (j : ℕ). isFine (opAt t (roomOf t c j) (first + j))) c 0 (omega (arith, ltb-false (firstBad t first c) c e)) i (omega arith) (omega arith)),
         more k,
       )
 
   -- by the thread's number
   pub thread-rows : (first : ℕ) (cs : List ℕ) → RowsFine first cs → (k : ℕ) → k < length cs → (i : ℕ) → i < getD cs k 0 →
-      isFine (opAt t (roomOf t (getD cs k 0)) (first + total (take k cs) + i)) ≡ true
+      isFine (opAt t (roomOf t (getD cs k 0) i) (first + total (take k cs) + i)) ≡ true
   unfolding total
   thread-rows first [] h k l i m = absurd (omega arith)
   thread-rows first (c ∷ cs) h zero l i m = let e : first + 0 + i ≡ first + i = omega arith in rw e (h .0 i m)
@@ -76,7 +76,7 @@ module _ (t : List ℕ) where
 
   -- and back
   pub rows-from : (first : ℕ) (cs : List ℕ) → ((k : ℕ) → k < length cs → (i : ℕ) → i < getD cs k 0 →
-      isFine (opAt t (roomOf t (getD cs k 0)) (first + total (take k cs) + i)) ≡ true) → RowsFine first cs
+      isFine (opAt t (roomOf t (getD cs k 0) i) (first + total (take k cs) + i)) ≡ true) → RowsFine first cs
   unfolding total
   rows-from first [] h = tt
   rows-from first (c ∷ cs) h = (
@@ -87,28 +87,28 @@ module _ (t : List ℕ) where
         rw e at (h (suc k) (omega arith) i m)),
   )
 
-  -- a row that is fine is there
-  pub record There (count i : ℕ) : Type 0 where
+  -- a row that is fine is there: it has this number in a thread of so many rows, and number i among all
+  pub record There (count row i : ℕ) : Type 0 where
     pub is : rowAt t (valuesOf t) i ≡ rowFrom t (sizeOf (valuesOf t) i)
     pub within : sizeOf (valuesOf t) i + 24 ≤ length t
-    pub fine : isFine (rowDecoded (roomOf t count) (rowAt t (valuesOf t) i)) ≡ true
+    pub fine : isFine (rowDecoded (roomOf t count row) (rowAt t (valuesOf t) i)) ≡ true
 
-  pub row-there : (count i : ℕ) → isFine (opAt t (roomOf t count) i) ≡ true → There count i
+  pub row-there : (count row i : ℕ) → isFine (opAt t (roomOf t count row) i) ≡ true → There count row i
   unfolding opAt rowAt rowDecoded
-  row-there count i h = record {
+  row-there count row i h = record {
     is = ap (λ (x : Bool). cond x (rowFrom t (sizeOf (valuesOf t) i)) noRow) e;
     within = leb-true (sizeOf (valuesOf t) i + 24) (length t) (both-right (leb (valuesOf t) maxValues && ltb i allRows) _ e);
     fine = f;
   }
     where
-      said : (x : Bool) → isFine (cond x (rowDecoded (roomOf t count) (rowAt t (valuesOf t) i)) refused) ≡ true → isFine (rowDecoded (roomOf t count) (rowAt t (valuesOf t) i)) ≡ true
+      said : (x : Bool) → isFine (cond x (rowDecoded (roomOf t count row) (rowAt t (valuesOf t) i)) refused) ≡ true → isFine (rowDecoded (roomOf t count row) (rowAt t (valuesOf t) i)) ≡ true
       said true k = k
       said false k = absurd (true≢false (sym k))
 
-      f : isFine (rowDecoded (roomOf t count) (rowAt t (valuesOf t) i)) ≡ true
+      f : isFine (rowDecoded (roomOf t count row) (rowAt t (valuesOf t) i)) ≡ true
       f = said (leb (threadsOf t) maxThreads && leb (cellsOf t) maxCells && leb (plainsOf t) maxPlains) h
 
-      held : (x : Bool) → isFine (rowDecoded (roomOf t count) (cond x (rowFrom t (sizeOf (valuesOf t) i)) noRow)) ≡ true → x ≡ true
+      held : (x : Bool) → isFine (rowDecoded (roomOf t count row) (cond x (rowFrom t (sizeOf (valuesOf t) i)) noRow)) ≡ true → x ≡ true
       held true k = refl
       held false k = absurd (true≢false (sym k))
 

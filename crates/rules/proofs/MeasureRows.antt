@@ -101,7 +101,7 @@ module _ (room : Room) where
     join-names : RowNames (Table.joinRow (room .threads) r)
     join-names = simp (only-names, and-eq-true-iff) (omega (arith, ltb-true))
 
-    jump-names : RowNames (Table.jumpRow (room .rows) r)
+    jump-names : RowNames (Table.jumpRow (room .rows) (room .row) r)
     jump-names = simp (only-names, and-eq-true-iff) (omega (arith, leb-true))
 
     jump-if-names : RowNames (Table.jumpOnRow Table.jumpIf (room .rows) r)
@@ -149,12 +149,12 @@ module _ (room : Room) where
 
 -- Whatever the table
 
--- the room of a thread of so many rows, in a table with as many of each as there can be
-abbrev pub widest : ℕ → Room
-widest count = record { threads = threads; cells = cells; plains = plains; rows = count }
+-- the room of a row of this number, in a thread of so many rows, in a table with as many of each as there can be
+abbrev pub widest : ℕ → ℕ → Room
+widest count row = record { threads = threads; cells = cells; plains = plains; rows = count; row = row }
 
 module _ (room : Room) (few : room .threads ≤ threads) (held : room .cells ≤ cells) (plain : room .plains ≤ plains) where
-  pub names-more : (op : Op) → Names room op → Names (widest (room .rows)) op
+  pub names-more : (op : Op) → Names room op → Names (widest (room .rows) (room .row)) op
   names-more (Table.load c o r) h = omega arith
   names-more (Table.store c o a) h = omega arith
   names-more (Table.storeRegister c o r) h = omega arith
@@ -175,22 +175,22 @@ module _ (room : Room) (few : room .threads ≤ threads) (held : room .cells ≤
   names-more (Table.plainRead c r) h = omega arith
   names-more (Table.plainWrite c a) h = omega arith
 
-  row-more : (d : Decoded Op) → RowNames room d → RowNames (widest (room .rows)) d
+  row-more : (d : Decoded Op) → RowNames room d → RowNames (widest (room .rows) (room .row)) d
   unfolding RowNames
   row-more refused h = tt
   row-more (decoded op) h = names-more op h
 
-pub row-in-place : (p : Program) (t k : ℕ) → RowNames (widest (rowCount p t)) (rowOf p t k)
+pub row-in-place : (p : Program) (t k : ℕ) → RowNames (widest (rowCount p t) k) (rowOf p t k)
 unfolding opAt
 row-in-place p t k =
-    let room = Table.roomOf (p .table) (rowCount p t) in
+    let room = Table.roomOf (p .table) (rowCount p t) k in
     let few = leb (room .threads) Table.maxThreads in
     let held = leb (room .cells) Table.maxCells in
     let plain = leb (room .plains) Table.maxPlains in
-    pick (RowNames (widest (rowCount p t))) (fewEnough room)
+    pick (RowNames (widest (rowCount p t) k)) (fewEnough room)
     (λ e. row-more room (leb-true _ _ (both-left few _ (both-left _ plain e))) (leb-true _ _ (both-right few held (both-left _ plain e)))
     (leb-true _ _ (both-right (few && held) plain e)) _ (row-names room _))
-    (λ e. none (widest (rowCount p t)))
+    (λ e. none (widest (rowCount p t) k))
 
 -- Pending operations
 
@@ -202,31 +202,31 @@ unfoldable pub RowOnCell : Decoded Op → Type 0
 RowOnCell refused = Unit
 RowOnCell (decoded op) = OnCell (pendingOf op)
 
-pub on-cell : (count : ℕ) (op : Op) → Names (widest count) op → OnCell (pendingOf op)
-on-cell count (Table.load c o r) h = h
-on-cell count (Table.store c o a) h = h
-on-cell count (Table.storeRegister c o r) h = h
-on-cell count (Table.rmw c o f change r) h = h
-on-cell count (Table.fence o) h = tt
-on-cell count (Table.unsyncLoad c r) h = tt
-on-cell count (Table.exclusive c change r) h = tt
-on-cell count Table.yield h = tt
-on-cell count (Table.join target) h = tt
-on-cell count (Table.jump target) h = tt
-on-cell count (Table.jumpIf r a target) h = tt
-on-cell count (Table.jumpUnless r a target) h = tt
-on-cell count (Table.check r a) h = tt
-on-cell count Table.critical h = tt
-on-cell count Table.exploreState h = tt
-on-cell count Table.skipBranch h = tt
-on-cell count (Table.spurious r) h = tt
-on-cell count (Table.plainRead c r) h = tt
-on-cell count (Table.plainWrite c a) h = tt
+pub on-cell : (count row : ℕ) (op : Op) → Names (widest count row) op → OnCell (pendingOf op)
+on-cell count row (Table.load c o r) h = h
+on-cell count row (Table.store c o a) h = h
+on-cell count row (Table.storeRegister c o r) h = h
+on-cell count row (Table.rmw c o f change r) h = h
+on-cell count row (Table.fence o) h = tt
+on-cell count row (Table.unsyncLoad c r) h = tt
+on-cell count row (Table.exclusive c change r) h = tt
+on-cell count row Table.yield h = tt
+on-cell count row (Table.join target) h = tt
+on-cell count row (Table.jump target) h = tt
+on-cell count row (Table.jumpIf r a target) h = tt
+on-cell count row (Table.jumpUnless r a target) h = tt
+on-cell count row (Table.check r a) h = tt
+on-cell count row Table.critical h = tt
+on-cell count row Table.exploreState h = tt
+on-cell count row Table.skipBranch h = tt
+on-cell count row (Table.spurious r) h = tt
+on-cell count row (Table.plainRead c r) h = tt
+on-cell count row (Table.plainWrite c a) h = tt
 
-row-on : (count : ℕ) (d : Decoded Op) → RowNames (widest count) d → RowOnCell d
+row-on : (count row : ℕ) (d : Decoded Op) → RowNames (widest count row) d → RowOnCell d
 unfolding RowOnCell RowNames
-row-on count refused h = tt
-row-on count (decoded op) h = on-cell count op h
+row-on count row refused h = tt
+row-on count row (decoded op) h = on-cell count row op h
 
 pub row-on-cell : (p : Program) (t k : ℕ) → RowOnCell (rowOf p t k)
-row-on-cell p t k = row-on (rowCount p t) (rowOf p t k) (row-in-place p t k)
+row-on-cell p t k = row-on (rowCount p t) k (rowOf p t k) (row-in-place p t k)

@@ -6,7 +6,7 @@
 use Prim.Native.Nat.{ℕ, zero, suc, _%_}
 use Prim.Native.String.{String}
 use mathlib.Core.List.{List, [], _∷_, _++_, map}
-use mathlib.Core.Bool.{Bool, true, false, cond, _&&_, _||_}
+use mathlib.Core.Bool.{Bool, true, false, cond, not, _&&_, _||_}
 use lib.Dec.{ltb, leb, eqb}
 use lib.ListN.{length, getD, set, take}
 use Rattle.rules.specs.Vector.{equal}
@@ -24,7 +24,7 @@ orderIn bs = placeIn 0 bs orders
 -- Rows
 
 -- How a row is written: its opcode and change kind, and its words. A capital letter stands for a field: R register, C cell, P plain cell,
--- T thread, J jump target, A and B operands, L, S, O, F the order of a load, a store, an RMW, a fence, X the failure order
+-- T thread, J jump target, G that of a jump without a test, A and B operands, L, S, O, F the order of a load, a store, an RMW, a fence, X the failure order
 pub record Form : Type 0 where
   pub opcode : ℕ
   pub kind : ℕ
@@ -68,7 +68,7 @@ forms =
     ∷ form 6 12 "R = with_mut decrement on C"
     ∷ form 7 0 "yield"
     ∷ form 8 0 "join T"
-    ∷ form 9 0 "jump J"
+    ∷ form 9 0 "jump G"
     ∷ form 10 0 "if R = A jump J"
     ∷ form 11 0 "if R != A jump J"
     ∷ form 12 0 "check R = A"
@@ -86,7 +86,7 @@ unfoldable pub fieldOf : ℕ → ℕ
 fieldOf b =
     cond (eqb b 82) 5
     (cond (eqb b 67 || eqb b 84 || eqb b 80) 1
-    (cond (eqb b 74) 6
+    (cond (eqb b 74 || eqb b 71) 6
     (cond (eqb b 65) 7
     (cond (eqb b 66) 8
     (cond (eqb b 76 || eqb b 83 || eqb b 79 || eqb b 70) 2
@@ -101,11 +101,12 @@ letterIn room b word =
     (cond (eqb b 80) (only (λ (v : ℕ). ltb v (room .plains)) (plainIn word))
     (cond (eqb b 84) (only (λ (v : ℕ). ltb v (room .threads)) (numberIn word))
     (cond (eqb b 74) (only (λ (v : ℕ). leb v (room .rows)) (numberIn word))
+    (cond (eqb b 71) (only (λ (v : ℕ). leb v (room .rows) && not (eqb v (room .row))) (numberIn word))
     (cond (eqb b 65 || eqb b 66) (numberIn word)
     (cond (eqb b 76 || eqb b 88) (only loadOrder (orderIn word))
     (cond (eqb b 83) (only storeOrder (orderIn word))
     (cond (eqb b 70) (only fenceOrder (orderIn word))
-    (orderIn word)))))))))
+    (orderIn word))))))))))
 
 -- a letter alone stands for a field, every other word for itself
 abbrev pub isField : List ℕ → Bool

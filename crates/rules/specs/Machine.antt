@@ -36,7 +36,7 @@ rowCount p t = getD (countsOf (p .table)) t 0
 -- what the row at a place of a thread does
 abbrev pub rowOf : Program → ℕ → ℕ → Decoded Op
 rowOf p t k =
-    opAt (p .table) (roomOf (p .table) (rowCount p t)) (getD (firstRows 0 (countsOf (p .table))) t 0 + k)
+    opAt (p .table) (roomOf (p .table) (rowCount p t) k) (getD (firstRows 0 (countsOf (p .table))) t 0 + k)
 
 -- Threads
 

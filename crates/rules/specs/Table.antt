@@ -284,16 +284,17 @@ changeDecoded kind a b =
     (cond (eqb kind 12) (onlyIf (eqb a 0 && eqb b 0) Change.decrement)
     refused))))))))))))
 
--- What a row may name: "A cell or thread named must exist.", "jump target u16 (0..row count)"
+-- What a row may name: "A cell or thread named must exist.", "jump target u16 (0..row count)"; and the row's own number
 pub record Room : Type 0 where
   pub threads : ℕ
   pub cells : ℕ
   pub plains : ℕ
   pub rows : ℕ
+  pub row : ℕ
 
--- in a thread of so many rows
-abbrev pub roomOf : List ℕ → ℕ → Room
-roomOf t rows = record { threads = threadsOf t; cells = cellsOf t; plains = plainsOf t; rows = rows }
+-- that of a row of this number, in a thread of so many rows
+abbrev pub roomOf : List ℕ → ℕ → ℕ → Room
+roomOf t rows row = record { threads = threadsOf t; cells = cellsOf t; plains = plainsOf t; rows = rows; row = row }
 
 -- A row of each opcode, in a table of so many cells or threads, in a thread of so many rows
 
@@ -361,15 +362,16 @@ joinRow threads r =
     && unused (r .order ∷ r .failure ∷ r .kind ∷ r .register ∷ r .target ∷ r .a ∷ r .b ∷ []))
     (join (r .object))
 
--- "jump target u16 (0..row count)"
-abbrev pub jumpRow : ℕ → Row → Decoded Op
-jumpRow count r =
+-- "jump target u16 (0..row count)"; "a row that jumps unconditionally to its own row", "Refuse such a table with answer 5 at that row."
+-- (document 02, §6)
+abbrev pub jumpRow : ℕ → ℕ → Row → Decoded Op
+jumpRow count row r =
     onlyIf
-    (leb (r .target) count
+    (leb (r .target) count && not (eqb (r .target) row)
     && unused (r .object ∷ r .order ∷ r .failure ∷ r .kind ∷ r .register ∷ r .a ∷ r .b ∷ []))
     (jump (r .target))
 
--- a jump on a test of the register
+-- a jump on a test of the register: "Conditional jumps to their own row stay legal" (document 02, §6)
 abbrev pub jumpOnRow : (ℕ → ℕ → ℕ → Op) → ℕ → Row → Decoded Op
 jumpOnRow op count r =
     onlyIf
@@ -416,7 +418,7 @@ rowDecoded room r =
     (cond (eqb (r .opcode) 6) (exclusiveRow (room .cells) r (changeDecoded (r .kind) (r .a) (r .b)))
     (cond (eqb (r .opcode) 7) (bareRow yield r)
     (cond (eqb (r .opcode) 8) (joinRow (room .threads) r)
-    (cond (eqb (r .opcode) 9) (jumpRow (room .rows) r)
+    (cond (eqb (r .opcode) 9) (jumpRow (room .rows) (room .row) r)
     (cond (eqb (r .opcode) 10) (jumpOnRow jumpIf (room .rows) r)
     (cond (eqb (r .opcode) 11) (jumpOnRow jumpUnless (room .rows) r)
     (cond (eqb (r .opcode) 12) (checkRow r)
@@ -449,7 +451,7 @@ firstNot fine (suc n) i = cond (fine i) (firstNot fine n (i + 1)) i
 
 -- the first bad row of a thread of c rows, of which the first has this number among all rows; c where there is none
 unfoldable pub firstBad : List ℕ → ℕ → ℕ → ℕ
-firstBad t first c = firstNot (λ (i : ℕ). isFine (opAt t (roomOf t c) (first + i))) c 0
+firstBad t first c = firstNot (λ (i : ℕ). isFine (opAt t (roomOf t c i) (first + i))) c 0
 
 pub data Verdict : Type 0 where
   good : Verdict

@@ -223,7 +223,7 @@ rowLine rows m (fits fields rest) = goesOn rows (withRow m fields) rest
 abbrev pub aRow : ℕ → ℕ → Made → List ℕ → Line
 aRow all rows m bs =
     cond (leb 1 (m .threads) && ltb (rowsSoFar m) maxRows)
-    (rowLine rows m (rowIn (record { threads = all; cells = m .cells; plains = m .plains; rows = rows }) bs))
+    (rowLine rows m (rowIn (record { threads = all; cells = m .cells; plains = m .plains; rows = rows; row = rowsSoFar m }) bs))
     (refusedLine (skip bs))
 
 -- "thread", and its rows

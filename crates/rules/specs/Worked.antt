@@ -331,6 +331,23 @@ plainTrace = record {
   said = 0 ∷ 0 ∷ 17 ∷ 255 ∷ (replicate 4 0 ++ (9 ∷ (replicate 7 0 ++ (0 ∷ 1 ∷ 18 ∷ 255 ∷ (replicate 4 0 ++ (7 ∷ replicate 7 0))))));
 }
 
+-- Row 1 jumps to itself, or to the next row, or to itself if register 0 holds 0. "Refuse such a table with answer 5 at that row."
+-- (document 02, §6)
+abbrev pub jumping : ℕ → ℕ → Row
+jumping opcode target = record { opcode = opcode; object = 0; order = 0; failure = 0; kind = 0; register = 0; target = target; a = 0; b = 0 }
+
+abbrev pub jumpThere : Row → List ℕ
+jumpThere r = placeAndBegun (run (table (0 ∷ []) ((load 0 ∷ r ∷ []) ∷ [])) (limits 8 4 unbounded))
+
+abbrev pub toItself : Worked
+toItself = record { given = jumpThere (jumping 9 1); said = 5 ∷ 0 ∷ 1 ∷ 0 ∷ 255 ∷ 0 ∷ [] }
+
+abbrev pub toTheNext : Worked
+toTheNext = record { given = jumpThere (jumping 9 2); said = 0 ∷ 255 ∷ 255 ∷ 0 ∷ 255 ∷ 1 ∷ [] }
+
+abbrev pub toItselfOnTest : Worked
+toItselfOnTest = record { given = jumpThere (jumping 10 1); said = 12 ∷ 0 ∷ 1 ∷ 0 ∷ 255 ∷ 1 ∷ [] }
+
 abbrev pub worked : List Worked
 worked =
     p1
@@ -362,4 +379,7 @@ worked =
     ∷ writeOfBoth
     ∷ readOfRead
     ∷ plainTrace
+    ∷ toItself
+    ∷ toTheNext
+    ∷ toItselfOnTest
     ∷ []

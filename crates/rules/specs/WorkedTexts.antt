@@ -89,6 +89,8 @@ refusals =
     ∷ at "cells 0\nthread\n  r0 = read p0\n" 3 13
     ∷ at "cells 0\nplain 1\nthread\n  r0 = read p1\n" 4 13
     ∷ at "cells 0\nplain 1\nthread\n  write 7 to 0\n" 4 14
+    ∷ at "cells 0\nthread\n  jump 0\n" 3 8
+    ∷ at "cells 0\nthread\n  jump 1\n  if r0 = 0 jump 1\n  jump 2\n" 5 8
     ∷ []
 
 abbrev pub answered : Refusal → TextAnswer

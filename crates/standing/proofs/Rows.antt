@@ -32,12 +32,12 @@ module _ (t : List ℕ) where
   first-good false x k more e = (refl, e)
 
   rows-fine : (cs : List ℕ) (thread first : ℕ) → rowsJudged t thread first cs ≡ good → (i k : ℕ) → k < getD cs i 0 →
-      isFine (opAt t (roomOf t (getD cs i 0)) (getD (firstRows first cs) i 0 + k)) ≡ true
+      isFine (opAt t (roomOf t (getD cs i 0) k) (getD (firstRows first cs) i 0 + k)) ≡ true
   unfolding rowsJudged firstRows firstBad
   rows-fine [] thread first e i k h = absurd (omega arith)
   rows-fine (c ∷ cs) thread first e zero k h =
       let f = first-good _ thread _ _ e in
-      all-fine (λ (i : ℕ). isFine (opAt t (roomOf t c) (first + i))) c c 0 (omega arith) (f .0) k (omega arith) h
+      all-fine (λ (i : ℕ). isFine (opAt t (roomOf t c i) (first + i))) c c 0 (omega arith) (f .0) k (omega arith) h
   rows-fine (c ∷ cs) thread first e (suc i) k h =
       let bad = firstBad t first c in
       rows-fine cs (thread + 1) (first + c) (first-good (ltb bad c) thread bad _ e .1) i k h
@@ -54,7 +54,7 @@ module _ (p : Program) (accepted : judged (p .table) ≡ good) where
   all-good = rw (good-header (p .table) accepted) at accepted
 
   pub accepted-row : (t k : ℕ) → k < rowCount p t →
-      (op : Op) × (rowOf p t k ≡ decoded op) × Names (roomOf (p .table) (rowCount p t)) op
+      (op : Op) × (rowOf p t k ≡ decoded op) × Names (roomOf (p .table) (rowCount p t) k) op
   accepted-row t k h =
       says _ (rowOf p t k)
       (rows-fine (p .table) (countsOf (p .table)) 0 0 all-good t k h)

@@ -79,11 +79,11 @@ module _ (p : Program) (held : cellsOf (p .table) ≤ cells) (few : threadsOf (p
   own = rw acts at (stands .each t below)
 
   -- what its row names is there
-  names : (op : Op) → activeOp p st ≡ decoded op → Names (roomOf (p .table) (rowCount p t)) op
+  names : (op : Op) → activeOp p st ≡ decoded op → Names (roomOf (p .table) (rowCount p t) k) op
   names op e =
       let said = accepted-row p accepted t k (own .acts refl) in
       let same : said .0 ≡ op = cc (said .1) in
-      subst (Names (roomOf (p .table) (rowCount p t))) same (said .2)
+      subst (Names (roomOf (p .table) (rowCount p t) k)) same (said .2)
 
   -- some slot is offered, and those that are offered are slots
   pub slot-answerable : SomeOffered → (m : Matched) → Reading p st m → Offering m

@@ -265,7 +265,7 @@ module _ (p : Program) (held : cellsOf (p .table) ≤ cells) (few : threadsOf (p
       } in
       schedules-good (Machine.blockedOn st t target) [] is f3 (rw awaited stands) (λ g. rw awaited onIt) (omega arith) (omega arith))
 
-  pub acts-good : (st : State) (op : Op) → rowOf p t k ≡ decoded op → Names (roomOf (p .table) (rowCount p t)) op →
+  pub acts-good : (st : State) (op : Op) → rowOf p t k ≡ decoded op → Names (roomOf (p .table) (rowCount p t) k) op →
       At st → Good p n (Machine.acts p st t k op)
   unfolding Machine.actsAs
   acts-good st (Table.load c o r) e h at =

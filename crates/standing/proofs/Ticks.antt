@@ -34,7 +34,7 @@ module _ (p : Program) (held : cellsOf (p .table) ≤ cells) (few : threadsOf (p
     begun-holds st is facts = holding p held few t (omega arith) st (n + 0) within can is facts own (omega arith)
 
     begun-good : (st : State) (row : Op) (pending : Pending) → rowOf p t k ≡ decoded row →
-        Names (roomOf (p .table) (rowCount p t)) row → OnCell pending → Is t s toAct b m (st .numbers) →
+        Names (roomOf (p .table) (rowCount p t) k) row → OnCell pending → Is t s toAct b m (st .numbers) →
         Facts p t k q b threads (st .numbers) → Good p n (Machine.begunAs p st t k row pending)
     unfolding Machine.schedules
     begun-good st row nothing e names h is facts =
@@ -85,7 +85,7 @@ module _ (p : Program) (held : cellsOf (p .table) ≤ cells) (few : threadsOf (p
       is-begin = seen a t below (stands .whole) refl refl e
 
       -- "12 a row is to begin with L begun"
-      begins-good : (op : Op) → k < rowCount p t → rowOf p t k ≡ decoded op → Names (roomOf (p .table) (rowCount p t)) op →
+      begins-good : (op : Op) → k < rowCount p t → rowOf p t k ≡ decoded op → Names (roomOf (p .table) (rowCount p t) k) op →
           OnCell (pendingOf op) → Good p n (Machine.begins p st t k op)
       unfolding Machine.begins
       begins-good op row is-row names onCell =
@@ -151,7 +151,7 @@ module _ (p : Program) (held : cellsOf (p .table) ≤ cells) (few : threadsOf (p
 
     -- the row has begun
     acts-next : (op : Op) → number a (phase t) ≡ toAct → rowOf p t k ≡ decoded op →
-        Names (roomOf (p .table) (rowCount p t)) op → Good p n (Machine.acts p st t k op)
+        Names (roomOf (p .table) (rowCount p t) k) op → Good p n (Machine.acts p st t k op)
     acts-next op e row names =
         let is : Is t s toAct (number a begun) (otherWork a t) a = seen a t below (stands .whole) refl refl e in
         acts-good p held few t s k (number a (awaits t)) (number a begun) (otherWork a t) q n (stands .runs) (holds .ready) (rw e at own)

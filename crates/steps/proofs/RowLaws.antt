@@ -96,10 +96,10 @@ module _ (t : List ℕ) (long : headerBytes ≤ length t) where
   unfolding firstRows
   shape-plains = rw (is-shape, counts-are t long)
 
-  long-said : (i k : ℕ) → i < maxThreads → opAt t (roomIn (shapeOf t) i) (getD (shapeOf t) (7 + i) 0 + k) ≡ rowOf (program t) i k
+  long-said : (i k : ℕ) → i < maxThreads → opAt t (roomIn (shapeOf t) i k) (getD (shapeOf t) (7 + i) 0 + k) ≡ rowOf (program t) i k
   long-said i k h = rw (shape-rows i h, shape-first i h, shape-plains, is-shape)
 
-shape-said : (t : List ℕ) (i k : ℕ) → i < maxThreads → opAt t (roomIn (shapeOf t) i) (getD (shapeOf t) (7 + i) 0 + k) ≡ rowOf (program t) i k
+shape-said : (t : List ℕ) (i k : ℕ) → i < maxThreads → opAt t (roomIn (shapeOf t) i k) (getD (shapeOf t) (7 + i) 0 + k) ≡ rowOf (program t) i k
 shape-said t i k h = elim (decLt (length t) headerBytes) [
   | yes l ↦ short-refused t l _ _ ∙ sym (short-refused t l _ _)
   | no l ↦ long-said t (omega arith) i k h
@@ -107,7 +107,7 @@ shape-said t i k h = elim (decLt (length t) headerBytes) [
 
 module _ (t : List ℕ) {i k thread number : ℕ} (same : i ≡ thread) (also : k ≡ number) where
   pub row-said : {s : List ℕ} {d : code.Decoded} → s ≡ shapeOf t → i < maxThreads →
-      OpAt t (roomIn s i) (getD s (7 + i) 0 + k) d → decodedOf d ≡ rowSays t thread number
+      OpAt t (roomIn s i k) (getD s (7 + i) 0 + k) d → decodedOf d ≡ rowSays t thread number
   unfolding rowSays
   row-said e h o =
       let l : ltb thread maxThreads ≡ true = lt-ltb thread maxThreads (omega arith) in

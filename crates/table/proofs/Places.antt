@@ -88,9 +88,9 @@ module _ (t : List ℕ) (room : Room) (index : ℕ) where
     op-there e = subst (PlaceOf t room index) e p
 
 -- the room that a header gives
-abbrev room : ℕ → ℕ → ℕ → ℕ → Room
-room threads cells plains rows = record { threads = threads; cells = cells; plains = plains; rows = rows }
+abbrev room : ℕ → ℕ → ℕ → ℕ → ℕ → Room
+room threads cells plains rows row = record { threads = threads; cells = cells; plains = plains; rows = rows; row = row }
 
-pub room-made : (t : List ℕ) (rows : ℕ) {threads cells plains : ℕ} → threads ≡ threadsOf t → cells ≡ cellsOf t → plains ≡ plainsOf t →
-    room threads cells plains rows ≡ roomOf t rows
-room-made t rows p q l = rw (p, q, l)
+pub room-made : (t : List ℕ) (rows row : ℕ) {threads cells plains : ℕ} → threads ≡ threadsOf t → cells ≡ cellsOf t → plains ≡ plainsOf t →
+    room threads cells plains rows row ≡ roomOf t rows row
+room-made t rows row p q l = rw (p, q, l)

@@ -30,12 +30,17 @@ module _ (fine : ℕ → Bool) (n i : ℕ) where
   first-none h k = let e : n - i ≡ 0 = omega arith in let d : i ≡ n = omega arith in rw (e, d)
 
 -- the rows of one thread that are left at i
-abbrev pub badLeft : List ℕ → Room → ℕ → ℕ → ℕ → ℕ
-badLeft t room first c i = firstNot (λ (j : ℕ). isFine (opAt t room (first + j))) (c - i) i
+abbrev pub badLeft : List ℕ → ℕ → ℕ → ℕ → ℕ
+badLeft t first c i = firstNot (λ (j : ℕ). isFine (opAt t (roomOf t c j) (first + j))) (c - i) i
 
-pub bad-all : (t : List ℕ) {room : Room} (first c : ℕ) → room ≡ roomOf t c → badLeft t room first c 0 ≡ firstBad t first c
+pub bad-all : (t : List ℕ) (first c : ℕ) → badLeft t first c 0 ≡ firstBad t first c
 unfolding firstBad
-bad-all t first c e = rw (e, sub-zero)
+bad-all t first c = rw sub-zero
+
+-- the row at i, in the room that it has
+pub fine-in : (t : List ℕ) {room : Room} {b : Bool} (first c i : ℕ) → room ≡ roomOf t c i → b ≡ isFine (opAt t room (first + i)) →
+    isFine (opAt t (roomOf t c i) (first + i)) ≡ b
+fine-in t first c i e f = rw (f, e)
 
 -- the counts that are left at i
 module _ {A : Type 0} (f : List ℕ → A) (t : List ℕ) (h : headerBytes ≤ length t) (i : ℕ) where

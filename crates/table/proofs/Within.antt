@@ -87,8 +87,8 @@ module _ (room : Room) (r : Row) (few : room .threads ≤ 5) (small : room .cell
   join-in : In (joinRow (room .threads) r)
   join-in = only (ltb (r .object) (room .threads) && _) (join (r .object)) (λ e. below _ few (first _ _ e))
 
-  jump-in : In (jumpRow (room .rows) r)
-  jump-in = only (leb (r .target) (room .rows) && _) (jump (r .target)) (λ e. tt)
+  jump-in : In (jumpRow (room .rows) (room .row) r)
+  jump-in = only (leb (r .target) (room .rows) && _ && _) (jump (r .target)) (λ e. tt)
 
   check-in : In (checkRow r)
   check-in = only (isRegister (r .register) && _) (check (r .register) (r .a)) (λ e. register _ (first _ _ e))
@@ -153,10 +153,10 @@ module _ (t : List ℕ) (room : Room) (index : ℕ) where
   pub op-made : (r : row.Decoded) → decodedOf r ≡ opAt t room index → OpAt t room index r
   op-made r e = record { is = e; within = rw e op-in }
 
-pub op-moved : {t : List ℕ} {threads cells plains rows first number threads₁ cells₁ plains₁ rows₁ first₁ number₁ : ℕ} {r : row.Decoded} →
-    threads ≡ threads₁ → cells ≡ cells₁ → plains ≡ plains₁ → rows ≡ rows₁ → first ≡ first₁ → number ≡ number₁ →
-    OpAt t (record { threads = threads; cells = cells; plains = plains; rows = rows }) (first + number) r →
-    OpAt t (record { threads = threads₁; cells = cells₁; plains = plains₁; rows = rows₁ }) (first₁ + number₁) r
+pub op-moved : {t : List ℕ} {threads cells plains rows number first threads₁ cells₁ plains₁ rows₁ number₁ first₁ : ℕ} {r : row.Decoded} →
+    threads ≡ threads₁ → cells ≡ cells₁ → plains ≡ plains₁ → rows ≡ rows₁ → number ≡ number₁ → first ≡ first₁ →
+    OpAt t (record { threads = threads; cells = cells; plains = plains; rows = rows; row = number }) (first + number) r →
+    OpAt t (record { threads = threads₁; cells = cells₁; plains = plains₁; rows = rows₁; row = number₁ }) (first₁ + number₁) r
 op-moved p q l e f g o = rw (← p, ← q, ← l, ← e, ← f, ← g) o
 
 -- for callers: what a row names, once it is taken apart

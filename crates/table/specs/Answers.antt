@@ -22,13 +22,14 @@ PlaceOf t room index Nowhere = rules.refused ≡ rules.opAt t room index
 PlaceOf t room index (At at) =
     (at + rules.rowBytes ≤ length t) × (rules.rowDecoded room (rules.rowFrom t at) ≡ rules.opAt t room index)
 
--- the room of a thread's rows, by the shape
-abbrev pub roomIn : List ℕ → ℕ → rules.Room
-roomIn shape thread = record {
+-- the room of a thread's row, by the shape
+abbrev pub roomIn : List ℕ → ℕ → ℕ → rules.Room
+roomIn shape thread row = record {
   threads = getD shape 0 0;
   cells = getD shape 1 0;
   plains = getD shape 12 0;
   rows = getD shape (2 + thread) 0;
+  row = row;
 }
 
 -- what is decoded is what the definition says, and names only what there is

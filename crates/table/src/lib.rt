@@ -138,20 +138,22 @@ pub fn start_value(table: &[u8], i: usize) -> u64
 // What row `number` of this thread does, in a table of this shape.
 pub fn row_of(table: &[u8], shape: &Shape, thread: usize, number: u16) -> Decoded
     requires { ⌜ thread < 5 ⌝ }
-    ensures { λ r. ⌜ OpAt (now (table .entry)) (roomIn (now (shape .entry)) thread) (getD (now (shape .entry)) (7 + thread) 0 + number) r ⌝ }
+    ensures { λ r. ⌜ OpAt (now (table .entry)) (roomIn (now (shape .entry)) thread number) (getD (now (shape .entry)) (7 + thread) 0 + number) r ⌝ }
 {
     let threads = wide16(shape[THREADS]);
     let cells = wide16(shape[CELLS]);
     let plains = wide16(shape[PLAINS]);
     let rows = wide16(shape[COUNTS + thread]);
+    let row = wide16(number);
     let room = Room {
         threads,
         cells,
         plains,
         rows,
+        row,
     };
     let first = wide16(shape[FIRSTS + thread]);
-    op_at(table, room, first + wide16(number))
+    op_at(table, room, first + row)
 }
 
 // What the row of this number among all rows does, in this room. Refused where the table does not hold it, and where there are
@@ -267,9 +269,9 @@ fn first_bad(table: &[u8], first: usize, count: usize) -> usize
     requires { ⌜ (headerBytes ≤ length (now table)) × (first + count < 2 ^ 64) ⌝ }
     ensures { λ r. ⌜ r ≡ firstBad (now (table .entry)) first count ⌝ }
 {
-    let room = room_of(table, count);
     let mut i = 0;
     while i < count {
+        let room = room_of(table, count, i);
         if !is_fine(table, room, first + i) {
             return i;
         }
@@ -278,15 +280,16 @@ fn first_bad(table: &[u8], first: usize, count: usize) -> usize
     count
 }
 
-// What a row of a thread of so many rows may name.
-fn room_of(table: &[u8], rows: usize) -> Room
+// What the row of this number, in a thread of so many rows, may name.
+fn room_of(table: &[u8], rows: usize, row: usize) -> Room
     requires { ⌜ headerBytes ≤ length (now table) ⌝ }
-    ensures { λ r. ⌜ roomOf r ≡ rules.roomOf (now (table .entry)) rows ⌝ }
+    ensures { λ r. ⌜ roomOf r ≡ rules.roomOf (now (table .entry)) rows row ⌝ }
 {
     Room {
         threads: wide8(table[0]),
         cells: wide8(table[1]),
         plains: wide8(table[PLAIN_COUNT]),
         rows,
+        row,
     }
 }

@@ -64,7 +64,7 @@ module _ (table shape : List ℕ) (limits : Limits) (c : Cursor) (r : Ticked) (c
       }
 
   module _ (h : Here) (who : h .site .thread ≡ number numbers activeThread) (number-is : h .site .row ≡ number numbers (nextRow (h .site .thread))) (few : h .site .thread < 5)
-      (row : OpAt table (roomIn shape (h .site .thread)) (getD shape (7 + h .site .thread) 0 + h .site .row) (h .row)) where
+      (row : OpAt table (roomIn shape (h .site .thread) (h .site .row)) (getD shape (7 + h .site .thread) 0 + h .site .row) (h .row)) where
     abbrev t : ℕ
     t = h .site .thread
 
@@ -84,7 +84,7 @@ module _ (table shape : List ℕ) (limits : Limits) (c : Cursor) (r : Ticked) (c
         let d = s (2 + t) ∙ shape-rows table (runs .header) t few in
         let e = s (7 + t) ∙ shape-first table (runs .header) t few in
         let f = s 12 ∙ shape-plains table (runs .header) in
-        subst (λ (x : List ℕ). opAt x (roomOf x (getD (countsOf x) t 0)) (getD (firstRows 0 (countsOf x)) t 0 + h .site .row) ≡ decodedOf (h .row)) (sym (runs .is-table))
+        subst (λ (x : List ℕ). opAt x (roomOf x (getD (countsOf x) t 0) (h .site .row)) (getD (firstRows 0 (countsOf x)) t 0 + h .site .row) ≡ decodedOf (h .row)) (sym (runs .is-table))
         (sym (row .is ∙ simp (a, b, d, e, f)))
 
     pub tick-someone : (exit : Lent) → Goes entry exit c r 60 h (ticksAt shape limits h) (tickedAt h) → Ticks entry exit table shape limits c r

@@ -1,7 +1,7 @@
 //! Spoiling a sound case in one of the ways that have to be refused: settings, buffers, list,
 //! header, length, single fields of rows. Now and then what comes out is sound after all: no harm.
 
-use crate::draw::{any_row, Room};
+use crate::draw::{any_row, own_jump, Room};
 use crate::format::Case;
 use crate::random::Random;
 use crate::table::*;
@@ -117,6 +117,23 @@ fn spoil_row(r: &mut Random, case: &mut Case, program: &Program) {
         }
         spoil_field(r, &mut row, room);
         bytes.copy_from_slice(&row.bytes());
+    }
+}
+
+/// Lets one or two rows jump to themselves, with or without a condition.
+pub fn jump_to_itself(r: &mut Random, case: &mut Case, program: &Program) {
+    for _ in 0..r.pick(&[1, 1, 1, 2]) {
+        let thread = r.position(program.threads.len());
+        let rows = program.threads[thread].len();
+        if rows == 0 {
+            continue;
+        }
+        let own = r.position(rows);
+        let at = program.row_at(thread, own);
+        // A table that was cut off may lack the row.
+        if let Some(bytes) = case.table.get_mut(at..at + ROW) {
+            bytes.copy_from_slice(&own_jump(r, own as u16).bytes());
+        }
     }
 }
 

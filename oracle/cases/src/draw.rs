@@ -1,4 +1,5 @@
-//! Random orders, values and rows, all of them such as a table may have.
+//! Random orders, values and rows, nearly all of them such as a table may have: a row alone does not
+//! know whether it jumps to itself.
 
 use crate::random::Random;
 use crate::table::*;
@@ -99,6 +100,32 @@ pub fn any_row(r: &mut Random, room: Room) -> Row {
         38 => spurious(register(r)),
         39 => r.pick(&[critical(), explore_state(), skip_branch()]),
         _ => any_plain(r, room.plains),
+    }
+}
+
+/// All rows of a thread.
+pub fn any_rows(r: &mut Random, room: Room) -> Vec<Row> {
+    let mut rows: Vec<Row> = (0..room.rows).map(|_| any_row(r, room)).collect();
+    condition_own_jumps(&mut rows);
+    rows
+}
+
+/// Gives each jump to its own row a condition: without one it is refused, with one that holds it
+/// goes on as long.
+pub fn condition_own_jumps(rows: &mut [Row]) {
+    for (own, row) in (0..).zip(rows) {
+        if *row == jump(own) {
+            *row = jump_if(0, 0, own);
+        }
+    }
+}
+
+/// A jump to the row itself, of any of the three kinds; the first is refused.
+pub fn own_jump(r: &mut Random, own: u16) -> Row {
+    match r.below(4) {
+        0..=1 => jump(own),
+        2 => jump_if(register(r), r.below(3), own),
+        _ => jump_if_not(register(r), r.below(3), own),
     }
 }
 

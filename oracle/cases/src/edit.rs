@@ -158,7 +158,8 @@ fn add_plain(r: &mut Random, program: &mut Program) {
     }
 }
 
-/// Brings what a change has put out of range back into it.
+/// Brings what a change has put out of range back into it, and gives a jump to its own row a
+/// condition.
 fn mend(program: &mut Program) {
     let threads = program.threads.len() as u8;
     for rows in &mut program.threads {
@@ -169,5 +170,6 @@ fn mend(program: &mut Program) {
                 row.place %= threads;
             }
         }
+        condition_own_jumps(rows);
     }
 }

@@ -36,6 +36,11 @@ pub fn case(seed: u64, index: u64) -> Case {
             damage::spoil(r, &mut case, &program);
         }
     }
+    // Drawn apart too: where none is put in, a case is what it was before they were refused.
+    let mut apart = Random::new(seed ^ 0x6f_776e, index);
+    if apart.chance(1, 32) {
+        damage::jump_to_itself(&mut apart, &mut case, &program);
+    }
     // Drawn last: without its condition a case is what it was before there were any.
     case.condition = claims::draw(r, &program);
     case

@@ -13,7 +13,7 @@ pub const GENERATED: usize = 1_500;
 /// A generated case goes in if its line is no longer than this.
 const SHORT: usize = 1_000;
 /// One in so many may be longer, up to `LONG`: what needs long paths shall not be missing.
-const SELDOM: u64 = 16;
+const SELDOM: u64 = 24;
 const LONG: usize = 3_000;
 /// The same goes for the first so many cases of each answer.
 const FIRST: usize = 12;

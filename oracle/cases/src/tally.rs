@@ -4,7 +4,7 @@ use crate::condition::{self, Word, SIGNS};
 use crate::format::{Answer, Case, Left};
 use crate::run::by_oracle;
 use crate::spread::spread;
-use crate::table::{Program, Row, CHANGES, OPCODES, ORDERS};
+use crate::table::{jump, Program, Row, CHANGES, OPCODES, ORDERS};
 use std::fmt;
 
 /// Answers that a run of the generator has to show often. 13 and 17 need programs that chance
@@ -60,6 +60,10 @@ pub struct Tally {
     pub plains: u64,
     /// Runs that stop at a fault of a thread that goes on yielded, since it was picked so.
     pub picked: u64,
+    /// Cases refused at a jump to itself.
+    pub own_refused: u64,
+    /// Jumps to their own row in accepted tables, by their kind of condition.
+    pub own_held: [u64; 2],
     pub claims: Claims,
     /// Rows of accepted tables.
     pub held: Rows,
@@ -180,6 +184,7 @@ impl Tally {
         self.lists += u64::from(case.list.is_some());
         self.bounds += u64::from(case.settings.bound.is_some());
         self.claims.take(&case.condition, answer);
+        self.own_refused += u64::from(refused_at_own(case, answer));
         let refused = (2..=5).contains(&number);
         let program = Program::read(&case.table).filter(|_| !refused);
         let Some(program) = program else {
@@ -187,6 +192,7 @@ impl Tally {
         };
         self.plains += u64::from(!program.plains.is_empty());
         program.threads.iter().flatten().for_each(|row| self.held.take(row));
+        add_each(&mut self.own_held, &[10, 11].map(|opcode| own_jumps(&program, opcode)));
         self.picked += u64::from(goes_on_yielded(&program, answer));
         if let Left::Bytes(trace) = &answer.trace {
             // The last entry may have lost its zeros; its first two bytes are looked at only where
@@ -205,6 +211,8 @@ impl Tally {
         self.bounds += other.bounds;
         self.plains += other.plains;
         self.picked += other.picked;
+        self.own_refused += other.own_refused;
+        add_each(&mut self.own_held, &other.own_held);
         self.claims.add(&other.claims);
         add_each(&mut self.answers, &other.answers);
         add_each(&mut self.races, &other.races);
@@ -239,6 +247,9 @@ impl fmt::Display for Tally {
             writeln!(f, "race kind {kind}: {n}")?;
         }
         writeln!(f, "faults of a picked yielder: {}", self.picked)?;
+        writeln!(f, "refused at a jump to itself: {}", self.own_refused)?;
+        let [jump_if, jump_if_not] = self.own_held;
+        writeln!(f, "jump if, jump if not to its own row: {jump_if} {jump_if_not}")?;
         write!(f, "{}", self.claims)?;
         writeln!(f, "rows: in accepted tables, completed in last executions")?;
         for (opcode, name) in OPCODES.iter().enumerate() {
@@ -290,6 +301,22 @@ fn goes_on_yielded(program: &Program, answer: &Answer) -> bool {
     };
     let gives_way = rows.get(row).is_some_and(|row| row.opcode == 7);
     numbers[9 + 4 * thread] == 3 && !(gives_way && [11, 17].contains(&numbers[0]))
+}
+
+/// How many rows of this opcode jump to themselves.
+fn own_jumps(program: &Program, opcode: u8) -> u64 {
+    let own = |&(own, row): &(u16, &Row)| row.opcode == opcode && row.target == own;
+    let count = |rows: &Vec<Row>| (0..).zip(rows).filter(own).count() as u64;
+    program.threads.iter().map(count).sum()
+}
+
+/// Whether the bad row that a refusal names is a jump to itself with nothing else amiss.
+fn refused_at_own(case: &Case, answer: &Answer) -> bool {
+    let numbers = &answer.numbers;
+    let (thread, row) = (numbers[5] as usize, numbers[6] as usize);
+    let program = Program::read(&case.table).filter(|_| numbers[0] == 5);
+    let rows = program.and_then(|program| program.threads.get(thread).cloned());
+    rows.is_some_and(|rows| rows.get(row) == Some(&jump(row as u16)))
 }
 
 /// Whether a row of this opcode, 0 to 4, may have this order.

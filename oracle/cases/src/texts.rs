@@ -256,7 +256,7 @@ fn spoil(r: &mut Random, pieces: &mut Vec<Piece>) {
         return;
     }
     let at = r.position(pieces.len());
-    match r.below(18) {
+    match r.below(19) {
         0..=1 => pieces[at].text = r.pick(&WORDS).to_string(),
         2 => drop(pieces.remove(at)),
         3 => pieces.insert(at, Piece { text: r.pick(&WORDS).to_string(), first: false }),
@@ -277,6 +277,7 @@ fn spoil(r: &mut Random, pieces: &mut Vec<Piece>) {
         14 => pieces.truncate(at),
         15 => insert_plain(r, pieces),
         16 => replain(r, pieces),
+        17 => rejump(r, pieces),
         _ => {
             let other = r.position(pieces.len());
             pieces[at].text = pieces[other].text.clone();
@@ -318,6 +319,27 @@ fn replain(r: &mut Random, pieces: &mut [Piece]) {
         let names = ["p0", "p1", "p2", "p3", "p4", "p9", "p00", "p", "P0", "0", "r0", "p0.", "pp"];
         pieces[r.pick(&plains)].text = r.pick(&names).to_string();
     }
+}
+
+/// Lets a row jump to itself, or to a row beside it, with or without a condition.
+fn rejump(r: &mut Random, pieces: &mut Vec<Piece>) {
+    let (from, to) = some_line(r, pieces);
+    let words = ["cells", "plain", "thread", "finally"];
+    let firsts = pieces[..from].iter().rev().filter(|piece| piece.first);
+    let before = firsts.take_while(|piece| !words.contains(&piece.text.as_str())).count();
+    let target = match r.below(8) {
+        0 => before + 1,
+        1 => before.saturating_sub(1),
+        _ => before,
+    };
+    let line = match r.below(4) {
+        0..=1 => format!("jump {target}"),
+        2 => format!("if r{} = {} jump {target}", r.below(4), r.below(2)),
+        _ => format!("if r{} != {} jump {target}", r.below(4), r.below(2)),
+    };
+    // In the row's place or in front of it: either way it has the row's number.
+    let to = if r.chance(1, 2) { from } else { to };
+    pieces.splice(from..to, self::pieces(line.as_bytes()));
 }
 
 /// Where a line begins, and where it ends.

@@ -198,5 +198,5 @@ fn a_case_is_asked_about_by_name() {
 #[test]
 fn the_telling_cases_have_the_oracles_answers() {
     let output = run(&["check", "../definition/telling"], "");
-    assert_eq!(text(&output.stdout), "45 cases agree, 0 differ\n");
+    assert_eq!(text(&output.stdout), "55 cases agree, 0 differ\n");
 }

@@ -30,6 +30,8 @@ fn every_answer_and_row_comes_up() {
         assert!(tally.lists > CASES / 4 && tally.bounds > CASES / 4);
         assert!(tally.plains > CASES / 6, "seed {seed}: {}", tally.plains);
         assert!(tally.picked > CASES / 50, "seed {seed}: {}", tally.picked);
+        assert!(tally.own_refused > CASES / 100, "seed {seed}: {}", tally.own_refused);
+        assert!(tally.own_held.iter().all(|&n| n > CASES / 200), "{:?}", tally.own_held);
         conditions_come_up(&tally.claims);
     }
 }

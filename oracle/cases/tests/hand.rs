@@ -161,6 +161,39 @@ fn plain_rows_to_the_byte() {
     assert_eq!(trace(&raced).len(), 2);
 }
 
+/// The row that is refused for a jump to itself, and where one with a condition goes on.
+#[test]
+fn jumps_to_their_own_row_are_named() {
+    let expected = [
+        ("own-alone", [5, 0, 0]),
+        ("own-first", [5, 0, 0]),
+        ("own-later", [5, 0, 2]),
+        ("own-second-thread", [5, 1, 0]),
+        ("own-last-thread", [5, 4, 1]),
+        ("own-last-row", [5, 0, 63]),
+        ("own-two", [5, 0, 1]),
+        ("own-and-bad", [5, 0, 0]),
+        ("own-not-bad", [5, 1, 0]),
+        ("own-and-length", [5, 255, 255]),
+        ("own-counted", [0, 255, 255]),
+        ("own-if-held-0", [12, 1, 0]),
+        ("own-if-held-1", [12, 1, 1]),
+        ("own-if-not-held-0", [12, 1, 0]),
+        ("own-if-not-held-1", [12, 1, 1]),
+        ("own-if-unheld-0", [0, 255, 255]),
+        ("own-if-unheld-1", [0, 255, 255]),
+        ("own-if-not-unheld-0", [0, 255, 255]),
+        ("own-if-not-unheld-1", [0, 255, 255]),
+        ("own-ring", [12, 0, 0]),
+        ("own-before", [12, 1, 1]),
+        ("own-after", [0, 255, 255]),
+    ];
+    for (name, named) in expected {
+        let numbers = answered(name).numbers;
+        assert_eq!([numbers[0], numbers[5], numbers[6]], named, "{name}");
+    }
+}
+
 /// The schedulings that meet a full path or too many preemptions.
 #[test]
 fn faults_at_each_caller_of_the_scheduling() {

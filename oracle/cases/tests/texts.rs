@@ -120,3 +120,29 @@ fn a_refusal_names_the_first_place() {
     }
     assert!(refusals > TEXTS / 3 && cut_off > TEXTS / 8, "{refusals} {cut_off}");
 }
+
+/// How many rows of its thread stand before a line, in a text that was refused there and not earlier.
+fn rows_before(lines: &[&str]) -> usize {
+    let bare = lines.iter().rev().map(|line| line.split('#').next().unwrap_or("").trim());
+    bare.filter(|line| !line.is_empty()).take_while(|line| *line != "thread").count()
+}
+
+/// A row that jumps to itself is refused at its own number.
+#[test]
+fn jumps_to_their_own_row_come_up() {
+    let mut refused = 0;
+    for index in 0..TEXTS {
+        let text = text(5, index);
+        let Err(Refused(place)) = read(&text) else {
+            continue;
+        };
+        let text = String::from_utf8_lossy(&text);
+        let lines: Vec<&str> = text.split('\n').take(place.line as usize).collect();
+        let (line, before) = lines.split_last().expect("the line that is named");
+        let own = rows_before(before).to_string();
+        let token = line.get(place.column as usize - 1..).unwrap_or("");
+        let number = token.split(|c: char| !c.is_ascii_digit()).next();
+        refused += u64::from(line.trim().starts_with("jump") && number == Some(&own));
+    }
+    assert!(refused > TEXTS / 400, "{refused}");
+}

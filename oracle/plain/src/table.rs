@@ -55,7 +55,7 @@ impl Program {
         for thread in 0..program.threads {
             for row in 0..program.counts[thread] {
                 let bytes = rows.next().ok_or(Refused::LAYOUT)?;
-                let op = Fields::read(bytes, program.limits(thread)).decode();
+                let op = Fields::read(bytes, program.limits(thread, row)).decode();
                 let refused = Refused {
                     thread: thread as u8,
                     row,
@@ -102,12 +102,13 @@ impl Program {
         &self.rows[thread.id][usize::from(thread.next)]
     }
 
-    fn limits(&self, thread: usize) -> Limits {
+    fn limits(&self, thread: usize, row: u8) -> Limits {
         Limits {
             threads: self.threads,
             cells: self.cells,
             plains: self.plains,
             rows: self.counts[thread],
+            row,
         }
     }
 }
@@ -128,6 +129,8 @@ struct Limits {
     cells: usize,
     plains: usize,
     rows: u8,
+    /// The row itself.
+    row: u8,
 }
 
 /// The fields of one row. Taking a field leaves zero behind, so whatever is not zero in the end is
@@ -175,7 +178,7 @@ impl Fields {
             6 => Op::WithMut(f.cell()?, f.register()?, f.change()?),
             7 => Op::Yield,
             8 => Op::Join(f.thread()?),
-            9 => Op::Jump(f.target()?),
+            9 => Op::Jump(f.elsewhere()?),
             10 => Op::JumpIf(f.condition()?, f.target()?),
             11 => Op::JumpUnless(f.condition()?, f.target()?),
             12 => Op::Check(f.condition()?),
@@ -257,6 +260,11 @@ impl Fields {
     fn target(&mut self) -> Option<u8> {
         let target = u8::try_from(take(&mut self.target)).ok()?;
         (target <= self.limits.rows).then_some(target)
+    }
+
+    /// A jump without a condition may not go to its own row, which it would never leave.
+    fn elsewhere(&mut self) -> Option<u8> {
+        self.target().filter(|&target| target != self.limits.row)
     }
 
     fn a(&mut self) -> u64 {

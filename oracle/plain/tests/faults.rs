@@ -92,7 +92,8 @@ fn no_more_rows_may_begin() {
     assert_eq!(at_fault(&left), (12, 0, 1));
     assert_eq!((left.report.rows, left.entries().len()), (1, 1));
     assert_eq!(run(&two, &limited(2)).report.answer, 0);
-    let spins = run(&table(&[0], &[&[jump(0)]]), &limited(MAX_OPERATIONS));
+    let itself = [jump_if(0, 0, 0)];
+    let spins = run(&table(&[0], &[&itself]), &limited(MAX_OPERATIONS));
     assert_eq!((at_fault(&spins), spins.report.rows), ((12, 0, 0), MAX_OPERATIONS));
     assert_eq!(spins.entries().len() as u64, MAX_OPERATIONS);
 }

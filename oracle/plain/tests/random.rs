@@ -24,8 +24,9 @@ impl Numbers {
     }
 }
 
-/// A row that is accepted in a program of `cells`, as many plain ones, and `threads`, in a thread of `rows`.
-fn row(n: &mut Numbers, cells: u64, threads: u64, rows: u64) -> Row {
+/// A row that is accepted in a program of `cells`, as many plain ones, and `threads`, as row `own` in a thread of
+/// `rows`.
+fn row(n: &mut Numbers, cells: u64, threads: u64, [own, rows]: [u64; 2]) -> Row {
     let register = n.below(2) as u8;
     let a = n.below(3);
     let target = n.below(rows + 1) as u16;
@@ -33,8 +34,8 @@ fn row(n: &mut Numbers, cells: u64, threads: u64, rows: u64) -> Row {
         0..=14 => access(n, cells, register, a),
         15..=16 => yield_now(),
         17 => join(n.below(threads) as u8),
-        18 => jump(target),
-        19 => jump_if(register, a, target),
+        18 if u64::from(target) != own => jump(target),
+        18 | 19 => jump_if(register, a, target),
         20 => jump_unless(register, a, target),
         21 => check(register, a),
         22 => bare(13 + n.below(3) as u8),
@@ -87,7 +88,8 @@ fn program(n: &mut Numbers) -> Vec<u8> {
     let rows: Vec<Vec<Row>> = (0..threads)
         .map(|_| {
             let count = n.below(7);
-            (0..count).map(|_| row(n, cells, threads, count)).collect()
+            let mut one = |own| row(n, cells, threads, [own, count]);
+            (0..count).map(&mut one).collect()
         })
         .collect();
     let rows: Vec<&[Row]> = rows.iter().map(Vec::as_slice).collect();

@@ -224,7 +224,7 @@ fn unused_fields_are_zero() {
                 ..row
             },
             Fields { register: 3, ..row },
-            Fields { target: 1, ..row },
+            Fields { target: 2, ..row },
             Fields { a: 1 << 63, ..row },
             Fields { b: 1, ..row },
         ];
@@ -259,9 +259,37 @@ fn used_fields_stay_in_range() {
     }
 }
 
+/// As the second row of two: a jump to row 0 or to the end goes elsewhere.
 fn is_accepted(row: Fields) -> bool {
-    let table = table_with(&[0, 0], &[0, 0], &[&[row.row()], &[]]);
+    let table = table_with(&[0, 0], &[0, 0], &[&[bare(15), row.row()], &[]]);
     run(&table, &settings()).report.answer != 5
+}
+
+#[test]
+fn a_jump_to_itself() {
+    let ok = yield_now();
+    refused(&table(&[0], &[&[jump(0)]]), 0, 0);
+    refused(&table(&[0], &[&[ok, ok, jump(2), jump(3)]]), 0, 2);
+    refused(&table(&[0], &[&[ok, ok, bare(19), jump(3)]]), 0, 2);
+    let ring: [&[Row]; 2] = [&[ok, ok, ok], &[jump(1), jump(0), jump(2)]];
+    refused(&table(&[0], &ring), 1, 2);
+    let last = MAX_ROWS - 1;
+    let mut full = [ok; MAX_ROWS];
+    full[last] = jump(last as u16);
+    refused(&table(&[0], &[&[], &[], &full]), 2, last as u64);
+    // Its own number in the table is another row's number in the thread.
+    let other = table(&[0], &[&[ok, ok], &[jump(2), ok, ok]]);
+    assert_eq!(run(&other, &settings()).report.answer, 0);
+    // With a condition it is legal, and goes on until no more rows may begin if that holds.
+    for (row, answer) in [
+        (jump_if(0, 0, 1), 12),
+        (jump_if(0, 1, 1), 0),
+        (jump_unless(0, 1, 1), 12),
+        (jump_unless(0, 0, 1), 0),
+    ] {
+        let left = run(&table(&[0], &[&[], &[ok, row]]), &settings());
+        assert_eq!(left.report.answer, answer);
+    }
 }
 
 #[test]

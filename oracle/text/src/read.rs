@@ -23,7 +23,7 @@ pub fn read(text: &[u8]) -> Result<Program, Refused> {
     let last = rest.iter().position(|line| line.begins(b"finally")).unwrap_or(rest.len());
     let (program, claim) = rest.split_at(last);
     let threads = program.iter().filter(|line| line.begins(b"thread")).count();
-    let room = Room { cells: cells.len(), plains: plains.len(), threads, rows: 0 };
+    let room = Room { cells: cells.len(), plains: plains.len(), threads, rows: 0, own: 0 };
     let (counts, rows) = rows(program, room)?;
     if counts.is_empty() {
         return Err(Refused(claim.first().map_or(end, |line| line.tokens[0].place)));
@@ -76,6 +76,7 @@ fn rows(lines: &[Line<'_>], mut room: Room) -> Result<(Vec<usize>, Vec<u8>), Ref
         if *count == ROWS {
             return Err(first);
         }
+        room.own = *count;
         *count += 1;
         bytes.extend(row(line.cursor(), &room)?);
     }

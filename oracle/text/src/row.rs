@@ -10,6 +10,8 @@ pub struct Room {
     pub threads: usize,
     /// Rows of its thread.
     pub rows: usize,
+    /// Its own number among them.
+    pub own: usize,
 }
 
 /// The fields of a row in a table.
@@ -41,7 +43,7 @@ pub fn row(mut tokens: Cursor<'_>, room: &Room) -> Result<[u8; ROW], Refused> {
         b"fence" => Row { opcode: 4, order: t.order(FENCE)?, ..Row::default() },
         b"yield" => Row { opcode: 7, ..Row::default() },
         b"join" => Row { opcode: 8, place: t.below(room.threads)?, ..Row::default() },
-        b"jump" => Row { opcode: 9, target: target(t, room)?, ..Row::default() },
+        b"jump" => Row { opcode: 9, target: elsewhere(t, room)?, ..Row::default() },
         b"if" => jump_if(t, room)?,
         b"check" => {
             let register = t.register()?;
@@ -88,6 +90,14 @@ fn jump_if(t: &mut Cursor<'_>, room: &Room) -> Result<Row, Refused> {
 fn target(t: &mut Cursor<'_>, room: &Room) -> Result<u16, Refused> {
     // More rows than a table can have are refused where they stand.
     t.expect(|text| number(text).filter(|&row| row <= room.rows as u64).map(|row| row as u16))
+}
+
+/// The same, but not the row itself.
+fn elsewhere(t: &mut Cursor<'_>, room: &Room) -> Result<u16, Refused> {
+    match target(t, room)? {
+        row if usize::from(row) == room.own => Err(t.refused()),
+        row => Ok(row),
+    }
 }
 
 /// What stands behind `R =`.

@@ -539,6 +539,40 @@ fn what_is_not_there_is_refused_at_its_number() {
     }
 }
 
+/// A jump without a condition is refused at its number if that is its own row's. With one it is not.
+#[test]
+fn a_jump_to_its_own_row() {
+    refused_row("jump 1", "1");
+    refused_row("jump 1 1", "1");
+    for other in ["jump 0", "jump 2", "jump 3", "if r0 = 0 jump 1", "if r0 != 0 jump 1"] {
+        program(&around(other));
+    }
+    refused("cells 0\nthread\njump 0\n", 3, 6);
+    refused("cells 0\nthread\njump 0", 3, 6);
+    refused("cells 0\nthread\n\tjump\t 0 # here\r\n", 3, 8);
+    program("cells 0\nthread\njump 1\njump 0\n");
+    // Rows are counted anew in each thread, and lines that are no rows are not.
+    program("cells 0\nthread\nyield\nyield\nthread\njump 2\nyield\n");
+    refused("cells 0\nthread\nyield\nyield\nthread\n\n# no row\njump 0\nyield\n", 8, 6);
+    refused("cells 0\nthread\nthread\nyield\n\njump 1\nyield\njump 3\n", 6, 6);
+    let last = format!("cells 0\nthread\n{}", "yield\n".repeat(ROWS - 1));
+    refused(&format!("{last}jump {}\n", ROWS - 1), ROWS as u64 + 2, 6);
+    program(&format!("{last}jump {ROWS}\n"));
+    program(&format!("{last}if r1 = 2 jump {}\n", ROWS - 1));
+}
+
+/// No text is written for it.
+#[test]
+fn a_jump_to_its_own_row_is_not_written() {
+    let other = program(&around("jump 2")).table;
+    assert!(write(&other, &[]).is_some());
+    let mut own = other;
+    own[8 + 40 + 24 + 6] = 1;
+    assert_eq!(write(&own, &[]), None);
+    own[8 + 40 + 24] = 10;
+    assert!(write(&own, &[]).is_some());
+}
+
 /// Threads are counted by the lines that begin so, up to `finally`; rows up to the next such line.
 #[test]
 fn how_threads_and_rows_are_counted() {

@@ -7,6 +7,9 @@ use Rattle.decode.proofs.jump_row.Tie as tie
 reached-requires : tie.Need-reached-requires
 reached-requires c κs = search needs
 
+leads-on-requires : tie.Need-leads-on-requires
+leads-on-requires c κs = search needs
+
 no-change-requires : tie.Need-no-change-requires
 no-change-requires c κs = search needs
 
@@ -18,10 +21,10 @@ only-if-requires c κs = search needs
 
 returns : tie.Need-returns
 returns c =
-    let g = c .before .before .before .before .before .before .before .args in
-    jump-made (g .count) (rowOf (g .row)) (c .only-if .ensures) (c .before .before .before .before .before .before .reached .ensures) (c .before .before .before .no-change .ensures) (c .before .no-operands .ensures)
+    let g = c .before .before .before .before .before .before .before .before .args in
+    jump-made (g .count) (g .own) (rowOf (g .row)) (c .only-if .ensures) (c .before .before .before .before .before .before .before .reached .ensures) (c .before .before .before .before .before .before .leads-on .ensures) (c .before .before .before .no-change .ensures) (c .before .no-operands .ensures)
 
 pub jump-row-spec : {M : Type 1} → statement M
 jump-row-spec =
     tie.close
-    (tie.spec reached-requires no-change-requires no-operands-requires only-if-requires returns)
+    (tie.spec reached-requires leads-on-requires no-change-requires no-operands-requires only-if-requires returns)

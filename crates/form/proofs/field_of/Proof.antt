@@ -16,7 +16,7 @@ returns-2 c = ⊎-elim (λ e. ap fieldOf (sym e)) (⊎-elim (λ e. ap fieldOf (s
 
 returns-3 : tie.Need-returns-3
 unfolding fieldOf
-returns-3 c = ap fieldOf (sym (c .match .keys3))
+returns-3 c = ⊎-elim (λ e. ap fieldOf (sym e)) (λ e. ap fieldOf (sym e)) (c .match .keys3)
 
 returns-4 : tie.Need-returns-4
 unfolding fieldOf
@@ -37,7 +37,7 @@ returns-7 c = ap fieldOf (sym (c .match .keys7))
 returns-8 : tie.Need-returns-8
 returns-8 c =
     let none = c .match .rest in
-    field-none _ (none .0 .0 .0 .0 .0 .0 .1) (λ e. none .0 .0 .0 .0 .0 .1 (inl e)) (λ e. none .0 .0 .0 .0 .0 .1 (inr (inr e))) (λ e. none .0 .0 .0 .0 .0 .1 (inr (inl e))) (none .0 .0 .0 .0 .1) (none .0 .0 .0 .1) (none .0 .0 .1) (λ e. none .0 .1 (inr (inl e))) (λ e. none .0 .1 (inr (inr (inr e)))) (λ e. none .0 .1 (inr (inr (inl e)))) (λ e. none .0 .1 (inl e)) (none .1)
+    field-none _ (none .0 .0 .0 .0 .0 .0 .1) (λ e. none .0 .0 .0 .0 .0 .1 (inl e)) (λ e. none .0 .0 .0 .0 .0 .1 (inr (inr e))) (λ e. none .0 .0 .0 .0 .0 .1 (inr (inl e))) (λ e. none .0 .0 .0 .0 .1 (inr e)) (λ e. none .0 .0 .0 .0 .1 (inl e)) (none .0 .0 .0 .1) (none .0 .0 .1) (λ e. none .0 .1 (inr (inl e))) (λ e. none .0 .1 (inr (inr (inr e)))) (λ e. none .0 .1 (inr (inr (inl e)))) (λ e. none .0 .1 (inl e)) (none .1)
 
 pub field-of-spec : {M : Type 1} → statement M
 field-of-spec =

@@ -26,23 +26,27 @@ returns-4 c = let a = c .before .before .args in ap (λ (b : ℕ). mayBe (roomOf
 
 returns-5 : tie.Need-returns-5
 unfolding mayBe
-returns-5 c =
-    let a = c .before .args in
-    ⊎-elim (λ e. ap (λ (b : ℕ). mayBe (roomOf (a .room)) b (a .value)) (sym e)) (λ e. ap (λ (b : ℕ). mayBe (roomOf (a .room)) b (a .value)) (sym e)) (c .match .keys5)
+returns-5 c = let a = c .before .before .before .args in ap (λ (b : ℕ). mayBe (roomOf (a .room)) b (a .value)) (sym (c .before .before .match .keys5))
 
 returns-6 : tie.Need-returns-6
 unfolding mayBe
-returns-6 c = let a = c .before .args in ap (λ (b : ℕ). mayBe (roomOf (a .room)) b (a .value)) (sym (c .match .keys6))
+returns-6 c =
+    let a = c .before .args in
+    ⊎-elim (λ e. ap (λ (b : ℕ). mayBe (roomOf (a .room)) b (a .value)) (sym e)) (λ e. ap (λ (b : ℕ). mayBe (roomOf (a .room)) b (a .value)) (sym e)) (c .match .keys6)
 
 returns-7 : tie.Need-returns-7
 unfolding mayBe
 returns-7 c = let a = c .before .args in ap (λ (b : ℕ). mayBe (roomOf (a .room)) b (a .value)) (sym (c .match .keys7))
 
 returns-8 : tie.Need-returns-8
-returns-8 c =
+unfolding mayBe
+returns-8 c = let a = c .before .args in ap (λ (b : ℕ). mayBe (roomOf (a .room)) b (a .value)) (sym (c .match .keys8))
+
+returns-9 : tie.Need-returns-9
+returns-9 c =
     let none = c .match .rest in
-    may-be-any _ (roomOf (c .before .args .room)) _ (none .0 .0 .0 .0 .0 .0 .1) (none .0 .0 .0 .0 .0 .1) (none .0 .0 .0 .0 .1) (none .0 .0 .0 .1) (λ e. none .0 .0 .1 (inl e)) (λ e. none .0 .0 .1 (inr e)) (none .0 .1) (none .1)
+    may-be-any _ (roomOf (c .before .args .room)) _ (none .0 .0 .0 .0 .0 .0 .0 .1) (none .0 .0 .0 .0 .0 .0 .1) (none .0 .0 .0 .0 .0 .1) (none .0 .0 .0 .0 .1) (none .0 .0 .0 .1) (λ e. none .0 .0 .1 (inl e)) (λ e. none .0 .0 .1 (inr e)) (none .0 .1) (none .1)
 
 pub may-be-spec : {M : Type 1} → statement M
 may-be-spec =
-    tie.close (tie.spec returns returns-2 returns-3 returns-4 returns-5 returns-6 returns-7 returns-8)
+    tie.close (tie.spec returns returns-2 returns-3 returns-4 returns-5 returns-6 returns-7 returns-8 returns-9)

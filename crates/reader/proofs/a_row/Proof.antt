@@ -1,4 +1,4 @@
-use Prim.Native.Nat.{ℕ, _-_, _≤_, _<_}
+use Prim.Native.Nat.{ℕ, _+_, _-_, _≤_, _<_}
 use mathlib.Core.List.{List}
 use mathlib.Core.Path.{_≡_, sym, _∙_}
 use native.Mathlib.Omega.{arith}
@@ -16,9 +16,10 @@ use Rattle.reader.proofs.a_row.Statement.{statement}
 use Rattle.reader.proofs.a_row.Tie as tie
 
 -- what a row may name, by the header
-named : (b : List ℕ) (n : ℕ) (m : Made) → Held b n m → (all rows : ℕ) (bs : List ℕ)
-    → rowIn (record { threads = all; cells = m .cells; plains = m .plains; rows = rows }) bs ≡ rowIn (record { threads = all; cells = getD b 1 0; plains = getD b 7 0; rows = rows }) bs
-named b n m held all rows bs = rw (held-cells b n m held, held-plains b n m held)
+named : (b : List ℕ) (n : ℕ) (m : Made) → Held b n m → 1 ≤ getD b 0 0 → (all rows : ℕ) (bs : List ℕ)
+    → rowIn (record { threads = all; cells = m .cells; plains = m .plains; rows = rows; row = rowsSoFar m }) bs
+    ≡ rowIn (record { threads = all; cells = getD b 1 0; plains = getD b 7 0; rows = rows; row = getD b (1 + getD b 0 0) 0 }) bs
+named b n m held some all rows bs = rw (held-cells b n m held, held-plains b n m held, count-there b n m held some)
 
 slice-read-threads : tie.Need-slice-read-threads
 slice-read-threads c =
@@ -118,7 +119,7 @@ returns-3 c = record {
       let a = one .before .before .before .before .args in
       let some : 1 ≤ getD (a .table .now) 0 0 = omega (arith, one .if1 .left) in
       let few : rowsSoFar m < maxRows = omega (arith, two .if2 .left, count-there (a .table .now) (a .length) m held some) in
-      let read = named (a .table .now) (a .length) m held (a .all) (a .rows) (drop (a .from) (a .text .now)) ∙ sym (got .row-in .ensures .follows .said) in
+      let read = named (a .table .now) (a .length) m held some (a .all) (a .rows) (drop (a .from) (a .text .now)) ∙ sym (got .row-in .ensures .follows .said) in
       row-stuck (a .all) (a .rows) m (drop (a .from) (a .text .now)) (drop (a .here) (a .text .now)) (begun (a .table .now) (a .length) m held some) few _ (read ∙ followed-stuck (a .text .now) (got .row-in .result) (not-true _ (c .if3 .taken)));
 }
 
@@ -149,7 +150,7 @@ returns-4 c = record {
       let a = one .before .before .before .before .args in
       let some : 1 ≤ getD (a .table .now) 0 0 = omega (arith, one .if1 .left) in
       let few : rowsSoFar m < maxRows = omega (arith, two .if2 .left, count-there (a .table .now) (a .length) m held some) in
-      let read = named (a .table .now) (a .length) m held (a .all) (a .rows) (drop (a .from) (a .text .now)) ∙ sym (got .row-in .ensures .follows .said) in (
+      let read = named (a .table .now) (a .length) m held some (a .all) (a .rows) (drop (a .from) (a .text .now)) ∙ sym (got .row-in .ensures .follows .said) in (
         withRow m (got .row-in .result .fields),
         (
           row-fits (a .all) (a .rows) m (drop (a .from) (a .text .now)) (drop (a .here) (a .text .now)) (begun (a .table .now) (a .length) m held some) few _ _ (read ∙ followed-fits (a .text .now) (got .row-in .result) (not-false _ (all .if3 .left))),

@@ -47,11 +47,8 @@ may-if-requires-2 c κs = search needs
 enum-told-7 : tie.Need-enum-told-7
 enum-told-7 c = search needs
 
-is-jump-requires : tie.Need-is-jump-requires
-is-jump-requires c κs = search needs
-
-may-if-requires-3 : tie.Need-may-if-requires-3
-may-if-requires-3 c κs = search needs
+target-may-requires : tie.Need-target-may-requires
+target-may-requires c κs = search needs
 
 enum-told-8 : tie.Need-enum-told-8
 enum-told-8 c = search needs
@@ -59,8 +56,8 @@ enum-told-8 c = search needs
 is-change-requires-2 : tie.Need-is-change-requires-2
 is-change-requires-2 c κs = search needs
 
-may-if-requires-4 : tie.Need-may-if-requires-4
-may-if-requires-4 c κs = search needs
+may-if-requires-3 : tie.Need-may-if-requires-3
+may-if-requires-3 c κs = search needs
 
 enum-told-9 : tie.Need-enum-told-9
 enum-told-9 c = search needs
@@ -68,8 +65,8 @@ enum-told-9 c = search needs
 is-change-requires-3 : tie.Need-is-change-requires-3
 is-change-requires-3 c κs = search needs
 
-may-if-requires-5 : tie.Need-may-if-requires-5
-may-if-requires-5 c κs = search needs
+may-if-requires-4 : tie.Need-may-if-requires-4
+may-if-requires-4 c κs = search needs
 
 returns : tie.Need-returns
 unfolding mayBe
@@ -97,15 +94,15 @@ returns-6 c = told _ _ _ _ _ (c .before .before .enum-told6 .given .1) (test-as 
 
 returns-7 : tie.Need-returns-7
 unfolding mayBe
-returns-7 c = told _ _ _ _ _ (c .before .before .enum-told7 .given .1) (test-as _ _ _ _ _ (c .may-if3 .ensures) (c .before .is-jump .ensures))
+returns-7 c = told _ _ _ _ _ (c .before .enum-told7 .given .1) (c .target-may .ensures)
 
 returns-8 : tie.Need-returns-8
 unfolding mayBe
-returns-8 c = told _ _ _ _ _ (c .before .before .enum-told8 .given .1) (test-as _ _ _ _ _ (c .may-if4 .ensures) (c .before .is-change2 .ensures))
+returns-8 c = told _ _ _ _ _ (c .before .before .enum-told8 .given .1) (test-as _ _ _ _ _ (c .may-if3 .ensures) (c .before .is-change2 .ensures))
 
 returns-9 : tie.Need-returns-9
 unfolding mayBe
-returns-9 c = told _ _ _ _ _ (c .before .before .enum-told9 .given .1) (test-as _ _ _ _ _ (c .may-if5 .ensures) (c .before .is-change3 .ensures))
+returns-9 c = told _ _ _ _ _ (c .before .before .enum-told9 .given .1) (test-as _ _ _ _ _ (c .may-if4 .ensures) (c .before .is-change3 .ensures))
 
 pub may-be-spec : {M : Type 1} → statement M
 may-be-spec =
@@ -125,14 +122,13 @@ may-be-spec =
     has-register-requires
     may-if-requires-2
     enum-told-7
-    is-jump-requires
-    may-if-requires-3
+    target-may-requires
     enum-told-8
     is-change-requires-2
-    may-if-requires-4
+    may-if-requires-3
     enum-told-9
     is-change-requires-3
-    may-if-requires-5
+    may-if-requires-4
     returns
     returns-2
     returns-3

@@ -2,24 +2,22 @@ use Prim.Native.Nat.{_≤_, _-_}
 use mathlib.Core.Path.{_≡_, sym, _∙_}
 use borrow.Author.Tests.{not-true, not-false}
 use Rattle.rules.specs.Table.{firstBad}
-use Rattle.decode.specs.Ops.{roomOf}
-use Rattle.table.proofs.Walks.{badLeft, bad-all, first-on, first-found, first-none}
+use Rattle.table.proofs.Walks.{badLeft, bad-all, fine-in, first-on, first-found, first-none}
 use borrow.Author.Needs.{needs}
 use Rattle.table.proofs.first_bad.Statement.{statement}
 use Rattle.table.proofs.first_bad.Tie as tie
 
 abbrev Inv-loop : tie.InvT-loop
-Inv-loop table first count room i₀ i =
-    (i ≤ count) × (badLeft table (roomOf room) first count i ≡ firstBad table first count)
+Inv-loop table first count i₀ i = (i ≤ count) × (badLeft table first count i ≡ firstBad table first count)
 
 abbrev μ-loop : tie.MeasureT-loop
-μ-loop table first count room i₀ i = count - i
+μ-loop table first count i₀ i = count - i
+
+loop-holds : tie.Need-loop-holds Inv-loop μ-loop
+loop-holds c = (search needs, bad-all _ _ _)
 
 room-of-requires : tie.Need-room-of-requires Inv-loop μ-loop
 room-of-requires c κs = search needs
-
-loop-holds : tie.Need-loop-holds Inv-loop μ-loop
-loop-holds c = (search needs, bad-all _ _ _ (c .room-of .ensures))
 
 add-is-fine : tie.Need-add-is-fine Inv-loop μ-loop
 add-is-fine c = search needs
@@ -29,9 +27,9 @@ is-fine-requires c κs = search needs
 
 returns : tie.Need-returns Inv-loop μ-loop
 returns c =
-    let turn = c .before .before in
+    let turn = c .before .before .before in
     let at = turn .before in
-    sym (first-found _ _ _ (turn .loop-test .taken) (sym (c .before .is-fine .ensures) ∙ not-true (c .before .is-fine .result) (c .if1 .taken))) ∙ at .loop .inv .1
+    sym (first-found _ _ _ (turn .loop-test .taken) (fine-in _ _ _ (at .loop .i) (c .before .before .room-of .ensures) (c .before .is-fine .ensures) ∙ not-true (c .before .is-fine .result) (c .if1 .taken))) ∙ at .loop .inv .1
 
 add-i : tie.Need-add-i Inv-loop μ-loop
 add-i c = search needs
@@ -41,9 +39,9 @@ loop-less c = search needs
 
 loop-again : tie.Need-loop-again Inv-loop μ-loop
 loop-again c =
-    let turn = c .before .before in
+    let turn = c .before .before .before in
     let at = turn .before in
-    (search needs, first-on _ _ _ (turn .loop-test .taken) (sym (c .before .is-fine .ensures) ∙ not-false (c .before .is-fine .result) (c .if1 .left)) ∙ at .loop .inv .1)
+    (search needs, first-on _ _ _ (turn .loop-test .taken) (fine-in _ _ _ (at .loop .i) (c .before .before .room-of .ensures) (c .before .is-fine .ensures) ∙ not-false (c .before .is-fine .result) (c .if1 .left)) ∙ at .loop .inv .1)
 
 returns-2 : tie.Need-returns-2 Inv-loop μ-loop
 returns-2 c =
@@ -56,8 +54,8 @@ first-bad-spec =
     (tie.spec
     Inv-loop
     μ-loop
-    room-of-requires
     loop-holds
+    room-of-requires
     add-is-fine
     is-fine-requires
     returns

@@ -24,7 +24,7 @@ wide8-requires-3 c κs = search needs
 returns : tie.Need-returns
 returns c =
     let args = c .before .before .before .before .before .before .before .args in
-    room-made (args .table .now) (args .rows)
+    room-made (args .table .now) (args .rows) (args .row)
     (c .before .before .before .before .wide8 .ensures .same)
     (c .before .before .wide82 .ensures .same)
     (c .wide83 .ensures .same)

@@ -33,6 +33,9 @@ element-copy-out-wide16-4 c = search needs
 wide16-requires-4 : tie.Need-wide16-requires-4
 wide16-requires-4 c κs = search needs
 
+wide16-requires-5 : tie.Need-wide16-requires-5
+wide16-requires-5 c κs = search needs
+
 add-wide16-2 : tie.Need-add-wide16-2
 add-wide16-2 c = search needs
 
@@ -41,9 +44,6 @@ mul-wide16-2 c = search needs
 
 element-copy-out-wide16-5 : tie.Need-element-copy-out-wide16-5
 element-copy-out-wide16-5 c = search needs
-
-wide16-requires-5 : tie.Need-wide16-requires-5
-wide16-requires-5 c κs = search needs
 
 wide16-requires-6 : tie.Need-wide16-requires-6
 wide16-requires-6 c κs = search needs
@@ -61,7 +61,7 @@ returns c =
     (c .before .before .before .before .before .before .before .before .wide162 .ensures .same)
     (c .before .before .before .before .before .before .wide163 .ensures .same)
     (c .before .before .before .before .wide164 .ensures .same)
-    (c .before .before .wide165 .ensures .same)
+    (c .before .before .before .wide165 .ensures .same)
     (c .before .wide166 .ensures .same)
     (c .op-at .ensures)
 
@@ -79,10 +79,10 @@ row-of-spec =
     mul-wide16
     element-copy-out-wide16-4
     wide16-requires-4
+    wide16-requires-5
     add-wide16-2
     mul-wide16-2
     element-copy-out-wide16-5
-    wide16-requires-5
     wide16-requires-6
     add-op-at
     op-at-requires

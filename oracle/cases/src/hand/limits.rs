@@ -67,7 +67,7 @@ fn filled() -> Vec<Hand> {
         hand("b-full", 11, Program::new(&[0]).thread(&branches))
             .shows("a loop that fills the longest path")
             .limits(MAX_BRANCHES, MAX_OPERATIONS, 1),
-        hand("l-full", 12, Program::new(&[0]).thread(&[jump(0)]))
+        hand("l-full", 12, Program::new(&[0]).thread(&[jump(1), jump(0)]))
             .shows("a loop that begins all rows that may begin")
             .limits(1, MAX_OPERATIONS, 1),
         hand("n-full", 1, Program::new(&[0]).thread(&[spurious(0); 16]))

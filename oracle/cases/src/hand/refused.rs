@@ -15,6 +15,7 @@ pub(super) fn all() -> Vec<Hand> {
     all.extend(ranges());
     all.extend(orders());
     all.extend(plain_cells());
+    all.extend(own_jumps());
     all
 }
 
@@ -349,5 +350,70 @@ fn plain_cells() -> Vec<Hand> {
         case.case.table.resize(cut, 0);
         all.push(case);
     }
+    all
+}
+
+/// Jumps to their own row: refused without a condition, and not with one, be it that it always holds.
+fn own_jumps() -> Vec<Hand> {
+    let mut all = refused_own_jumps();
+    let after = |before: &[Row], row: Row| {
+        Program::new(&[0]).thread(&[critical()]).thread(&[before, &[row]].concat())
+    };
+    for (own, before) in [(0, &[][..]), (1, &[yields()])] {
+        let kinds = [
+            ("if-held", 12, "jump if, which holds", jump_if(0, 0, own)),
+            ("if-unheld", 0, "jump if, which does not hold", jump_if(0, 1, own)),
+            ("if-not-held", 12, "jump if not, which holds", jump_if_not(0, 1, own)),
+            ("if-not-unheld", 0, "jump if not, which does not hold", jump_if_not(0, 0, own)),
+        ];
+        for (name, answer, shows, row) in kinds {
+            let shows = format!("thread 1, row {own}, to itself: {shows}");
+            let program = after(before, row);
+            let case = hand(&format!("own-{name}-{own}"), answer, program).shows(&shows);
+            all.push(case.limits(8, 6, 4));
+        }
+    }
+    let near = |row: Row| after(&[yields()], row);
+    let ring = Program::new(&[0]).thread(&[jump(1), jump(0)]);
+    let more = [
+        ("own-ring", 12, "two rows that jump to each other are sound", ring),
+        ("own-before", 12, "a jump to the row before is sound", near(jump(0))),
+        ("own-after", 0, "a jump to the row after, here the end, is sound", near(jump(2))),
+    ];
+    for (name, answer, shows, program) in more {
+        all.push(hand(name, answer, program).shows(shows).limits(8, 6, 4));
+    }
+    all
+}
+
+/// Which row is named, and by which number it is its own.
+fn refused_own_jumps() -> Vec<Hand> {
+    let of = |threads: &[&[Row]]| {
+        threads.iter().fold(Program::new(&[0]), |program, rows| program.thread(rows))
+    };
+    let (ok, bad) = (yields(), check(4, 0));
+    let mut full = [ok; MAX_ROWS];
+    full[MAX_ROWS - 1] = jump(MAX_ROWS as u16 - 1);
+    let programs: [(&str, &str, &[&[Row]]); 9] = [
+        ("own-alone", "thread 0, row 0, its only one", &[&[jump(0)]]),
+        ("own-first", "thread 0, row 0", &[&[jump(0), ok], &[ok]]),
+        ("own-later", "thread 0, row 2", &[&[ok, ok, jump(2), ok]]),
+        ("own-second-thread", "thread 1, row 0", &[&[ok], &[jump(0), ok]]),
+        ("own-last-thread", "thread 4, row 1", &[&[], &[ok], &[], &[ok, ok], &[ok, jump(1)]]),
+        ("own-last-row", "thread 0, the last row that there may be", &[&full]),
+        ("own-two", "of two the first: thread 0, row 1", &[&[ok, jump(1)], &[jump(0)]]),
+        ("own-and-bad", "a bad row comes before: thread 0, row 0", &[&[bad, jump(1)]]),
+        ("own-not-bad", "a bad row comes after: thread 1, row 0", &[&[ok], &[jump(0), bad]]),
+    ];
+    let mut all = Vec::new();
+    for (name, shows, threads) in programs {
+        all.push(hand(name, 5, of(threads)).shows(shows).limits(8, 6, 4));
+    }
+    let counted: &[&[Row]] = &[&[ok, ok], &[jump(2), ok, ok]];
+    let shows = "its number in the table, which is not its own in the thread";
+    all.push(hand("own-counted", 0, of(counted)).shows(shows).limits(8, 6, 4));
+    let mut header = hand("own-and-length", 5, of(&[&[jump(0)]])).limits(8, 6, 4);
+    header.case.table.push(0);
+    all.push(header.shows("the length is judged before the jump to itself"));
     all
 }

@@ -55,7 +55,7 @@ fn begun() -> Vec<Hand> {
 fn ends() -> Vec<Hand> {
     let over = Program::new(&[0]).thread(&[jump(2), check(0, 1)]);
     let none_first = Program::new(&[0]).thread(&[]).thread(&[load(0, RELAXED, 0)]);
-    let loops = Program::new(&[0]).thread(&[jump(0)]).thread(&[]);
+    let loops = Program::new(&[0]).thread(&[jump_if(0, 0, 0)]).thread(&[]);
     vec![
         hand("end-by-jump", 0, over)
             .shows("a jump to the row count ends the thread")

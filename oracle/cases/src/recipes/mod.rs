@@ -121,8 +121,7 @@ fn soup_over(r: &mut Random, plains: &[u64]) -> Program {
             threads: threads as u8,
             rows: rows as u16,
         };
-        let rows: Vec<Row> = (0..rows).map(|_| any_row(r, room)).collect();
-        program = program.thread(&rows);
+        program = program.thread(&any_rows(r, room));
     }
     program
 }

@@ -3,7 +3,7 @@
 
 use super::{loose, pieces, spoil, tight, Piece};
 use crate::condition::{self, Word, Words, DEEPEST, LONGEST};
-use crate::draw::{any_row, value, Room};
+use crate::draw::{any_rows, value, Room};
 use crate::random::Random;
 use crate::table::Program;
 use text::{CELLS, PLAINS, ROWS, THREADS};
@@ -46,8 +46,7 @@ fn program(r: &mut Random) -> Program {
             threads: threads as u8,
             rows: rows as u16,
         };
-        let rows: Vec<_> = (0..rows).map(|_| any_row(r, room)).collect();
-        program = program.thread(&rows);
+        program = program.thread(&any_rows(r, room));
     }
     program
 }
