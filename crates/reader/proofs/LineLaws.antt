@@ -8,9 +8,9 @@ use mathlib.Core.List.{List}
 use mathlib.Core.Bool.{Bool, true, false, cond, _&&_}
 use mathlib.Core.Path.{_≡_, refl, ap, sym, _∙_, subst}
 use native.Mathlib.Omega.{arith}
-use borrow.Author.Tests.{lt-ltb, le-ltb, le-leb, lt-leb}
+use borrow.Author.Tests.{lt-ltb, le-ltb, le-leb, lt-leb, ltb-true, ltb-false}
 use lib.Dec.{ltb, leb}
-use lib.ListN.{drop}
+use lib.ListN.{drop, getD}
 use Rattle.rules.specs.Table.{Room, maxRows}
 use Rattle.rules.specs.Token.{Found, nothing, found, endsLine, skip, token, pastToken, tokenLength, nextLine, numberIn}
 use Rattle.rules.specs.Form.{Followed, stuck, fits, rowIn}
@@ -21,9 +21,10 @@ use Rattle.form.specs.declared.Row.{Row}
 use Rattle.token.specs.Places.{part}
 use Rattle.token.proofs.PlaceLaws.{left-by, part-token}
 use Rattle.reader.specs.Tables.{Held, howMany, oneMore}
+use Rattle.reader.proofs.HeldLaws.{held-threads}
 use Rattle.reader.specs.Lines.{Lined, Steps, Bare, threadLine, rowLine}
 use Rattle.reader.specs.declared.Line.{Line}
-use Rattle.reader.specs.declared.Line.the-variants.{GoesOn, Refused}
+use Rattle.reader.specs.declared.Line.the-variants.{GoesOn, Refused, Concludes}
 
 abbrev bareBy : ℕ → Made → List ℕ → Bool → rules.Line
 bareBy rows m bs t = cond t (rules.goesOn rows m (nextLine bs)) (rules.refusedLine bs)
@@ -50,6 +51,16 @@ lined-bare text from rows more r bare table n m held other e = lined-by text tab
 pub lined-steps : (text entry exit : List ℕ) (n : ℕ) (r : Line) (line : Made → rules.Line) → Steps text entry exit n r line
     → (m : Made) → Held entry n m → (other : rules.Line) → line m ≡ other → Lined text exit n other r
 lined-steps text entry exit n r line steps m held other e = lined-by text exit n (line m) other r e (steps .is m held)
+
+-- "finally": by whether the buffer has a thread
+module _ (text table : List ℕ) (n here to : ℕ) (line : rules.Line) (m : Made) (held : Held table n m)
+    (some : 1 ≤ m .threads → line ≡ rules.concludes m (drop to text)) (none : m .threads < 1 → line ≡ rules.refusedLine (drop here text)) where
+  condition-by : (b : Bool) → ltb 0 (getD table 0 0) ≡ b → Lined text table n line (cond b (Concludes to) (Refused here))
+  condition-by true e = (m, (some (omega (arith, ltb-true 0 (getD table 0 0) e, held-threads table n m held)), held))
+  condition-by false e = none (omega (arith, ltb-false 0 (getD table 0 0) e, held-threads table n m held))
+
+  pub lined-condition : (r : Line) → r ≡ cond (ltb 0 (getD table 0 0)) (Concludes to) (Refused here) → Lined text table n line r
+  lined-condition r e = subst (Lined text table n line) (sym e) (condition-by (ltb 0 (getD table 0 0)) refl)
 
 -- Start values
 

@@ -1,6 +1,8 @@
 // A program and its final condition read from a text, into two buffers that the caller lends. Each promise is an equation with the
 // definition in rules (Text).
 ghost use mathlib.Core.Path.{_≡_};
+ghost use mathlib.Core.Bool.{cond};
+ghost use lib.Dec.{ltb};
 ghost use Prim.Native.Nat.{_+_, _≤_, _<_};
 ghost use lib.ListN.{length, getD, drop};
 ghost use lib.Seq.{paste};
@@ -171,12 +173,20 @@ fn line_of(
         return a_thread(text, here, to, lines, length, table);
     }
     if token::is_word(text, here, to, b"finally") {
-        if 0 < table[0] {
-            return Line::Concludes(to);
-        }
-        return Line::Refused(here);
+        return the_condition(here, to, table);
     }
     a_row(text, from, here, all, rows, length, table)
+}
+
+// "finally", once there is a thread.
+fn the_condition(here: usize, to: usize, header: &[u8]) -> Line
+    requires { ⌜ 1 ≤ length (now header) ⌝ }
+    ensures { λ r. ⌜ r ≡ cond (ltb 0 (getD (now (header .entry)) 0 0)) (Line.Concludes to) (Line.Refused here) ⌝ }
+{
+    if 0 < header[0] {
+        return Line::Concludes(to);
+    }
+    Line::Refused(here)
 }
 
 // "thread", and its rows.

@@ -8,7 +8,7 @@ use Rattle.rules.specs.Text.{goesOn}
 use Rattle.token.proofs.PlaceLaws.{left-by}
 use Rattle.ahead.proofs.AheadLaws.{says-thread, says-finally}
 use Rattle.reader.proofs.HeldLaws.{held-threads, held-cells}
-use Rattle.reader.proofs.LineLaws.{lined-steps}
+use Rattle.reader.proofs.LineLaws.{lined-steps, lined-condition}
 use Rattle.reader.proofs.OneLaws.{says-cells, plains-none, plains-held, line-early-end, line-end, line-bare, line-cells, line-no-cells, line-plains, line-thread, line-early-finally, line-finally, line-row}
 use borrow.Author.Needs.{needs}
 use Rattle.reader.proofs.line_of.Statement.{statement}
@@ -173,8 +173,8 @@ slice-aggregate-is-word-3 c = search needs
 is-word-requires-3 : tie.Need-is-word-requires-3
 is-word-requires-3 c κs = search needs
 
-slice-read-if9 : tie.Need-slice-read-if9
-slice-read-if9 c =
+the-condition-requires : tie.Need-the-condition-requires
+the-condition-requires c κs =
     omega (arith, c .before .before .before .before .before .before .before .before .before .before .before .before .before .before .before .before .before .before .before .pre .held .room)
 
 same-length-4 : tie.Need-same-length-4
@@ -192,35 +192,20 @@ returns-8 c = record {
       let got = ends .before .before in
       let start = got .before .before .before in
       let a = start .args in
-      (m, (line-finally (a .text .now) (a .lines) (a .all) (a .rows) m (a .from) (got .skip .result) (skipped got) (ends .before .if1 .left) (sym (ends .ends-line .ensures) ∙ tok .before .if3 .left) (tok .token-end .result) (tok .token-end .ensures) (λ (z : m .cells ≡ 0). four .if4 .left (held-cells (a .table .now) (a .length) m held ∙ z)) (plains-held (a .table .now) _ (a .length) m held _ (six .before .is-plain-line .ensures) false (six .if6 .left)) (says-thread (a .text .now) (got .skip .result) (tok .token-end .result) _ (seven .before .is-word2 .ensures) false (seven .if7 .left)) (says-finally (a .text .now) (got .skip .result) (tok .token-end .result) _ (eight .before .is-word3 .ensures) true (eight .if8 .taken)) (omega (arith, c .if9 .taken, held-threads (a .table .now) (a .length) m held)), held));
+      lined-condition (a .text .now) (a .table .now) (a .length) (got .skip .result) (tok .token-end .result) _ m held
+      (λ l. line-finally (a .text .now) (a .lines) (a .all) (a .rows) m (a .from) (got .skip .result) (skipped got) (ends .before .if1 .left) (sym (ends .ends-line .ensures) ∙ tok .before .if3 .left) (tok .token-end .result) (tok .token-end .ensures) (λ (z : m .cells ≡ 0). four .if4 .left (held-cells (a .table .now) (a .length) m held ∙ z)) (plains-held (a .table .now) _ (a .length) m held _ (six .before .is-plain-line .ensures) false (six .if6 .left)) (says-thread (a .text .now) (got .skip .result) (tok .token-end .result) _ (seven .before .is-word2 .ensures) false (seven .if7 .left)) (says-finally (a .text .now) (got .skip .result) (tok .token-end .result) _ (eight .before .is-word3 .ensures) true (eight .if8 .taken)) l)
+      (λ l. line-early-finally (a .text .now) (a .lines) (a .all) (a .rows) m (a .from) (got .skip .result) (skipped got) (ends .before .if1 .left) (sym (ends .ends-line .ensures) ∙ tok .before .if3 .left) (tok .token-end .result) (tok .token-end .ensures) (λ (z : m .cells ≡ 0). four .if4 .left (held-cells (a .table .now) (a .length) m held ∙ z)) (plains-held (a .table .now) _ (a .length) m held _ (six .before .is-plain-line .ensures) false (six .if6 .left)) (says-thread (a .text .now) (got .skip .result) (tok .token-end .result) _ (seven .before .is-word2 .ensures) false (seven .if7 .left)) (says-finally (a .text .now) (got .skip .result) (tok .token-end .result) _ (eight .before .is-word3 .ensures) true (eight .if8 .taken)) l)
+      _ (c .the-condition .ensures);
 }
+
+a-row-requires : tie.Need-a-row-requires
+a-row-requires c κs = c .before .before .before .before .before .before .before .before .before .before .before .before .before .before .before .before .before .before .before .pre
 
 same-length-5 : tie.Need-same-length-5
 same-length-5 c = search needs
 
 returns-9 : tie.Need-returns-9
 returns-9 c = record {
-  is = λ m held.
-      let eight = c .before .before in
-      let seven = eight .before .before .before in
-      let six = seven .before .before .before in
-      let four = six .before .before .before in
-      let tok = four .before .before in
-      let ends = tok .before .before in
-      let got = ends .before .before in
-      let start = got .before .before .before in
-      let a = start .args in
-      line-early-finally (a .text .now) (a .lines) (a .all) (a .rows) m (a .from) (got .skip .result) (skipped got) (ends .before .if1 .left) (sym (ends .ends-line .ensures) ∙ tok .before .if3 .left) (tok .token-end .result) (tok .token-end .ensures) (λ (z : m .cells ≡ 0). four .if4 .left (held-cells (a .table .now) (a .length) m held ∙ z)) (plains-held (a .table .now) _ (a .length) m held _ (six .before .is-plain-line .ensures) false (six .if6 .left)) (says-thread (a .text .now) (got .skip .result) (tok .token-end .result) _ (seven .before .is-word2 .ensures) false (seven .if7 .left)) (says-finally (a .text .now) (got .skip .result) (tok .token-end .result) _ (eight .before .is-word3 .ensures) true (eight .if8 .taken)) (omega (arith, c .if9 .left, held-threads (a .table .now) (a .length) m held));
-}
-
-a-row-requires : tie.Need-a-row-requires
-a-row-requires c κs = c .before .before .before .before .before .before .before .before .before .before .before .before .before .before .before .before .before .before .before .pre
-
-same-length-6 : tie.Need-same-length-6
-same-length-6 c = search needs
-
-returns-10 : tie.Need-returns-10
-returns-10 c = record {
   is = λ m held.
       let put = c .before .before in
       let eight = put .before .before in
@@ -265,11 +250,9 @@ line-of-spec =
     returns-7
     slice-aggregate-is-word-3
     is-word-requires-3
-    slice-read-if9
+    the-condition-requires
     same-length-4
     returns-8
-    same-length-5
-    returns-9
     a-row-requires
-    same-length-6
-    returns-10)
+    same-length-5
+    returns-9)
