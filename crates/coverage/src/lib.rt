@@ -1,10 +1,10 @@
 // Answer 0: nothing failed, and what that covers.
-use explorer::Settings;
 use layout::MAX_ATOMIC_HISTORY;
 use layout::MAX_CELLS;
 use line::Line;
 use path::Bound;
 use search::Place;
+use settings::Settings;
 
 mod search;
 

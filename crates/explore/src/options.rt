@@ -1,11 +1,11 @@
 // The words of the command line: the file's name, what is asked of it, and the settings.
 use decimal::Parsed;
-use explorer::MAX_BRANCHES;
-use explorer::MAX_EXECUTIONS;
-use explorer::MAX_OPERATIONS;
-use explorer::Settings;
 use libc::STDERR_FILENO;
 use path::Bound;
+use settings::MAX_BRANCHES;
+use settings::MAX_EXECUTIONS;
+use settings::MAX_OPERATIONS;
+use settings::Settings;
 
 // A bound is a byte.
 const MAX_BOUND: u64 = 255;

@@ -1,12 +1,12 @@
 // A run: the buffers, the exploration and what is printed of it.
 ghost use Prim.Native.Nat.{_≤_};
-use explorer::MAX_BRANCHES;
-use explorer::MAX_EXECUTIONS;
-use explorer::MAX_OPERATIONS;
-use explorer::Settings;
 use libc::STDERR_FILENO;
 use report::Answer;
 use report::Report;
+use settings::MAX_BRANCHES;
+use settings::MAX_EXECUTIONS;
+use settings::MAX_OPERATIONS;
+use settings::Settings;
 
 // Bytes of a choice, and of a trace entry.
 const RECORD: usize = 16;

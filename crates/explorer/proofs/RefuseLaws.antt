@@ -21,9 +21,10 @@ use Rattle.report.specs.Answers.{reportOf, refusal}
 use Rattle.report.specs.declared.Report.{Report}
 use Rattle.report.specs.declared.Answer.the-variants as answer
 use Rattle.report.proofs.AnswerLaws.{bad-settings, bad-path, bad-trace, bad-table}
-use Rattle.explorer.specs.declared.Settings.{Settings}
+use Rattle.settings.specs.declared.Settings.{Settings}
 use Rattle.iteration.specs.Executes.{Ready}
-use Rattle.explorer.specs.Explores.{settingsOf, exploredOf}
+use Rattle.settings.specs.Given.{settingsOf}
+use Rattle.explorer.specs.Explores.{exploredOf}
 use Rattle.explorer.specs.Runs.{Ran}
 
 module _ (r : Report) (table condition : List ℕ) (s : Settings) (path trace : List ℕ) where

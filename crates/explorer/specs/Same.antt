@@ -7,8 +7,9 @@ use mathlib.Core.Path.{_≡_}
 use Rattle.rules.specs.Explored as rules
 use Rattle.report.specs.Answers.{reportOf}
 use Rattle.report.specs.declared.Report.{Report}
-use Rattle.explorer.specs.Explores.{settingsOf, exploredOf}
-use Rattle.explorer.specs.declared.Settings.{Settings}
+use Rattle.settings.specs.Given.{settingsOf}
+use Rattle.explorer.specs.Explores.{exploredOf}
+use Rattle.settings.specs.declared.Settings.{Settings}
 
 unfoldable pub OneAnswer : Type 1
 OneAnswer = (A B : Type 0) (stands-for : A → B) (definition : B) (x y : A) → stands-for x ≡ definition → stands-for y ≡ definition → stands-for x ≡ stands-for y

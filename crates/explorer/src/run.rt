@@ -1,10 +1,9 @@
 // A run: one execution after another, until nothing is open, the budget is spent or a fault stops it.
 ghost use mathlib.Core.Path.{_≡_};
 ghost use Prim.Native.Nat.{_+_, _*_, _^_, _<_};
+ghost use Rattle.settings.specs.Given.{settingsOf};
 ghost use Rattle.iteration.specs.Executes.{Ready, Given};
-ghost use Rattle.explorer.specs.Explores.{settingsOf};
 ghost use Rattle.explorer.specs.Runs.{Greater, Further, Stepped, Stopped, Empty, Ran};
-use crate::Settings;
 use ending::Verdict;
 use ending::finish;
 use ending::judge_end;
@@ -19,6 +18,7 @@ use layout::Numbers;
 use layout::VALUES;
 use report::Answer;
 use report::Report;
+use settings::Settings;
 use trace::ENTRY;
 use walk::Cursor;
 use walk::Limits;

@@ -5,10 +5,10 @@ ghost use lib.ListN.{length};
 ghost use Rattle.path.specs.Bounds.{boundOf};
 ghost use Rattle.report.specs.Answers.{reportOf, summaryOf, summariesOf};
 ghost use Rattle.exports.specs.Entry.{numbersOf, fourOf, summaryNumbers, boundFor, noCondition, entered, left};
-use explorer::Settings;
 use path::Bound;
 use report::Report;
 use report::ThreadRecord;
+use settings::Settings;
 
 pub mod text;
 

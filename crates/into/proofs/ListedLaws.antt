@@ -20,8 +20,9 @@ use Rattle.report.specs.declared.Answer.the-variants as answer
 use Rattle.report.specs.declared.Report.{Report}
 use Rattle.report.specs.declared.ThreadRecord.{ThreadRecord}
 use Rattle.report.proofs.AnswerLaws.{bad-trace}
-use Rattle.explorer.specs.declared.Settings.{Settings}
-use Rattle.explorer.specs.Explores.{settingsOf, exploredOf}
+use Rattle.settings.specs.declared.Settings.{Settings}
+use Rattle.settings.specs.Given.{settingsOf}
+use Rattle.explorer.specs.Explores.{exploredOf}
 use Rattle.into.specs.Listed.{exploredIntoOf, miscounts}
 
 pub miscounts-made : (s : rules.Settings) (bytes listed : ℕ) {fine held : Bool} → fine ≡ settingsFine s → held ≡ eqb bytes (16 * s .branches)

@@ -7,8 +7,8 @@ use Rattle.rules.specs.Explored as rules
 use Rattle.report.specs.Answers.{reportOf, summariesOf}
 use Rattle.report.specs.declared.Report.{Report}
 use Rattle.report.specs.declared.ThreadRecord.{ThreadRecord}
-use Rattle.explorer.specs.Explores.{settingsOf}
-use Rattle.explorer.specs.declared.Settings.{Settings}
+use Rattle.settings.specs.Given.{settingsOf}
+use Rattle.settings.specs.declared.Settings.{Settings}
 use Rattle.into.specs.Listed.{exploredIntoOf}
 
 unfoldable pub OneInto : Type 0

@@ -5,12 +5,13 @@ ghost use mathlib.Core.List.{List};
 ghost use lib.ListN.{length};
 ghost use Rattle.rules.specs.Explored as rules;
 ghost use Rattle.report.specs.Answers.{numberOf, summariesOf};
-ghost use Rattle.explorer.specs.Explores.{settingsOf, exploredOf};
+ghost use Rattle.settings.specs.Given.{settingsOf};
+ghost use Rattle.explorer.specs.Explores.{exploredOf};
 ghost use Rattle.into.specs.Listed.{exploredIntoOf, miscounts};
-use explorer::Settings;
 use report::Answer;
 use report::Report;
 use report::ThreadRecord;
+use settings::Settings;
 
 // Explores the program under a final condition, and copies the five summaries into the caller's list, which must hold exactly five. A refusal leaves
 // both buffers and the list as they are.
@@ -52,8 +53,8 @@ fn miscounted(settings: Settings, bytes: usize, listed: usize) -> bool
     ensures { λ r. ⌜ r ≡ miscounts (settingsOf settings) bytes listed ⌝ }
 {
     let counted = listed == 5;
-    let fine = explorer::settings_fine(settings);
-    let held = explorer::holds(bytes, settings.branches);
+    let fine = settings::settings_fine(settings);
+    let held = settings::holds(bytes, settings.branches);
     !(counted | !fine | !held)
 }
 

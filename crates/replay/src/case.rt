@@ -4,8 +4,8 @@ use crate::fields::FIELDS;
 use crate::fields::NOT_GIVEN;
 use crate::fields::Starts;
 use decimal::Parsed;
-use explorer::Settings;
 use path::Bound;
+use settings::Settings;
 
 // The fields' places. From ANSWER on stand the report's 29 numbers.
 pub const BRANCHES: usize = 1;

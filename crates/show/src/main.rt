@@ -1,15 +1,15 @@
 // Explores the text or table on standard input with the largest settings, and prints of it what the program explore prints. It needs
 // neither words nor files, so it runs unproved too, within seconds (examples/first).
 use condition::CONDITION_BYTES;
-use explorer::MAX_BRANCHES;
-use explorer::MAX_EXECUTIONS;
-use explorer::MAX_OPERATIONS;
-use explorer::Settings;
 use libc::STDERR_FILENO;
 use libc::STDIN_FILENO;
 use path::Bound;
 use reader::ReadText;
 use reader::TABLE_BYTES;
+use settings::MAX_BRANCHES;
+use settings::MAX_EXECUTIONS;
+use settings::MAX_OPERATIONS;
+use settings::Settings;
 use source::FILE_BYTES;
 
 // One byte more than is taken.

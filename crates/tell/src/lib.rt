@@ -1,6 +1,6 @@
 // What a run answered, as text on standard output: the verdict, the counts, the threads' summaries and the last execution.
-use explorer::Settings;
 use report::Report;
+use settings::Settings;
 
 mod stop;
 mod summary;

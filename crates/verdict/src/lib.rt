@@ -4,8 +4,8 @@ ghost use mathlib.Core.Path.{_≡_};
 ghost use Rattle.verdict.specs.Limits.{isLimit};
 use decode::Decoded;
 use decode::Op;
-use explorer::Settings;
 use report::Report;
+use settings::Settings;
 
 mod finally;
 mod limit;

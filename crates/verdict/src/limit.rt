@@ -1,9 +1,9 @@
 // Answers 1, 11, 12 and 17: a limit ended the run, which is no verdict.
-use explorer::MAX_BRANCHES;
-use explorer::MAX_EXECUTIONS;
-use explorer::MAX_OPERATIONS;
-use explorer::Settings;
 use report::Report;
+use settings::MAX_BRANCHES;
+use settings::MAX_EXECUTIONS;
+use settings::MAX_OPERATIONS;
+use settings::Settings;
 
 // Says which limit, which setting to raise, and whether the execution went round in a loop.
 pub fn print(number: u64, settings: Settings, report: Report, trace: &[u8]) {

@@ -8,7 +8,7 @@ use Rattle.rules.specs.Table.{threadsOf}
 use Rattle.rules.specs.Condition.{isCondition}
 use Rattle.rules.specs.Explored.{settingsFine}
 use Rattle.iteration.specs.Executes.{Ready}
-use Rattle.explorer.specs.Explores.{settingsOf}
+use Rattle.settings.specs.Given.{settingsOf}
 use Rattle.explorer.proofs.RefuseLaws.{refuse-settings, refuse-path, refuse-trace, refuse-header, refuse-row, refuse-condition, judged-by, ready-made, ran-ready}
 use borrow.Author.Needs.{needs}
 use Rattle.explorer.proofs.explore.Statement.{statement}

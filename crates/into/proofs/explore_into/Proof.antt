@@ -49,10 +49,11 @@ use Rattle.report.proofs.Report as P
 use Rattle.report.proofs.Report.Laws as P′
 use Rattle.report.proofs.ThreadRecord as T
 use Rattle.report.proofs.ThreadRecord.Laws as T′
-use Rattle.explorer.specs.Explores.{settingsOf, exploredOf}
-use Rattle.explorer.specs.declared.Settings.{Settings}
-use Rattle.explorer.proofs.Settings as S
-use Rattle.explorer.proofs.Settings.Laws as S′
+use Rattle.settings.specs.Given.{settingsOf}
+use Rattle.explorer.specs.Explores.{exploredOf}
+use Rattle.settings.specs.declared.Settings.{Settings}
+use Rattle.settings.proofs.Settings as S
+use Rattle.settings.proofs.Settings.Laws as S′
 use Rattle.list.proofs.copy_into as copy
 use Rattle.list.proofs.copy_into.Symbol as copy-def
 use Rattle.list.proofs.copy_into.Symbol.{name as #copy-into}

@@ -1,4 +1,4 @@
-use Rattle.explorer.specs.Explores.{settingsOf}
+use Rattle.settings.specs.Given.{settingsOf}
 use Rattle.into.proofs.ListedLaws.{miscounts-made}
 use borrow.Author.Needs.{needs}
 use Rattle.into.proofs.miscounted.Statement.{statement}

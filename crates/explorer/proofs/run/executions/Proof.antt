@@ -4,7 +4,7 @@ use lib.ListN.{length}
 use native.Mathlib.Omega.{arith}
 use Rattle.meeting.specs.declared.Cursor.{Cursor}
 use Rattle.iteration.proofs.ReadyLaws.{ready-shape}
-use Rattle.explorer.specs.Explores.{settingsOf}
+use Rattle.settings.specs.Given.{settingsOf}
 use Rattle.explorer.specs.Runs.{Running}
 use Rattle.explorer.proofs.ReadyLaws.{ready-executions, ready-operations}
 use Rattle.explorer.proofs.RunLaws.{greater-within}

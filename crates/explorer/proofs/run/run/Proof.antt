@@ -1,5 +1,5 @@
 use native.Mathlib.Omega.{arith}
-use Rattle.explorer.specs.Explores.{settingsOf}
+use Rattle.settings.specs.Given.{settingsOf}
 use Rattle.explorer.proofs.EndLaws.{ready-kept, ran-cleared}
 use borrow.Author.Needs.{needs}
 use Rattle.explorer.proofs.run.run.Statement.{statement}

@@ -1,8 +1,8 @@
-use Rattle.explorer.specs.Explores.{settingsOf}
-use Rattle.explorer.proofs.ReadyLaws.{settings-made}
+use Rattle.settings.specs.Given.{settingsOf}
+use Rattle.settings.proofs.TestLaws.{settings-made}
 use borrow.Author.Needs.{needs}
-use Rattle.explorer.proofs.settings_fine.Statement.{statement}
-use Rattle.explorer.proofs.settings_fine.Tie as tie
+use Rattle.settings.proofs.settings_fine.Statement.{statement}
+use Rattle.settings.proofs.settings_fine.Tie as tie
 
 within-requires : tie.Need-within-requires
 within-requires c κs = search needs

@@ -1,7 +1,7 @@
-use Rattle.explorer.proofs.ReadyLaws.{within-both, within-not}
+use Rattle.settings.proofs.TestLaws.{within-both, within-not}
 use borrow.Author.Needs.{needs}
-use Rattle.explorer.proofs.within.Statement.{statement}
-use Rattle.explorer.proofs.within.Tie as tie
+use Rattle.settings.proofs.within.Statement.{statement}
+use Rattle.settings.proofs.within.Tie as tie
 
 returns : tie.Need-returns
 returns c =

@@ -1,7 +1,7 @@
-use Rattle.explorer.proofs.ReadyLaws.{holds-both, holds-not}
+use Rattle.settings.proofs.TestLaws.{holds-both, holds-not}
 use borrow.Author.Needs.{needs}
-use Rattle.explorer.proofs.holds.Statement.{statement}
-use Rattle.explorer.proofs.holds.Tie as tie
+use Rattle.settings.proofs.holds.Statement.{statement}
+use Rattle.settings.proofs.holds.Tie as tie
 
 returns : tie.Need-returns
 returns c =
