@@ -1,5 +1,4 @@
 // What is wrong with a row: which of its fields, by crate reasons.
-use decode::Row;
 use layout::MAX_THREADS;
 use layout::wide8;
 use layout::wide16;
@@ -9,10 +8,6 @@ use table::COUNTS;
 use table::FIRSTS;
 use table::PLAINS;
 use table::THREADS;
-use table::limits::HEADER;
-use table::limits::ROW;
-use table::limits::VALUE;
-use table::little;
 
 mod words;
 
@@ -32,7 +27,7 @@ pub fn print(table: &[u8], thread: u8, number: u8) {
     };
     let index = wide16(shape[FIRSTS + t]) + room.row;
     let values = room.cells + room.plains;
-    let row = fields(table, HEADER + VALUE * values + ROW * index);
+    let row = table::row_at(table, values, index);
     let mut line = [0u8; 256];
     let to = line::fill(
         &mut line,
@@ -44,36 +39,4 @@ pub fn print(table: &[u8], thread: u8, number: u8) {
     );
     let to = words::put(&mut line, to, reasons::wrong(row, room), row, room);
     line::end(&mut line, to);
-}
-
-// The fields of the row whose first byte is this one; all zero where the table does not hold it.
-fn fields(table: &[u8], at: usize) -> Row {
-    let zeros = Row {
-        opcode: 0,
-        object: 0,
-        order: 0,
-        failure: 0,
-        kind: 0,
-        register: 0,
-        target: 0,
-        a: 0,
-        b: 0,
-    };
-    if table.len() < ROW {
-        return zeros;
-    }
-    if table.len() - ROW < at {
-        return zeros;
-    }
-    Row {
-        opcode: table[at],
-        object: table[at + 1],
-        order: table[at + 2],
-        failure: table[at + 3],
-        kind: table[at + 4],
-        register: table[at + 5],
-        target: little::u16_at(table, at + 6),
-        a: little::u64_at(table, at + 8),
-        b: little::u64_at(table, at + 16),
-    }
 }

@@ -1,4 +1,3 @@
-pub mod ByteLaws
 mod ClaimLaws
 mod ConcludeLaws
 mod UnitLaws

@@ -3,17 +3,11 @@ ghost use Prim.Native.Nat.{_≤_};
 use libc::STDERR_FILENO;
 use report::Answer;
 use report::Report;
-use settings::MAX_BRANCHES;
 use settings::MAX_EXECUTIONS;
-use settings::MAX_OPERATIONS;
+use settings::PATH_BYTES;
+use settings::RECORD;
 use settings::Settings;
-
-// Bytes of a choice, and of a trace entry.
-const RECORD: usize = 16;
-
-const PATH_BYTES: usize = RECORD * MAX_BRANCHES as usize;
-
-const TRACE_BYTES: usize = RECORD * MAX_OPERATIONS as usize;
+use settings::TRACE_BYTES;
 
 // Explores and prints, with as much of the largest buffers as the settings ask for.
 pub fn run(table: &[u8], condition: &[u8], settings: Settings, whole: bool) {

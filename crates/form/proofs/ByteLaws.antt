@@ -1,7 +1,6 @@
 -- A row's bytes. Assumes nothing.
---     low-eight      a number's eight bytes, from its two halves
 --     row-all        a row's bytes, from its fields
-use Prim.Native.Nat.{ℕ, zero, suc, _+_, _/_, _%_, _≤_}
+use Prim.Native.Nat.{ℕ, zero, suc, _+_, _%_, _≤_}
 use mathlib.Core.List.{List, [], _∷_}
 use mathlib.Core.Path.{_≡_, refl}
 use native.Mathlib.Omega.{arith}
@@ -9,46 +8,6 @@ use lib.ListN.{length, getD, take, drop}
 use lib.Seq.{drop-cons}
 use Rattle.rules.specs.Event.{little}
 use Rattle.rules.specs.Form.{rowBytes}
-
-abbrev halves : ℕ → List ℕ
-halves v =
-    v % 4294967296 % 256
-    ∷ v % 4294967296 / 256 % 256
-    ∷ v % 4294967296 / 65536 % 256
-    ∷ v % 4294967296 / 16777216 % 256
-    ∷ v / 4294967296 % 256
-    ∷ v / 4294967296 / 256 % 256
-    ∷ v / 4294967296 / 65536 % 256
-    ∷ v / 4294967296 / 16777216 % 256
-    ∷ []
-
-byte-zero : (v : ℕ) → v % 4294967296 % 256 ≡ v % 256
-byte-zero v = omega arith
-
-byte-one : (v : ℕ) → v % 4294967296 / 256 % 256 ≡ v / 256 % 256
-byte-one v = omega arith
-
-byte-two : (v : ℕ) → v % 4294967296 / 65536 % 256 ≡ v / 256 / 256 % 256
-byte-two v = omega arith
-
-byte-three : (v : ℕ) → v % 4294967296 / 16777216 % 256 ≡ v / 256 / 256 / 256 % 256
-byte-three v = omega arith
-
-byte-four : (v : ℕ) → v / 4294967296 % 256 ≡ v / 256 / 256 / 256 / 256 % 256
-byte-four v = omega arith
-
-byte-five : (v : ℕ) → v / 4294967296 / 256 % 256 ≡ v / 256 / 256 / 256 / 256 / 256 % 256
-byte-five v = omega arith
-
-byte-six : (v : ℕ) → v / 4294967296 / 65536 % 256 ≡ v / 256 / 256 / 256 / 256 / 256 / 256 % 256
-byte-six v = omega arith
-
-byte-seven : (v : ℕ) → v / 4294967296 / 16777216 % 256 ≡ v / 256 / 256 / 256 / 256 / 256 / 256 / 256 % 256
-byte-seven v = omega arith
-
-pub low-eight : (v : ℕ) → halves v ≡ little 8 v
-unfolding little
-low-eight v = rw (byte-zero v, byte-one v, byte-two v, byte-three v, byte-four v, byte-five v, byte-six v, byte-seven v)
 
 -- elements one by one, from the k-th on
 abbrev elements : ℕ → ℕ → List ℕ → List ℕ

@@ -131,7 +131,7 @@ pub fn row_bytes(fields: Fields) -> [u8; 24]
 }
 
 // A number's bytes, its least first.
-fn low_bytes(value: u64) -> [u8; 8]
+pub fn low_bytes(value: u64) -> [u8; 8]
     ensures { λ r. ⌜ r ≡ little 8 value ⌝ }
 {
     let low = value % 0x1_0000_0000;

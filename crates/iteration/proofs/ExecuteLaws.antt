@@ -22,19 +22,24 @@ use Rattle.meeting.specs.Stands.{Lent, lent, Stands, Comes}
 use Rattle.meeting.specs.declared.Cursor.{Cursor}
 use Rattle.meeting.specs.declared.Ticked.{Ticked}
 use Rattle.walk.specs.Walks.{Runs, Gone}
-use Rattle.iteration.specs.Executes.{mostOpened, Afresh, Ready, Shaped, Given, Started, Knows, Walks, Executes, machineOf}
+use Rattle.iteration.specs.Executes.{mostOpened, Afresh, Ready, Shaped, Given, Knows, Walks, Executes, machineOf}
 use Rattle.iteration.specs.declared.Terms.{Terms}
 use Rattle.iteration.proofs.ReadyLaws.{ready-header, ready-threads, ready-cells, ready-plains}
 
-pub started : (clocks : Clocks) (marks : Marks) (values : Values) (numbers : Numbers) (table shape : List ℕ) (exploring : Bool) (threads cells plains : ℕ)
-    → threads ≡ getD shape 0 0 → cells ≡ getD shape 1 0 → plains ≡ getD shape 12 0
-    → ((p : machine.Program) → p .table ≡ table → p .exploring ≡ exploring → threadsOf (p .table) ≡ threads → cellsOf (p .table) ≡ cells → plainsOf (p .table) ≡ plains → state clocks marks values numbers ≡ machine.start p)
+-- the tables are those of the start, whatever the settings and the condition
+abbrev Started : Clocks → Marks → Values → Numbers → List ℕ → List ℕ → Bool → Type 0
+Started clocks marks values numbers table shape exploring =
+    (condition : List ℕ) (s : Settings) (path trace : List ℕ) → Shaped table shape s path trace → s .exploring ≡ exploring
+    → state clocks marks values numbers ≡ machine.start (programOf table condition s)
+
+pub started : {clocks : Clocks} {marks : Marks} {values : Values} {numbers : Numbers} (table shape : List ℕ) (exploring : Bool)
+    → ((p : machine.Program) → p .table ≡ table → p .exploring ≡ exploring → threadsOf (p .table) ≡ getD shape 0 0 → cellsOf (p .table) ≡ getD shape 1 0 → plainsOf (p .table) ≡ getD shape 12 0 → state clocks marks values numbers ≡ machine.start p)
     → Started clocks marks values numbers table shape exploring
-started clocks marks values numbers table shape exploring threads cells plains e f g h condition s path trace shaped explores =
+started table shape exploring h condition s path trace shaped explores =
     h (programOf table condition s) refl explores
-    (sym (e ∙ ready-threads (shaped .ready) (shaped .is-shape)))
-    (sym (f ∙ ready-cells (shaped .ready) (shaped .is-shape)))
-    (sym (g ∙ ready-plains (shaped .ready) (shaped .is-shape)))
+    (sym (ready-threads (shaped .ready) (shaped .is-shape)))
+    (sym (ready-cells (shaped .ready) (shaped .is-shape)))
+    (sym (ready-plains (shaped .ready) (shaped .is-shape)))
 
 module _ (table condition shape : List ℕ) (s : Settings) (path trace : List ℕ) (shaped : Shaped table shape s path trace) where
   in-range : (s .branches ≤ positions) × (s .operations < largest)

@@ -6,25 +6,16 @@ use mathlib.Core.Bool.{true, and-eq-true-iff}
 use mathlib.Core.Path.{_≡_}
 use native.Mathlib.Omega.{arith}
 use lib.ListN.{length, getD}
-use borrow.Author.Tests.{le-leb, leb-true}
+use borrow.Author.Tests.{leb-true}
 use Rattle.rules.specs.Table.{headerBytes, threadsOf, cellsOf, plainsOf, headerFine, shapeOf}
 use Rattle.rules.specs.Explored.{Settings}
 use Rattle.rules.proofs.MeasureAccepted.{good-header}
-use Rattle.walk.proofs.ShapeLaws.{shape-plains}
+use Rattle.table.proofs.ShapeLaws.{shape-threads, shape-cells, shape-plains}
 use Rattle.iteration.specs.Executes.{Ready}
 
 header-within : (table : List ℕ) → headerFine table ≡ true → (headerBytes ≤ length table) × (threadsOf table ≤ 5) × (cellsOf table ≤ 4) × (plainsOf table ≤ 4)
 unfolding headerFine
 header-within table e = let f = simp and-eq-true-iff at e in omega (arith, leb-true)
-
-module _ (table : List ℕ) (long : headerBytes ≤ length table) where
-  shape-threads : getD (shapeOf table) 0 0 ≡ threadsOf table
-  unfolding shapeOf
-  shape-threads = rw (shapeOf, le-leb headerBytes (length table) long)
-
-  shape-cells : getD (shapeOf table) 1 0 ≡ cellsOf table
-  unfolding shapeOf
-  shape-cells = rw (shapeOf, le-leb headerBytes (length table) long)
 
 module _ {table : List ℕ} {s : Settings} {path trace : List ℕ} (ready : Ready table s path trace) where
   -- "threads 1..5, cells 1..4", "up to four" plain cells

@@ -6,15 +6,14 @@
 --     machineOf           that of a table, a final condition and the settings
 --     Ready, Shaped       checks 2 to 5 have passed, and the shape is the table's
 --     Given               the terms are those of the settings
---     Started             the tables are those of the machine's start
 --     Knows               a path and a cursor are a ledger's
 --     Executes            an execution, by the definition's `execution`
 use Prim.Native.Nat.{ℕ, _+_, _*_, _≤_}
 use mathlib.Core.List.{List}
-use mathlib.Core.Bool.{Bool, true}
+use mathlib.Core.Bool.{true}
 use mathlib.Core.Path.{_≡_}
 use lib.ListN.{length, getD}
-use Rattle.rules.specs.State.{State, Clocks, Marks, Values, Numbers}
+use Rattle.rules.specs.State.{State}
 use Rattle.rules.specs.Table.{shapeOf, judged, good}
 use Rattle.rules.specs.Machine as machine
 use Rattle.rules.specs.Event.{Machine}
@@ -22,7 +21,6 @@ use Rattle.rules.specs.Explorer as explorer
 use Rattle.rules.specs.Explorer.{Walk, Ledger}
 use Rattle.rules.specs.Explored as rules
 use Rattle.rules.specs.Explored.{Settings, ticksOf, programOf, limitsOf}
-use Rattle.layout.specs.Tables.{state}
 use Rattle.path.specs.Holds.{Holds}
 use Rattle.path.specs.Bounds.{boundOf}
 use Rattle.meeting.specs.Stands.{Lent, Stands, Comes}
@@ -93,11 +91,6 @@ pub record Given (s : Settings) (t : Terms) : Type 0 where
   pub operations : t .limits .operations ≡ s .operations
   pub bound : boundOf (t .limits .bound) ≡ s .bound
   pub exploring : s .exploring ≡ t .exploring
-
-abbrev pub Started : Clocks → Marks → Values → Numbers → List ℕ → List ℕ → Bool → Type 0
-Started clocks marks values numbers table shape exploring =
-    (condition : List ℕ) (s : Settings) (path trace : List ℕ) → Shaped table shape s path trace → s .exploring ≡ exploring
-    → state clocks marks values numbers ≡ machine.start (programOf table condition s)
 
 pub record Knows (path : List ℕ) (c : Cursor) (l : Ledger) : Type 0 where
   pub holds : Holds path (l .path)

@@ -3,17 +3,13 @@ ghost use Prim.Native.Nat.{_+_, _*_, _^_, _<_, _≤_};
 ghost use lib.ListN.{length, getD};
 ghost use Rattle.meeting.specs.Stands.{lent};
 ghost use Rattle.walk.specs.Walks.{Placed};
-ghost use Rattle.iteration.specs.Executes.{mostOpened, Fuel, Afresh, Walks, Started, Executes};
+ghost use Rattle.iteration.specs.Executes.{mostOpened, Fuel, Afresh, Walks, Executes};
 use event::Fault;
 use layout::Clocks;
 use layout::Marks;
 use layout::Numbers;
 use layout::Values;
-use layout::wide16;
-use table::CELLS;
-use table::PLAINS;
 use table::Shape;
-use table::THREADS;
 use walk::Cursor;
 use walk::Limits;
 use walk::Outcome;
@@ -41,15 +37,8 @@ pub fn execute(
     requires { ⌜ (getD (now shape) 0 0 ≤ 5) × (getD (now shape) 1 0 ≤ 4) × (getD (now shape) 12 0 ≤ 4) × (16 * cursor .len ≤ length (now path)) × (cursor .opened + mostOpened < 2 ^ 64) ⌝ }
     ensures { λ r. ⌜ Executes (lent (now (clocks .entry)) (now (marks .entry)) (now (values .entry)) (now (numbers .entry)) (now (path .entry)) (now (trace .entry))) (lent (now (clocks .exit)) (now (marks .exit)) (now (values .exit)) (now (numbers .exit)) (now (path .exit)) (now (trace .exit))) (now (table .entry)) (now (shape .entry)) terms cursor r ⌝ }
 {
-    start_anew(
-        clocks,
-        marks,
-        values,
-        numbers,
-        table,
-        shape,
-        terms.exploring,
-    );
+    let exploring = terms.exploring;
+    start::start(clocks, marks, values, numbers, table, shape, exploring);
     let limits = terms.limits;
     let begins = again(cursor);
     walked(
@@ -64,35 +53,6 @@ pub fn execute(
         limits,
         begins,
     )
-}
-
-// Lays the tables anew, as a table of this shape has them at the start.
-fn start_anew(
-    clocks: &mut Clocks,
-    marks: &mut Marks,
-    values: &mut Values,
-    numbers: &mut Numbers,
-    table: &[u8],
-    shape: &Shape,
-    exploring: bool,
-)
-    requires { ⌜ (getD (now shape) 0 0 ≤ 5) × (getD (now shape) 1 0 ≤ 4) × (getD (now shape) 12 0 ≤ 4) ⌝ }
-    ensures { λ _. ⌜ Started (now (clocks .exit)) (now (marks .exit)) (now (values .exit)) (now (numbers .exit)) (now (table .entry)) (now (shape .entry)) exploring ⌝ }
-{
-    let threads = wide16(shape[THREADS]);
-    let cells = wide16(shape[CELLS]);
-    let plains = wide16(shape[PLAINS]);
-    start::start(
-        clocks,
-        marks,
-        values,
-        numbers,
-        table,
-        threads,
-        cells,
-        plains,
-        exploring,
-    );
 }
 
 // The execution starts at the path's first branch, with an empty trace.

@@ -13,11 +13,11 @@ use Rattle.rules.specs.Table.{threadsOf, cellsOf, plainsOf}
 use Rattle.rules.specs.State as State
 use Rattle.rules.specs.State.{State, Numbers, Number, number, withNumber, numberAt, numbersHeld, storeAt, none, count, isSeqCst, accessBranch, nonLoadBranch, lastYield, exploring, threads, cells}
 use Rattle.rules.specs.Cell.{storeDone, slotOf, seqCstFlag}
-use Rattle.rules.specs.Plain.{plainWriteDone}
 use Rattle.rules.specs.Machine
 use Rattle.rules.specs.Machine.{Program, start, forThreads}
 use Rattle.rules.proofs.StateLaws.{number-other}
 use Rattle.rules.proofs.MeasureRows.{pick}
+use Rattle.rules.proofs.MeasureStart.{plains-new}
 use Rattle.offers.proofs.Growing.{set-has}
 use Rattle.offers.proofs.Starts.{replicate-has}
 
@@ -78,13 +78,6 @@ cells-few table (suc left) c st h few =
     let e : c + suc left ≡ c + 1 + left = omega arith in
     rw e (cells-few table left (c + 1) (Machine.cellMade table st c) (omega arith) (made-few table st c (omega arith) few))
 
--- a plain cell has no number
-plains-few : (table : List ℕ) (d left c : ℕ) (st : State) → Few d (st .numbers) →
-    Few d (Machine.plainsMade table st left c .numbers)
-unfolding Machine.plainsMade plainWriteDone
-plains-few table d zero c st few = few
-plains-few table d (suc left) c st few = plains-few table d left (c + 1) (Machine.plainMade table st c) few
-
 started-few : (c left t : ℕ) (st : State) → t + left ≤ threads → Few c (st .numbers) →
     Few c (Machine.threadsStarted st left t .numbers)
 unfolding Machine.threadsStarted
@@ -102,7 +95,7 @@ unfolding start
 start-counts p few held c h =
     started-few (0 + cellsOf (p .table)) (threadsOf (p .table)) 0
     (Machine.plainsMade (p .table) (cells-made p) (plainsOf (p .table)) 0) (omega arith)
-    (plains-few (p .table) (0 + cellsOf (p .table)) (plainsOf (p .table)) 0 (cells-made p)
+    (rw (plains-new (p .table) (plainsOf (p .table)) 0 (cells-made p))
     (cells-few (p .table) (cellsOf (p .table)) 0 (Machine.thread0Making (Machine.blank (p .exploring))) (omega arith)
     (blank-few (p .exploring))))
     c h .0

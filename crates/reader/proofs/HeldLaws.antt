@@ -18,7 +18,7 @@ use Rattle.rules.specs.Table.{maxRows, total}
 use Rattle.rules.specs.Event.{little}
 use Rattle.rules.specs.Form.{rowBytes}
 use Rattle.rules.specs.Text.{Made, tableOf, filled, withCell, withPlain, withThread, withRow, rowsSoFar, tableBytes}
-use Rattle.claims.proofs.ByteLaws.{length-little}
+use Rattle.rules.proofs.LittleLaws.{little-long}
 use Rattle.reader.specs.Tables.{Held, Counts, howMany, oneMore, Cleared}
 
 -- Zeros
@@ -166,7 +166,7 @@ module _ (b : List ℕ) (n : ℕ) (m : Made) (held : Held b n m) where
 
   module _ (v : ℕ) (bytes mid : List ℕ) (e : bytes ≡ little 8 v) (p : mid ≡ paste b n bytes (length bytes)) (fits : n + 8 ≤ length b) where
     eight : length (little 8 v) ≡ 8
-    eight = length-little v
+    eight = little-long 8 v
 
     value-is : mid ≡ filled (length b) (tableOf (grown m (little 8 v)))
     value-is = p ∙ grown-held bytes (omega (arith, ap length e, eight)) ∙ ap (λ (x : List ℕ). filled (length b) (tableOf (grown m x))) e

@@ -8,7 +8,6 @@ ghost use lib.ListN.{length, getD, drop};
 ghost use lib.Seq.{paste};
 ghost use Rattle.rules.specs.Table.{headerBytes};
 ghost use Rattle.rules.specs.Condition.{conditionBytes};
-ghost use Rattle.rules.specs.Event.{little};
 ghost use Rattle.rules.specs.Text as rules;
 ghost use Rattle.token.specs.Places.{part};
 ghost use Rattle.reader.specs.Tables.{Holds, RowFits, Counts, howMany, oneMore, Grows, Cleared, Blank};
@@ -16,20 +15,18 @@ ghost use Rattle.reader.specs.Lines.{Bare, Steps, Closes, Answers, readO
 use condition::CONDITION_BYTES;
 use form::Fields;
 use form::Room;
+use form::low_bytes;
 use layout::MAX_CELLS;
 use layout::MAX_PLAINS;
 use layout::MAX_THREADS;
+use table::limits::CELL_COUNT;
 use table::limits::HEADER;
 use table::limits::MAX_ROWS;
+use table::limits::PLAIN_COUNT;
 use table::limits::ROW;
 pub use table::limits::TABLE_BYTES;
 use table::limits::VALUE;
 use token::Found;
-
-// Where the header counts the cells, and the plain cells.
-const CELLS: usize = 1;
-
-const PLAINS: usize = 7;
 
 // How a text was read: a buffer was too short; refused at a line and column, both from 1; or taken, with the lengths of its table and
 // its condition.
@@ -160,14 +157,14 @@ fn line_of(
         return Line::GoesOn(rows, length, token::next_line(text, here));
     }
     let to = token::token_end(text, here);
-    if table[CELLS] == 0 {
+    if table[CELL_COUNT] == 0 {
         if token::is_word(text, here, to, b"cells") {
-            return values_line(text, to, length, CELLS, MAX_CELLS, table);
+            return values_line(text, to, length, CELL_COUNT, MAX_CELLS, table);
         }
         return Line::Refused(here);
     }
     if is_plain_line(text, here, to, table) {
-        return values_line(text, to, length, PLAINS, MAX_PLAINS, table);
+        return values_line(text, to, length, PLAIN_COUNT, MAX_PLAINS, table);
     }
     if token::is_word(text, here, to, b"thread") {
         return a_thread(text, here, to, lines, length, table);
@@ -233,8 +230,8 @@ fn a_row(
     }
     let room = Room {
         threads: all as u64,
-        cells: table[CELLS] as u64,
-        plains: table[PLAINS] as u64,
+        cells: table[CELL_COUNT] as u64,
+        plains: table[PLAIN_COUNT] as u64,
         rows: rows as u64,
         row: before as u64,
     };
@@ -255,7 +252,7 @@ fn is_plain_line(text: &[u8], here: usize, to: usize, table: &[u8]) -> bool
     if 0 < table[0] {
         return false;
     }
-    if 0 < table[PLAINS] {
+    if 0 < table[PLAIN_COUNT] {
         return false;
     }
     token::is_word(text, here, to, b"plain")
@@ -346,22 +343,4 @@ fn append(buffer: &mut [u8], at: usize, bytes: &[u8])
         buffer[at + i] = bytes[i];
         i += 1;
     }
-}
-
-// A number's bytes, its least first.
-fn low_bytes(value: u64) -> [u8; 8]
-    ensures { λ r. ⌜ r ≡ little 8 value ⌝ }
-{
-    let low = value % 0x1_0000_0000;
-    let high = value / 0x1_0000_0000;
-    [
-        (low % 256) as u8,
-        (low / 256 % 256) as u8,
-        (low / 65536 % 256) as u8,
-        (low / 16777216 % 256) as u8,
-        (high % 256) as u8,
-        (high / 256 % 256) as u8,
-        (high / 65536 % 256) as u8,
-        (high / 16777216 % 256) as u8,
-    ]
 }

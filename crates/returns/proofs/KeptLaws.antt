@@ -15,6 +15,7 @@ use Rattle.rules.specs.Event.{little}
 use Rattle.rules.specs.Table.{maxRows, total, isFine, rowDecoded, rowFrom, Row}
 use Rattle.rules.specs.Form.{rowBytes}
 use Rattle.rules.specs.Text.{Made, nothingMade, withCell, withPlain, withThread, withRow, rowsSoFar}
+use Rattle.rules.proofs.LittleLaws.{little-long}
 use Rattle.returns.proofs.ByteLaws.{bytes-append, little-bytes, row-is-bytes}
 use Rattle.returns.proofs.CountLaws.{total-next, total-take, total-past, total-set}
 use Rattle.returns.proofs.LineLaws.{roomFor}
@@ -138,11 +139,6 @@ kept-thread allThreads rows more m h some few full = record {
 }
 
 -- Cells, before any thread
-
-little-long : (n v : ℕ) → length (little n v) ≡ n
-unfolding little
-little-long zero v = refl
-little-long (suc n) v = ap suc (little-long n (v / 256))
 
 -- one value more, of a cell or of a plain cell
 kept-value : (allThreads rows v cells plains : ℕ) (m : Made) → Kept allThreads rows m → m .threads ≡ 0 → cells ≤ 4 → plains ≤ 4 → cells + plains ≡ m .cells + m .plains + 1 →

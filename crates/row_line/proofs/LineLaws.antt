@@ -1,5 +1,4 @@
--- A row's fields and words as they are written. Assumes nothing.
---     fields-..             a row's fields, where the table holds it and where not
+-- A row's words as they are written. Assumes nothing.
 --     piece-..              a byte of a form's words, by what it stands for
 --     words-next, words-end     the words one by one
 --     row-whole             a row's line
@@ -8,35 +7,14 @@ use mathlib.Core.List.{List, [], _∷_, _++_}
 use mathlib.Core.Bool.{Bool, true, false, cond, _||_}
 use mathlib.Core.Path.{_≡_, refl, ap, sym, _∙_}
 use native.Mathlib.Numerals.{add-one}
-use borrow.Author.Tests.{lt-ltb, le-ltb, le-leb, lt-leb, ne-eqb}
+use borrow.Author.Tests.{lt-ltb, le-ltb, ne-eqb}
 use lib.Dec.{eqb}
 use lib.ListN.{length, getD, drop, drop-of-length-le}
 use lib.Seq.{drop-cons}
-use Rattle.rules.specs.Table.{Row, maxValues, allRows, rowBytes, sizeOf, noRow, rowFrom, rowAt}
+use Rattle.rules.specs.Table.{Row}
 use Rattle.rules.specs.Form.{forms, fieldOf}
 use Rattle.rules.specs.Writer.{shown, orderShown, letterShown, formShown, formIn, fieldsOf, rowShown}
 use Rattle.row_line.specs.Pieces.{pieceShown}
-
--- Fields
-
-module _ (t : List ℕ) (values index : ℕ) where
-  pub fields-held : values ≤ maxValues → index < allRows → sizeOf values index + rowBytes ≤ length t → (fields : List ℕ) → fields ≡ fieldsOf (rowFrom t (sizeOf values index)) → fields ≡ fieldsOf (rowAt t values index)
-  unfolding rowAt
-  fields-held h k l fields e =
-      e ∙ (rw (le-leb values maxValues h, lt-ltb index allRows k, le-leb (sizeOf values index + rowBytes) (length t) l))
-
-  pub fields-short : values ≤ maxValues → index < allRows → length t < sizeOf values index + rowBytes → fieldsOf noRow ≡ fieldsOf (rowAt t values index)
-  unfolding rowAt
-  fields-short h k l =
-      rw (le-leb values maxValues h, lt-ltb index allRows k, lt-leb (sizeOf values index + rowBytes) (length t) l)
-
-  pub fields-past : values ≤ maxValues → allRows ≤ index → fieldsOf noRow ≡ fieldsOf (rowAt t values index)
-  unfolding rowAt
-  fields-past h k = rw (le-leb values maxValues h, le-ltb index allRows k)
-
-  pub fields-none : maxValues < values → fieldsOf noRow ≡ fieldsOf (rowAt t values index)
-  unfolding rowAt
-  fields-none h = rw (lt-leb values maxValues h)
 
 -- Pieces
 

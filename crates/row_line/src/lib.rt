@@ -2,7 +2,7 @@
 ghost use mathlib.Core.Path.{_≡_};
 ghost use Prim.Native.Nat.{_+_, _≤_};
 ghost use lib.ListN.{length, getD};
-ghost use Rattle.rules.specs.Table.{rowBytes, rowFrom, rowAt};
+ghost use Rattle.rules.specs.Table.{rowAt};
 ghost use Rattle.rules.specs.Form as Form;
 ghost use Rattle.rules.specs.Writer.{formShown, formIn, fieldsOf, rowShown};
 ghost use Rattle.form.specs.Lines.{coded};
@@ -14,13 +14,6 @@ use put::put_byte;
 use put::put_bytes;
 use put::put_number;
 use put::put_order;
-use table::limits::ALL_ROWS;
-use table::limits::HEADER;
-use table::limits::MAX_VALUES;
-use table::limits::ROW;
-use table::limits::VALUE;
-use table::little::u16_at;
-use table::little::u64_at;
 
 // The row of this number among all rows of a table with so many start values.
 pub fn put_row(text: &mut [u8], at: usize, table: &[u8], values: usize, index: usize) -> usize
@@ -36,32 +29,17 @@ pub fn put_row(text: &mut [u8], at: usize, table: &[u8], values: usize, index: u
 fn fields_at(table: &[u8], values: usize, index: usize) -> Fields
     ensures { λ r. ⌜ r ≡ fieldsOf (rowAt (now (table .entry)) values index) ⌝ }
 {
-    if values <= MAX_VALUES {
-        if index < ALL_ROWS {
-            let at = HEADER + VALUE * values + ROW * index;
-            if at + ROW <= table.len() {
-                return fields_from(table, at);
-            }
-        }
-    }
-    [255, 0, 0, 0, 0, 0, 0, 0, 0]
-}
-
-// The fields of the row whose first byte is this one.
-fn fields_from(table: &[u8], at: usize) -> Fields
-    requires { ⌜ at + rowBytes ≤ length (now table) ⌝ }
-    ensures { λ r. ⌜ r ≡ fieldsOf (rowFrom (now (table .entry)) at) ⌝ }
-{
+    let row = table::row_at(table, values, index);
     [
-        wide(table[at]),
-        wide(table[at + 1]),
-        wide(table[at + 2]),
-        wide(table[at + 3]),
-        wide(table[at + 4]),
-        wide(table[at + 5]),
-        wide_two(u16_at(table, at + 6)),
-        u64_at(table, at + 8),
-        u64_at(table, at + 16),
+        wide(row.opcode),
+        wide(row.object),
+        wide(row.order),
+        wide(row.failure),
+        wide(row.kind),
+        wide(row.register),
+        wide_two(row.target),
+        row.a,
+        row.b,
     ]
 }
 

@@ -2,6 +2,7 @@ pub mod AccessLaws
 pub mod ConditionLaws
 pub mod ExploredLaws
 pub mod LimitLaws
+pub mod LittleLaws
 pub mod MarkLaws
 pub mod Measure
 pub mod MeasureAccepted

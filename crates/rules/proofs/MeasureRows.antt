@@ -154,7 +154,7 @@ abbrev pub widest : ℕ → ℕ → Room
 widest count row = record { threads = threads; cells = cells; plains = plains; rows = count; row = row }
 
 module _ (room : Room) (few : room .threads ≤ threads) (held : room .cells ≤ cells) (plain : room .plains ≤ plains) where
-  pub names-more : (op : Op) → Names room op → Names (widest (room .rows) (room .row)) op
+  names-more : (op : Op) → Names room op → Names (widest (room .rows) (room .row)) op
   names-more (Table.load c o r) h = omega arith
   names-more (Table.store c o a) h = omega arith
   names-more (Table.storeRegister c o r) h = omega arith

@@ -124,7 +124,7 @@ cells-new table (suc n) c st h u =
     rw (sym e) (cells-new table n (c + 1) (Machine.cellMade table st c) (omega arith) (cell-new table c st (omega arith) u))
 
 -- "thread 0 makes them as writes after the atomic cells": no number of the state is theirs
-plains-new : (table : List ℕ) (n c : ℕ) (st : State) → Machine.plainsMade table st n c .numbers ≡ st .numbers
+pub plains-new : (table : List ℕ) (n c : ℕ) (st : State) → Machine.plainsMade table st n c .numbers ≡ st .numbers
 unfolding Machine.plainsMade plainWriteDone
 plains-new table zero c st = refl
 plains-new table (suc n) c st = plains-new table n (c + 1) (Machine.plainMade table st c)

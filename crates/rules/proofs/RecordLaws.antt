@@ -2,6 +2,7 @@
 --     byte-at, byte-put            a byte of the list is a byte of its record
 --     bytes-put, whole-put         the same for several bytes in a row, and for all of a record
 --     put-on                       one more byte in a row
+--     write-on, write-all          the steps of a loop that puts bytes one after the other
 --     record-now, record-other     what is read after a record was put
 --     record-again, record-same    a second one in the same place; the one that stands there already
 --     flat, Sized                  records one after the other, each of 16 bytes
@@ -143,6 +144,14 @@ module _ (bytes : List ℕ) (k : ℕ) (fits : 16 * k + 16 ≤ length bytes) wher
 -- a step of a loop that puts one byte after the other
 pub put-on : (bytes : List ℕ) (p : ℕ) (s : List ℕ) (j v : ℕ) → p + j < length bytes → j < length s → v ≡ getD s j 0 → set (paste bytes p s j) (p + j) v ≡ paste bytes p s (j + 1)
 put-on bytes p s j v h l e = rw (e, add-one) (paste-suc bytes p s j 0 h l)
+
+-- the same, for a loop that puts the first `size` of some bytes
+module _ (bytes : List ℕ) (at : ℕ) (s : List ℕ) (size : ℕ) (fits : at + size ≤ length bytes) (has : size ≤ length s) (now : List ℕ) (i : ℕ) (so-far : now ≡ paste bytes at s i) where
+  pub write-on : i < size → set now (at + i) (getD s i 0) ≡ paste bytes at s (i + 1)
+  write-on h = ap (λ (x : List ℕ). set x (at + i) (getD s i 0)) so-far ∙ put-on bytes at s i (getD s i 0) (omega arith) (omega arith) refl
+
+  pub write-all : i ≤ size → size ≤ i → now ≡ paste bytes at s size
+  write-all h l = let e : i ≡ size = omega arith in so-far ∙ ap (λ (x : ℕ). paste bytes at s x) e
 
 -- Records one after the other
 

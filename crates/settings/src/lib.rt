@@ -5,6 +5,8 @@ ghost use lib.Dec.{eqb};
 ghost use Rattle.rules.specs.Explored as rules;
 ghost use Rattle.settings.specs.Given.{settingsOf};
 use path::Bound;
+pub use record::fields::RECORD;
+use trace::ENTRY;
 
 pub struct Settings {
     pub branches: u64,
@@ -20,6 +22,11 @@ pub const MAX_BRANCHES: u64 = 4096;
 pub const MAX_OPERATIONS: u64 = 4096;
 
 pub const MAX_EXECUTIONS: u64 = 65535;
+
+// The bytes of the largest buffers.
+pub const PATH_BYTES: usize = RECORD * MAX_BRANCHES as usize;
+
+pub const TRACE_BYTES: usize = ENTRY * MAX_OPERATIONS as usize;
 
 // Whether B, L and N are in range.
 pub fn settings_fine(settings: Settings) -> bool

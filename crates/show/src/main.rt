@@ -9,18 +9,13 @@ use reader::TABLE_BYTES;
 use settings::MAX_BRANCHES;
 use settings::MAX_EXECUTIONS;
 use settings::MAX_OPERATIONS;
+use settings::PATH_BYTES;
 use settings::Settings;
+use settings::TRACE_BYTES;
 use source::FILE_BYTES;
 
 // One byte more than is taken.
 const ROOM: usize = FILE_BYTES + 1;
-
-// Bytes of a choice, and of a trace entry.
-const RECORD: usize = 16;
-
-const PATH_BYTES: usize = RECORD * MAX_BRANCHES as usize;
-
-const TRACE_BYTES: usize = RECORD * MAX_OPERATIONS as usize;
 
 // A read that fails counts as the input's end: what there is, is then refused.
 fn main() {

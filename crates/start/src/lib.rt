@@ -1,6 +1,7 @@
 // The start of an execution: document 01's "Start of each execution".
 ghost use mathlib.Core.Path.{_≡_};
 ghost use Prim.Native.Nat.{_<_, _≤_};
+ghost use lib.ListN.{getD};
 ghost use Rattle.rules.specs.Machine as machine;
 ghost use Rattle.rules.specs.State as rules;
 ghost use Rattle.rules.specs.Table.{threadsOf, cellsOf, plainsOf};
@@ -26,29 +27,35 @@ use layout::of_thread::CAUSALITY;
 use layout::of_thread::LAST_YIELD;
 use layout::of_thread::STATE;
 use layout::order::RELEASE;
+use layout::wide16;
 use synchronize::join_into;
+use table::CELLS;
+use table::PLAINS;
+use table::Shape;
+use table::THREADS;
 use thread::RUNNABLE;
 
-// Lays the tables anew, whatever they held: cells and plain cells made by thread 0, then all threads runnable.
+// Lays the tables anew, whatever they held, as a table of this shape has them at the start: cells and plain cells made by thread 0, then all
+// threads runnable.
 pub fn start(
     clocks: &mut Clocks,
     marks: &mut Marks,
     values: &mut Values,
     numbers: &mut Numbers,
     table: &[u8],
-    threads: usize,
-    cells: usize,
-    plains: usize,
+    shape: &Shape,
     exploring: bool,
 )
-    requires { ⌜ (threads ≤ 5) × (cells ≤ 4) × (plains ≤ 4) ⌝ }
-    ensures { λ _. ⌜ ((p : machine.Program) → p .table ≡ now (table .entry) → p .exploring ≡ exploring → threadsOf (p .table) ≡ threads → cellsOf (p .table) ≡ cells → plainsOf (p .table) ≡ plains → state (now (clocks .exit)) (now (marks .exit)) (now (values .exit)) (now (numbers .exit)) ≡ machine.start p) ⌝ }
+    requires { ⌜ (getD (now shape) 0 0 ≤ 5) × (getD (now shape) 1 0 ≤ 4) × (getD (now shape) 12 0 ≤ 4) ⌝ }
+    ensures { λ _. ⌜ ((p : machine.Program) → p .table ≡ now (table .entry) → p .exploring ≡ exploring → threadsOf (p .table) ≡ getD (now (shape .entry)) 0 0 → cellsOf (p .table) ≡ getD (now (shape .entry)) 1 0 → plainsOf (p .table) ≡ getD (now (shape .entry)) 12 0 → state (now (clocks .exit)) (now (marks .exit)) (now (values .exit)) (now (numbers .exit)) ≡ machine.start p) ⌝ }
 {
     clear(clocks, marks, values, numbers, exploring);
     clocks[CAUSALITY] = [1, 0, 0, 0, 0];
+    let cells = wide16(shape[CELLS]);
     make_cells(clocks, marks, values, numbers, table, cells);
+    let plains = wide16(shape[PLAINS]);
     make_plains(clocks, values, table, cells, plains);
-    start_threads(clocks, numbers, threads);
+    start_threads(clocks, numbers, wide16(shape[THREADS]));
 }
 
 // Nothing is left over from the execution before.

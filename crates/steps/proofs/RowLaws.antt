@@ -2,20 +2,20 @@
 --     count-at, count-past, count-none      a row count in the header, past the bytes, past the threads
 --     row-said, row-none                    a row by the table's shape
 use Prim.Native.Nat.{ℕ, _+_, _≤_, _<_}
-use mathlib.Core.List.{List, [], _∷_, _++_}
+use mathlib.Core.List.{List}
 use mathlib.Core.Bool.{Bool, true, false, cond, _&&_}
 use mathlib.Core.Path.{_≡_, refl, ap, sym, _∙_}
 use native.Mathlib.Omega.{arith}
 use native.Mathlib.Decide.{decLt}
 use lib.Dec.{leb, ltb}
-use lib.ListN.{length, getD, replicate, take, drop, length-take, List·getD-append, List·getD-eq-default}
-use lib.Seq.{getD-append-add, getD-take, getD-drop}
-use borrow.Author.Tests.{lt-ltb, le-ltb, le-leb, lt-leb}
+use lib.ListN.{length, getD, take, drop, length-take, List·getD-eq-default}
+use lib.Seq.{getD-take, getD-drop}
+use borrow.Author.Tests.{lt-ltb, le-ltb, lt-leb}
 use Rattle.rules.specs.Machine.{rowOf, rowCount}
-use Rattle.rules.specs.Table.{Op, Decoded, refused, headerBytes, rowBytes, maxThreads, maxCells, maxPlains, sizeOf, threadsOf, cellsOf, plainsOf, countsOf, firstRows, shapeOf, noRow, rowAt, Room, rowDecoded, opAt}
+use Rattle.rules.specs.Table.{Op, Decoded, refused, headerBytes, rowBytes, maxThreads, maxCells, maxPlains, sizeOf, countsOf, shapeOf, noRow, rowAt, Room, rowDecoded, opAt}
 use Rattle.decode.specs.declared.Decoded as code
 use Rattle.decode.specs.Ops.{decodedOf}
-use Rattle.table.proofs.Header.{counts-length, counts-are}
+use Rattle.table.proofs.ShapeLaws.{shape-threads, shape-cells, shape-plains, shape-rows, shape-first}
 use Rattle.table.specs.Answers.{roomIn, OpAt}
 use Rattle.steps.specs.Entries.{program, rowSays}
 
@@ -60,44 +60,9 @@ module _ (t : List ℕ) (short : length t < headerBytes) (room : Room) (index : 
 
 -- one that has a header has its numbers in its shape
 module _ (t : List ℕ) (long : headerBytes ≤ length t) where
-  abbrev behind : List ℕ
-  behind = firstRows 0 (countsOf t) ++ (plainsOf t ∷ [])
-
-  abbrev shape : List ℕ
-  shape = threadsOf t ∷ cellsOf t ∷ (countsOf t ++ behind)
-
-  is-shape : shapeOf t ≡ shape
-  unfolding shapeOf
-  is-shape = ap (λ (b : Bool). cond b shape (replicate 13 0)) (le-leb headerBytes (length t) long)
-
-  shape-rows : (i : ℕ) → i < maxThreads → getD (shapeOf t) (2 + i) 0 ≡ getD (countsOf t) i 0
-  shape-rows i h =
-      ap (λ (l : List ℕ). getD l (2 + i) 0) is-shape
-      ∙ getD-append-add (threadsOf t ∷ cellsOf t ∷ []) (countsOf t ++ behind) i 0
-      ∙ List·getD-append (countsOf t) behind 0 i (omega (arith, h, counts-length t long))
-
-  firsts-length : length (firstRows 0 (countsOf t)) ≡ maxThreads
-  unfolding firstRows
-  firsts-length = rw (counts-are t long)
-
-  shape-behind : (i : ℕ) → getD (shapeOf t) (7 + i) 0 ≡ getD behind i 0
-  shape-behind i =
-      let e : 7 + i ≡ 2 + (length (countsOf t) + i) = omega (arith, counts-length t long) in
-      ap (λ (l : List ℕ). getD l (7 + i) 0) is-shape
-      ∙ ap (λ (k : ℕ). getD shape k 0) e
-      ∙ getD-append-add (threadsOf t ∷ cellsOf t ∷ []) (countsOf t ++ behind) (length (countsOf t) + i) 0
-      ∙ getD-append-add (countsOf t) behind i 0
-
-  shape-first : (i : ℕ) → i < maxThreads → getD (shapeOf t) (7 + i) 0 ≡ getD (firstRows 0 (countsOf t)) i 0
-  shape-first i h =
-      shape-behind i ∙ List·getD-append (firstRows 0 (countsOf t)) (plainsOf t ∷ []) 0 i (omega (arith, h, firsts-length))
-
-  shape-plains : getD (shapeOf t) 12 0 ≡ plainsOf t
-  unfolding firstRows
-  shape-plains = rw (is-shape, counts-are t long)
-
   long-said : (i k : ℕ) → i < maxThreads → opAt t (roomIn (shapeOf t) i k) (getD (shapeOf t) (7 + i) 0 + k) ≡ rowOf (program t) i k
-  long-said i k h = rw (shape-rows i h, shape-first i h, shape-plains, is-shape)
+  long-said i k h =
+      rw (shape-rows t long i h, shape-first t long i h, shape-plains t long, shape-threads t long, shape-cells t long)
 
 shape-said : (t : List ℕ) (i k : ℕ) → i < maxThreads → opAt t (roomIn (shapeOf t) i k) (getD (shapeOf t) (7 + i) 0 + k) ≡ rowOf (program t) i k
 shape-said t i k h = elim (decLt (length t) headerBytes) [

@@ -11,14 +11,13 @@ use layout::short8;
 use layout::wide8;
 use table::COUNTS;
 use table::little;
+use trace::ENTRY;
 
 pub mod access;
 pub mod held;
 pub mod loops;
 
-// Where a trace entry has what, in its 16 bytes.
-const ENTRY: usize = 16;
-
+// Where a trace entry has what.
 const THREAD: usize = 0;
 
 const ROW: usize = 1;

@@ -1,4 +1,5 @@
 pub mod Header
 pub mod Places
+pub mod ShapeLaws
 pub mod Walks
 pub mod Within

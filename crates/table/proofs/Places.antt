@@ -25,20 +25,24 @@ module _ (t : List ℕ) (i : ℕ) where
   value-none h = rw (le-ltb i maxValues h)
 
 module _ (t : List ℕ) (values index : ℕ) where
-  row-held : values ≤ maxValues → index < allRows → sizeOf values index + rowBytes ≤ length t →
+  pub row-held : values ≤ maxValues → index < allRows → sizeOf values index + rowBytes ≤ length t →
       rowFrom t (sizeOf values index) ≡ rowAt t values index
   unfolding rowAt
   row-held h k l =
       rw (le-leb values maxValues h, lt-ltb index allRows k, le-leb (sizeOf values index + rowBytes) (length t) l)
 
-  row-short : values ≤ maxValues → index < allRows → length t < sizeOf values index + rowBytes → noRow ≡ rowAt t values index
+  pub row-short : values ≤ maxValues → index < allRows → length t < sizeOf values index + rowBytes → noRow ≡ rowAt t values index
   unfolding rowAt
   row-short h k l =
       rw (le-leb values maxValues h, lt-ltb index allRows k, lt-leb (sizeOf values index + rowBytes) (length t) l)
 
-  row-past : values ≤ maxValues → allRows ≤ index → noRow ≡ rowAt t values index
+  pub row-past : values ≤ maxValues → allRows ≤ index → noRow ≡ rowAt t values index
   unfolding rowAt
   row-past h k = rw (le-leb values maxValues h, le-ltb index allRows k)
+
+  pub row-many : maxValues < values → noRow ≡ rowAt t values index
+  unfolding rowAt
+  row-many h = rw (lt-leb values maxValues h)
 
 module _ (t : List ℕ) (room : Room) (index : ℕ) where
   -- a row that is read is decoded; what stands for one that the table does not hold is refused

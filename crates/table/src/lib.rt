@@ -14,7 +14,7 @@ pub mod little;
 pub use decode::Decoded;
 pub use decode::Op;
 use decode::Room;
-use decode::Row;
+pub use decode::Row;
 use decode::is_row;
 pub use decode::opcode;
 use decode::row_decoded;
@@ -28,6 +28,7 @@ use limits::ALL_ROWS;
 use limits::HEADER;
 use limits::MAX_ROWS;
 use limits::MAX_VALUES;
+use limits::PLAIN_COUNT;
 use limits::ROW;
 use limits::VALUE;
 
@@ -44,9 +45,6 @@ pub const COUNTS: usize = 2;
 pub const FIRSTS: usize = 7;
 
 pub const PLAINS: usize = 12;
-
-// Where the header has the plain-cell count.
-const PLAIN_COUNT: usize = 7;
 
 // Where a shape has the last thread's row count and first row, whose sum is the number of all rows.
 const LAST_COUNT: usize = 6;
@@ -197,6 +195,31 @@ fn place_of(table: &[u8], room: Room, index: usize) -> Place
         }
     }
     Place::Nowhere
+}
+
+// The row of this number among all rows of a table with so many start values; where the table does not hold it, one that no opcode has.
+pub fn row_at(table: &[u8], values: usize, index: usize) -> Row
+    ensures { λ r. ⌜ rowOf r ≡ rules.rowAt (now (table .entry)) values index ⌝ }
+{
+    if values <= MAX_VALUES {
+        if index < ALL_ROWS {
+            let at = HEADER + VALUE * values + ROW * index;
+            if at + ROW <= table.len() {
+                return row_from(table, at);
+            }
+        }
+    }
+    Row {
+        opcode: 255,
+        object: 0,
+        order: 0,
+        failure: 0,
+        kind: 0,
+        register: 0,
+        target: 0,
+        a: 0,
+        b: 0,
+    }
 }
 
 // The row whose first byte is this one.

@@ -11,6 +11,11 @@ pub const MAX_ROWS: usize = 64;
 
 pub const ALL_ROWS: usize = MAX_THREADS * MAX_ROWS;
 
+// Where the header counts the cells, and the plain cells.
+pub const CELL_COUNT: usize = 1;
+
+pub const PLAIN_COUNT: usize = 7;
+
 // In bytes: the header, a cell's start value, a row.
 pub const HEADER: usize = 8;
 

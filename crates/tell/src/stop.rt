@@ -3,9 +3,7 @@ use layout::MAX_THREADS;
 use report::ThreadRecord;
 use steps::held::Held;
 use table::limits::MAX_ROWS;
-
-// A thread's state that is blocked, in its summary.
-const BLOCKED: u16 = 2;
+use thread::BLOCKED;
 
 // Writes the row that failed, or at which a limit stopped the run, if there is one; a thread past its last row was ending.
 pub fn place(table: &[u8], thread: u64, number: u64, is_limit: bool) {

@@ -1,84 +1,29 @@
--- The laws of the code that writes entries: an entry's bytes, bytes put one after the other, zeros. Assumes nothing.
+-- The laws of the code that writes entries: an entry's bytes, zeros. Assumes nothing.
 --     entry-bytes               an entry's bytes, its value's from two halves
---     write-none, write-on, write-all      bytes put one after the other
 --     note-none, note-one       no room, and an entry written
 --     clear-none, clear-on, clear-all      zeros put one after the other, up to the end or to that of the bytes
 use Prim.Native.Nat.{ℕ, _+_, _*_, _/_, _%_, _≤_, _<_}
-use mathlib.Core.List.{List, [], _∷_, _++_}
+use mathlib.Core.List.{List, [], _∷_}
 use mathlib.Core.Bool.{Bool, true, false}
 use mathlib.Core.Path.{_≡_, refl, ap, sym, _∙_}
-use mathlib.Core.Logic.{⊎-elim, _≢_}
 use borrow.Author.Tests.{lt-ltb, le-ltb}
 use native.Mathlib.Omega.{arith}
 use native.Mathlib.Decide.{decLt}
 use lib.ListN.{length, getD, set, length-set, List·getD-eq-default}
-use lib.Seq.{paste, paste-zero, getD-set-same, getD-set-other}
+use lib.Seq.{paste, getD-set-same, getD-set-other}
 use Rattle.rules.specs.Event.{Entry, little, entryBytes}
-use Rattle.rules.proofs.RecordLaws.{put-on}
+use Rattle.rules.proofs.LittleLaws.{halves, low-eight}
 use Rattle.trace.specs.Entries.{Notes, Cleared}
 
 -- An entry's bytes
 
-byte-zero : (v : ℕ) → v % 4294967296 % 256 ≡ v % 256
-byte-zero v = omega arith
-
-byte-one : (v : ℕ) → v % 4294967296 / 256 % 256 ≡ v / 256 % 256
-byte-one v = omega arith
-
-byte-two : (v : ℕ) → v % 4294967296 / 65536 % 256 ≡ v / 256 / 256 % 256
-byte-two v = omega arith
-
-byte-three : (v : ℕ) → v % 4294967296 / 16777216 % 256 ≡ v / 256 / 256 / 256 % 256
-byte-three v = omega arith
-
-byte-four : (v : ℕ) → v / 4294967296 % 256 ≡ v / 256 / 256 / 256 / 256 % 256
-byte-four v = omega arith
-
-byte-five : (v : ℕ) → v / 4294967296 / 256 % 256 ≡ v / 256 / 256 / 256 / 256 / 256 % 256
-byte-five v = omega arith
-
-byte-six : (v : ℕ) → v / 4294967296 / 65536 % 256 ≡ v / 256 / 256 / 256 / 256 / 256 / 256 % 256
-byte-six v = omega arith
-
-byte-seven : (v : ℕ) → v / 4294967296 / 16777216 % 256 ≡ v / 256 / 256 / 256 / 256 / 256 / 256 / 256 % 256
-byte-seven v = omega arith
-
-abbrev halves : ℕ → List ℕ
-halves v =
-    v % 4294967296 % 256
-    ∷ v % 4294967296 / 256 % 256
-    ∷ v % 4294967296 / 65536 % 256
-    ∷ v % 4294967296 / 16777216 % 256
-    ∷ v / 4294967296 % 256
-    ∷ v / 4294967296 / 256 % 256
-    ∷ v / 4294967296 / 65536 % 256
-    ∷ v / 4294967296 / 16777216 % 256
-    ∷ []
-
-value-bytes : (v : ℕ) → halves v ≡ little 8 v
-unfolding little
-value-bytes v =
-    rw (byte-zero v, byte-one v, byte-two v, byte-three v, byte-four v, byte-five v, byte-six v, byte-seven v)
-
 pub entry-bytes : (e : Entry) → e .thread % 256 ∷ e .row % 256 ∷ e .opcode ∷ e .slot ∷ e .mask ∷ 0 ∷ 0 ∷ 0 ∷ halves (e .value) ≡ entryBytes e
 unfolding entryBytes
-entry-bytes e = rw (value-bytes (e .value))
+entry-bytes e = rw (low-eight (e .value))
 
 pub length-entryBytes : (e : Entry) → length (entryBytes e) ≡ 16
 unfolding entryBytes little
 length-entryBytes e = refl
-
--- Bytes put one after the other
-
-pub write-none : (bytes : List ℕ) (at : ℕ) (s : List ℕ) → bytes ≡ paste bytes at s 0
-write-none bytes at s = paste-zero bytes at s
-
-module _ (bytes : List ℕ) (at : ℕ) (s : List ℕ) (fits : at + 16 ≤ length bytes) (sixteen : length s ≡ 16) (now : List ℕ) (i : ℕ) (so-far : now ≡ paste bytes at s i) where
-  pub write-on : i < 16 → set now (at + i) (getD s i 0) ≡ paste bytes at s (i + 1)
-  write-on h = ap (λ (x : List ℕ). set x (at + i) (getD s i 0)) so-far ∙ put-on bytes at s i (getD s i 0) (omega arith) (omega arith) refl
-
-  pub write-all : i ≤ 16 → 16 ≤ i → now ≡ paste bytes at s 16
-  write-all h l = let e : i ≡ 16 = omega arith in so-far ∙ ap (λ (x : ℕ). paste bytes at s x) e
 
 -- Zeros put one after the other
 

@@ -1,5 +1,4 @@
 pub mod MeetLaws
-pub mod ShapeLaws
 pub mod TakeLaws
 pub mod TickLaws
 pub mod WalkLaws

@@ -29,7 +29,7 @@ use Rattle.meeting.proofs.ComesLaws.{comes-stops, same-stands}
 use Rattle.walk.specs.Walks.{Placed, Runs, Ticks}
 use Rattle.walk.specs.Parts.{Goes, ticksAt, tickedAt, AtRow}
 use Rattle.walk.specs.declared.Limits.{Limits}
-use Rattle.walk.proofs.ShapeLaws.{shape-threads, shape-cells, shape-plains, shape-rows, shape-first}
+use Rattle.table.proofs.ShapeLaws.{shape-threads, shape-cells, shape-plains, shape-rows, shape-first}
 
 nobody-tick : (p : Program) (L : explorer.Limits) (w : Walk State) → ltb (active (w .state)) 5 ≡ false → explorer.tick (machine p) L w ≡ faulted rules.impossible noSite w
 unfolding explorer.tick next

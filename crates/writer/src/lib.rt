@@ -18,11 +18,8 @@ use row_line::put_row;
 use table::COUNTS;
 use table::FIRSTS;
 use table::Judged;
-
-// Where the header counts the cells, and the plain cells.
-const CELLS: usize = 1;
-
-const PLAINS: usize = 7;
+use table::limits::CELL_COUNT;
+use table::limits::PLAIN_COUNT;
 
 // What became of it: a table or a condition that is none; too small a buffer, with the bytes that are needed; or the text's length.
 pub enum Written {
@@ -78,7 +75,7 @@ fn put_text(text: &mut [u8], table: &[u8], condition: &[u8]) -> usize
     ensures { λ r. ⌜ Puts (now (text .entry)) (now (text .exit)) 0 (writtenText (now (table .entry)) (now (condition .entry))) r ⌝ }
 {
     let first = put_bytes(text, 0, b"cells");
-    let values = put_values(text, first, table, 0, wide8(table[CELLS]));
+    let values = put_values(text, first, table, 0, wide8(table[CELL_COUNT]));
     let feed = put_byte(text, values, b'\n');
     let plains = put_plains(text, feed, table);
     let threads = put_threads(text, plains, table);
@@ -90,8 +87,8 @@ fn put_plains(text: &mut [u8], at: usize, table: &[u8]) -> usize
     requires { ⌜ Fit (now table) ⌝ }
     ensures { λ r. ⌜ Puts (now (text .entry)) (now (text .exit)) at (plainsShown (now (table .entry))) r ⌝ }
 {
-    let cells = wide8(table[CELLS]);
-    let plains = wide8(table[PLAINS]);
+    let cells = wide8(table[CELL_COUNT]);
+    let plains = wide8(table[PLAIN_COUNT]);
     if plains == 0 {
         return at;
     }
@@ -142,7 +139,7 @@ fn put_rows(text: &mut [u8], at: usize, table: &[u8], first: usize, count: usize
     requires { ⌜ Fit (now table) × (first + count < 2 ^ 64) ⌝ }
     ensures { λ r. ⌜ Puts (now (text .entry)) (now (text .exit)) at (rowsShown (now (table .entry)) count first) r ⌝ }
 {
-    let values = wide8(table[CELLS]) + wide8(table[PLAINS]);
+    let values = wide8(table[CELL_COUNT]) + wide8(table[PLAIN_COUNT]);
     let mut to = at;
     let mut index = first;
     let mut left = count;

@@ -3,7 +3,7 @@ use mathlib.Core.Path.{_≡_}
 use lib.ListN.{length}
 use lib.Seq.{paste, paste-zero}
 use Rattle.claims.specs.Units.{mostClaimed}
-use Rattle.claims.proofs.ByteLaws.{write-on, write-all}
+use Rattle.rules.proofs.RecordLaws.{write-on, write-all}
 use borrow.Author.Needs.{needs}
 use Rattle.claims.proofs.appended.Statement.{statement}
 use Rattle.claims.proofs.appended.Tie as tie

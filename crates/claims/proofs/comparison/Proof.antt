@@ -1,7 +1,7 @@
 use Prim.Native.Nat.{ℕ, _/_, _%_}
 use mathlib.Core.List.{List, _∷_}
 use mathlib.Core.Path.{ap}
-use Rattle.claims.proofs.ByteLaws.{low-eight}
+use Rattle.rules.proofs.LittleLaws.{low-eight}
 use borrow.Author.Needs.{needs}
 use Rattle.claims.proofs.comparison.Statement.{statement}
 use Rattle.claims.proofs.comparison.Tie as tie

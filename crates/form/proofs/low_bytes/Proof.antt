@@ -1,4 +1,4 @@
-use Rattle.form.proofs.ByteLaws.{low-eight}
+use Rattle.rules.proofs.LittleLaws.{low-eight}
 use borrow.Author.Needs.{needs}
 use Rattle.form.proofs.low_bytes.Statement.{statement}
 use Rattle.form.proofs.low_bytes.Tie as tie

@@ -1,11 +1,11 @@
 use mathlib.Core.Path.{refl}
-use Rattle.iteration.proofs.ExecuteLaws.{executed}
+use Rattle.iteration.proofs.ExecuteLaws.{started, executed}
 use borrow.Author.Needs.{needs}
 use Rattle.iteration.proofs.execute.Statement.{statement}
 use Rattle.iteration.proofs.execute.Tie as tie
 
-start-anew-requires : tie.Need-start-anew-requires
-start-anew-requires c κs = search needs
+start-requires : tie.Need-start-requires
+start-requires c κs = search needs
 
 again-requires : tie.Need-again-requires
 again-requires c κs = search needs
@@ -25,13 +25,13 @@ returns c =
     let again = c .before .before .before .before .before .before .before .before .before .before .before in
     let args = c .before .before .before .before .before .before .before .before .before .before .before .before .before .before .before .before .before .before .before .before .before .args in
     executed (args .table .now) (args .shape .now) (args .terms) (args .cursor) (again .again .result) (args .path .now) (args .trace .now) _ _ (walked .walked .result) refl refl
-    (again .before .before .start-anew .ensures) (again .again .ensures) (walked .walked .ensures)
+    (started _ _ _ (again .before .before .start .ensures)) (again .again .ensures) (walked .walked .ensures)
 
 pub execute-spec : {M : Type 1} → statement M
 execute-spec =
     tie.close
     (tie.spec
-    start-anew-requires
+    start-requires
     again-requires
     walked-requires
     same-length

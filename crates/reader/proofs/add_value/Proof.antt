@@ -3,7 +3,7 @@ use mathlib.Core.Path.{ap, _∙_}
 use native.Mathlib.Omega.{arith}
 use lib.ListN.{length}
 use Rattle.rules.specs.Text.{Made}
-use Rattle.claims.proofs.ByteLaws.{length-little}
+use Rattle.rules.proofs.LittleLaws.{little-long}
 use Rattle.reader.specs.Tables.{Held, howMany}
 use Rattle.reader.proofs.HeldLaws.{held-many, mid-many, mid-long, counts-low, value-room, held-value}
 use borrow.Author.Needs.{needs}
@@ -22,7 +22,7 @@ room c =
     let a = c .before .before .args in
     let p = c .before .before .pre in
     let held = p .0 .held in
-    omega (arith, ap length (c .low-bytes .ensures) ∙ length-little (a .value), fits (c .before .before) (p .0 .made) held)
+    omega (arith, ap length (c .low-bytes .ensures) ∙ little-long 8 (a .value), fits (c .before .before) (p .0 .made) held)
 
 low-bytes-requires : tie.Need-low-bytes-requires
 low-bytes-requires c κs = search needs

@@ -3,7 +3,7 @@ use mathlib.Core.Path.{_≡_}
 use native.Mathlib.Omega.{arith}
 use lib.ListN.{length}
 use lib.Seq.{paste, paste-zero}
-use Rattle.claims.proofs.ByteLaws.{write-on, write-all}
+use Rattle.rules.proofs.RecordLaws.{write-on, write-all}
 use borrow.Author.Needs.{needs}
 use Rattle.reader.proofs.append.Statement.{statement}
 use Rattle.reader.proofs.append.Tie as tie

@@ -1,51 +1,44 @@
-use Rattle.row_line.proofs.LineLaws.{fields-held, fields-short, fields-past, fields-none}
 use borrow.Author.Needs.{needs}
 use Rattle.row_line.proofs.fields_at.Statement.{statement}
 use Rattle.row_line.proofs.fields_at.Tie as tie
 
-mul-at : tie.Need-mul-at
-mul-at c = search needs
+row-at-requires : tie.Need-row-at-requires
+row-at-requires c κs = search needs
 
-add-at : tie.Need-add-at
-add-at c = search needs
+wide-requires : tie.Need-wide-requires
+wide-requires c κs = search needs
 
-mul-at-2 : tie.Need-mul-at-2
-mul-at-2 c = search needs
+wide-requires-2 : tie.Need-wide-requires-2
+wide-requires-2 c κs = search needs
 
-add-at-2 : tie.Need-add-at-2
-add-at-2 c = search needs
+wide-requires-3 : tie.Need-wide-requires-3
+wide-requires-3 c κs = search needs
 
-add-if3 : tie.Need-add-if3
-add-if3 c = search needs
+wide-requires-4 : tie.Need-wide-requires-4
+wide-requires-4 c κs = search needs
 
-fields-from-requires : tie.Need-fields-from-requires
-fields-from-requires c κs = search needs
+wide-requires-5 : tie.Need-wide-requires-5
+wide-requires-5 c κs = search needs
+
+wide-requires-6 : tie.Need-wide-requires-6
+wide-requires-6 c κs = search needs
+
+wide-two-requires : tie.Need-wide-two-requires
+wide-two-requires c κs = search needs
 
 returns : tie.Need-returns
-returns c =
-    let held = c .before in
-    fields-held _ _ _ (held .before .before .if1 .taken) (held .before .if2 .taken) (held .if3 .taken) _ (c .fields-from .ensures)
-
-returns-2 : tie.Need-returns-2
-returns-2 c = fields-short _ _ _ (c .before .before .if1 .taken) (c .before .if2 .taken) (c .if3 .left)
-
-returns-3 : tie.Need-returns-3
-returns-3 c = fields-past _ _ _ (c .before .if1 .taken) (c .if2 .left)
-
-returns-4 : tie.Need-returns-4
-returns-4 c = fields-none _ _ _ (c .if1 .left)
+returns c = cc
 
 pub fields-at-spec : {M : Type 1} → statement M
 fields-at-spec =
     tie.close
     (tie.spec
-    mul-at
-    add-at
-    mul-at-2
-    add-at-2
-    add-if3
-    fields-from-requires
-    returns
-    returns-2
-    returns-3
-    returns-4)
+    row-at-requires
+    wide-requires
+    wide-requires-2
+    wide-requires-3
+    wide-requires-4
+    wide-requires-5
+    wide-requires-6
+    wide-two-requires
+    returns)

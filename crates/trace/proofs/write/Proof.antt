@@ -1,8 +1,9 @@
 use Prim.Native.Nat.{_≤_, _-_}
 use mathlib.Core.Path.{_≡_}
 use lib.ListN.{length}
-use lib.Seq.{paste}
-use Rattle.trace.proofs.TraceLaws.{write-none, write-on, write-all}
+use lib.Seq.{paste, paste-zero}
+use native.Mathlib.Omega.{arith}
+use Rattle.rules.proofs.RecordLaws.{write-on, write-all}
 use borrow.Author.Needs.{needs}
 use Rattle.trace.proofs.write.Statement.{statement}
 use Rattle.trace.proofs.write.Tie as tie
@@ -17,7 +18,7 @@ sixteen : (c : tie.Start Inv-loop μ-loop) → length (c .args .t3) ≡ 16
 sixteen c = search needs
 
 loop-holds : tie.Need-loop-holds Inv-loop μ-loop
-loop-holds c = (search needs, search needs, write-none (c .args .trace .now) (c .args .at) (c .args .t3))
+loop-holds c = (search needs, search needs, paste-zero (c .args .trace .now) (c .args .at) (c .args .t3))
 
 array-read-trace : tie.Need-array-read-trace Inv-loop μ-loop
 array-read-trace c = search needs
@@ -37,7 +38,7 @@ loop-less c = search needs
 loop-again : tie.Need-loop-again Inv-loop μ-loop
 loop-again c =
     let at = c .before in
-    (search needs, search needs, write-on _ _ _ (at .before .pre) (sixteen (at .before)) _ _ (at .loop .inv .2) (c .loop-test .taken))
+    (search needs, search needs, write-on _ _ _ 16 (at .before .pre) (omega (arith, sixteen (at .before))) _ _ (at .loop .inv .2) (c .loop-test .taken))
 
 same-length : tie.Need-same-length Inv-loop μ-loop
 same-length c = search needs
@@ -45,7 +46,7 @@ same-length c = search needs
 returns : tie.Need-returns Inv-loop μ-loop
 returns c =
     let at = c .before in
-    write-all _ _ _ (at .before .pre) (sixteen (at .before)) _ _ (at .loop .inv .2) (at .loop .inv .0) (c .loop-test .left)
+    write-all _ _ _ 16 (at .before .pre) (omega (arith, sixteen (at .before))) _ _ (at .loop .inv .2) (at .loop .inv .0) (c .loop-test .left)
 
 pub write-spec : {M : Type 1} → statement M
 write-spec =

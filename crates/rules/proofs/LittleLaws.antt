@@ -1,15 +1,12 @@
--- Bytes put one after the other, and a number's. Assumes nothing.
---     low-eight          a number's eight bytes, from its two halves
---     write-on, write-all      bytes put one after the other
---     taken-on           what stands before the end of those that were put
-use Prim.Native.Nat.{ℕ, _+_, _/_, _%_, _≤_, _<_}
-use mathlib.Core.List.{List, [], _∷_, _++_}
-use mathlib.Core.Path.{_≡_, refl, ap, sym, _∙_}
+-- A number's bytes, its least first. Assumes nothing.
+--     halves, low-eight      the eight of a number, from its two halves
+--     little-long            how many they are
+use Prim.Native.Nat.{ℕ, zero, suc, _/_, _%_}
+use mathlib.Core.List.{List, [], _∷_}
+use mathlib.Core.Path.{_≡_, refl, ap}
 use native.Mathlib.Omega.{arith}
-use lib.ListN.{length, getD, set, take}
-use lib.Seq.{paste, take-paste}
+use lib.ListN.{length}
 use Rattle.rules.specs.Event.{little}
-use Rattle.rules.proofs.RecordLaws.{put-on}
 
 byte-zero : (v : ℕ) → v % 4294967296 % 256 ≡ v % 256
 byte-zero v = omega arith
@@ -51,13 +48,7 @@ pub low-eight : (v : ℕ) → halves v ≡ little 8 v
 unfolding little
 low-eight v = rw (byte-zero v, byte-one v, byte-two v, byte-three v, byte-four v, byte-five v, byte-six v, byte-seven v)
 
-pub length-little : (v : ℕ) → length (little 8 v) ≡ 8
+pub little-long : (n v : ℕ) → length (little n v) ≡ n
 unfolding little
-length-little v = refl
-
-module _ (bytes : List ℕ) (at : ℕ) (s : List ℕ) (size : ℕ) (fits : at + size ≤ length bytes) (has : size ≤ length s) (now : List ℕ) (i : ℕ) (so-far : now ≡ paste bytes at s i) where
-  pub write-on : i < size → set now (at + i) (getD s i 0) ≡ paste bytes at s (i + 1)
-  write-on h = ap (λ (x : List ℕ). set x (at + i) (getD s i 0)) so-far ∙ put-on bytes at s i (getD s i 0) (omega arith) (omega arith) refl
-
-  pub write-all : i ≤ size → size ≤ i → now ≡ paste bytes at s size
-  write-all h l = let e : i ≡ size = omega arith in so-far ∙ ap (λ (x : ℕ). paste bytes at s x) e
+little-long zero v = refl
+little-long (suc n) v = ap suc (little-long n (v / 256))
