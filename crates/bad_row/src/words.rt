@@ -1,4 +1,9 @@
 // What is wrong with a field of a row, in words.
+ghost use mathlib.Core.Path.{_≡_};
+ghost use Rattle.rules.specs.Token.{bytesOf};
+ghost use Rattle.line.specs.Lines.{ended, putText};
+ghost use Rattle.decode.specs.Ops.{rowOf, roomOf};
+ghost use Rattle.bad_row.specs.Words.{valueOf, objectName, fieldName, partPast, putCount, putMay, putUnused, putWrong};
 use decode::Row;
 use line::Line;
 use reasons::Field;
@@ -6,7 +11,9 @@ use reasons::May;
 use reasons::Room;
 
 // Puts the field, what it is and what it may be.
-pub fn put(line: &mut Line, at: usize, field: Field, row: Row, room: Room) -> usize {
+pub fn put(line: &mut Line, at: usize, field: Field, row: Row, room: Room) -> usize
+    ensures { λ r. ⌜ ended (now (line .exit)) r ≡ putWrong (ended (now (line .entry)) at) field (rowOf row) (roomOf room) ⌝ }
+{
     let opcode = row.opcode;
     let kind = row.kind;
     let value = value_of(field, row);
@@ -29,7 +36,9 @@ pub fn put(line: &mut Line, at: usize, field: Field, row: Row, room: Room) -> us
 }
 
 // The number that stands in this field.
-fn value_of(field: Field, row: Row) -> u64 {
+fn value_of(field: Field, row: Row) -> u64
+    ensures { λ r. ⌜ r ≡ valueOf field (rowOf row) ⌝ }
+{
     match field {
         Field::Opcode => row.opcode as u64,
         Field::Object => row.object as u64,
@@ -44,7 +53,9 @@ fn value_of(field: Field, row: Row) -> u64 {
 }
 
 // The field's name.
-fn put_field(line: &mut Line, at: usize, field: Field, opcode: u8) -> usize {
+fn put_field(line: &mut Line, at: usize, field: Field, opcode: u8) -> usize
+    ensures { λ r. ⌜ ended (now (line .exit)) r ≡ putText (ended (now (line .entry)) at) (bytesOf (fieldName field opcode)) ⌝ }
+{
     match field {
         Field::Opcode => line::put(line, at, b"opcode"),
         Field::Object => put_object(line, at, opcode),
@@ -59,7 +70,9 @@ fn put_field(line: &mut Line, at: usize, field: Field, opcode: u8) -> usize {
 }
 
 // A row names a cell, a plain cell, a thread, or none.
-fn put_object(line: &mut Line, at: usize, opcode: u8) -> usize {
+fn put_object(line: &mut Line, at: usize, opcode: u8) -> usize
+    ensures { λ r. ⌜ ended (now (line .exit)) r ≡ putText (ended (now (line .entry)) at) (bytesOf (objectName opcode)) ⌝ }
+{
     match reasons::may_be(Field::Object, opcode, 0) {
         May::AnyCell => line::put(line, at, b"cell"),
         May::AnyPlain => line::put(line, at, b"plain cell"),
@@ -69,7 +82,9 @@ fn put_object(line: &mut Line, at: usize, opcode: u8) -> usize {
 }
 
 // What it may be, where it is used.
-fn put_may(line: &mut Line, at: usize, may: May, room: Room) -> usize {
+fn put_may(line: &mut Line, at: usize, may: May, room: Room) -> usize
+    ensures { λ r. ⌜ ended (now (line .exit)) r ≡ putMay (ended (now (line .entry)) at) (roomOf room) may ⌝ }
+{
     match may {
         May::AnyOpcode => line::put(line, at, b": there are 0 to 18"),
         May::AnyCell => put_count(line, at, room.cells),
@@ -102,7 +117,9 @@ fn put_may(line: &mut Line, at: usize, may: May, room: Room) -> usize {
 }
 
 // How many of them the table has.
-fn put_count(line: &mut Line, at: usize, count: usize) -> usize {
+fn put_count(line: &mut Line, at: usize, count: usize) -> usize
+    ensures { λ r. ⌜ ended (now (line .exit)) r ≡ putCount (ended (now (line .entry)) at) count ⌝ }
+{
     line::fill(
         line,
         at,
@@ -114,7 +131,9 @@ fn put_count(line: &mut Line, at: usize, count: usize) -> usize {
 }
 
 // A field that the opcode, which is named, does not use.
-fn put_unused(line: &mut Line, at: usize, value: u64, opcode: u8) -> usize {
+fn put_unused(line: &mut Line, at: usize, value: u64, opcode: u8) -> usize
+    ensures { λ r. ⌜ ended (now (line .exit)) r ≡ putUnused (ended (now (line .entry)) at) value opcode ⌝ }
+{
     let to = line::fill(line, at, b" is #, and opcode # (", value, opcode as u64, 0);
     let to = put_nth(
         line,
@@ -126,7 +145,9 @@ fn put_unused(line: &mut Line, at: usize, value: u64, opcode: u8) -> usize {
 }
 
 // Puts the part of a list that stands past so many commas.
-fn put_nth(line: &mut Line, at: usize, list: &[u8], n: usize) -> usize {
+fn put_nth(line: &mut Line, at: usize, list: &[u8], n: usize) -> usize
+    ensures { λ r. ⌜ ended (now (line .exit)) r ≡ putText (ended (now (line .entry)) at) (partPast n (now (list .entry))) ⌝ }
+{
     let mut to = at;
     let mut past = 0;
     let mut i = 0;

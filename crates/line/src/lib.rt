@@ -1,6 +1,7 @@
 // A line of output that grows from the left: a buffer, and beside it the place where the line ends. What does not fit is
 // left out; no line of a report is that long.
 ghost use mathlib.Core.Path.{_≡_};
+ghost use mathlib.Core.List.{[], _∷_};
 ghost use Prim.Native.Nat.{_-_};
 ghost use Rattle.digits.specs.Shown.{shown};
 ghost use Rattle.line.specs.Lines.{ended, putText, putOne, filled, padded, rightAt};
@@ -111,7 +112,9 @@ fn less(column: usize, width: usize) -> usize
 }
 
 // Writes the line and its end.
-pub fn end(line: &mut Line, at: usize) {
+pub fn end(line: &mut Line, at: usize)
+    ensures { λ _. ⌜ now (line .exit) ≡ putText (ended (now (line .entry)) at) (10 ∷ []) .bytes ⌝ }
+{
     let to = put(line, at, b"\n");
     let text: &[u8] = line;
     if to <= text.len() {

@@ -1,9 +1,14 @@
 // What came of a step, in words.
+ghost use mathlib.Core.Path.{_≡_};
+ghost use Rattle.line.specs.Lines.{ended};
+ghost use Rattle.listing.specs.Words.{putRead, putTaken, putCame};
 use line::Line;
 use outcome::Came;
 
 // Puts it; a dash where nothing came of it that could be said.
-pub fn put(line: &mut Line, at: usize, came: Came) -> usize {
+pub fn put(line: &mut Line, at: usize, came: Came) -> usize
+    ensures { λ r. ⌜ ended (now (line .exit)) r ≡ putCame (ended (now (line .entry)) at) came ⌝ }
+{
     match came {
         Came::Nothing => line::put(line, at, b"-"),
         Came::Read(value, writer) => put_read(line, at, value, writer),
@@ -25,7 +30,9 @@ pub fn put(line: &mut Line, at: usize, came: Came) -> usize {
 }
 
 // A value that was read, and the step that wrote it.
-fn put_read(line: &mut Line, at: usize, value: u64, writer: u64) -> usize {
+fn put_read(line: &mut Line, at: usize, value: u64, writer: u64) -> usize
+    ensures { λ r. ⌜ ended (now (line .exit)) r ≡ putRead (ended (now (line .entry)) at) value writer ⌝ }
+{
     if writer == 0 {
         return line::fill(line, at, b"read #, the start value", value, 0, 0);
     }
@@ -33,7 +40,9 @@ fn put_read(line: &mut Line, at: usize, value: u64, writer: u64) -> usize {
 }
 
 // Whether a jump was taken.
-fn put_taken(line: &mut Line, at: usize, taken: bool) -> usize {
+fn put_taken(line: &mut Line, at: usize, taken: bool) -> usize
+    ensures { λ r. ⌜ ended (now (line .exit)) r ≡ putTaken (ended (now (line .entry)) at) taken ⌝ }
+{
     if taken {
         return line::put(line, at, b"taken");
     }

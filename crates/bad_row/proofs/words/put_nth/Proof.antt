@@ -1,19 +1,26 @@
 use Prim.Native.Nat.{_≤_, _-_}
 use mathlib.Core.Logic.{⊎-elim}
+use mathlib.Core.Path.{_≡_, ap}
 use native.Mathlib.Omega.{arith}
-use lib.ListN.{length}
+use lib.ListN.{length, drop}
 use borrow.Author.Needs.{needs}
+use Rattle.line.specs.Lines.{ended, putText}
+use Rattle.bad_row.specs.Words.{partPast}
+use Rattle.bad_row.proofs.WordLaws.{partLeft, part-whole, part-comma, part-byte, part-other, part-end}
 use Rattle.bad_row.proofs.words.put_nth.Statement.{statement}
 use Rattle.bad_row.proofs.words.put_nth.Tie as tie
 
 abbrev Inv-loop : tie.InvT-loop
-Inv-loop line₀ at list n to₀ past₀ i₀ line to past i = (i ≤ length list) × (past ≤ i)
+Inv-loop line₀ at list n to₀ past₀ i₀ line to past i =
+    (i ≤ length list)
+    × (past ≤ i)
+    × (putText (ended line to) (partLeft n past (drop i list)) ≡ putText (ended line₀ at) (partPast n list))
 
 abbrev μ-loop : tie.MeasureT-loop
 μ-loop line₀ at list n to₀ past₀ i₀ line to past i = length list - i
 
 loop-holds : tie.Need-loop-holds Inv-loop μ-loop
-loop-holds c = search needs
+loop-holds c = (search needs, search needs, ap (putText _) (part-whole _ _))
 
 shared-slice-read-if1 : tie.Need-shared-slice-read-if1 Inv-loop μ-loop
 shared-slice-read-if1 c = search needs
@@ -43,10 +50,22 @@ loop-less : tie.Need-loop-less Inv-loop μ-loop
 loop-less c = search needs
 
 loop-again : tie.Need-loop-again Inv-loop μ-loop
-loop-again c = (search needs, ⊎-elim (λ w. omega arith) (λ w. ⊎-elim (λ v. omega arith) (λ v. omega arith) w) (c .if1 .came))
+loop-again c =
+    let turn = c .before .before in
+    let h = turn .loop-test .taken in
+    let left = turn .before .loop .inv .2 in (
+      search needs,
+      ⊎-elim (λ w. omega arith) (λ w. ⊎-elim (λ v. omega arith) (λ v. omega arith) w) (c .if1 .came),
+      ⊎-elim
+          (λ w. rw (w .1, w .2, w .3) (part-comma _ _ _ _ _ _ left h (w .0 .taken)))
+          (⊎-elim
+          (λ w. rw (w .5, w .6, w .7) (part-byte _ _ _ _ _ _ left h _ (w .4 .ensures) (w .0 .left) (w .1 .taken)))
+          (λ w. rw (w .2, w .3, w .4) (part-other _ _ _ _ _ _ left h (w .0 .left) (w .1 .left))))
+          (c .if1 .came),
+    )
 
 returns : tie.Need-returns Inv-loop μ-loop
-returns c = search needs
+returns c = part-end _ _ _ _ _ _ (c .before .loop .inv .2) (c .loop-test .left)
 
 pub put-nth-spec : {M : Type 1} → statement M
 put-nth-spec =
