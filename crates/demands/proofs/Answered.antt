@@ -72,12 +72,12 @@ among-answers (stopped Event.impossible site) h = absurd (h site refl)
 
 -- How a table is judged
 
-abbrev sort : Table.Verdict → ℕ
+abbrev sort : Table.Judged → ℕ
 sort good = 0
 sort badHeader = 1
 sort (badRow t k) = 2
 
-abbrev place : Table.Verdict → ℕ × ℕ
+abbrev place : Table.Judged → ℕ × ℕ
 place good = (0, 0)
 place badHeader = (0, 0)
 place (badRow t k) = (t, k)
@@ -85,11 +85,11 @@ place (badRow t k) = (t, k)
 pub true-false : {b : Bool} → b ≡ true → b ≡ false → ⊥
 true-false {b} e f = let z : _≡_ {A = ℕ} 1 0 = ap (λ (x : Bool). cond x 1 0) (sym e ∙ f) in omega arith
 
-another : {j k l : Table.Verdict} → j ≡ k → j ≡ l → (sort k ≡ sort l → ⊥) → ⊥
+another : {j k l : Table.Judged} → j ≡ k → j ≡ l → (sort k ≡ sort l → ⊥) → ⊥
 another e f h = h (ap sort (sym e ∙ f))
 
 same-row : {t k u l : ℕ} → badRow t k ≡ badRow u l → (t ≡ u) × (k ≡ l)
-same-row e = (ap (λ (j : Table.Verdict). place j .0) e, ap (λ (j : Table.Verdict). place j .1) e)
+same-row e = (ap (λ (j : Table.Judged). place j .0) e, ap (λ (j : Table.Judged). place j .1) e)
 
 module _ (table condition : List ℕ) (s : Settings) (path trace : List ℕ) where
   abbrev whole : Explored
@@ -123,7 +123,7 @@ module _ (table condition : List ℕ) (s : Settings) (path trace : List ℕ) whe
       byCondition a b c d false e =
           badTable a b c 255 255 (inr e) (λ f. (refl, refl)) (λ u l f. absurd (another d f (λ (z : _≡_ {A = ℕ} 0 2). omega arith))) (λ f. (refl, refl)) (explored-5-condition table condition s path trace a b c d e)
 
-      byTable : fine → pathy → tracy → (j : Table.Verdict) → judged table ≡ j → Case
+      byTable : fine → pathy → tracy → (j : Table.Judged) → judged table ≡ j → Case
       byTable a b c badHeader e =
           badTable a b c 255 255 (inl (λ f. another e f (λ (z : _≡_ {A = ℕ} 1 0). omega arith))) (λ f. (refl, refl)) (λ u l f. absurd (another e f (λ (z : _≡_ {A = ℕ} 1 2). omega arith))) (λ f. (refl, refl)) (explored-5-header table condition s path trace a b c e)
       byTable a b c (badRow t k) e =

@@ -54,7 +54,7 @@ faultIn (goes w) = Event.deadlock
 faultIn (over w) = Event.deadlock
 faultIn (faulted f s w) = f
 
-abbrev pub isGood : Table.Verdict → ℕ
+abbrev pub isGood : Table.Judged → ℕ
 isGood good = 1
 isGood badHeader = 0
 isGood (badRow t k) = 0

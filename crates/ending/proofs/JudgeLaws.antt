@@ -37,8 +37,8 @@ use Rattle.meeting.specs.declared.Outcome.{Outcome}
 use Rattle.meeting.specs.declared.Outcome.the-variants as code
 use Rattle.meeting.proofs.Outcome.{the-type as outcomes}
 use Rattle.ending.specs.Ends.{metBy, endedAs, judgedAs, Judges}
-use Rattle.ending.specs.declared.Verdict.{Verdict}
-use Rattle.ending.specs.declared.Verdict.the-variants as verdict
+use Rattle.ending.specs.declared.After.{After}
+use Rattle.ending.specs.declared.After.the-variants as afterwards
 
 pub no-threads : (table : List ℕ) → length table ≡ 0 → 0 ≡ threadsOf table
 no-threads [] e = refl
@@ -55,44 +55,44 @@ no-fault met code.Ends k n last = refl
 no-fault met (code.Stops f s) k n last = absurd (miss (0 ∷ 1 ∷ []) 2 tt k)
 
 module _ (path : List ℕ) (met : Bool) (o : Outcome) (len : ℕ) (last : Bool) where
-  pub judge-fault : {f : Fault} {s : Site} → o ≡ code.Stops f s → Judges path met o len last (verdict.Answers (answer.Stopped f s))
+  pub judge-fault : {f : Fault} {s : Site} → o ≡ code.Stops f s → Judges path met o len last (afterwards.Answers (answer.Stopped f s))
   judge-fault e = record { continues = tt; is = λ bs h l. ap (λ (y : Outcome). judgedAs met y (openIn bs) last) (sym e) }
 
   module _ (k : OneOf (0 ∷ 1 ∷ []) (tagOf outcomes o)) {held : Bool} (q : held ≡ met) where
-    pub judge-unmet : held ≡ false → Judges path met o len last (verdict.Answers answer.Unmet)
+    pub judge-unmet : held ≡ false → Judges path met o len last (afterwards.Answers answer.Unmet)
     judge-unmet e =
         record { continues = tt; is = λ bs h l. sym (no-fault met o k (openIn bs) last ∙ ap (λ (y : Bool). endedAs y (openIn bs) last) (sym q ∙ e)) }
 
     -- the condition is met
     module _ (held-so : held ≡ true) {any : Bool} (a : AnyOpen path len any) where
-      as-open : {none : Bool} (bs : List Branch) → eqb (openIn bs) 0 ≡ none → judgedAs met o (openIn bs) last ≡ cond none (verdict.Answers answer.Exhausted) (cond last (verdict.Answers answer.Spent) verdict.GoesOn)
+      as-open : {none : Bool} (bs : List Branch) → eqb (openIn bs) 0 ≡ none → judgedAs met o (openIn bs) last ≡ cond none (afterwards.Answers answer.Exhausted) (cond last (afterwards.Answers answer.Spent) afterwards.GoesOn)
       as-open bs z =
           no-fault met o k (openIn bs) last ∙ ap (λ (y : Bool). endedAs y (openIn bs) last) (sym q ∙ held-so)
-          ∙ ap (λ (y : Bool). cond y (verdict.Answers answer.Exhausted) (cond last (verdict.Answers answer.Spent) verdict.GoesOn)) z
+          ∙ ap (λ (y : Bool). cond y (afterwards.Answers answer.Exhausted) (cond last (afterwards.Answers answer.Spent) afterwards.GoesOn)) z
 
-      pub judge-exhausted : any ≡ false → Judges path met o len last (verdict.Answers answer.Exhausted)
+      pub judge-exhausted : any ≡ false → Judges path met o len last (afterwards.Answers answer.Exhausted)
       judge-exhausted e =
           record {
             continues = tt;
             is = λ bs h l. sym (as-open bs (eq-eqb (openIn bs) 0 (omega (arith, ltb-false 0 (openIn bs) (sym (a .is bs h l) ∙ e)))));
           }
 
-      some-open : any ≡ true → (bs : List Branch) → Holds path bs → length bs ≡ len → judgedAs met o (openIn bs) last ≡ cond last (verdict.Answers answer.Spent) verdict.GoesOn
+      some-open : any ≡ true → (bs : List Branch) → Holds path bs → length bs ≡ len → judgedAs met o (openIn bs) last ≡ cond last (afterwards.Answers answer.Spent) afterwards.GoesOn
       some-open e bs h l =
           as-open bs (ne-eqb (openIn bs) 0 (λ (y : openIn bs ≡ 0). omega (arith, ltb-true 0 (openIn bs) (sym (a .is bs h l) ∙ e))))
 
-      pub judge-spent : any ≡ true → last ≡ true → Judges path met o len last (verdict.Answers answer.Spent)
+      pub judge-spent : any ≡ true → last ≡ true → Judges path met o len last (afterwards.Answers answer.Spent)
       judge-spent e f =
           record {
             continues = tt;
-            is = λ bs h l. sym (some-open e bs h l ∙ ap (λ (y : Bool). cond y (verdict.Answers answer.Spent) verdict.GoesOn) f);
+            is = λ bs h l. sym (some-open e bs h l ∙ ap (λ (y : Bool). cond y (afterwards.Answers answer.Spent) afterwards.GoesOn) f);
           }
 
-      pub judge-more : any ≡ true → last ≡ false → Judges path met o len last verdict.GoesOn
+      pub judge-more : any ≡ true → last ≡ false → Judges path met o len last afterwards.GoesOn
       judge-more e f =
           record {
             continues = f;
-            is = λ bs h l. sym (some-open e bs h l ∙ ap (λ (y : Bool). cond y (verdict.Answers answer.Spent) verdict.GoesOn) f);
+            is = λ bs h l. sym (some-open e bs h l ∙ ap (λ (y : Bool). cond y (afterwards.Answers answer.Spent) afterwards.GoesOn) f);
           }
 
 -- What comes after it, by the definition
@@ -111,14 +111,14 @@ pub record GoesWith (final : State → Bool) (x : Lent) (c : Cursor) (last : Boo
   pub stands : Stands x c walk
   pub left : leftBy t ≡ walk
 
-abbrev goingOn : Verdict → ℕ
-goingOn verdict.GoesOn = 1
-goingOn (verdict.Answers a) = 0
+abbrev goingOn : After → ℕ
+goingOn afterwards.GoesOn = 1
+goingOn (afterwards.Answers a) = 0
 
-answers-not : (a : Answer) → verdict.Answers a ≡ verdict.GoesOn → ⊥
+answers-not : (a : Answer) → afterwards.Answers a ≡ afterwards.GoesOn → ⊥
 answers-not a e = let z : _≡_ {A = ℕ} 0 1 = ap goingOn e in omega arith
 
-answers-same : (a b : Answer) → verdict.Answers a ≡ verdict.Answers b → a ≡ b
+answers-same : (a b : Answer) → afterwards.Answers a ≡ afterwards.Answers b → a ≡ b
 answers-same a b e = cc
 
 module _ (final : State → Bool) (x : Lent) (c : Cursor) (last : Bool) (past : List Execution) (met : Bool)
@@ -127,7 +127,7 @@ module _ (final : State → Bool) (x : Lent) (c : Cursor) (last : Bool) (past : 
   met-by w stands = ap final (stands .is-state) ∙ is-met
 
   over-stops : (w : Walk State) (a : Answer) (held none ends : Bool) → final (w .state) ≡ held → eqb (openIn (w .ledger .path)) 0 ≡ none → last ≡ ends
-      → verdict.Answers a ≡ cond (not held) (verdict.Answers answer.Unmet) (cond none (verdict.Answers answer.Exhausted) (cond ends (verdict.Answers answer.Spent) verdict.GoesOn))
+      → afterwards.Answers a ≡ cond (not held) (afterwards.Answers answer.Unmet) (cond none (afterwards.Answers answer.Exhausted) (cond ends (afterwards.Answers answer.Spent) afterwards.GoesOn))
       → Stands x c w → StopsWith final x c last past (over w) a
   unfolding after
   over-stops w a false none ends q n l e stands =
@@ -139,7 +139,7 @@ module _ (final : State → Bool) (x : Lent) (c : Cursor) (last : Bool) (past : 
   over-stops w a true false false q n l e stands = absurd (answers-not a e)
 
   over-goes : (w : Walk State) (held none ends : Bool) → final (w .state) ≡ held → eqb (openIn (w .ledger .path)) 0 ≡ none → last ≡ ends
-      → verdict.GoesOn ≡ cond (not held) (verdict.Answers answer.Unmet) (cond none (verdict.Answers answer.Exhausted) (cond ends (verdict.Answers answer.Spent) verdict.GoesOn))
+      → afterwards.GoesOn ≡ cond (not held) (afterwards.Answers answer.Unmet) (cond none (afterwards.Answers answer.Exhausted) (cond ends (afterwards.Answers answer.Spent) afterwards.GoesOn))
       → Stands x c w → GoesWith final x c last past (over w)
   unfolding after
   over-goes w false none ends q n l e stands = absurd (answers-not answer.Unmet (sym e))
@@ -148,7 +148,7 @@ module _ (final : State → Bool) (x : Lent) (c : Cursor) (last : Bool) (past : 
   over-goes w true false false q n l e stands = record { walk = w; is = rw (q, n, l) refl; stands = stands; left = refl }
 
   pub stops-with : (o : Outcome) (t : Tick State) (a : Answer) → ((w : Walk State) → t ≡ goes w → ⊥) → Comes o c x t
-      → verdict.Answers a ≡ judgedAs met o (openIn (leftBy t .ledger .path)) last → StopsWith final x c last past t a
+      → afterwards.Answers a ≡ judgedAs met o (openIn (leftBy t .ledger .path)) last → StopsWith final x c last past t a
   unfolding after
   stops-with code.Goes (goes w) a never h e = absurd (never w refl)
   stops-with code.Goes (over w) a never h e = absurd h
@@ -169,7 +169,7 @@ module _ (final : State → Bool) (x : Lent) (c : Cursor) (last : Bool) (past : 
       }
 
   pub goes-with : (o : Outcome) (t : Tick State) → ((w : Walk State) → t ≡ goes w → ⊥) → Comes o c x t
-      → verdict.GoesOn ≡ judgedAs met o (openIn (leftBy t .ledger .path)) last → GoesWith final x c last past t
+      → afterwards.GoesOn ≡ judgedAs met o (openIn (leftBy t .ledger .path)) last → GoesWith final x c last past t
   goes-with code.Goes (goes w) never h e = absurd (never w refl)
   goes-with code.Goes (over w) never h e = absurd h
   goes-with code.Goes (faulted g s w) never h e = absurd h

@@ -22,29 +22,29 @@ use Rattle.report.specs.declared.Report.{Report}
 use Rattle.meeting.specs.declared.Cursor.{Cursor}
 use Rattle.meeting.specs.declared.Outcome.{Outcome}
 use Rattle.meeting.specs.declared.Outcome.the-variants as outcome
-use Rattle.ending.specs.declared.Verdict.{Verdict}
-use Rattle.ending.specs.declared.Verdict.the-variants as verdict
+use Rattle.ending.specs.declared.After.{After}
+use Rattle.ending.specs.declared.After.the-variants as afterwards
 
 -- whether the final condition holds of the registers in these values
 abbrev pub metBy : List ℕ → List ℕ → Values → Bool
 metBy table condition values = claims.holds (threadsOf table) (registerIn values) condition
 
 -- with so many choices open
-abbrev pub endedAs : Bool → ℕ → Bool → Verdict
+abbrev pub endedAs : Bool → ℕ → Bool → After
 endedAs met n last =
-    cond (not met) (verdict.Answers answer.Unmet)
-    (cond (eqb n 0) (verdict.Answers answer.Exhausted) (cond last (verdict.Answers answer.Spent) verdict.GoesOn))
+    cond (not met) (afterwards.Answers answer.Unmet)
+    (cond (eqb n 0) (afterwards.Answers answer.Exhausted) (cond last (afterwards.Answers answer.Spent) afterwards.GoesOn))
 
-abbrev pub judgedAs : Bool → Outcome → ℕ → Bool → Verdict
-judgedAs met (outcome.Stops f site) n last = verdict.Answers (answer.Stopped f site)
+abbrev pub judgedAs : Bool → Outcome → ℕ → Bool → After
+judgedAs met (outcome.Stops f site) n last = afterwards.Answers (answer.Stopped f site)
 judgedAs met outcome.Ends n last = endedAs met n last
 judgedAs met outcome.Goes n last = endedAs met n last
 
-abbrev pub Continues : Verdict → Bool → Type 0
-Continues verdict.GoesOn last = last ≡ false
-Continues (verdict.Answers a) last = Unit
+abbrev pub Continues : After → Bool → Type 0
+Continues afterwards.GoesOn last = last ≡ false
+Continues (afterwards.Answers a) last = Unit
 
-pub record Judges (path : List ℕ) (met : Bool) (o : Outcome) (len : ℕ) (last : Bool) (v : Verdict) : Type 0 where
+pub record Judges (path : List ℕ) (met : Bool) (o : Outcome) (len : ℕ) (last : Bool) (v : After) : Type 0 where
   pub continues : Continues v last
   pub is : (bs : List Branch) → Holds path bs → length bs ≡ len → v ≡ judgedAs met o (openIn bs) last
 

@@ -14,7 +14,7 @@ use walk::Outcome;
 use walk::Ticked;
 
 // What an execution that is over says of the run.
-pub enum Verdict {
+pub enum After {
     GoesOn,
     Answers(Answer),
 }
@@ -28,24 +28,24 @@ pub fn judge_end(
     values: &Values,
     over: Ticked,
     last: bool,
-) -> Verdict
+) -> After
     ensures { λ r. ⌜ Judges (now (path .entry)) (metBy (now (table .entry)) (now (condition .entry)) (now (values .entry))) (over .outcome) (over .cursor .len) last r ⌝ }
 {
     let outcome = over.outcome;
     if let Outcome::Stops { fault, site } = outcome {
-        return Verdict::Answers(Answer::Stopped { fault, site });
+        return After::Answers(Answer::Stopped { fault, site });
     }
     if !condition::holds(condition, threads_of(table), values) {
-        return Verdict::Answers(Answer::Unmet);
+        return After::Answers(Answer::Unmet);
     }
     let cursor = over.cursor;
     if !path::any_open(path, cursor.len) {
-        return Verdict::Answers(Answer::Exhausted);
+        return After::Answers(Answer::Exhausted);
     }
     if last {
-        return Verdict::Answers(Answer::Spent);
+        return After::Answers(Answer::Spent);
     }
-    Verdict::GoesOn
+    After::GoesOn
 }
 
 // How many threads the table has, by its first byte.

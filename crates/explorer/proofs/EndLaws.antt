@@ -37,8 +37,8 @@ use Rattle.meeting.specs.declared.Ticked.{Ticked}
 use Rattle.iteration.specs.Executes.{mostOpened, machineOf, Ready, Shaped, Given, Knows, Executes}
 use Rattle.iteration.specs.declared.Terms.{Terms}
 use Rattle.ending.specs.Ends.{metBy, judgedAs, Continues, Judges, Finished}
-use Rattle.ending.specs.declared.Verdict.{Verdict}
-use Rattle.ending.specs.declared.Verdict.the-variants as verdict
+use Rattle.ending.specs.declared.After as ending
+use Rattle.ending.specs.declared.After.the-variants as afterwards
 use Rattle.ending.proofs.JudgeLaws.{stops-with, goes-with, left-stands}
 use Rattle.explorer.specs.Explores.{exploredOf}
 use Rattle.explorer.specs.Runs.{Greater, Further, Running, Stepped, Stopped, Empty, Ran}
@@ -148,7 +148,7 @@ module _ (table condition : List ℕ) (s : Settings) where
       {shape : List ℕ} (is-shape : shape ≡ shapeOf table) {t : Terms} (given : Given s t)
       (entry exit : Lent) (same-path : entry .path ≡ path) (same-trace : entry .trace ≡ trace) (r : Ticked) (does : Executes entry exit table shape t (p .cursor) r)
       (q : Progress) (further : Further p r q)
-      (v : Verdict) (judges : Judges (exit .path) (metBy table condition (exit .values)) (r .outcome) (r .cursor .len) (eqb (q .begun) (s .executions)) v) where
+      (v : ending.After) (judges : Judges (exit .path) (metBy table condition (exit .values)) (r .outcome) (r .cursor .len) (eqb (q .begun) (s .executions)) v) where
     abbrev ledger : Ledger
     ledger = run .coming .ledger
 
@@ -201,7 +201,7 @@ module _ (table condition : List ℕ) (s : Settings) where
     same-opened = ap (λ (c : Cursor). c .opened) (further .same-cursor)
 
     -- after which the run goes on
-    pub running-more : v ≡ verdict.GoesOn → {path' : List ℕ} (d : Progress) → Stepped (exit .path) path' q d
+    pub running-more : v ≡ afterwards.GoesOn → {path' : List ℕ} (d : Progress) → Stepped (exit .path) path' q d
         → length (exit .path) ≡ length path → length (exit .trace) ≡ length trace
         → Running table condition s path' (exit .trace) d
     running-more e {path'} d next long traced =
@@ -243,7 +243,7 @@ module _ (table condition : List ℕ) (s : Settings) where
             cleared .above i past-all ∙ clean-past i past-all
 
     -- with which it stops
-    pub ran-out : (a : Answer) → v ≡ verdict.Answers a → {trace' : List ℕ} (report : Report)
+    pub ran-out : (a : Answer) → v ≡ afterwards.Answers a → {trace' : List ℕ} (report : Report)
         → Stopped (exit .clocks) (exit .numbers) (exit .path) (exit .trace) trace' a q report
         → length (exit .path) ≡ length path → length (exit .trace) ≡ length trace
         → Ran table condition s path trace report (exit .path) trace'

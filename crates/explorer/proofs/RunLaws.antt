@@ -12,13 +12,13 @@ use lib.ListN.{length, getD, List·getD-eq-default}
 use borrow.Author.Tests.{eqb-false, ltb-true, ltb-false}
 use Rattle.trace.specs.Entries.{Cleared}
 use Rattle.ending.specs.Ends.{Continues}
-use Rattle.ending.specs.declared.Verdict.{Verdict}
-use Rattle.ending.specs.declared.Verdict.the-variants as verdict
+use Rattle.ending.specs.declared.After.{After}
+use Rattle.ending.specs.declared.After.the-variants as afterwards
 use Rattle.explorer.specs.Runs.{Greater, Empty}
 
-pub goes-on : (v : Verdict) (begun executions : ℕ) → v ≡ verdict.GoesOn → Continues v (eqb begun executions) → begun ≡ executions → ⊥
+pub goes-on : (v : After) (begun executions : ℕ) → v ≡ afterwards.GoesOn → Continues v (eqb begun executions) → begun ≡ executions → ⊥
 goes-on v begun executions e h =
-    eqb-false begun executions (subst (λ (x : Verdict). Continues x (eqb begun executions)) e h)
+    eqb-false begun executions (subst (λ (x : After). Continues x (eqb begun executions)) e h)
 
 pub cleared-all : (entry exit : List ℕ) → Cleared entry exit 0 (length entry) → Empty exit
 cleared-all entry exit c i = go (ltb i (length entry)) refl

@@ -4,7 +4,7 @@ ghost use Prim.Native.Nat.{_+_, _*_, _^_, _<_};
 ghost use Rattle.settings.specs.Given.{settingsOf};
 ghost use Rattle.iteration.specs.Executes.{Ready, Given};
 ghost use Rattle.explorer.specs.Runs.{Greater, Further, Stepped, Stopped, Empty, Ran};
-use ending::Verdict;
+use ending::After;
 use ending::finish;
 use ending::judge_end;
 use iteration::Terms;
@@ -81,8 +81,8 @@ fn executions(
         );
         progress = further(progress, over);
         let last = progress.begun == settings.executions;
-        let verdict = judge_end(path, table, condition, &values, over, last);
-        if let Verdict::Answers(answer) = verdict {
+        let after = judge_end(path, table, condition, &values, over, last);
+        if let After::Answers(answer) = after {
             return stop(&clocks, &numbers, path, trace, answer, progress);
         }
         progress = stepped(path, progress);

@@ -10,7 +10,7 @@ use mathlib.Core.Path.{_≡_, refl}
 use native.Mathlib.Omega.{arith}
 use borrow.Author.Tests.{leb-true}
 use Rattle.rules.specs.Vector.{largest}
-use Rattle.rules.specs.Table.{Verdict, good, badHeader, judged, headerFine, threadsOf, cellsOf}
+use Rattle.rules.specs.Table.{Judged, good, badHeader, judged, headerFine, threadsOf, cellsOf}
 use Rattle.rules.specs.State.{State, threads, cells}
 use Rattle.rules.specs.Machine.{Program, machine}
 use Rattle.rules.specs.Explorer.{Ledger, Walk, tick, walked, fresh, oneBegun, execution}
@@ -24,7 +24,7 @@ pub good-header : (table : List ℕ) → judged table ≡ good → headerFine ta
 unfolding judged
 good-header table = fine (headerFine table) _
   where
-    fine : (b : Bool) (v : Verdict) → cond b v badHeader ≡ good → b ≡ true
+    fine : (b : Bool) (v : Judged) → cond b v badHeader ≡ good → b ≡ true
     fine true v e = refl
     fine false v e = cc
 

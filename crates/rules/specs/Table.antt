@@ -453,14 +453,14 @@ firstNot fine (suc n) i = cond (fine i) (firstNot fine n (i + 1)) i
 unfoldable pub firstBad : List ℕ → ℕ → ℕ → ℕ
 firstBad t first c = firstNot (λ (i : ℕ). isFine (opAt t (roomOf t c i) (first + i))) c 0
 
-pub data Verdict : Type 0 where
-  good : Verdict
-  badHeader : Verdict
-  badRow : ℕ → ℕ → Verdict
+pub data Judged : Type 0 where
+  good : Judged
+  badHeader : Judged
+  badRow : ℕ → ℕ → Judged
 
 -- "the first bad row", thread and row within the thread: of the threads from this one on, whose counts are these and whose
 -- rows begin at this number [Q14]
-unfoldable pub rowsJudged : List ℕ → ℕ → ℕ → List ℕ → Verdict
+unfoldable pub rowsJudged : List ℕ → ℕ → ℕ → List ℕ → Judged
 rowsJudged t thread first [] = good
 rowsJudged t thread first (c ∷ cs) =
     cond (ltb (firstBad t first c) c)
@@ -468,5 +468,5 @@ rowsJudged t thread first (c ∷ cs) =
     (rowsJudged t (thread + 1) (first + c) cs)
 
 -- "for 5 the first bad row, or 255, 255 if header or length is bad, which is judged first"
-unfoldable pub judged : List ℕ → Verdict
+unfoldable pub judged : List ℕ → Judged
 judged t = cond (headerFine t) (rowsJudged t 0 0 (countsOf t)) badHeader

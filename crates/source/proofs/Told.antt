@@ -8,7 +8,7 @@ use borrow.Author.Tests.{le-leb, lt-leb}
 use lib.Dec.{leb, eqb}
 use lib.ListN.{length, getD}
 use Rattle.rules.specs.Vector.{equal}
-use Rattle.rules.specs.Table.{Verdict, headerBytes, maxThreads, judged, good, badHeader, headerFine, rowsJudged, countsOf}
+use Rattle.rules.specs.Table.{Judged, headerBytes, maxThreads, judged, good, badHeader, headerFine, rowsJudged, countsOf}
 use Rattle.rules.specs.Token.{run, endsLine, tokenLength, bytesOf}
 use Rattle.rules.specs.Text.{Made, Line, goesOn, refusedLine, ended, concludes, TextRead, refusedAt, accepted, tableOf, concluded, nothingMade, lineOf, linesFrom, readText, linesIn, threadsAhead}
 use Rattle.source.specs.Told.{holdsTable, Told}
@@ -92,7 +92,7 @@ fine [] h = h
 fine (b ∷ bs) h =
     second (leb headerBytes (length (b ∷ bs))) (leb 1 b && leb b maxThreads) _ _ _ _ h
 
-by-header : (t : Bool) (rows : Verdict) → cond t rows badHeader ≡ good → t ≡ true
+by-header : (t : Bool) (rows : Judged) → cond t rows badHeader ≡ good → t ≡ true
 by-header true rows e = refl
 by-header false rows e = let z : _≡_ {A = ℕ} 0 1 = cc in absurd (omega arith)
 

@@ -9,7 +9,7 @@ use native.Mathlib.Decide.{ℕ-discrete}
 use lib.Dec.{ltb}
 use lib.ListN.{getD}
 use borrow.Author.Tests.{ltb-false}
-use Rattle.rules.specs.Table.{Op, Room, Decoded, refused, decoded, opAt, roomOf, isFine, firstNot, firstBad, rowsJudged, firstRows, Verdict, good, badRow, judged, countsOf}
+use Rattle.rules.specs.Table.{Op, Room, Decoded, refused, decoded, opAt, roomOf, isFine, firstNot, firstBad, rowsJudged, firstRows, Judged, good, badRow, judged, countsOf}
 use Rattle.rules.specs.Machine.{Program, rowCount, rowOf}
 use Rattle.rules.proofs.MeasureRows.{Names, RowNames, is-named, op-names}
 use Rattle.rules.proofs.MeasureAccepted.{good-header}
@@ -27,7 +27,7 @@ all-fine fine m (suc n) i s e k h l = by (fine i) refl e (λ f d. all-fine fine 
 
 -- the counts of the threads from some thread on, whose rows begin at this number
 module _ (t : List ℕ) where
-  first-good : (b : Bool) (x k : ℕ) (more : Verdict) → cond b (badRow x k) more ≡ good → (b ≡ false) × (more ≡ good)
+  first-good : (b : Bool) (x k : ℕ) (more : Judged) → cond b (badRow x k) more ≡ good → (b ≡ false) × (more ≡ good)
   first-good true x k more e = (cc, cc)
   first-good false x k more e = (refl, e)
 

@@ -11,7 +11,7 @@ use Rattle.table.specs.declared.Judged.the-variants.{Accepted, Header, R
 use Rattle.table.specs.declared.Place.{Place}
 use Rattle.table.specs.declared.Place.the-variants.{Nowhere, At}
 
-abbrev pub judgedOf : Judged → rules.Verdict
+abbrev pub judgedOf : Judged → rules.Judged
 judgedOf Accepted = rules.good
 judgedOf Header = rules.badHeader
 judgedOf (Row thread row) = rules.badRow thread row

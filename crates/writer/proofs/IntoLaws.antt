@@ -11,7 +11,8 @@ use borrow.Author.Tests.{leb-true, le-leb, lt-leb}
 use lib.Dec.{leb}
 use lib.ListN.{length, getD, take, drop}
 use lib.Seq.{sets-eq, length-sets, take-append-seam}
-use Rattle.rules.specs.Table.{Verdict, good, badHeader, badRow, judged, headerFine, threadsOf}
+use Rattle.rules.specs.Table as rules
+use Rattle.rules.specs.Table.{good, badHeader, badRow, judged, headerFine, threadsOf}
 use Rattle.rules.specs.Condition.{isCondition}
 use Rattle.rules.specs.Text.{filled}
 use Rattle.rules.specs.Writer.{WrittenInto, unfit, short, written, writtenText, writtenInto}
@@ -52,7 +53,7 @@ module _ (t c text : List ℕ) where
         | true ↦ into-fit (leb (length (writtenText t c)) (length text))
       ]
 
-  abbrev into : Verdict → WrittenInto
+  abbrev into : rules.Judged → WrittenInto
   into v =
       elim v [
         | good ↦ into-claim (isCondition (threadsOf t) c)

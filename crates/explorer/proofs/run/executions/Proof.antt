@@ -54,8 +54,8 @@ further-requires c κs =
 judge-end-requires : tie.Need-judge-end-requires Inv-loop μ-loop
 judge-end-requires c κs = search needs
 
-enum-known-verdict : tie.Need-enum-known-verdict Inv-loop μ-loop
-enum-known-verdict c = search needs
+enum-known-after : tie.Need-enum-known-after Inv-loop μ-loop
+enum-known-after c = search needs
 
 stop-requires : tie.Need-stop-requires Inv-loop μ-loop
 stop-requires c κs =
@@ -93,7 +93,7 @@ returns c =
     ran-cleared (args .table .now) (args .condition .now) (settingsOf (args .settings))
     (ran-out (args .table .now) (args .condition .now) (settingsOf (args .settings)) run (loop .before .before .before .shape .ensures) (loop .before .before .terms-of .ensures (ready-operations (run .ready))) _ _ refl refl
     (over .execute .result) (over .execute .ensures) (further .further .result) (further .further .ensures) (judge .judge-end .result) (judge .judge-end .ensures)
-    _ (c .before .before .before .before .before .before .before .before .verdict .given .1) (stop .stop .result) (stop .stop .ensures) (omega (arith, over .execute .kept)) (omega (arith, over .execute .kept)))
+    _ (c .before .before .before .before .before .before .before .before .after .given .1) (stop .stop .result) (stop .stop .ensures) (omega (arith, over .execute .kept)) (omega (arith, over .execute .kept)))
     (loop .loop .inv .1) (loop .loop .inv .2)
 
 enum-told : tie.Need-enum-told Inv-loop μ-loop
@@ -135,7 +135,7 @@ executions-spec =
     execute-requires
     further-requires
     judge-end-requires
-    enum-known-verdict
+    enum-known-after
     stop-requires
     same-length
     same-length-2
