@@ -1,4 +1,9 @@
 // What is wrong with a condition: its length, the first byte that cannot stand where it does, or what goes on behind its end.
+ghost use mathlib.Core.Path.{_≡_};
+ghost use Prim.Native.Nat.{_<_};
+ghost use lib.ListN.{length};
+ghost use Rattle.page.specs.Pages.{ended};
+ghost use Rattle.bad_condition.specs.Conditions.{putComparison, putReason, putBad, putBadCondition};
 use condition::AT_LEAST;
 use condition::COMPARISON;
 use condition::CONDITION_BYTES;
@@ -9,27 +14,32 @@ use condition::OPENS;
 use layout::REGISTERS;
 use layout::wide8;
 use layout::wide16;
-use line::Line;
+use page::Page;
 use table::THREADS;
 
 // Says what is wrong first.
-pub fn print(table: &[u8], condition: &[u8]) {
+pub fn put(page: &mut Page, at: usize, table: &[u8], condition: &[u8]) -> usize
+    ensures { λ r. ⌜ ended (now (page .exit)) r ≡ putBadCondition (ended (now (page .entry)) at) (now (table .entry)) (now (condition .entry)) ⌝ }
+{
     if CONDITION_BYTES < condition.len() {
-        line::say(
-            b"answer 5: refused: the condition has # bytes: there may be up to #",
+        return page::fill(
+            page,
+            at,
+            b"answer 5: refused: the condition has # bytes: there may be up to #\n",
             condition.len() as u64,
             CONDITION_BYTES as u64,
             0,
         );
-        return;
     }
     let shape = table::shape(table);
     let threads = wide16(shape[THREADS]);
     match condition::first_bad(condition, threads) {
-        Found::Bad(at) => bad(condition, at, threads),
-        Found::Ends(at) => line::say(
-            b"answer 5: refused: the condition ends before byte #, and # bytes were given",
-            at as u64,
+        Found::Bad(from) => put_bad(page, at, condition, from, threads),
+        Found::Ends(end) => page::fill(
+            page,
+            at,
+            b"answer 5: refused: the condition ends before byte #, and # bytes were given\n",
+            end as u64,
             condition.len() as u64,
             0,
         ),
@@ -37,52 +47,71 @@ pub fn print(table: &[u8], condition: &[u8]) {
 }
 
 // The byte that cannot stand there, with the reason where it is plain.
-fn bad(condition: &[u8], at: usize, threads: usize) {
-    if condition.len() <= at {
-        line::say(
-            b"answer 5: refused: the condition breaks off behind its last byte: it has #",
+fn put_bad(page: &mut Page, at: usize, condition: &[u8], from: usize, threads: usize) -> usize
+    ensures { λ r. ⌜ ended (now (page .exit)) r ≡ putBad (ended (now (page .entry)) at) (now (condition .entry)) from threads ⌝ }
+{
+    if condition.len() <= from {
+        return page::fill(
+            page,
+            at,
+            b"answer 5: refused: the condition breaks off behind its last byte: it has #\n",
             condition.len() as u64,
             0,
             0,
         );
-        return;
     }
-    let byte = condition[at];
-    let mut line = [0u8; 256];
-    let to = line::fill(
-        &mut line,
-        0,
+    let to = page::fill(
+        page,
+        at,
         b"answer 5: refused: the condition: byte # is #, which cannot stand there",
-        at as u64,
-        wide8(byte) as u64,
+        from as u64,
+        wide8(condition[from]) as u64,
         0,
     );
-    let to = if (EQUALS <= byte) & (byte <= AT_LEAST) {
-        put_comparison(&mut line, to, condition, at, threads)
-    } else {
-        put_deep(&mut line, to, byte)
-    };
-    line::end(&mut line, to);
+    let to = put_reason(page, to, condition, from, threads);
+    page::put(page, to, b"\n")
+}
+
+// The reason: that of a comparison that begins there; or how deep groups may stand in each other, where one opens.
+fn put_reason(page: &mut Page, at: usize, condition: &[u8], from: usize, threads: usize) -> usize
+    requires { ⌜ from < length (now condition) ⌝ }
+    ensures { λ r. ⌜ ended (now (page .exit)) r ≡ putReason (ended (now (page .entry)) at) (now (condition .entry)) from threads ⌝ }
+{
+    let byte = condition[from];
+    if (EQUALS <= byte) & (byte <= AT_LEAST) {
+        return put_comparison(page, at, condition, from, threads);
+    }
+    if byte == OPENS {
+        return page::fill(
+            page,
+            at,
+            b": groups stand in each other at most # deep",
+            DEEP as u64,
+            0,
+            0,
+        );
+    }
+    at
 }
 
 // What a comparison that begins there has wrong, if anything.
 fn put_comparison(
-    line: &mut Line,
+    page: &mut Page,
     at: usize,
     condition: &[u8],
     from: usize,
     threads: usize,
-) -> usize {
-    if condition.len() < COMPARISON {
-        return line::put(line, at, b": its comparison breaks off");
-    }
-    if condition.len() - COMPARISON < from {
-        return line::put(line, at, b": its comparison breaks off");
+) -> usize
+    requires { ⌜ from < length (now condition) ⌝ }
+    ensures { λ r. ⌜ ended (now (page .exit)) r ≡ putComparison (ended (now (page .entry)) at) (now (condition .entry)) from threads ⌝ }
+{
+    if condition.len() - from < COMPARISON {
+        return page::put(page, at, b": its comparison breaks off");
     }
     let thread = wide8(condition[from + 1]);
     if threads <= thread {
-        return line::fill(
-            line,
+        return page::fill(
+            page,
             at,
             b": thread # is none: they count from 0, and the table has #",
             thread as u64,
@@ -92,22 +121,7 @@ fn put_comparison(
     }
     let register = wide8(condition[from + 2]);
     if REGISTERS <= register {
-        return line::fill(line, at, b": register # is none", register as u64, 0, 0);
-    }
-    at
-}
-
-// How deep groups may stand in each other, where one opens.
-fn put_deep(line: &mut Line, at: usize, byte: u8) -> usize {
-    if byte == OPENS {
-        return line::fill(
-            line,
-            at,
-            b": groups stand in each other at most # deep",
-            DEEP as u64,
-            0,
-            0,
-        );
+        return page::fill(page, at, b": register # is none", register as u64, 0, 0);
     }
     at
 }

@@ -17,7 +17,7 @@ use lib.Dec.{eqb, leb}
 use lib.ListN.{length, getD, take, drop, drop-of-length-le}
 use lib.Seq.{drop-cons}
 use Rattle.rules.specs.Table.{Row, Room}
-use Rattle.line.specs.Lines.{Line, putText}
+use Rattle.page.specs.Pages.{Page, putText}
 use Rattle.reasons.proofs.May.{the-type}
 use Rattle.reasons.specs.declared.May.{May}
 use Rattle.reasons.specs.declared.May.the-variants as may
@@ -75,7 +75,7 @@ module _ (n past b : ℕ) (bs : List ℕ) where
         | no h ↦ rw (left-none n past (b ∷ bs) (omega arith), left-none n past bs (omega arith))
       ]
 
-module _ (list : List ℕ) (i n past : ℕ) (l whole : Line) (left : putText l (partLeft n past (drop i list)) ≡ whole) where
+module _ (list : List ℕ) (i n past : ℕ) (l whole : Page) (left : putText l (partLeft n past (drop i list)) ≡ whole) where
   pub part-end : length list ≤ i → l ≡ whole
   unfolding putText
   part-end h = rw (drop-of-length-le list {i = i} h, left-nil n past) at left
@@ -87,7 +87,7 @@ module _ (list : List ℕ) (i n past : ℕ) (l whole : Line) (left : putText l (
     pub part-comma : getD list i 0 ≡ 44 → putText l (partLeft n (past + 1) (drop (i + 1) list)) ≡ whole
     part-comma e = rw (on, left-comma n past _ _ e) at left
 
-    pub part-byte : (m : Line) → m ≡ putText l (take (i + 1 - i) (drop i list)) →
+    pub part-byte : (m : Page) → m ≡ putText l (take (i + 1 - i) (drop i list)) →
         (getD list i 0 ≡ 44 → ⊥) → past ≡ n → putText m (partLeft n past (drop (i + 1) list)) ≡ whole
     unfolding putText
     part-byte m put e k = let one : i + 1 - i ≡ 1 = omega arith in rw (put, one, on) (rw (on, left-byte n past _ _ e k) at left)
@@ -129,7 +129,7 @@ zeros = 12 ∷ 13 ∷ []
 abbrev used : List ℕ
 used = 0 ∷ 1 ∷ 2 ∷ 3 ∷ 4 ∷ 5 ∷ 6 ∷ 7 ∷ 8 ∷ 9 ∷ 10 ∷ 11 ∷ []
 
-pub may-none : (l : Line) (room : Room) (m : May) → OneOf zeros (tagOf the-type m) → l ≡ putMay l room m
+pub may-none : (l : Page) (room : Room) (m : May) → OneOf zeros (tagOf the-type m) → l ≡ putMay l room m
 unfolding putMay
 may-none l room may.AnyOpcode k = absurd (miss zeros 0 tt k)
 may-none l room may.AnyCell k = absurd (miss zeros 1 tt k)
@@ -146,7 +146,7 @@ may-none l room may.OtherTarget k = absurd (miss zeros 11 tt k)
 may-none l room may.ZeroByOpcode k = refl
 may-none l room may.ZeroByKind k = refl
 
-pub may-used : (l : Line) (value : ℕ) (r : Row) (room : Room) (m : May) → OneOf used (tagOf the-type m) → putUsed l value room m ≡ putValue l value r room m
+pub may-used : (l : Page) (value : ℕ) (r : Row) (room : Room) (m : May) → OneOf used (tagOf the-type m) → putUsed l value room m ≡ putValue l value r room m
 unfolding putValue
 may-used l value r room may.AnyOpcode k = refl
 may-used l value r room may.AnyCell k = refl

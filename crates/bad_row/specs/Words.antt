@@ -11,7 +11,7 @@ use mathlib.Core.Bool.{cond}
 use lib.Dec.{eqb}
 use Rattle.rules.specs.Token.{bytesOf}
 use Rattle.rules.specs.Table.{Row, Room}
-use Rattle.line.specs.Lines.{Line, putText, filled}
+use Rattle.page.specs.Pages.{Page, putText, filled}
 use Rattle.reasons.specs.Wrong.{hasCell, hasPlain, mayBe}
 use Rattle.reasons.specs.declared.Field.{Field}
 use Rattle.reasons.specs.declared.Field.the-variants.{Opcode, Object, Order, Kind, Failure, Register, Target, A, B}
@@ -61,11 +61,11 @@ opcodeName opcode =
     (bytesOf "load,store,store of a register,change,fence,unsync_load,with_mut,yield,join,jump,jump if equal,jump if not equal,check,critical,explore_state,skip_branch,branch_spurious,plain read,plain write")
 
 -- how many of them the table has
-abbrev pub putCount : Line → ℕ → Line
+abbrev pub putCount : Page → ℕ → Page
 putCount l n = filled l (bytesOf ": they count from 0, and the table has #") n 0 0
 
 -- what it may be, where it is used
-unfoldable pub putMay : Line → Room → May → Line
+unfoldable pub putMay : Page → Room → May → Page
 putMay l room may.AnyOpcode = putText l (bytesOf ": there are 0 to 18")
 putMay l room may.AnyCell = putCount l (room .cells)
 putMay l room may.AnyPlain = putCount l (room .plains)
@@ -83,16 +83,16 @@ putMay l room may.ZeroByOpcode = l
 putMay l room may.ZeroByKind = l
 
 -- a field that the opcode, which is named, does not use
-unfoldable pub putUnused : Line → ℕ → ℕ → Line
+unfoldable pub putUnused : Page → ℕ → ℕ → Page
 putUnused l value opcode =
     putText (putText (filled l (bytesOf " is #, and opcode # (") value opcode 0) (opcodeName opcode))
     (bytesOf ") does not use it: it must be 0")
 
 -- the value, and what it may be
-abbrev pub putUsed : Line → ℕ → Room → May → Line
+abbrev pub putUsed : Page → ℕ → Room → May → Page
 putUsed l value room m = putMay (filled l (bytesOf " # is none") value 0 0) room m
 
-unfoldable pub putValue : Line → ℕ → Row → Room → May → Line
+unfoldable pub putValue : Page → ℕ → Row → Room → May → Page
 putValue l value r room may.AnyOpcode = putUsed l value room may.AnyOpcode
 putValue l value r room may.AnyCell = putUsed l value room may.AnyCell
 putValue l value r room may.AnyPlain = putUsed l value room may.AnyPlain
@@ -109,6 +109,6 @@ putValue l value r room may.ZeroByOpcode = putUnused l value (r .opcode)
 putValue l value r room may.ZeroByKind =
     filled l (bytesOf " is #, and change kind # does not use it: it must be 0") value (r .kind) 0
 
-unfoldable pub putWrong : Line → Field → Row → Room → Line
+unfoldable pub putWrong : Page → Field → Row → Room → Page
 putWrong l field r room =
     putValue (putText l (bytesOf (fieldName field (r .opcode)))) (valueOf field r) r room (mayBe field (r .opcode) (r .kind))

@@ -1,42 +1,68 @@
 // What is wrong with a row: which of its fields, by crate reasons.
+ghost use mathlib.Core.Path.{_≡_};
+ghost use Prim.Native.Nat.{_<_};
+ghost use Rattle.decode.specs.Ops.{rowOf, roomOf};
+ghost use Rattle.table.specs.Answers.{roomIn};
+ghost use Rattle.page.specs.Pages.{ended};
+ghost use Rattle.bad_row.specs.Rows.{rowIn, putBadRow};
+use decode::Row;
 use layout::MAX_THREADS;
 use layout::wide8;
 use layout::wide16;
+use page::Page;
 use reasons::Room;
 use table::CELLS;
 use table::COUNTS;
 use table::FIRSTS;
 use table::PLAINS;
+use table::Shape;
 use table::THREADS;
 
 mod words;
 
-// Says what is wrong with this row of this thread.
-pub fn print(table: &[u8], thread: u8, number: u8) {
+// Puts what is wrong with this row of this thread, in one line; nothing where there can be no such thread.
+pub fn put(page: &mut Page, at: usize, table: &[u8], thread: u8, number: u8) -> usize
+    ensures { λ r. ⌜ ended (now (page .exit)) r ≡ putBadRow (ended (now (page .entry)) at) (now (table .entry)) thread number ⌝ }
+{
     let t = wide8(thread);
     if MAX_THREADS <= t {
-        return;
+        return at;
     }
     let shape = table::shape(table);
-    let room = Room {
-        threads: wide16(shape[THREADS]),
-        cells: wide16(shape[CELLS]),
-        plains: wide16(shape[PLAINS]),
-        rows: wide16(shape[COUNTS + t]),
-        row: wide8(number),
-    };
-    let index = wide16(shape[FIRSTS + t]) + room.row;
-    let values = room.cells + room.plains;
-    let row = table::row_at(table, values, index);
-    let mut line = [0u8; 256];
-    let to = line::fill(
-        &mut line,
-        0,
+    let room = room_in(&shape, t, number);
+    let row = row_in(table, &shape, t, number);
+    let to = page::fill(
+        page,
+        at,
         b"answer 5: refused: thread #, row #: ",
         thread as u64,
         number as u64,
         0,
     );
-    let to = words::put(&mut line, to, reasons::wrong(row, room), row, room);
-    line::end(&mut line, to);
+    let to = words::put(page, to, reasons::wrong(row, room), row, room);
+    page::put(page, to, b"\n")
+}
+
+// What this row of this thread may name, in a table of this shape.
+fn room_in(shape: &Shape, thread: usize, number: u8) -> Room
+    requires { ⌜ thread < 5 ⌝ }
+    ensures { λ r. ⌜ roomOf r ≡ roomIn (now (shape .entry)) thread number ⌝ }
+{
+    Room {
+        threads: wide16(shape[THREADS]),
+        cells: wide16(shape[CELLS]),
+        plains: wide16(shape[PLAINS]),
+        rows: wide16(shape[COUNTS + thread]),
+        row: wide8(number),
+    }
+}
+
+// The row itself.
+fn row_in(table: &[u8], shape: &Shape, thread: usize, number: u8) -> Row
+    requires { ⌜ thread < 5 ⌝ }
+    ensures { λ r. ⌜ rowOf r ≡ rowIn (now (table .entry)) (now (shape .entry)) thread number ⌝ }
+{
+    let values = wide16(shape[CELLS]) + wide16(shape[PLAINS]);
+    let index = wide16(shape[FIRSTS + thread]) + wide8(number);
+    table::row_at(table, values, index)
 }

@@ -1,27 +1,27 @@
 // What is wrong with a field of a row, in words.
 ghost use mathlib.Core.Path.{_≡_};
 ghost use Rattle.rules.specs.Token.{bytesOf};
-ghost use Rattle.line.specs.Lines.{ended, putText};
+ghost use Rattle.page.specs.Pages.{ended, putText};
 ghost use Rattle.decode.specs.Ops.{rowOf, roomOf};
 ghost use Rattle.bad_row.specs.Words.{valueOf, objectName, fieldName, partPast, putCount, putMay, putUnused, putWrong};
 use decode::Row;
-use line::Line;
+use page::Page;
 use reasons::Field;
 use reasons::May;
 use reasons::Room;
 
 // Puts the field, what it is and what it may be.
-pub fn put(line: &mut Line, at: usize, field: Field, row: Row, room: Room) -> usize
-    ensures { λ r. ⌜ ended (now (line .exit)) r ≡ putWrong (ended (now (line .entry)) at) field (rowOf row) (roomOf room) ⌝ }
+pub fn put(page: &mut Page, at: usize, field: Field, row: Row, room: Room) -> usize
+    ensures { λ r. ⌜ ended (now (page .exit)) r ≡ putWrong (ended (now (page .entry)) at) field (rowOf row) (roomOf room) ⌝ }
 {
     let opcode = row.opcode;
     let kind = row.kind;
     let value = value_of(field, row);
-    let to = put_field(line, at, field, opcode);
+    let to = put_field(page, at, field, opcode);
     match reasons::may_be(field, opcode, kind) {
-        May::ZeroByOpcode => put_unused(line, to, value, opcode),
-        May::ZeroByKind => line::fill(
-            line,
+        May::ZeroByOpcode => put_unused(page, to, value, opcode),
+        May::ZeroByKind => page::fill(
+            page,
             to,
             b" is #, and change kind # does not use it: it must be 0",
             value,
@@ -29,8 +29,8 @@ pub fn put(line: &mut Line, at: usize, field: Field, row: Row, room: Room) -> us
             0,
         ),
         may => {
-            let to = line::fill(line, to, b" # is none", value, 0, 0);
-            put_may(line, to, may, room)
+            let to = page::fill(page, to, b" # is none", value, 0, 0);
+            put_may(page, to, may, room)
         }
     }
 }
@@ -53,59 +53,59 @@ fn value_of(field: Field, row: Row) -> u64
 }
 
 // The field's name.
-fn put_field(line: &mut Line, at: usize, field: Field, opcode: u8) -> usize
-    ensures { λ r. ⌜ ended (now (line .exit)) r ≡ putText (ended (now (line .entry)) at) (bytesOf (fieldName field opcode)) ⌝ }
+fn put_field(page: &mut Page, at: usize, field: Field, opcode: u8) -> usize
+    ensures { λ r. ⌜ ended (now (page .exit)) r ≡ putText (ended (now (page .entry)) at) (bytesOf (fieldName field opcode)) ⌝ }
 {
     match field {
-        Field::Opcode => line::put(line, at, b"opcode"),
-        Field::Object => put_object(line, at, opcode),
-        Field::Order => line::put(line, at, b"order"),
-        Field::Kind => line::put(line, at, b"change kind"),
-        Field::Failure => line::put(line, at, b"failure order"),
-        Field::Register => line::put(line, at, b"register"),
-        Field::Target => line::put(line, at, b"jump target"),
-        Field::A => line::put(line, at, b"operand a"),
-        Field::B => line::put(line, at, b"operand b"),
+        Field::Opcode => page::put(page, at, b"opcode"),
+        Field::Object => put_object(page, at, opcode),
+        Field::Order => page::put(page, at, b"order"),
+        Field::Kind => page::put(page, at, b"change kind"),
+        Field::Failure => page::put(page, at, b"failure order"),
+        Field::Register => page::put(page, at, b"register"),
+        Field::Target => page::put(page, at, b"jump target"),
+        Field::A => page::put(page, at, b"operand a"),
+        Field::B => page::put(page, at, b"operand b"),
     }
 }
 
 // A row names a cell, a plain cell, a thread, or none.
-fn put_object(line: &mut Line, at: usize, opcode: u8) -> usize
-    ensures { λ r. ⌜ ended (now (line .exit)) r ≡ putText (ended (now (line .entry)) at) (bytesOf (objectName opcode)) ⌝ }
+fn put_object(page: &mut Page, at: usize, opcode: u8) -> usize
+    ensures { λ r. ⌜ ended (now (page .exit)) r ≡ putText (ended (now (page .entry)) at) (bytesOf (objectName opcode)) ⌝ }
 {
     match reasons::may_be(Field::Object, opcode, 0) {
-        May::AnyCell => line::put(line, at, b"cell"),
-        May::AnyPlain => line::put(line, at, b"plain cell"),
-        May::AnyThread => line::put(line, at, b"thread"),
-        _ => line::put(line, at, b"the cell, plain cell or thread"),
+        May::AnyCell => page::put(page, at, b"cell"),
+        May::AnyPlain => page::put(page, at, b"plain cell"),
+        May::AnyThread => page::put(page, at, b"thread"),
+        _ => page::put(page, at, b"the cell, plain cell or thread"),
     }
 }
 
 // What it may be, where it is used.
-fn put_may(line: &mut Line, at: usize, may: May, room: Room) -> usize
-    ensures { λ r. ⌜ ended (now (line .exit)) r ≡ putMay (ended (now (line .entry)) at) (roomOf room) may ⌝ }
+fn put_may(page: &mut Page, at: usize, may: May, room: Room) -> usize
+    ensures { λ r. ⌜ ended (now (page .exit)) r ≡ putMay (ended (now (page .entry)) at) (roomOf room) may ⌝ }
 {
     match may {
-        May::AnyOpcode => line::put(line, at, b": there are 0 to 18"),
-        May::AnyCell => put_count(line, at, room.cells),
-        May::AnyPlain => put_count(line, at, room.plains),
-        May::AnyThread => put_count(line, at, room.threads),
-        May::AnyOrder => line::put(line, at, b": there are 0 to 4"),
-        May::LoadOrder => line::put(line, at, b" that a load may have (0, 2 or 4)"),
-        May::StoreOrder => line::put(line, at, b" that a store may have (0, 1 or 4)"),
-        May::FenceOrder => line::put(line, at, b" that a fence may have (1 to 4)"),
-        May::AnyKind => line::put(line, at, b": there are 0 to 12"),
-        May::AnyRegister => line::put(line, at, b": there are 0 to 3"),
-        May::AnyTarget => line::fill(
-            line,
+        May::AnyOpcode => page::put(page, at, b": there are 0 to 18"),
+        May::AnyCell => put_count(page, at, room.cells),
+        May::AnyPlain => put_count(page, at, room.plains),
+        May::AnyThread => put_count(page, at, room.threads),
+        May::AnyOrder => page::put(page, at, b": there are 0 to 4"),
+        May::LoadOrder => page::put(page, at, b" that a load may have (0, 2 or 4)"),
+        May::StoreOrder => page::put(page, at, b" that a store may have (0, 1 or 4)"),
+        May::FenceOrder => page::put(page, at, b" that a fence may have (1 to 4)"),
+        May::AnyKind => page::put(page, at, b": there are 0 to 12"),
+        May::AnyRegister => page::put(page, at, b": there are 0 to 3"),
+        May::AnyTarget => page::fill(
+            page,
             at,
             b": it may be up to #, the thread's end",
             room.rows as u64,
             0,
             0,
         ),
-        May::OtherTarget => line::fill(
-            line,
+        May::OtherTarget => page::fill(
+            page,
             at,
             b": it may be up to #, the thread's end, but not #: a jump to its own row never ends",
             room.rows as u64,
@@ -117,11 +117,11 @@ fn put_may(line: &mut Line, at: usize, may: May, room: Room) -> usize
 }
 
 // How many of them the table has.
-fn put_count(line: &mut Line, at: usize, count: usize) -> usize
-    ensures { λ r. ⌜ ended (now (line .exit)) r ≡ putCount (ended (now (line .entry)) at) count ⌝ }
+fn put_count(page: &mut Page, at: usize, count: usize) -> usize
+    ensures { λ r. ⌜ ended (now (page .exit)) r ≡ putCount (ended (now (page .entry)) at) count ⌝ }
 {
-    line::fill(
-        line,
+    page::fill(
+        page,
         at,
         b": they count from 0, and the table has #",
         count as u64,
@@ -131,22 +131,22 @@ fn put_count(line: &mut Line, at: usize, count: usize) -> usize
 }
 
 // A field that the opcode, which is named, does not use.
-fn put_unused(line: &mut Line, at: usize, value: u64, opcode: u8) -> usize
-    ensures { λ r. ⌜ ended (now (line .exit)) r ≡ putUnused (ended (now (line .entry)) at) value opcode ⌝ }
+fn put_unused(page: &mut Page, at: usize, value: u64, opcode: u8) -> usize
+    ensures { λ r. ⌜ ended (now (page .exit)) r ≡ putUnused (ended (now (page .entry)) at) value opcode ⌝ }
 {
-    let to = line::fill(line, at, b" is #, and opcode # (", value, opcode as u64, 0);
+    let to = page::fill(page, at, b" is #, and opcode # (", value, opcode as u64, 0);
     let to = put_nth(
-        line,
+        page,
         to,
         b"load,store,store of a register,change,fence,unsync_load,with_mut,yield,join,jump,jump if equal,jump if not equal,check,critical,explore_state,skip_branch,branch_spurious,plain read,plain write",
         opcode as usize,
     );
-    line::put(line, to, b") does not use it: it must be 0")
+    page::put(page, to, b") does not use it: it must be 0")
 }
 
 // Puts the part of a list that stands past so many commas.
-fn put_nth(line: &mut Line, at: usize, list: &[u8], n: usize) -> usize
-    ensures { λ r. ⌜ ended (now (line .exit)) r ≡ putText (ended (now (line .entry)) at) (partPast n (now (list .entry))) ⌝ }
+fn put_nth(page: &mut Page, at: usize, list: &[u8], n: usize) -> usize
+    ensures { λ r. ⌜ ended (now (page .exit)) r ≡ putText (ended (now (page .entry)) at) (partPast n (now (list .entry))) ⌝ }
 {
     let mut to = at;
     let mut past = 0;
@@ -155,7 +155,7 @@ fn put_nth(line: &mut Line, at: usize, list: &[u8], n: usize) -> usize
         if list[i] == b',' {
             past += 1;
         } else if past == n {
-            to = line::put(line, to, &list[i..i + 1]);
+            to = page::put(page, to, &list[i..i + 1]);
         }
         i += 1;
     }

@@ -1,1 +1,2 @@
+mod SaysLaws
 mod SearchLaws

@@ -1,6 +1,6 @@
 -- A byte as it is seen, and bytes one after the other. Assumes nothing.
 --     seen-.., mapped-..           each test on a byte; bytes as they are seen, one by one
---     dots-.., line-whole, caret-whole     what is put, piece by piece
+--     dots-.., line-whole, caret-whole, refused-whole     what is put, piece by piece
 use Prim.Native.Nat.{ℕ, _+_, _≤_, _<_}
 use mathlib.Core.List.{List, [], _∷_, _++_, map}
 use mathlib.Core.Bool.{Bool, true, false}
@@ -11,7 +11,8 @@ use Rattle.rules.specs.Token.{bytesOf}
 use Rattle.token.specs.Places.{part}
 use Rattle.put.specs.Puts.{last, Puts}
 use Rattle.put.proofs.PutLaws.{byte-next, puts-none, puts-are}
-use Rattle.excerpt.specs.Excerpts.{firstShown, lastShown, seenAs, dots, lineShown, caretShown}
+use Rattle.saying.specs.Sayings.{placeShown, whatShown}
+use Rattle.excerpt.specs.Excerpts.{beginOf, rowsBefore, shownLength, placeFrom, tokenBefore, firstShown, lastShown, seenAs, dots, lineShown, caretShown, refusedShown}
 
 module _ (below : Bool) (b : ℕ) where
   pub seen-tab : b ≡ 9 → b ≡ seenAs below b
@@ -58,3 +59,9 @@ module _ (text : List ℕ) (begin at from : ℕ) (first : from ≡ firstShown be
       → caretShown text begin at ≡ (32 ∷ 32 ∷ []) ++ (dots begin from 32 ++ (map (seenAs true) seen ++ (94 ∷ 10 ∷ [])))
   unfolding bytesOf
   caret-whole seen f = rw (f, first)
+
+module _ (name text : List ℕ) (line column begin end at row before : ℕ) where
+  pub refused-whole : begin ≡ beginOf line text → end ≡ begin + shownLength (drop begin text) → at ≡ placeFrom begin end column →
+      row ≡ rowsBefore line text → before ≡ tokenBefore text at (length text) begin begin
+      → refusedShown name text line column ≡ placeShown name line column ++ (whatShown text row begin before at ++ (lineShown text begin end at ++ caretShown text begin at))
+  refused-whole b e a r f = rw (f, r, a, e, b)

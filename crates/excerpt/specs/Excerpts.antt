@@ -6,14 +6,16 @@
 --     tokenBefore         the last token before a place
 --     lineShown           the line, or what is shown of a long one
 --     caretShown          the caret below it
+--     refusedShown        that a text is refused, where, and why
 use Prim.Native.Nat.{ℕ, zero, suc, _+_, _-_}
 use mathlib.Core.List.{List, [], _∷_, _++_, map}
 use mathlib.Core.Bool.{Bool, true, false, cond, _&&_, _||_}
 use lib.Dec.{ltb, leb, eqb}
-use lib.ListN.{getD, drop}
+use lib.ListN.{length, getD, drop}
 use Rattle.rules.specs.Vector.{equal}
 use Rattle.rules.specs.Token.{lineFeed, isBlank, run, skip, token, tokenLength, endsLine, lineLength, nextLine, bytesOf}
 use Rattle.token.specs.Places.{part}
+use Rattle.saying.specs.Sayings.{placeShown, whatShown}
 
 -- behind so many lines
 unfoldable pub behind : ℕ → List ℕ → ℕ
@@ -91,3 +93,19 @@ caretShown text begin at =
     ++ (dots begin (firstShown begin at) 32
     ++ (map (seenAs true) (part (firstShown begin at) at text)
     ++ (bytesOf "^" ++ (lineFeed ∷ []))))
+
+-- the sentence, the line between two places, and the caret
+abbrev pub refusedIn : List ℕ → List ℕ → ℕ → ℕ → ℕ → ℕ → ℕ → List ℕ
+refusedIn name text line column begin end at =
+    placeShown name line column
+    ++ (whatShown text (rowsBefore line text) begin (tokenBefore text at (length text) begin begin) at
+    ++ (lineShown text begin end at
+    ++ caretShown text begin at))
+
+abbrev pub endOf : ℕ → List ℕ → ℕ
+endOf line text = beginOf line text + shownLength (drop (beginOf line text) text)
+
+-- at a line and column, with the file's name
+abbrev pub refusedShown : List ℕ → List ℕ → ℕ → ℕ → List ℕ
+refusedShown name text line column =
+    refusedIn name text line column (beginOf line text) (endOf line text) (placeFrom (beginOf line text) (endOf line text) column)

@@ -4,31 +4,29 @@ ghost use mathlib.Core.List.{map};
 ghost use Prim.Native.Nat.{_+_, _<_, _^_};
 ghost use lib.ListN.{length, drop};
 ghost use Rattle.put.specs.Puts.{Puts};
-ghost use Rattle.excerpt.specs.Excerpts.{beginOf, withLine, rowsBefore, shownLength, feeds, placeFrom, tokenBefore, firstShown, lastShown, seenAs, dots, lineShown, caretShown};
-use libc::STDOUT_FILENO;
+ghost use Rattle.excerpt.specs.Excerpts.{beginOf, withLine, rowsBefore, shownLength, feeds, placeFrom, tokenBefore, firstShown, lastShown, seenAs, dots, lineShown, caretShown, refusedShown};
 use put::put_byte;
 use put::put_bytes;
-
-mod saying;
 
 // How many bytes of a line are shown at most, and how many of them before the caret.
 const WIDEST: usize = 200;
 
 const BEFORE: usize = 100;
 
-// Says that a text is refused at a line and column: what stands there, the line, and a caret. The name of the text's file comes first,
+// Puts that a text is refused at a line and column: what stands there, the line, and a caret. The name of the text's file comes first,
 // where there is one.
-pub fn print(name: &[u8], text: &[u8], line: usize, column: usize) {
+pub fn put(out: &mut [u8], to: usize, name: &[u8], text: &[u8], line: usize, column: usize) -> usize
+    ensures { λ r. ⌜ Puts (now (out .entry)) (now (out .exit)) to (refusedShown (now (name .entry)) (now (text .entry)) line column) r ⌝ }
+{
     let begin = line_begin(text, line);
     let end = line_end(text, begin);
     let at = place_in(begin, end, column);
-    saying::place(name, line, column);
     let row = rows_before(text, line);
-    saying::what(text, row, begin, token_before(text, begin, at), at);
-    let mut lines = [0u8; 512];
-    let behind = put_line(&mut lines, 0, text, begin, end, at);
-    let all = put_caret(&mut lines, behind, text, begin, at);
-    io::write_all(STDOUT_FILENO, token::part(&lines, 0, all));
+    let before = token_before(text, begin, at);
+    let place = saying::put_place(out, to, name, line, column);
+    let what = saying::put_what(out, place, text, row, begin, before, at);
+    let behind = put_line(out, what, text, begin, end, at);
+    put_caret(out, behind, text, begin, at)
 }
 
 // Where a line begins, the first being 1; the text's end where it has fewer.

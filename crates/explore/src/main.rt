@@ -85,7 +85,7 @@ fn take(options: Options, name: &[u8], bytes: &[u8]) {
     let mut condition = [0u8; CONDITION_BYTES];
     match reader::read(bytes, &mut table, &mut condition) {
         ReadText::NoRoom => {}
-        ReadText::Refused(line, column) => excerpt::print(name, bytes, line, column),
+        ReadText::Refused(line, column) => tell::print_refusal(name, bytes, line, column),
         ReadText::Taken(n, claimed) => perform(
             options,
             token::part(&table, 0, n),

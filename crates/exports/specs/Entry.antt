@@ -1,40 +1,16 @@
 -- What the entries for Rust and C are given and leave: numbers and bytes alone. Assumes nothing.
---     numbersOf      a report as 29 numbers
 --     settingsFor    the settings that five numbers stand for
 --     Entered        what is answered, and what the three buffers are left as
 --     noCondition    the final condition of the entry that takes none
 --     entered        for any input
-use Prim.Native.Nat.{ℕ, _+_}
-use mathlib.Core.List.{List, [], _∷_, _++_}
+use Prim.Native.Nat.{ℕ}
+use mathlib.Core.List.{List, []}
 use mathlib.Core.Bool.{Bool, true, false, cond, not, _||_}
 use lib.Dec.{ltb, eqb}
 use lib.ListN.{length}
 use Rattle.rules.specs.Path.{Bound, unbounded, atMost}
-use Rattle.rules.specs.Explored.{Settings, Summary, Report, Explored, explored}
-use Rattle.path.specs.Bounds.{boundOf}
-use Rattle.report.specs.Answers.{reportOf}
-
--- a thread's: state, rows begun, yields, own version
-abbrev pub fourOf : Summary → List ℕ
-fourOf s = s .state ∷ s .rows ∷ s .yields ∷ s .version ∷ []
-
-unfoldable pub summaryNumbers : List Summary → List ℕ
-summaryNumbers [] = []
-summaryNumbers (s ∷ more) = fourOf s ++ summaryNumbers more
-
--- nine, and the threads': the answer, the counts, thread and row at fault, race kind, other thread
-abbrev pub numbersOf : Report → List ℕ
-numbersOf r =
-    r .answer
-    ∷ r .begun
-    ∷ r .opened
-    ∷ r .stillOpen
-    ∷ r .rows
-    ∷ r .thread
-    ∷ r .row
-    ∷ r .kind
-    ∷ r .other
-    ∷ summaryNumbers (r .threads)
+use Rattle.rules.specs.Explored.{Settings, Explored, explored}
+use Rattle.numbers.specs.Numbers.{numbersOf}
 
 -- 0 to 255, or 256 for none
 abbrev pub boundFor : ℕ → Bound

@@ -3,17 +3,12 @@ ghost use mathlib.Core.Path.{_≡_};
 ghost use Prim.Native.Nat.{_≤_};
 ghost use lib.ListN.{length};
 ghost use Rattle.path.specs.Bounds.{boundOf};
-ghost use Rattle.report.specs.Answers.{reportOf, summaryOf, summariesOf};
-ghost use Rattle.exports.specs.Entry.{numbersOf, fourOf, summaryNumbers, boundFor, noCondition, entered, left};
+ghost use Rattle.exports.specs.Entry.{boundFor, noCondition, entered, left};
+use numbers::NUMBERS;
 use path::Bound;
-use report::Report;
-use report::ThreadRecord;
 use settings::Settings;
 
 pub mod text;
-
-// How many numbers a report has: nine, and four for each of the five threads.
-pub const NUMBERS: usize = 29;
 
 // What is answered where an argument is out of range; no run answers it.
 pub const NO_RUN: u64 = 255;
@@ -114,7 +109,7 @@ fn enter(
     let done = explorer::explore(table, condition, settings, path, trace);
     let answer = done.answer;
     let number = report::number(answer);
-    let all = numbers(done);
+    let all = numbers::of_report(done);
     write_numbers(report, &all);
     number
 }
@@ -128,91 +123,6 @@ fn bound_of(number: u64) -> Bound
         return Bound::Unbounded;
     }
     Bound::AtMost((number % 256) as u8)
-}
-
-// The report as numbers: the answer, the counts, the place, the race, and each thread's summary.
-fn numbers(done: Report) -> [u64; NUMBERS]
-    ensures { λ r. ⌜ r ≡ numbersOf (reportOf done) ⌝ }
-{
-    let answer = done.answer;
-    let threads = done.threads;
-    let t = summaries(threads);
-    [
-        report::number(answer),
-        done.begun,
-        done.opened,
-        done.open,
-        done.rows,
-        done.thread,
-        done.row,
-        report::race_kind(answer),
-        report::other_thread(answer),
-        t[0],
-        t[1],
-        t[2],
-        t[3],
-        t[4],
-        t[5],
-        t[6],
-        t[7],
-        t[8],
-        t[9],
-        t[10],
-        t[11],
-        t[12],
-        t[13],
-        t[14],
-        t[15],
-        t[16],
-        t[17],
-        t[18],
-        t[19],
-    ]
-}
-
-// Those of the five threads.
-fn summaries(threads: [ThreadRecord; 5]) -> [u64; 20]
-    ensures { λ r. ⌜ (r ≡ summaryNumbers (summariesOf threads)) × (length r ≡ 20) ⌝ }
-{
-    let a = summary(threads[0]);
-    let b = summary(threads[1]);
-    let c = summary(threads[2]);
-    let d = summary(threads[3]);
-    let e = summary(threads[4]);
-    [
-        a[0],
-        a[1],
-        a[2],
-        a[3],
-        b[0],
-        b[1],
-        b[2],
-        b[3],
-        c[0],
-        c[1],
-        c[2],
-        c[3],
-        d[0],
-        d[1],
-        d[2],
-        d[3],
-        e[0],
-        e[1],
-        e[2],
-        e[3],
-    ]
-}
-
-// One thread's: its state, rows begun, yields and version.
-fn summary(thread: ThreadRecord) -> [u64; 4]
-    ensures { λ r. ⌜ r ≡ fourOf (summaryOf thread) ⌝ }
-{
-    [
-        thread.state as u64,
-        thread.rows as u64,
-        thread.yields as u64,
-        thread.version as u64,
-    ]
 }
 
 // Puts the numbers into a caller's buffer that takes as many.

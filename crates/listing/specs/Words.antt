@@ -5,19 +5,19 @@ use mathlib.Core.Bool.{Bool, cond}
 use lib.Dec.{eqb}
 use Rattle.rules.specs.Token.{bytesOf}
 use Rattle.digits.specs.Shown.{shown}
-use Rattle.line.specs.Lines.{Line, putText, filled}
+use Rattle.page.specs.Pages.{Page, putText, filled}
 use Rattle.outcome.specs.declared.Came.{Came}
 use Rattle.outcome.specs.declared.Came.the-variants as came
 
 -- a value that was read, and the step that wrote it: 0 is none
-unfoldable pub putRead : Line → ℕ → ℕ → Line
+unfoldable pub putRead : Page → ℕ → ℕ → Page
 putRead l v by =
     cond (eqb by 0) (filled l (bytesOf "read #, the start value") v 0 0) (filled l (bytesOf "read #, from step #") v by 0)
 
-unfoldable pub putTaken : Line → Bool → Line
+unfoldable pub putTaken : Page → Bool → Page
 putTaken l taken = cond taken (putText l (bytesOf "taken")) (putText l (bytesOf "not taken"))
 
-unfoldable pub putCame : Line → Came → Line
+unfoldable pub putCame : Page → Came → Page
 putCame l came.Nothing = putText l (bytesOf "-")
 putCame l (came.Read v by) = putRead l v by
 putCame l (came.Stored v) = putText (putText l (bytesOf "stored ")) (shown v)

@@ -1,50 +1,50 @@
 // What came of a step, in words.
 ghost use mathlib.Core.Path.{_≡_};
-ghost use Rattle.line.specs.Lines.{ended};
+ghost use Rattle.page.specs.Pages.{ended};
 ghost use Rattle.listing.specs.Words.{putRead, putTaken, putCame};
-use line::Line;
 use outcome::Came;
+use page::Page;
 
 // Puts it; a dash where nothing came of it that could be said.
-pub fn put(line: &mut Line, at: usize, came: Came) -> usize
-    ensures { λ r. ⌜ ended (now (line .exit)) r ≡ putCame (ended (now (line .entry)) at) came ⌝ }
+pub fn put(page: &mut Page, at: usize, came: Came) -> usize
+    ensures { λ r. ⌜ ended (now (page .exit)) r ≡ putCame (ended (now (page .entry)) at) came ⌝ }
 {
     match came {
-        Came::Nothing => line::put(line, at, b"-"),
-        Came::Read(value, writer) => put_read(line, at, value, writer),
-        Came::Stored(value) => line::put_with(line, at, b"stored ", value),
+        Came::Nothing => page::put(page, at, b"-"),
+        Came::Read(value, writer) => put_read(page, at, value, writer),
+        Came::Stored(value) => page::put_with(page, at, b"stored ", value),
         Came::Wrote(read, writer, written) => {
-            let to = put_read(line, at, read, writer);
-            line::put_with(line, to, b"; wrote ", written)
+            let to = put_read(page, at, read, writer);
+            page::put_with(page, to, b"; wrote ", written)
         }
         Came::Failed(read, writer) => {
-            let to = put_read(line, at, read, writer);
-            line::put(line, to, b"; failed, wrote nothing")
+            let to = put_read(page, at, read, writer);
+            page::put(page, to, b"; failed, wrote nothing")
         }
-        Came::Left(before, after) => line::fill(line, at, b"found #, left #", before, after, 0),
-        Came::Took(bit) => line::put_with(line, at, b"took ", bit),
-        Came::Jumped(taken) => put_taken(line, at, taken),
-        Came::Passed => line::put(line, at, b"passed"),
-        Came::Written(value) => line::put_with(line, at, b"wrote ", value),
+        Came::Left(before, after) => page::fill(page, at, b"found #, left #", before, after, 0),
+        Came::Took(bit) => page::put_with(page, at, b"took ", bit),
+        Came::Jumped(taken) => put_taken(page, at, taken),
+        Came::Passed => page::put(page, at, b"passed"),
+        Came::Written(value) => page::put_with(page, at, b"wrote ", value),
     }
 }
 
 // A value that was read, and the step that wrote it.
-fn put_read(line: &mut Line, at: usize, value: u64, writer: u64) -> usize
-    ensures { λ r. ⌜ ended (now (line .exit)) r ≡ putRead (ended (now (line .entry)) at) value writer ⌝ }
+fn put_read(page: &mut Page, at: usize, value: u64, writer: u64) -> usize
+    ensures { λ r. ⌜ ended (now (page .exit)) r ≡ putRead (ended (now (page .entry)) at) value writer ⌝ }
 {
     if writer == 0 {
-        return line::fill(line, at, b"read #, the start value", value, 0, 0);
+        return page::fill(page, at, b"read #, the start value", value, 0, 0);
     }
-    line::fill(line, at, b"read #, from step #", value, writer, 0)
+    page::fill(page, at, b"read #, from step #", value, writer, 0)
 }
 
 // Whether a jump was taken.
-fn put_taken(line: &mut Line, at: usize, taken: bool) -> usize
-    ensures { λ r. ⌜ ended (now (line .exit)) r ≡ putTaken (ended (now (line .entry)) at) taken ⌝ }
+fn put_taken(page: &mut Page, at: usize, taken: bool) -> usize
+    ensures { λ r. ⌜ ended (now (page .exit)) r ≡ putTaken (ended (now (page .entry)) at) taken ⌝ }
 {
     if taken {
-        return line::put(line, at, b"taken");
+        return page::put(page, at, b"taken");
     }
-    line::put(line, at, b"not taken")
+    page::put(page, at, b"not taken")
 }

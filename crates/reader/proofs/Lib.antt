@@ -1,5 +1,2 @@
-mod HeldLaws
-mod LineLaws
-mod OneLaws
 mod ReadLaws
 mod WholeLaws

@@ -14,7 +14,7 @@ use Rattle.rules.specs.Text as rules
 use Rattle.rules.specs.Text.{TextRead, refusedAt, accepted, readText, readInto, filled, tableBytes, ReadInto}
 use Rattle.ahead.specs.Counts.{Placed}
 use Rattle.ahead.specs.declared.Place.{Place}
-use Rattle.reader.specs.Tables.{Cleared, Blank}
+use Rattle.filling.specs.Tables.{Cleared, Blank}
 use Rattle.reader.specs.Lines.{Answers, Answered, Took, readOf}
 use Rattle.reader.specs.declared.Lines.{Lines}
 use Rattle.reader.specs.declared.Lines.the-variants as lines

@@ -16,12 +16,13 @@ use Rattle.rules.specs.Text.{Made, nothingMade, tableOf, filled, TextRead, refu
 use Rattle.token.specs.Places.{part}
 use Rattle.claims.specs.Units.{Concludes, concludedOf}
 use Rattle.claims.specs.declared.Conclusion.{Conclusion}
-use Rattle.reader.specs.Tables.{Held, Blank}
-use Rattle.reader.specs.Lines.{Lined, Steps, Took, Answered, Answers, Closes}
+use Rattle.filling.specs.Tables.{Held, Blank}
+use Rattle.filling.specs.Steps.{Lined, Steps}
+use Rattle.reader.specs.Lines.{Took, Answered, Answers, Closes}
 use Rattle.reader.specs.declared.Lines.{Lines}
-use Rattle.reader.specs.declared.Line.{Line}
-use Rattle.reader.specs.declared.Line.the-variants.{GoesOn, Refused, Ended, Concludes as Goes}
-use Rattle.reader.proofs.HeldLaws.{so-held, filled-on, length-filled, length-tableOf}
+use Rattle.filling.specs.declared.Line.{Line}
+use Rattle.filling.specs.declared.Line.the-variants.{GoesOn, Refused, Ended, Concludes as Goes}
+use Rattle.filling.proofs.HeldLaws.{so-held, filled-on, length-filled, length-tableOf}
 
 -- on the way, with so many lines that may still come
 pub record Going (text table : List ℕ) (lines all n rows from left : ℕ) (whole : TextRead) : Type 0 where

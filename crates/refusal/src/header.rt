@@ -1,124 +1,154 @@
 // What is wrong with a header, or with a table's length, in the order of the bytes.
+ghost use mathlib.Core.Path.{_≡_};
+ghost use Prim.Native.Nat.{_<_, _≤_};
+ghost use lib.ListN.{length};
+ghost use Rattle.rules.specs.Table.{headerBytes, sizeOf, valuesOf, countsOf, countFine, total};
+ghost use Rattle.page.specs.Pages.{ended};
+ghost use Rattle.refusal.specs.Headers.{isCount, badCount, putRows, putBehind, putHeader};
 use layout::MAX_CELLS;
 use layout::MAX_PLAINS;
 use layout::MAX_THREADS;
+use layout::wide8;
 use layout::wide16;
-use table::CELLS;
+use page::Page;
 use table::COUNTS;
 use table::FIRSTS;
-use table::PLAINS;
-use table::Shape;
-use table::THREADS;
+use table::limits::CELL_COUNT;
 use table::limits::HEADER;
 use table::limits::MAX_ROWS;
+use table::limits::PLAIN_COUNT;
 use table::limits::ROW;
 use table::limits::VALUE;
 
-// Says what is wrong first.
-pub fn print(table: &[u8]) {
+// Puts what is wrong first, in one line.
+pub fn put(page: &mut Page, at: usize, table: &[u8]) -> usize
+    ensures { λ r. ⌜ ended (now (page .exit)) r ≡ putHeader (ended (now (page .entry)) at) (now (table .entry)) ⌝ }
+{
     if table.len() < HEADER {
-        line::say(
-            b"answer 5: refused: the table has # bytes, and its header alone has #",
+        return page::fill(
+            page,
+            at,
+            b"answer 5: refused: the table has # bytes, and its header alone has #\n",
             table.len() as u64,
             HEADER as u64,
             0,
         );
-        return;
     }
-    let shape = table::shape(table);
-    if named(&shape) {
-        return;
-    }
-    let plains = wide16(shape[PLAINS]);
-    if MAX_PLAINS < plains {
-        line::say(
-            b"answer 5: refused: byte 7 says # plain cells: there may be 0 to #",
-            plains as u64,
-            MAX_PLAINS as u64,
-            0,
-        );
-        return;
-    }
-    line::say(
-        b"answer 5: refused: the table should have # bytes and has #",
-        size(&shape) as u64,
-        table.len() as u64,
-        0,
-    );
-}
-
-// The length of a table of this shape.
-fn size(shape: &Shape) -> usize {
-    let values = wide16(shape[CELLS]) + wide16(shape[PLAINS]);
-    let rows = wide16(shape[COUNTS + 4]) + wide16(shape[FIRSTS + 4]);
-    HEADER + VALUE * values + ROW * rows
-}
-
-// Whether one of the header's numbers is wrong, which is then named.
-fn named(shape: &Shape) -> bool {
-    let threads = wide16(shape[THREADS]);
-    let cells = wide16(shape[CELLS]);
-    if threads == 0 || MAX_THREADS < threads {
-        line::say(
-            b"answer 5: refused: byte 0 says # threads: there may be 1 to #",
+    let threads = wide8(table[0]);
+    if !is_count(threads, MAX_THREADS) {
+        return page::fill(
+            page,
+            at,
+            b"answer 5: refused: byte 0 says # threads: there may be 1 to #\n",
             threads as u64,
             MAX_THREADS as u64,
             0,
         );
-        return true;
     }
-    if cells == 0 || MAX_CELLS < cells {
-        line::say(
-            b"answer 5: refused: byte 1 says # cells: there may be 1 to #",
+    let cells = wide8(table[CELL_COUNT]);
+    if !is_count(cells, MAX_CELLS) {
+        return page::fill(
+            page,
+            at,
+            b"answer 5: refused: byte 1 says # cells: there may be 1 to #\n",
             cells as u64,
             MAX_CELLS as u64,
             0,
         );
-        return true;
     }
-    counted(shape, threads)
+    put_behind(page, at, table, threads)
 }
 
-// Whether one of the row counts is wrong, which is then named.
-fn counted(shape: &Shape, threads: usize) -> bool {
+// Whether there may be so many: there is one at least.
+fn is_count(n: usize, most: usize) -> bool
+    ensures { λ r. ⌜ r ≡ isCount n most ⌝ }
+{
+    (1 <= n) & (n <= most)
+}
+
+// What is wrong behind the cell count: a row count, the plain cells, or else the length.
+fn put_behind(page: &mut Page, at: usize, table: &[u8], threads: usize) -> usize
+    requires { ⌜ headerBytes ≤ length (now table) ⌝ }
+    ensures { λ r. ⌜ ended (now (page .exit)) r ≡ putBehind (ended (now (page .entry)) at) (now (table .entry)) threads ⌝ }
+{
+    let thread = bad_count(table, threads);
+    if thread < MAX_THREADS {
+        let count = wide8(table[COUNTS + thread]);
+        return put_rows(page, at, threads, thread, count);
+    }
+    let plains = wide8(table[PLAIN_COUNT]);
+    if MAX_PLAINS < plains {
+        return page::fill(
+            page,
+            at,
+            b"answer 5: refused: byte 7 says # plain cells: there may be 0 to #\n",
+            plains as u64,
+            MAX_PLAINS as u64,
+            0,
+        );
+    }
+    page::fill(
+        page,
+        at,
+        b"answer 5: refused: the table should have # bytes and has #\n",
+        size(table) as u64,
+        table.len() as u64,
+        0,
+    )
+}
+
+// The length of a table with this header.
+fn size(table: &[u8]) -> usize
+    requires { ⌜ headerBytes ≤ length (now table) ⌝ }
+    ensures { λ r. ⌜ r ≡ sizeOf (valuesOf (now (table .entry))) (total (countsOf (now (table .entry)))) ⌝ }
+{
+    let shape = table::shape(table);
+    let values = wide8(table[CELL_COUNT]) + wide8(table[PLAIN_COUNT]);
+    let rows = wide16(shape[COUNTS + 4]) + wide16(shape[FIRSTS + 4]);
+    HEADER + VALUE * values + ROW * rows
+}
+
+// The first thread whose row count is wrong; where none is, the number past the last thread that there can be.
+fn bad_count(table: &[u8], threads: usize) -> usize
+    requires { ⌜ headerBytes ≤ length (now table) ⌝ }
+    ensures { λ r. ⌜ r ≡ badCount (now (table .entry)) threads ⌝ }
+{
     let mut thread = 0;
     while thread < MAX_THREADS {
-        let count = wide16(shape[COUNTS + thread]);
-        if thread < threads {
-            if MAX_ROWS < count {
-                too_many(thread, count);
-                return true;
-            }
-        } else if count != 0 {
-            absent(thread, count);
-            return true;
+        let count = wide8(table[COUNTS + thread]);
+        if !count_fine(threads, thread, count) {
+            return thread;
         }
         thread += 1;
     }
-    false
+    MAX_THREADS
+}
+
+// Whether a thread may have so many rows: none where it is past the threads.
+fn count_fine(threads: usize, thread: usize, count: usize) -> bool
+    ensures { λ r. ⌜ r ≡ countFine threads thread count ⌝ }
+{
+    if thread < threads {
+        return count <= MAX_ROWS;
+    }
+    count == 0
 }
 
 // A thread has more rows than there may be.
-fn too_many(thread: usize, count: usize) {
-    let mut line = [0u8; 256];
-    let to = line::fill(
-        &mut line,
-        0,
+fn put_rows(page: &mut Page, at: usize, threads: usize, thread: usize, count: usize) -> usize
+    requires { ⌜ thread < 5 ⌝ }
+    ensures { λ r. ⌜ ended (now (page .exit)) r ≡ putRows (ended (now (page .entry)) at) threads thread count ⌝ }
+{
+    let to = page::fill(
+        page,
+        at,
         b"answer 5: refused: byte # says that thread # has # rows",
-        thread as u64 % 256 + COUNTS as u64,
+        (COUNTS + thread) as u64,
         thread as u64,
         count as u64,
     );
-    let to = line::put_with(&mut line, to, b": there may be 0 to ", MAX_ROWS as u64);
-    line::end(&mut line, to);
-}
-
-// A thread that is absent has rows.
-fn absent(thread: usize, count: usize) {
-    line::say(
-        b"answer 5: refused: byte # says that thread # has # rows, and there is no such thread: it must be 0",
-        thread as u64 % 256 + COUNTS as u64,
-        thread as u64,
-        count as u64,
-    );
+    if thread < threads {
+        return page::fill(page, to, b": there may be 0 to #\n", MAX_ROWS as u64, 0, 0);
+    }
+    page::put(page, to, b", and there is no such thread: it must be 0\n")
 }

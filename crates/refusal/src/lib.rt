@@ -1,19 +1,30 @@
 // Why a table or a condition is refused: which field of the header, or of the first bad row, or which byte of the condition is wrong,
 // and what it may be.
+ghost use mathlib.Core.Path.{_≡_};
+ghost use Rattle.page.specs.Pages.{ended};
+ghost use Rattle.refusal.specs.Refusals.{putRefusal};
+use page::Page;
 use table::Judged;
 
 mod header;
 
-// Says it, in one line: what is wrong with this row; or, where no row is named, with the header or the length; or else with the
+// Puts it, in one line: what is wrong with this row; or, where no row is named, with the header or the length; or else with the
 // condition, which is judged behind the table.
-pub fn print(table: &[u8], condition: &[u8], thread: u64, number: u64) {
+pub fn put(
+    page: &mut Page,
+    at: usize,
+    table: &[u8],
+    condition: &[u8],
+    thread: u64,
+    number: u64,
+) -> usize
+    ensures { λ r. ⌜ ended (now (page .exit)) r ≡ putRefusal (ended (now (page .entry)) at) (now (table .entry)) (now (condition .entry)) thread number ⌝ }
+{
     if thread != 255 {
-        bad_row::print(table, (thread % 256) as u8, (number % 256) as u8);
-        return;
+        return bad_row::put(page, at, table, (thread % 256) as u8, (number % 256) as u8);
     }
     if let Judged::Accepted = table::judge(table) {
-        bad_condition::print(table, condition);
-        return;
+        return bad_condition::put(page, at, table, condition);
     }
-    header::print(table);
+    header::put(page, at, table)
 }

@@ -16,10 +16,10 @@ use Rattle.rules.specs.Table.{Row, rowAt, shapeOf}
 use Rattle.rules.specs.Form.{forms}
 use Rattle.rules.specs.Writer.{formIn, formShown, fieldsOf, rowShown}
 use Rattle.put.specs.Puts.{last, upToLast, Puts}
-use Rattle.line.specs.Lines.{Line, putText}
+use Rattle.page.specs.Pages.{Page, putText}
 use Rattle.row_text.specs.Rows.{rowWords, rowSaid}
 
-pub nothing-put : (l : Line) (w : List ℕ) → w ≡ [] → l ≡ putText l w
+pub nothing-put : (l : Page) (w : List ℕ) → w ≡ [] → l ≡ putText l w
 unfolding putText
 nothing-put l w e = rw e
 

@@ -1,23 +1,25 @@
 // A row of a table in a line of output, as it stands in a text.
 ghost use mathlib.Core.Path.{_≡_};
 ghost use Rattle.rules.specs.Table.{rowAt};
-ghost use Rattle.line.specs.Lines.{ended, putText};
+ghost use Rattle.page.specs.Pages.{ended, putText};
 ghost use Rattle.row_text.specs.Rows.{rowWords, rowSaid};
 use layout::MAX_THREADS;
 use layout::wide8;
 use layout::wide16;
-use line::Line;
-use line::WIDTH;
+use page::Page;
 use table::CELLS;
 use table::FIRSTS;
 use table::PLAINS;
+
+// The longest row's line has fewer bytes.
+const LONGEST: usize = 256;
 
 // How many blanks a text has before a row.
 const BLANKS: usize = 2;
 
 // Puts the row of this number of a thread; nothing for a thread that no table has.
-pub fn put(line: &mut Line, at: usize, table: &[u8], thread: u8, number: u8) -> usize
-    ensures { λ r. ⌜ ended (now (line .exit)) r ≡ putText (ended (now (line .entry)) at) (rowSaid (now (table .entry)) thread number) ⌝ }
+pub fn put(page: &mut Page, at: usize, table: &[u8], thread: u8, number: u8) -> usize
+    ensures { λ r. ⌜ ended (now (page .exit)) r ≡ putText (ended (now (page .entry)) at) (rowSaid (now (table .entry)) thread number) ⌝ }
 {
     let t = wide8(thread);
     if MAX_THREADS <= t {
@@ -26,20 +28,20 @@ pub fn put(line: &mut Line, at: usize, table: &[u8], thread: u8, number: u8) -> 
     let shape = table::shape(table);
     let values = wide16(shape[CELLS]) + wide16(shape[PLAINS]);
     let first = wide16(shape[FIRSTS + t]);
-    put_at(line, at, table, values, first + wide8(number))
+    put_at(page, at, table, values, first + wide8(number))
 }
 
 // The row of this number among all rows of a table with so many start values.
-fn put_at(line: &mut Line, at: usize, table: &[u8], values: usize, index: usize) -> usize
-    ensures { λ r. ⌜ ended (now (line .exit)) r ≡ putText (ended (now (line .entry)) at) (rowWords (rowAt (now (table .entry)) values index)) ⌝ }
+fn put_at(page: &mut Page, at: usize, table: &[u8], values: usize, index: usize) -> usize
+    ensures { λ r. ⌜ ended (now (page .exit)) r ≡ putText (ended (now (page .entry)) at) (rowWords (rowAt (now (table .entry)) values index)) ⌝ }
 {
-    let mut text = [0u8; WIDTH];
+    let mut text = [0u8; LONGEST];
     let to = row_line::put_row(&mut text, 0, table, values, index);
-    if WIDTH < to {
+    if LONGEST < to {
         return at;
     }
     if to <= BLANKS {
         return at;
     }
-    line::put(line, at, &text[BLANKS..to - 1])
+    page::put(page, at, &text[BLANKS..to - 1])
 }

@@ -40,7 +40,7 @@ fn take(bytes: &[u8]) {
     let mut condition = [0u8; CONDITION_BYTES];
     match reader::read(bytes, &mut table, &mut condition) {
         ReadText::NoRoom => {}
-        ReadText::Refused(line, column) => excerpt::print(b"", bytes, line, column),
+        ReadText::Refused(line, column) => tell::print_refusal(b"", bytes, line, column),
         ReadText::Taken(n, claimed) => show(
             token::part(&table, 0, n),
             token::part(&condition, 0, claimed),

@@ -1,4 +1,2 @@
-pub mod Access
 pub mod Entries
 pub mod Holds
-pub mod Loops

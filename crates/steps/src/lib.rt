@@ -13,9 +13,7 @@ use table::COUNTS;
 use table::little;
 use trace::ENTRY;
 
-pub mod access;
 pub mod held;
-pub mod loops;
 
 // Where a trace entry has what.
 const THREAD: usize = 0;
@@ -64,7 +62,7 @@ pub fn row(trace: &[u8], i: usize) -> u8
     byte(trace, i, ROW)
 }
 
-fn opcode(trace: &[u8], i: usize) -> u8
+pub fn opcode(trace: &[u8], i: usize) -> u8
     ensures { λ r. ⌜ r ≡ entryAt (now (trace .entry)) i .opcode ⌝ }
 {
     byte(trace, i, OPCODE)

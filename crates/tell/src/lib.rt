@@ -1,9 +1,13 @@
-// What a run answered, as text on standard output: the verdict, the counts, the threads' summaries and the last execution.
+// What a run answered, as text on standard output: the verdict, the counts, the threads' summaries and the last execution. What is said
+// comes from crates that put it on a page; this one writes.
+use page::Page;
+use page::WIDTH;
 use report::Report;
 use settings::Settings;
 
-mod stop;
-mod summary;
+mod last;
+mod out;
+mod threads;
 
 // Prints all of a report; where nothing began, only what is wrong. The execution of a run that a limit ended is shortened,
 // unless it is wanted whole.
@@ -15,35 +19,59 @@ pub fn print_report(
     trace: &[u8],
     whole: bool,
 ) {
+    let mut page = [0u8; WIDTH];
+    let to = verdict::put(&mut page, 0, table, condition, trace, settings, report);
+    out::write(&page, to);
+    if 0 < report.begun {
+        let threads = report.threads;
+        counts(
+            &mut page,
+            report.begun,
+            report.opened,
+            report.open,
+            report.rows,
+        );
+        threads::summaries(&mut page, threads);
+        ran(&mut page, table, trace, report, whole);
+        let to = summary::put_legend(&mut page, 0);
+        out::write(&page, to);
+    }
+}
+
+// Writes the last execution, and where it stopped.
+fn ran(page: &mut Page, table: &[u8], trace: &[u8], report: Report, whole: bool) {
     let answer = report.answer;
     let number = report::number(answer);
     let threads = report.threads;
-    let is_limit = verdict::is_limit(number);
-    verdict::print(table, condition, settings, report, trace);
-    if report.begun == 0 {
-        return;
-    }
-    line::write(b"");
-    summary::counts(report);
-    line::write(b"");
-    summary::threads(threads);
-    line::write(b"");
-    listing::print(table, trace, whole || !is_limit);
-    stop::place(table, report.thread, report.row, is_limit);
+    let is_limit = limit::is_limit(number);
+    last::execution(page, table, trace, whole || !is_limit);
+    let to = stop::put_place(page, 0, table, report.thread, report.row, is_limit);
+    out::write(page, to);
     if number == 10 {
-        stop::waiting(table, trace, threads);
+        threads::waiting(page, table, trace, threads);
     }
-    line::write(b"");
-    legend();
 }
 
-// Writes what the columns mean whose names do not say it.
-fn legend() {
-    line::write(
-        b"slot: where its cell keeps a store; a cell keeps seven, and its start value is the first, in slot 0",
-    );
-    line::write(b"offered: the slots that a load may read; where there are several, each is tried");
-    line::write(
-        b"version: counts a thread's atomic accesses, fences and joins, from 1 (thread 0: from 2)",
-    );
+// Prints that a text is refused at a line and column, with that line of it. The name of its file comes first, where there is one.
+pub fn print_refusal(name: &[u8], text: &[u8], line: usize, column: usize) {
+    let mut page = [0u8; WIDTH];
+    let to = excerpt::put(&mut page, 0, name, text, line, column);
+    out::write(&page, to);
+}
+
+// Writes the four counts and the ledger.
+fn counts(page: &mut Page, begun: u64, opened: u64, open: u64, rows: u64) {
+    out::line(b"");
+    count(page, b"executions begun", begun);
+    count(page, b"choices opened", opened);
+    count(page, b"choices open", open);
+    count(page, b"rows begun", rows);
+    let to = summary::put_ledger(page, 0, begun, opened, open);
+    out::write(page, to);
+}
+
+// Writes one count.
+fn count(page: &mut Page, name: &[u8], n: u64) {
+    let to = summary::put_count(page, 0, name, n);
+    out::write(page, to);
 }

@@ -1,115 +1,187 @@
 // The verdict on a run. Its first line begins with the answer's number, `answer N:`, and says what happened: exhausted, failed,
 // no verdict or refused. Behind it stands what was covered where nothing failed, or what to do where a limit ended the run.
 ghost use mathlib.Core.Path.{_≡_};
-ghost use Rattle.verdict.specs.Limits.{isLimit};
+ghost use Rattle.page.specs.Pages.{ended};
+ghost use Rattle.settings.specs.Given.{settingsOf};
+ghost use Rattle.report.specs.Answers.{reportOf};
+ghost use Rattle.verdict.specs.Verdicts.{putVerdict, isRefusal, putPassed, putRefused, putCheck, putWanted, putFailed};
 use decode::Decoded;
 use decode::Op;
+use page::Page;
 use report::Report;
 use settings::Settings;
 
-mod finally;
-mod limit;
-mod race;
-
-// Prints the verdict.
-pub fn print(table: &[u8], condition: &[u8], settings: Settings, report: Report, trace: &[u8]) {
+// Puts the verdict.
+pub fn put(
+    page: &mut Page,
+    at: usize,
+    table: &[u8],
+    condition: &[u8],
+    trace: &[u8],
+    settings: Settings,
+    report: Report,
+) -> usize
+    ensures { λ r. ⌜ ended (now (page .exit)) r ≡ putVerdict (ended (now (page .entry)) at) (now (table .entry)) (now (condition .entry)) (now (trace .entry)) (settingsOf settings) (reportOf report) ⌝ }
+{
     let answer = report.answer;
     let number = report::number(answer);
-    match number {
-        0 => passed(table, condition, settings, report.begun),
-        1 | 11 | 12 | 17 => limit::print(number, settings, report, trace),
-        2 | 3 | 4 | 5 => refused(number, table, condition, report.thread, report.row),
-        14 => race::print(
-            table,
-            trace,
-            report,
-            report::race_kind(answer),
-            report::other_thread(answer),
-        ),
-        15 => check(table, trace, report.thread, report.row),
-        18 => finally::print(table, condition, trace),
-        _ => failed(number, report.thread, report.row),
+    let thread = report.thread;
+    let row = report.row;
+    if limit::is_limit(number) {
+        return limit::put(page, at, trace, number, settings, thread, row);
     }
+    if is_refusal(number) {
+        return put_refused(page, at, table, condition, number, thread, row);
+    }
+    match number {
+        0 => put_passed(page, at, table, condition, settings, report.begun),
+        14 => {
+            let kind = report::race_kind(answer);
+            let other = report::other_thread(answer);
+            race::put(page, at, table, trace, thread, row, kind, other)
+        }
+        15 => put_check(page, at, table, trace, thread, row),
+        18 => finally::put(page, at, table, condition, trace),
+        _ => put_failed(page, at, number, thread, row),
+    }
+}
+
+// Whether nothing was run, for what was given was refused.
+fn is_refusal(number: u64) -> bool
+    ensures { λ r. ⌜ r ≡ isRefusal number ⌝ }
+{
+    (2 <= number) & (number <= 5)
 }
 
 // Nothing failed: what was covered, and that the final condition was true, where there is one.
-fn passed(table: &[u8], condition: &[u8], settings: Settings, begun: u64) {
-    coverage::print(table, settings, begun);
-    if 0 < condition.len() {
-        line::write(b"the final condition was true at the end of every execution");
-    }
-}
-
-// Whether a limit ended the run, which is no verdict.
-pub fn is_limit(number: u64) -> bool
-    ensures { λ r. ⌜ r ≡ isLimit number ⌝ }
+fn put_passed(
+    page: &mut Page,
+    at: usize,
+    table: &[u8],
+    condition: &[u8],
+    settings: Settings,
+    begun: u64,
+) -> usize
+    ensures { λ r. ⌜ ended (now (page .exit)) r ≡ putPassed (ended (now (page .entry)) at) (now (table .entry)) (now (condition .entry)) (settingsOf settings) begun ⌝ }
 {
-    (number == 1) | (number == 11) | (number == 12) | (number == 17)
+    let to = coverage::put(page, at, table, settings, begun);
+    if condition.len() == 0 {
+        return to;
+    }
+    page::put(
+        page,
+        to,
+        b"the final condition was true at the end of every execution\n",
+    )
 }
 
 // What is wrong with what was given.
-fn refused(number: u64, table: &[u8], condition: &[u8], thread: u64, row: u64) {
+fn put_refused(
+    page: &mut Page,
+    at: usize,
+    table: &[u8],
+    condition: &[u8],
+    number: u64,
+    thread: u64,
+    row: u64,
+) -> usize
+    ensures { λ r. ⌜ ended (now (page .exit)) r ≡ putRefused (ended (now (page .entry)) at) (now (table .entry)) (now (condition .entry)) number thread row ⌝ }
+{
     match number {
-        2 => line::write(b"answer 2: refused: the settings are out of range"),
-        3 => line::write(b"answer 3: refused: the path buffer has the wrong length"),
-        4 => line::write(b"answer 4: refused: the trace buffer has the wrong length"),
-        _ => refusal::print(table, condition, thread, row),
+        2 => page::put(
+            page,
+            at,
+            b"answer 2: refused: the settings are out of range\n",
+        ),
+        3 => page::put(
+            page,
+            at,
+            b"answer 3: refused: the path buffer has the wrong length\n",
+        ),
+        4 => page::put(
+            page,
+            at,
+            b"answer 4: refused: the trace buffer has the wrong length\n",
+        ),
+        _ => refusal::put(page, at, table, condition, thread, row),
     }
 }
 
-// A check, with what its register holds.
-fn check(table: &[u8], trace: &[u8], thread: u64, row: u64) {
-    let t = (thread % 256) as u8;
-    let mut line = [0u8; 256];
-    let to = line::fill(
-        &mut line,
-        0,
+// A check that failed, with what its register holds.
+fn put_check(page: &mut Page, at: usize, table: &[u8], trace: &[u8], thread: u64, row: u64) -> usize
+    ensures { λ r. ⌜ ended (now (page .exit)) r ≡ putCheck (ended (now (page .entry)) at) (now (table .entry)) (now (trace .entry)) thread row ⌝ }
+{
+    let to = page::fill(
+        page,
+        at,
         b"answer 15: failed: the check at thread #, row #",
         thread,
         row,
         0,
     );
-    let Decoded::Row(op) = steps::row_of(table, t, (row % 256) as u8) else {
-        line::end(&mut line, to);
-        return;
+    let to = put_wanted(
+        page,
+        to,
+        table,
+        trace,
+        (thread % 256) as u8,
+        (row % 256) as u8,
+    );
+    page::put(page, to, b"\n")
+}
+
+// What the check of this row wants, and what is there; nothing where the row is no check.
+fn put_wanted(page: &mut Page, at: usize, table: &[u8], trace: &[u8], thread: u8, row: u8) -> usize
+    ensures { λ r. ⌜ ended (now (page .exit)) r ≡ putWanted (ended (now (page .entry)) at) (now (table .entry)) (now (trace .entry)) thread row ⌝ }
+{
+    let Decoded::Row(op) = steps::row_of(table, thread, row) else {
+        return at;
     };
     let Op::Check { register, a } = op else {
-        line::end(&mut line, to);
-        return;
+        return at;
     };
     let held = steps::held::after(table, trace, steps::count(trace));
-    let value = steps::held::register(&held, t, register);
-    let to = line::fill(
-        &mut line,
-        to,
+    let value = steps::held::register(&held, thread, register);
+    page::fill(
+        page,
+        at,
         b": r# should be # and is #",
         register as u64,
         a,
         value,
-    );
-    line::end(&mut line, to);
+    )
 }
 
 // What else stops a run where it goes wrong.
-fn failed(number: u64, thread: u64, row: u64) {
+fn put_failed(page: &mut Page, at: usize, number: u64, thread: u64, row: u64) -> usize
+    ensures { λ r. ⌜ ended (now (page .exit)) r ≡ putFailed (ended (now (page .entry)) at) number thread row ⌝ }
+{
     match number {
-        10 => line::write(
-            b"answer 10: failed: deadlock: no thread can run, and not every thread has ended",
+        10 => page::put(
+            page,
+            at,
+            b"answer 10: failed: deadlock: no thread can run, and not every thread has ended\n",
         ),
-        13 => line::say(
-            b"answer 13: failed: two stores that a load may read have no order between them, at thread #, row #",
+        13 => page::fill(
+            page,
+            at,
+            b"answer 13: failed: two stores that a load may read have no order between them, at thread #, row #\n",
             thread,
             row,
             0,
         ),
-        16 => line::say(
-            b"answer 16: failed: `critical` while exploring is off, or `explore_state` while it is on, at thread #, row #",
+        16 => page::fill(
+            page,
+            at,
+            b"answer 16: failed: `critical` while exploring is off, or `explore_state` while it is on, at thread #, row #\n",
             thread,
             row,
             0,
         ),
-        _ => line::say(
-            b"answer #: stopped by a mistake of the explorer itself, at thread #, row #: please report it",
+        _ => page::fill(
+            page,
+            at,
+            b"answer #: stopped by a mistake of the explorer itself, at thread #, row #: please report it\n",
             number,
             thread,
             row,

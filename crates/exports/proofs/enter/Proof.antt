@@ -22,8 +22,8 @@ explore-requires c κs = search needs
 number-requires : tie.Need-number-requires
 number-requires c κs = search needs
 
-numbers-requires : tie.Need-numbers-requires
-numbers-requires c κs = search needs
+of-report-requires : tie.Need-of-report-requires
+of-report-requires c κs = search needs
 
 slice-aggregate-write-numbers : tie.Need-slice-aggregate-write-numbers
 slice-aggregate-write-numbers c = search needs
@@ -53,7 +53,7 @@ returns-4 c =
     entered-run (a .table .now) (a .condition .now) (a .branches) (a .operations) (a .executions) (a .bound) (a .exploring) (a .path .now) (a .trace .now) (a .report .now)
     (one .if1 .left) (two .if2 .left) (three .if3 .left) (run .explore .result) _ _
     (explored-so (a .table .now) (a .condition .now) (a .path .now) (a .trace .now) (a .branches) (a .operations) (a .executions) (a .bound) (a .exploring) (bound .bound-of .result) (bound .bound-of .ensures) (run .explore .ensures))
-    (number .number .ensures) (c .before .before .write-numbers .ensures ∙ all .numbers .ensures)
+    (number .number .ensures) (c .before .before .write-numbers .ensures ∙ all .of-report .ensures)
 
 pub enter-spec : {M : Type 1} → statement M
 enter-spec =
@@ -65,7 +65,7 @@ enter-spec =
     bound-of-requires
     explore-requires
     number-requires
-    numbers-requires
+    of-report-requires
     slice-aggregate-write-numbers
     write-numbers-requires
     same-length

@@ -1,7 +1,7 @@
 use mathlib.Core.Path.{_≡_, sym}
 use native.Mathlib.Omega.{arith}
 use borrow.Author.Tests.{not-true, not-false}
-use Rattle.reader.proofs.HeldLaws.{held-threads}
+use Rattle.filling.proofs.HeldLaws.{held-threads}
 use Rattle.reader.proofs.WholeLaws.{piece-most, closes-refused, closes-taken}
 use borrow.Author.Needs.{needs}
 use Rattle.reader.proofs.concluded.Statement.{statement}

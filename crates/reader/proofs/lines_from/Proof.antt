@@ -3,7 +3,7 @@ use native.Mathlib.Omega.{arith}
 use lib.ListN.{length}
 use Rattle.rules.specs.Condition.{conditionBytes}
 use Rattle.rules.specs.Text.{readText}
-use Rattle.reader.specs.Tables.{Blank}
+use Rattle.filling.specs.Tables.{Blank}
 use Rattle.reader.proofs.WholeLaws.{Going, going-start, going-out, step-goes, step-refused, step-ended, step-made, answered-by}
 use borrow.Author.Needs.{needs}
 use Rattle.reader.proofs.lines_from.Statement.{statement}

@@ -1,6 +1,6 @@
 use mathlib.Core.Path.{ap, _∙_}
 use native.Mathlib.Omega.{arith}
-use Rattle.line.specs.Lines.{putText}
+use Rattle.page.specs.Pages.{putText}
 use borrow.Author.Needs.{needs}
 use Rattle.row_text.proofs.RowLaws.{nothing-put, said-none, said-some}
 use Rattle.row_text.proofs.put.Statement.{statement}

@@ -1,6 +1,6 @@
 use mathlib.Core.Path.{refl, ap, _∙_}
 use native.Mathlib.Omega.{arith}
-use Rattle.line.specs.Lines.{putText}
+use Rattle.page.specs.Pages.{putText}
 use borrow.Author.Needs.{needs}
 use Rattle.row_text.proofs.RowLaws.{nothing-put, long-none, short-never, words-cut}
 use Rattle.row_text.proofs.put_at.Statement.{statement}
@@ -35,8 +35,8 @@ put-requires c κs = search needs
 
 returns-3 : tie.Need-returns-3
 returns-3 c =
-    let line = c .before .before .before .before in
-    let wide = line .before in
+    let page = c .before .before .before .before in
+    let wide = page .before in
     c .put .ensures ∙ ap (putText _) (words-cut _ _ _ _ (wide .before .before .put-row .ensures) refl (omega arith))
 
 pub put-at-spec : {M : Type 1} → statement M

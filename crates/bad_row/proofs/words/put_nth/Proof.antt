@@ -4,20 +4,20 @@ use mathlib.Core.Path.{_≡_, ap}
 use native.Mathlib.Omega.{arith}
 use lib.ListN.{length, drop}
 use borrow.Author.Needs.{needs}
-use Rattle.line.specs.Lines.{ended, putText}
+use Rattle.page.specs.Pages.{ended, putText}
 use Rattle.bad_row.specs.Words.{partPast}
 use Rattle.bad_row.proofs.WordLaws.{partLeft, part-whole, part-comma, part-byte, part-other, part-end}
 use Rattle.bad_row.proofs.words.put_nth.Statement.{statement}
 use Rattle.bad_row.proofs.words.put_nth.Tie as tie
 
 abbrev Inv-loop : tie.InvT-loop
-Inv-loop line₀ at list n to₀ past₀ i₀ line to past i =
+Inv-loop page₀ at list n to₀ past₀ i₀ page to past i =
     (i ≤ length list)
     × (past ≤ i)
-    × (putText (ended line to) (partLeft n past (drop i list)) ≡ putText (ended line₀ at) (partPast n list))
+    × (putText (ended page to) (partLeft n past (drop i list)) ≡ putText (ended page₀ at) (partPast n list))
 
 abbrev μ-loop : tie.MeasureT-loop
-μ-loop line₀ at list n to₀ past₀ i₀ line to past i = length list - i
+μ-loop page₀ at list n to₀ past₀ i₀ page to past i = length list - i
 
 loop-holds : tie.Need-loop-holds Inv-loop μ-loop
 loop-holds c = (search needs, search needs, ap (putText _) (part-whole _ _))

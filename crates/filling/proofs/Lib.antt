@@ -1,0 +1,3 @@
+pub mod HeldLaws
+mod LineLaws
+mod OneLaws

@@ -1,0 +1,253 @@
+// A line of a text, put into the table that is made in a buffer. Each promise is by the definition in rules (Text).
+ghost use mathlib.Core.Path.{_≡_};
+ghost use mathlib.Core.Bool.{cond};
+ghost use lib.Dec.{ltb};
+ghost use Prim.Native.Nat.{_+_, _≤_, _<_};
+ghost use lib.ListN.{length, getD, drop};
+ghost use lib.Seq.{paste};
+ghost use Rattle.rules.specs.Table.{headerBytes};
+ghost use Rattle.rules.specs.Text as rules;
+ghost use Rattle.token.specs.Places.{part};
+ghost use Rattle.filling.specs.Tables.{Holds, RowFits, Counts, howMany, oneMore, Grows, Cleared};
+ghost use Rattle.filling.specs.Steps.{Bare, Steps, isPlains, threadLine, rowLine};
+use form::Fields;
+use form::Room;
+use form::low_bytes;
+use layout::MAX_CELLS;
+use layout::MAX_PLAINS;
+use layout::MAX_THREADS;
+use table::limits::CELL_COUNT;
+use table::limits::MAX_ROWS;
+use table::limits::PLAIN_COUNT;
+use table::limits::ROW;
+use table::limits::VALUE;
+use token::Found;
+
+// How a line comes out: the next one follows, in a thread of so many rows, behind a table of so many bytes; it is refused at a place; the
+// text ends; the condition follows.
+pub enum Line {
+    GoesOn(usize, usize, usize),
+    Refused(usize),
+    Ended,
+    Concludes(usize),
+}
+
+// One line, in a text of so many lines at most and so many threads, in a thread of so many rows.
+pub fn line_of(
+    text: &[u8],
+    from: usize,
+    lines: usize,
+    all: usize,
+    rows: usize,
+    length: usize,
+    table: &mut [u8],
+) -> Line
+    requires { ⌜ Holds (now table) length ⌝ }
+    ensures { λ r. ⌜ Steps (now (text .entry)) (now (table .entry)) (now (table .exit)) length r (λ m. rules.lineOf lines all rows m (drop from (now (text .entry)))) ⌝ }
+{
+    let here = token::skip(text, from);
+    if text.len() <= here {
+        if table[0] == 0 {
+            return Line::Refused(here);
+        }
+        return Line::Ended;
+    }
+    if token::ends_line(text, here) {
+        return Line::GoesOn(rows, length, token::next_line(text, here));
+    }
+    let to = token::token_end(text, here);
+    if table[CELL_COUNT] == 0 {
+        if token::is_word(text, here, to, b"cells") {
+            return values_line(text, to, length, CELL_COUNT, MAX_CELLS, table);
+        }
+        return Line::Refused(here);
+    }
+    if is_plain_line(text, here, to, table) {
+        return values_line(text, to, length, PLAIN_COUNT, MAX_PLAINS, table);
+    }
+    if token::is_word(text, here, to, b"thread") {
+        return a_thread(text, here, to, lines, length, table);
+    }
+    if token::is_word(text, here, to, b"finally") {
+        return the_condition(here, to, table);
+    }
+    a_row(text, from, here, all, rows, length, table)
+}
+
+// "finally", once there is a thread.
+fn the_condition(here: usize, to: usize, header: &[u8]) -> Line
+    requires { ⌜ 1 ≤ length (now header) ⌝ }
+    ensures { λ r. ⌜ r ≡ cond (ltb 0 (getD (now (header .entry)) 0 0)) (Line.Concludes to) (Line.Refused here) ⌝ }
+{
+    if 0 < header[0] {
+        return Line::Concludes(to);
+    }
+    Line::Refused(here)
+}
+
+// "thread", and its rows.
+fn a_thread(
+    text: &[u8],
+    here: usize,
+    to: usize,
+    lines: usize,
+    length: usize,
+    table: &mut [u8],
+) -> Line
+    requires { ⌜ Holds (now table) length ⌝ }
+    ensures { λ r. ⌜ Steps (now (text .entry)) (now (table .entry)) (now (table .exit)) length r (λ m. threadLine lines m (drop here (now (text .entry))) (drop to (now (text .entry)))) ⌝ }
+{
+    let threads = table[0] as usize;
+    if MAX_THREADS <= threads {
+        return Line::Refused(here);
+    }
+    let rows = ahead::rows_ahead(text, token::next_line(text, here), lines);
+    add_thread(table, length);
+    bare_then(text, to, rows, length)
+}
+
+// A row: only in a thread, and no more than a thread may have.
+fn a_row(
+    text: &[u8],
+    from: usize,
+    here: usize,
+    all: usize,
+    rows: usize,
+    length: usize,
+    table: &mut [u8],
+) -> Line
+    requires { ⌜ Holds (now table) length ⌝ }
+    ensures { λ r. ⌜ Steps (now (text .entry)) (now (table .entry)) (now (table .exit)) length r (λ m. rowLine all rows m (drop from (now (text .entry))) (drop here (now (text .entry)))) ⌝ }
+{
+    let threads = table[0] as usize;
+    if threads == 0 {
+        return Line::Refused(here);
+    }
+    let before = table[1 + threads] as usize;
+    if MAX_ROWS <= before {
+        return Line::Refused(here);
+    }
+    let room = Room {
+        threads: all as u64,
+        cells: table[CELL_COUNT] as u64,
+        plains: table[PLAIN_COUNT] as u64,
+        rows: rows as u64,
+        row: before as u64,
+    };
+    let row = form::row_in(text, from, room);
+    if !row.fits {
+        return Line::Refused(row.at);
+    }
+    let fields = row.fields;
+    add_row(table, length, fields);
+    Line::GoesOn(rows, length + ROW, row.at)
+}
+
+// Whether it is the line of the plain cells: behind the cells, ahead of the threads, once.
+fn is_plain_line(text: &[u8], here: usize, to: usize, table: &[u8]) -> bool
+    requires { ⌜ headerBytes ≤ length (now table) ⌝ }
+    ensures { λ r. ⌜ r ≡ isPlains (now (table .entry)) (part here to (now (text .entry))) ⌝ }
+{
+    if 0 < table[0] {
+        return false;
+    }
+    if 0 < table[PLAIN_COUNT] {
+        return false;
+    }
+    token::is_word(text, here, to, b"plain")
+}
+
+// Start values, of cells or of plain cells: one at least, and so many at most. The header counts them at this place.
+fn values_line(
+    text: &[u8],
+    at: usize,
+    length: usize,
+    place: usize,
+    most: usize,
+    table: &mut [u8],
+) -> Line
+    requires { ⌜ Holds (now table) length × Counts place × (getD (now table) place 0 ≡ 0) × (most ≤ 4) ⌝ }
+    ensures { λ r. ⌜ Steps (now (text .entry)) (now (table .entry)) (now (table .exit)) length r (λ m. rules.valuesLine (oneMore place) (howMany place) most m (drop at (now (text .entry)))) ⌝ }
+{
+    let mut from = at;
+    let mut long = length;
+    let mut left = most;
+    while 0 < left {
+        let here = token::skip(text, from);
+        let to = token::token_end(text, here);
+        let Found::Value(value) = token::number(text, here, to) else {
+            if table[place] == 0 {
+                return Line::Refused(here);
+            }
+            return bare_then(text, from, 0, long);
+        };
+        add_value(table, long, place, value);
+        long += VALUE;
+        from = to;
+        left -= 1;
+    }
+    bare_then(text, from, 0, long)
+}
+
+// Nothing else may stand in the line.
+fn bare_then(text: &[u8], from: usize, rows: usize, length: usize) -> Line
+    ensures { λ r. ⌜ Bare (now (text .entry)) from rows length r ⌝ }
+{
+    let here = token::skip(text, from);
+    if token::ends_line(text, here) {
+        return Line::GoesOn(rows, length, token::next_line(text, here));
+    }
+    Line::Refused(here)
+}
+
+// One start value more, which the header counts at this place.
+fn add_value(table: &mut [u8], length: usize, place: usize, value: u64)
+    requires { ⌜ Holds (now table) length × Counts place × (getD (now table) place 0 < 4) ⌝ }
+    ensures { λ _. ⌜ Grows (now (table .entry)) (now (table .exit)) length (length + 8) (λ m. oneMore place m value) ⌝ }
+{
+    let bytes = low_bytes(value);
+    append(table, length, &bytes);
+    let many = table[place];
+    table[place] = many + 1;
+}
+
+// One thread more.
+fn add_thread(table: &mut [u8], length: usize)
+    requires { ⌜ Holds (now table) length × (getD (now table) 0 0 < 5) ⌝ }
+    ensures { λ _. ⌜ Grows (now (table .entry)) (now (table .exit)) length length rules.withThread ⌝ }
+{
+    let threads = table[0];
+    table[0] = threads + 1;
+}
+
+// One row more, in the thread that was begun last.
+fn add_row(table: &mut [u8], length: usize, fields: Fields)
+    requires { ⌜ RowFits (now table) length ⌝ }
+    ensures { λ _. ⌜ Grows (now (table .entry)) (now (table .exit)) length (length + 24) (λ m. rules.withRow m fields) ⌝ }
+{
+    let bytes = form::row_bytes(fields);
+    append(table, length, &bytes);
+    let thread = table[0] as usize;
+    let rows = table[1 + thread];
+    table[1 + thread] = rows + 1;
+}
+
+// Puts bytes into the buffer from a place on.
+pub fn append(buffer: &mut [u8], at: usize, bytes: &[u8])
+    requires { ⌜ at + length (now bytes) ≤ length (now buffer) ⌝ }
+    ensures { λ _. ⌜ now (buffer .exit) ≡ paste (now (buffer .entry)) at (now (bytes .entry)) (length (now (bytes .entry))) ⌝ }
+{
+    let mut i = 0;
+    while i < bytes.len() {
+        buffer[at + i] = bytes[i];
+        i += 1;
+    }
+}
+
+// Sets all bytes to zero.
+pub fn clear_all(bytes: &mut [u8])
+    ensures { λ _. ⌜ Cleared (now (bytes .entry)) (now (bytes .exit)) ⌝ }
+{
+    let to = bytes.len();
+    trace::clear(bytes, 0, to);
+}

@@ -1,0 +1,2 @@
+mod AccessLaws
+mod OpLaws

@@ -1,0 +1,115 @@
+// The steps that access a cell or a plain cell, as a race speaks of them.
+ghost use mathlib.Core.Path.{_≡_};
+ghost use Rattle.rules.specs.Change.{applied};
+ghost use Rattle.change.specs.Changes.{changeMeant};
+ghost use Rattle.decode.specs.Ops.{opOf};
+ghost use Rattle.last_access.specs.Access.{cellIn, isSuccess, storesAfter, accesses, isAccess, lastAccess};
+use change::Change;
+use change::Changed;
+use decode::Decoded;
+use decode::Op;
+use decode::opcode;
+
+// How a step accesses a cell or, in the last two, a plain cell. A change that fails only loads.
+pub enum Kind {
+    Load,
+    UnsyncLoad,
+    Store,
+    Exclusive,
+    PlainRead,
+    PlainWrite,
+}
+
+// The opcodes that access one.
+const LOAD: u8 = 0;
+
+const RMW: u8 = 3;
+
+const UNSYNC_LOAD: u8 = 5;
+
+const WITH_MUT: u8 = 6;
+
+const PLAIN_READ: u8 = 17;
+
+const PLAIN_WRITE: u8 = 18;
+
+// The last of the first `n` steps in which a thread so accesses a cell, counted from 1; 0 for none.
+pub fn last(table: &[u8], trace: &[u8], n: usize, thread: u64, cell: u64, kind: Kind) -> u64
+    ensures { λ r. ⌜ r ≡ lastAccess (now (table .entry)) (now (trace .entry)) n thread cell kind ⌝ }
+{
+    let mut i = n;
+    while 0 < i {
+        if is_access(table, trace, i - 1, thread, cell, kind) {
+            return i as u64;
+        }
+        i -= 1;
+    }
+    0
+}
+
+// Whether step `i` is such an access.
+fn is_access(table: &[u8], trace: &[u8], i: usize, thread: u64, cell: u64, kind: Kind) -> bool
+    ensures { λ r. ⌜ r ≡ isAccess (now (table .entry)) (now (trace .entry)) thread cell kind i ⌝ }
+{
+    let Decoded::Row(op) = steps::operation(table, trace, i) else {
+        return false;
+    };
+    (steps::thread(trace, i) as u64 == thread)
+        & (cell_of(op) == cell)
+        & is_of(kind, op, steps::value(trace, i))
+}
+
+// Whether a row so accesses its cell, where it has read this value.
+fn is_of(kind: Kind, op: Op, read: u64) -> bool
+    ensures { λ r. ⌜ r ≡ accesses kind read (opOf op) ⌝ }
+{
+    let number = opcode(op);
+    match kind {
+        Kind::Load => (number == LOAD) | (number == RMW),
+        Kind::UnsyncLoad => number == UNSYNC_LOAD,
+        Kind::Store => stores(op, read),
+        Kind::Exclusive => number == WITH_MUT,
+        Kind::PlainRead => number == PLAIN_READ,
+        Kind::PlainWrite => number == PLAIN_WRITE,
+    }
+}
+
+// The cell that a row names, or the plain cell, or 255: the row says which.
+pub fn cell_of(op: Op) -> u64
+    ensures { λ r. ⌜ r ≡ cellIn (opOf op) ⌝ }
+{
+    match op {
+        Op::Load { cell, .. } => cell as u64,
+        Op::Store { cell, .. } => cell as u64,
+        Op::StoreRegister { cell, .. } => cell as u64,
+        Op::Rmw { cell, .. } => cell as u64,
+        Op::UnsyncLoad { cell, .. } => cell as u64,
+        Op::WithMut { cell, .. } => cell as u64,
+        Op::PlainRead { plain, .. } => plain as u64,
+        Op::PlainWrite { plain, .. } => plain as u64,
+        _ => 255,
+    }
+}
+
+// Whether a row stores to a cell, where it has read this value.
+fn stores(op: Op, read: u64) -> bool
+    ensures { λ r. ⌜ r ≡ storesAfter read (opOf op) ⌝ }
+{
+    match op {
+        Op::Store { .. } => true,
+        Op::StoreRegister { .. } => true,
+        Op::Rmw { change, .. } => succeeds(change, read),
+        _ => false,
+    }
+}
+
+// Whether a change of this value succeeds.
+fn succeeds(change: Change, read: u64) -> bool
+    ensures { λ r. ⌜ r ≡ isSuccess (applied (changeMeant change) read) ⌝ }
+{
+    if let Changed::Success(_) = change::apply(change, read) {
+        true
+    } else {
+        false
+    }
+}

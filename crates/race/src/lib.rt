@@ -1,0 +1,138 @@
+// Answer 14: a race, by the access that met it and the one before it: document 01's nine kinds, and three of plain cells.
+ghost use mathlib.Core.Path.{_≡_};
+ghost use Rattle.rules.specs.Token.{bytesOf};
+ghost use Rattle.page.specs.Pages.{ended, putText};
+ghost use Rattle.race.specs.Races.{cellAt, raceOf, accessName, putWhere, putMet, putStep, putBefore, putRace};
+use decode::Decoded;
+use last_access::Kind;
+use page::Page;
+
+// Names both accesses, the other one by its step.
+pub fn put(
+    page: &mut Page,
+    at: usize,
+    table: &[u8],
+    trace: &[u8],
+    thread: u64,
+    row: u64,
+    kind: u64,
+    other: u64,
+) -> usize
+    ensures { λ r. ⌜ ended (now (page .exit)) r ≡ putRace (ended (now (page .entry)) at) (now (table .entry)) (now (trace .entry)) thread row kind other ⌝ }
+{
+    let cell = cell_at(table, thread, row);
+    let to = put_met(page, at, cell, met(kind), thread, row);
+    put_before(page, to, table, trace, cell, against(kind), other)
+}
+
+// The access that met the race, of the row at fault.
+fn put_met(page: &mut Page, at: usize, cell: u64, kind: Kind, thread: u64, row: u64) -> usize
+    ensures { λ r. ⌜ ended (now (page .exit)) r ≡ putMet (ended (now (page .entry)) at) cell kind thread row ⌝ }
+{
+    let to = put_where(page, at, kind, cell);
+    let to = put_kind(page, to, kind);
+    page::fill(page, to, b" of thread #, row #, against ", thread, row, 0)
+}
+
+// The access before it: the other thread's last of this kind.
+fn put_before(
+    page: &mut Page,
+    at: usize,
+    table: &[u8],
+    trace: &[u8],
+    cell: u64,
+    kind: Kind,
+    other: u64,
+) -> usize
+    ensures { λ r. ⌜ ended (now (page .exit)) r ≡ putBefore (ended (now (page .entry)) at) (now (table .entry)) (now (trace .entry)) cell kind other ⌝ }
+{
+    let to = put_kind(page, at, kind);
+    let step = last_access::last(table, trace, steps::count(trace), other, cell, kind);
+    put_step(page, to, trace, other, step)
+}
+
+// That it is a race on a cell, or on a plain cell.
+fn put_where(page: &mut Page, at: usize, met: Kind, cell: u64) -> usize
+    ensures { λ r. ⌜ ended (now (page .exit)) r ≡ putWhere (ended (now (page .entry)) at) met cell ⌝ }
+{
+    match met {
+        Kind::PlainRead | Kind::PlainWrite => page::fill(
+            page,
+            at,
+            b"answer 14: failed: race on plain cell #: ",
+            cell,
+            0,
+            0,
+        ),
+        _ => page::fill(page, at, b"answer 14: failed: race on cell #: ", cell, 0, 0),
+    }
+}
+
+// The other thread, and its row and step where the trace has them.
+fn put_step(page: &mut Page, at: usize, trace: &[u8], other: u64, step: u64) -> usize
+    ensures { λ r. ⌜ ended (now (page .exit)) r ≡ putStep (ended (now (page .entry)) at) (now (trace .entry)) other step ⌝ }
+{
+    if step == 0 {
+        return page::fill(page, at, b" of thread #\n", other, 0, 0);
+    }
+    let i = (step - 1) as usize;
+    page::fill(
+        page,
+        at,
+        b" of thread #, row # (step #)\n",
+        other,
+        steps::row(trace, i) as u64,
+        step,
+    )
+}
+
+// The cell, or the plain cell, of the row at fault.
+fn cell_at(table: &[u8], thread: u64, row: u64) -> u64
+    ensures { λ r. ⌜ r ≡ cellAt (now (table .entry)) thread row ⌝ }
+{
+    let Decoded::Row(op) = steps::row_of(table, (thread % 256) as u8, (row % 256) as u8) else {
+        return 255;
+    };
+    last_access::cell_of(op)
+}
+
+// The access that met the race.
+fn met(kind: u64) -> Kind
+    ensures { λ r. ⌜ r ≡ raceOf kind .met ⌝ }
+{
+    match kind {
+        1 => Kind::Load,
+        2 | 3 => Kind::UnsyncLoad,
+        4 | 5 => Kind::Store,
+        10 => Kind::PlainRead,
+        11 | 12 => Kind::PlainWrite,
+        _ => Kind::Exclusive,
+    }
+}
+
+// The access before it that it races with.
+fn against(kind: u64) -> Kind
+    ensures { λ r. ⌜ r ≡ raceOf kind .before ⌝ }
+{
+    match kind {
+        6 => Kind::Load,
+        5 | 7 => Kind::UnsyncLoad,
+        3 | 8 => Kind::Store,
+        11 => Kind::PlainRead,
+        10 | 12 => Kind::PlainWrite,
+        _ => Kind::Exclusive,
+    }
+}
+
+fn put_kind(page: &mut Page, at: usize, kind: Kind) -> usize
+    ensures { λ r. ⌜ ended (now (page .exit)) r ≡ putText (ended (now (page .entry)) at) (bytesOf (accessName kind)) ⌝ }
+{
+    match kind {
+        Kind::Load => page::put(page, at, b"the load"),
+        Kind::UnsyncLoad => page::put(page, at, b"the unsynchronised load"),
+        Kind::Store => page::put(page, at, b"the store"),
+        Kind::Exclusive => page::put(page, at, b"the exclusive change"),
+        Kind::PlainRead => page::put(page, at, b"the plain read"),
+        Kind::PlainWrite => page::put(page, at, b"the plain write"),
+    }
+}

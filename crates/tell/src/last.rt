@@ -1,0 +1,48 @@
+// The last execution, a step a line.
+use crate::out;
+use listing::SHOWN;
+use page::Page;
+use steps::held;
+use steps::held::Held;
+
+// Writes it, whole or shortened. A page takes one line, for there may be thousands.
+pub fn execution(page: &mut Page, table: &[u8], trace: &[u8], whole: bool) {
+    let n = steps::count(trace);
+    if n == 0 {
+        out::line(b"\nthe last execution completed no row");
+        return;
+    }
+    out::line(b"\nthe last execution");
+    let width = listing::width(table, trace);
+    let to = listing::put_head(page, 0, width);
+    out::write(page, to);
+    let mut held = held::start(table);
+    let mut i = 0;
+    while i < n {
+        step(page, table, trace, &held, i, n, width, whole);
+        held::take(&mut held, table, trace, i);
+        i += 1;
+    }
+}
+
+// Writes a step, if it is among those that are shown, and in the place of the others one line.
+fn step(
+    page: &mut Page,
+    table: &[u8],
+    trace: &[u8],
+    held: &Held,
+    i: usize,
+    n: usize,
+    width: usize,
+    whole: bool,
+) {
+    if whole || listing::is_shown(i, n) {
+        let to = listing::put_step(page, 0, table, trace, held, i, width);
+        out::write(page, to);
+        return;
+    }
+    if i == SHOWN {
+        let to = listing::put_between(page, 0, n);
+        out::write(page, to);
+    }
+}
