@@ -176,9 +176,9 @@ pub fn offers(
     clocks: &Clocks,
     marks: &Marks,
     numbers: &Numbers,
+    dst: &mut [u8; MAX_ATOMIC_HISTORY],
     thread: usize,
     row: Decoded,
-    dst: &mut [u8; MAX_ATOMIC_HISTORY],
 ) -> Matched
     requires { ⌜ (thread < 5) × opWithin row ⌝ }
     ensures { λ r. ⌜ ((values : rules.Values) → scanned r (now (dst .exit)) ≡ offered (matchedFor (state (now (clocks .entry)) (now (marks .entry)) values (now (numbers .entry))) thread (decodedOf row)) (now (dst .entry))) ⌝ }
@@ -193,9 +193,9 @@ pub fn offers(
                 cell,
                 order,
             };
-            matches::match_load_to_stores(clocks, marks[cell], numbers, act, dst)
+            matches::match_load_to_stores(clocks, marks[cell], numbers, dst, act)
         }
-        Op::Rmw { cell, .. } => matches::match_rmw_to_stores(clocks, numbers, cell, dst),
+        Op::Rmw { cell, .. } => matches::match_rmw_to_stores(clocks, numbers, dst, cell),
         _ => Matched::Offers(0),
     }
 }
@@ -207,9 +207,9 @@ pub fn read_from(
     values: &mut Values,
     numbers: &mut Numbers,
     site: Site,
+    row: Decoded,
     slot: usize,
     mask: u8,
-    row: Decoded,
 ) -> Event
     requires { ⌜ (site .thread < 5) × (slot < 7) × opWithin row ⌝ }
     ensures { λ r. ⌜ ((m : events.Matched) → moveOf r (site .thread) (site .row) (opcodeIn (decodedOf row)) m (state (now (clocks .exit)) (now (marks .exit)) (now (values .exit)) (now (numbers .exit))) ≡ machine.readFrom (state (now (clocks .entry)) (now (marks .entry)) (now (values .entry)) (now (numbers .entry))) (site .thread) (site .row) slot mask (decodedOf row)) ⌝ }

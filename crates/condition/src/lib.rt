@@ -75,45 +75,45 @@ pub fn first_bad(bytes: &[u8], threads: usize) -> Found
     ensures { λ r. ⌜ r ≡ foundIn (length (now (bytes .entry))) (rules.conditionAt threads (λ t r. 0) rules.groupsDeep (now (bytes .entry))) ⌝ }
 {
     let zeros = [0u64; VALUES];
-    match condition(bytes, 0, DEEP, threads, &zeros) {
+    match condition(&zeros, bytes, 0, DEEP, threads) {
         Read::Bad(at) => Found::Bad(at),
         Read::Value(_, at) => Found::Ends(at),
     }
 }
 
 // Whether the condition holds with which these bytes begin. No byte is no condition, and holds.
-pub fn holds(bytes: &[u8], threads: usize, values: &Values) -> bool
+pub fn holds(values: &Values, bytes: &[u8], threads: usize) -> bool
     ensures { λ r. ⌜ r ≡ rules.holds threads (registerIn (now (values .entry))) (now (bytes .entry)) ⌝ }
 {
     if bytes.len() == 0 {
         return true;
     }
-    match condition(bytes, 0, DEEP, threads, values) {
+    match condition(values, bytes, 0, DEEP, threads) {
         Read::Bad(_) => false,
         Read::Value(holds, _) => holds,
     }
 }
 
 // The condition that begins here, with at most so many groups in each other.
-fn condition(bytes: &[u8], at: usize, deep: usize, threads: usize, values: &Values) -> Read
+fn condition(values: &Values, bytes: &[u8], at: usize, deep: usize, threads: usize) -> Read
     requires { ⌜ at ≤ length (now bytes) ⌝ }
     ensures { λ r. ⌜ Reads (now (bytes .entry)) at r (rules.conditionAt threads (registerIn (now (values .entry))) deep (drop at (now (bytes .entry)))) ⌝ }
 {
     if deep == 0 {
-        return comparison(bytes, at, threads, values);
+        return comparison(values, bytes, at, threads);
     }
     if byte_at(bytes, at) == OPENS {
-        return group(bytes, at + 1, deep - 1, threads, values);
+        return group(values, bytes, at + 1, deep - 1, threads);
     }
-    comparison(bytes, at, threads, values)
+    comparison(values, bytes, at, threads)
 }
 
 // The rest of a group, behind its opening bracket. All its members are joined by the same joint.
-fn group(bytes: &[u8], start: usize, deep: usize, threads: usize, values: &Values) -> Read
+fn group(values: &Values, bytes: &[u8], start: usize, deep: usize, threads: usize) -> Read
     requires { ⌜ start ≤ length (now bytes) ⌝ }
     ensures { λ r. ⌜ Reads (now (bytes .entry)) start r (rules.groupAt (rules.conditionAt threads (registerIn (now (values .entry))) deep) (drop start (now (bytes .entry)))) ⌝ }
 {
-    let first = condition(bytes, start, deep, threads, values);
+    let first = condition(values, bytes, start, deep, threads);
     let Read::Value(value, behind) = first else {
         return first;
     };
@@ -122,7 +122,7 @@ fn group(bytes: &[u8], start: usize, deep: usize, threads: usize, values: &Value
     let mut joint = 0;
     while may_join(joint, byte_at(bytes, at)) {
         joint = byte_at(bytes, at);
-        let member = condition(bytes, at + 1, deep, threads, values);
+        let member = condition(values, bytes, at + 1, deep, threads);
         let Read::Value(value, behind) = member else {
             return member;
         };
@@ -136,7 +136,7 @@ fn group(bytes: &[u8], start: usize, deep: usize, threads: usize, values: &Value
 }
 
 // The comparison that begins here.
-fn comparison(bytes: &[u8], at: usize, threads: usize, values: &Values) -> Read
+fn comparison(values: &Values, bytes: &[u8], at: usize, threads: usize) -> Read
     requires { ⌜ at ≤ length (now bytes) ⌝ }
     ensures { λ r. ⌜ Reads (now (bytes .entry)) at r (rules.comparisonAt threads (registerIn (now (values .entry))) (drop at (now (bytes .entry)))) ⌝ }
 {

@@ -6,17 +6,13 @@ ghost use Rattle.coverage.specs.Covered.{firstSwitch, firstIn, stores, s
 ghost use Rattle.coverage.specs.Covered.{switches as switchesTo};
 use decode::Decoded;
 use decode::Op;
+use decode::opcodes::CRITICAL;
+use decode::opcodes::EXPLORE_STATE;
+use decode::opcodes::SKIP_BRANCH;
 use layout::MAX_THREADS;
 use layout::wide16;
 use table::COUNTS;
 use table::Shape;
-
-// Opcodes that switch exploring.
-const CRITICAL: u8 = 13;
-
-const EXPLORE_STATE: u8 = 14;
-
-const SKIP_BRANCH: u8 = 15;
 
 // A row of the table, or none.
 pub enum Place {

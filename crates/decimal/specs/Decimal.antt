@@ -26,12 +26,12 @@ behind p [] = p
 behind (Number n) (b ∷ bs) = behind (withDigit n b) bs
 behind Bad (b ∷ bs) = Bad
 
--- "at least one"
+-- at least one
 unfoldable pub numberOf : List ℕ → Parsed
 numberOf [] = Bad
 numberOf (b ∷ bs) = behind (Number 0) (b ∷ bs)
 
--- "not below least and not above most"
+-- not below least and not above most
 unfoldable pub between : ℕ → ℕ → Parsed → Parsed
 between least most (Number n) = cond (leb least n && leb n most) (Number n) Bad
 between least most Bad = Bad

@@ -15,7 +15,7 @@ use Rattle.rules.specs.Change as rules
 use Rattle.decode.specs.declared.Op as code
 use Rattle.decode.specs.declared.fields.ChangeDecoded.{ChangeDecoded}
 use Rattle.decode.specs.Ops.{opOf, changeDecodedOf}
-use Rattle.rules.specs.Table.{Row, Room, Op, Decoded, refused, decoded, onlyIf, rowDecoded, changeDecoded, loadRow, storeRow, storeRegisterRow, rmwRow, fenceRow, unsyncLoadRow, exclusiveRow, opcodeOf, isFine, bareRow, joinRow, jumpRow, jumpOnRow, checkRow, spuriousRow, plainReadRow, plainWriteRow, anyOrder, loadOrder, storeOrder, fenceOrder, failureOrder, isRegister, load, store, storeRegister, rmw, fence, unsyncLoad, exclusive, join, jump, check, spurious, plainRead, plainWrite}
+use Rattle.rules.specs.Table.{Row, Room, Op, Decoded, refused, decoded, onlyIf, rowDecoded, changeDecoded, loadRow, storeRow, storeRegisterRow, rmwRow, fenceRow, unsyncLoadRow, exclusiveRow, opcodeOf, isFine, bareRow, joinRow, jumpRow, jumpOnRow, checkRow, spuriousRow, plainReadRow, plainWriteRow, anyOrder, isLoadOrder, isStoreOrder, isFenceOrder, isFailureOrder, isRegister, load, store, storeRegister, rmw, fence, unsyncLoad, exclusive, join, jump, check, spurious, plainRead, plainWrite}
 
 -- what the last arm of a match knows of x, that it is none of the numbers below n, in the form that a match hands over
 abbrev pub NoneBelow : ℕ → ℕ → Type 0
@@ -96,28 +96,28 @@ bare r = eqb (r .a) 0 && eqb (r .b) 0
 
 pub load-made : (cells : ℕ) (r : Row) {n o g p q : Bool} {cell register : ℕ} {d : Decoded Op} →
     d ≡ onlyIf (n && o && g && p && eqb (r .target) 0 && q) (load cell (r .order) register) →
-    n ≡ ltb (r .object) cells → o ≡ loadOrder (r .order) → g ≡ isRegister (r .register) → p ≡ unchanging r → q ≡ bare r → cell ≡ r .object → register ≡ r .register →
+    n ≡ ltb (r .object) cells → o ≡ isLoadOrder (r .order) → g ≡ isRegister (r .register) → p ≡ unchanging r → q ≡ bare r → cell ≡ r .object → register ≡ r .register →
     d ≡ loadRow cells r
 load-made cells r h e0 e1 e2 e3 e4 e5 e6 = h ∙ rw (e0, e1, e2, e3, e4, e5, e6) (simp (and-assoc, and-true))
 
 pub store-made : (cells : ℕ) (r : Row) {n o p : Bool} {cell : ℕ} {d : Decoded Op} →
     d ≡ onlyIf (n && o && p && eqb (r .register) 0 && eqb (r .target) 0 && eqb (r .b) 0) (store cell (r .order) (r .a)) →
-    n ≡ ltb (r .object) cells → o ≡ storeOrder (r .order) → p ≡ unchanging r → cell ≡ r .object →
+    n ≡ ltb (r .object) cells → o ≡ isStoreOrder (r .order) → p ≡ unchanging r → cell ≡ r .object →
     d ≡ storeRow cells r
 store-made cells r h e0 e1 e2 e3 = h ∙ rw (e0, e1, e2, e3) (simp (and-assoc, and-true))
 
 pub store-register-made : (cells : ℕ) (r : Row) {n o g p q : Bool} {cell register : ℕ} {d : Decoded Op} →
     d ≡ onlyIf (n && o && g && p && eqb (r .target) 0 && q) (storeRegister cell (r .order) register) →
-    n ≡ ltb (r .object) cells → o ≡ storeOrder (r .order) → g ≡ isRegister (r .register) → p ≡ unchanging r → q ≡ bare r → cell ≡ r .object → register ≡ r .register →
+    n ≡ ltb (r .object) cells → o ≡ isStoreOrder (r .order) → g ≡ isRegister (r .register) → p ≡ unchanging r → q ≡ bare r → cell ≡ r .object → register ≡ r .register →
     d ≡ storeRegisterRow cells r
 store-register-made cells r h e0 e1 e2 e3 e4 e5 e6 = h ∙ rw (e0, e1, e2, e3, e4, e5, e6) (simp (and-assoc, and-true))
 
 -- the fields of an RMW beside its change
 abbrev pub rmwFields : ℕ → Row → Bool
-rmwFields cells r = ltb (r .object) cells && anyOrder (r .order) && failureOrder (r .kind) (r .failure) && isRegister (r .register) && eqb (r .target) 0
+rmwFields cells r = ltb (r .object) cells && anyOrder (r .order) && isFailureOrder (r .kind) (r .failure) && isRegister (r .register) && eqb (r .target) 0
 
 pub fields-told : (cells : ℕ) (r : Row) {n f g : Bool} →
-    n ≡ ltb (r .object) cells → f ≡ failureOrder (r .kind) (r .failure) → g ≡ isRegister (r .register) →
+    n ≡ ltb (r .object) cells → f ≡ isFailureOrder (r .kind) (r .failure) → g ≡ isRegister (r .register) →
     n && anyOrder (r .order) && f && g && eqb (r .target) 0 ≡ rmwFields cells r
 fields-told cells r e0 e1 e2 = rw (e0, e1, e2)
 
@@ -155,7 +155,7 @@ pub exclusive-refused : (cells : ℕ) (r : Row) {w : Decoded rules.Change} → r
 exclusive-refused cells r w = rw (← w)
 
 pub fence-made : (r : Row) {p q : Bool} {d : Decoded Op} →
-    d ≡ onlyIf (fenceOrder (r .order) && eqb (r .object) 0 && p && eqb (r .register) 0 && eqb (r .target) 0 && q) (fence (r .order)) →
+    d ≡ onlyIf (isFenceOrder (r .order) && eqb (r .object) 0 && p && eqb (r .register) 0 && eqb (r .target) 0 && q) (fence (r .order)) →
     p ≡ unchanging r → q ≡ bare r →
     d ≡ fenceRow r
 fence-made r h e0 e1 = h ∙ rw (e0, e1) (simp (and-assoc, and-true))

@@ -84,24 +84,24 @@ pub fn leads_on(target: u16, own: usize) -> bool
 }
 
 // The orders of a load, and of a change that failed.
-pub fn load_order(order: u8) -> bool
-    ensures { λ r. ⌜ r ≡ rules.loadOrder order ⌝ }
+pub fn is_load_order(order: u8) -> bool
+    ensures { λ r. ⌜ r ≡ rules.isLoadOrder order ⌝ }
 {
     (order <= SEQ_CST) & (order != RELEASE) & (order != ACQ_REL)
 }
 
-pub fn store_order(order: u8) -> bool
-    ensures { λ r. ⌜ r ≡ rules.storeOrder order ⌝ }
+pub fn is_store_order(order: u8) -> bool
+    ensures { λ r. ⌜ r ≡ rules.isStoreOrder order ⌝ }
 {
     (order <= SEQ_CST) & (order != ACQUIRE) & (order != ACQ_REL)
 }
 
 // Only a change that may fail uses a failure order.
-pub fn failure_order(kind: u8, failure: u8) -> bool
-    ensures { λ r. ⌜ r ≡ rules.failureOrder kind failure ⌝ }
+pub fn is_failure_order(kind: u8, failure: u8) -> bool
+    ensures { λ r. ⌜ r ≡ rules.isFailureOrder kind failure ⌝ }
 {
     if (kind == COMPARE) | (kind == DECREMENT) {
-        return load_order(failure);
+        return is_load_order(failure);
     }
     failure == 0
 }

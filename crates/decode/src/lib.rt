@@ -8,22 +8,42 @@ ghost use Rattle.rules.specs.Table as rules;
 ghost use Rattle.decode.specs.Ops.{opOf, decodedOf, rowOf, roomOf};
 
 mod fields;
+pub mod opcodes;
 
 use change::Change;
 use fields::ChangeDecoded;
 use fields::change_of;
-use fields::failure_order;
+use fields::is_failure_order;
+use fields::is_load_order;
 use fields::is_register;
+use fields::is_store_order;
 use fields::leads_on;
-use fields::load_order;
 use fields::named;
 use fields::no_change;
 use fields::no_operands;
 use fields::reached;
-use fields::store_order;
 use layout::order::RELAXED;
 use layout::order::SEQ_CST;
 use layout::wide8;
+use opcodes::CHECK;
+use opcodes::CRITICAL;
+use opcodes::EXPLORE_STATE;
+use opcodes::FENCE;
+use opcodes::JOIN;
+use opcodes::JUMP;
+use opcodes::JUMP_IF;
+use opcodes::JUMP_UNLESS;
+use opcodes::LOAD;
+use opcodes::PLAIN_READ;
+use opcodes::PLAIN_WRITE;
+use opcodes::RMW;
+use opcodes::SKIP_BRANCH;
+use opcodes::SPURIOUS;
+use opcodes::STORE;
+use opcodes::STORE_REGISTER;
+use opcodes::UNSYNC_LOAD;
+use opcodes::WITH_MUT;
+use opcodes::YIELD;
 
 // What a row does, with the fields that its opcode uses. They stand in an order by which a field of one case never shares its
 // bytes with one of another width: then the compiler keeps each in a register of its own.
@@ -203,7 +223,7 @@ fn load_row(row: Row, cells: usize) -> Decoded
     let into = wide8(row.register);
     only_if(
         named(row.object, cells)
-            & load_order(row.order)
+            & is_load_order(row.order)
             & is_register(row.register)
             & no_change(row)
             & (row.target == 0)
@@ -222,7 +242,7 @@ fn store_row(row: Row, cells: usize) -> Decoded
 {
     only_if(
         named(row.object, cells)
-            & store_order(row.order)
+            & is_store_order(row.order)
             & no_change(row)
             & (row.register == 0)
             & (row.target == 0)
@@ -241,7 +261,7 @@ fn store_register_row(row: Row, cells: usize) -> Decoded
 {
     only_if(
         named(row.object, cells)
-            & store_order(row.order)
+            & is_store_order(row.order)
             & is_register(row.register)
             & no_change(row)
             & (row.target == 0)
@@ -286,11 +306,11 @@ fn is_rmw(row: Row, cells: usize) -> bool
 
 // Whether the fields beside its change are those of an RMW.
 fn rmw_fields(row: Row, cells: usize) -> bool
-    ensures { λ r. ⌜ r ≡ (ltb (row .object) cells && rules.anyOrder (row .order) && rules.failureOrder (row .kind) (row .failure) && rules.isRegister (row .register) && eqb (row .target) 0) ⌝ }
+    ensures { λ r. ⌜ r ≡ (ltb (row .object) cells && rules.anyOrder (row .order) && rules.isFailureOrder (row .kind) (row .failure) && rules.isRegister (row .register) && eqb (row .target) 0) ⌝ }
 {
     named(row.object, cells)
         & (row.order <= SEQ_CST)
-        & failure_order(row.kind, row.failure)
+        & is_failure_order(row.kind, row.failure)
         & is_register(row.register)
         & (row.target == 0)
 }
@@ -533,24 +553,24 @@ pub fn opcode(op: Op) -> u8
     ensures { λ r. ⌜ r ≡ rules.opcodeOf (opOf op) ⌝ }
 {
     match op {
-        Op::Load { .. } => 0,
-        Op::Store { .. } => 1,
-        Op::StoreRegister { .. } => 2,
-        Op::Rmw { .. } => 3,
-        Op::Fence { .. } => 4,
-        Op::UnsyncLoad { .. } => 5,
-        Op::WithMut { .. } => 6,
-        Op::Yield => 7,
-        Op::Join { .. } => 8,
-        Op::Jump { .. } => 9,
-        Op::JumpIf { .. } => 10,
-        Op::JumpUnless { .. } => 11,
-        Op::Check { .. } => 12,
-        Op::Critical => 13,
-        Op::ExploreState => 14,
-        Op::SkipBranch => 15,
-        Op::Spurious { .. } => 16,
-        Op::PlainRead { .. } => 17,
-        Op::PlainWrite { .. } => 18,
+        Op::Load { .. } => LOAD,
+        Op::Store { .. } => STORE,
+        Op::StoreRegister { .. } => STORE_REGISTER,
+        Op::Rmw { .. } => RMW,
+        Op::Fence { .. } => FENCE,
+        Op::UnsyncLoad { .. } => UNSYNC_LOAD,
+        Op::WithMut { .. } => WITH_MUT,
+        Op::Yield => YIELD,
+        Op::Join { .. } => JOIN,
+        Op::Jump { .. } => JUMP,
+        Op::JumpIf { .. } => JUMP_IF,
+        Op::JumpUnless { .. } => JUMP_UNLESS,
+        Op::Check { .. } => CHECK,
+        Op::Critical => CRITICAL,
+        Op::ExploreState => EXPLORE_STATE,
+        Op::SkipBranch => SKIP_BRANCH,
+        Op::Spurious { .. } => SPURIOUS,
+        Op::PlainRead { .. } => PLAIN_READ,
+        Op::PlainWrite { .. } => PLAIN_WRITE,
     }
 }

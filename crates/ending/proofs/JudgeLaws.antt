@@ -1,8 +1,8 @@
 -- The end of an execution. Assumes nothing.
 --     no-threads                                                 a table of no bytes
 --     held-by                                                    the condition is judged with the table's threads
---     judge-fault, judge-unmet, judge-exhausted, judge-spent, judge-more      what it says of the run, by what it came to, whether
---                                                                the final condition is met and what is open
+--     judge-goes, judge-fault, judge-unmet, judge-exhausted, judge-spent, judge-more      what it says of the run, by what it came
+--                                                                to, whether the final condition is met and what is open
 --     stops-with, goes-with                                      what comes after it, by the definition
 --     left-stands                                                the walk that it leaves
 use Prim.Native.Nat.{ℕ}
@@ -10,14 +10,14 @@ use mathlib.Core.List.{List, [], _∷_, _++_}
 use mathlib.Core.Bool.{Bool, true, false, cond, not}
 use mathlib.Core.Path.{_≡_, refl, sym, ap, _∙_}
 use native.Mathlib.Omega.{arith}
-use types.Run.{OneOf, miss}
-use denote.Enum.Declared.{tagOf}
 use lib.Dec.{eqb}
 use lib.ListN.{length}
 use borrow.Author.Tests.{eq-eqb, ne-eqb, ltb-true, ltb-false}
 use Rattle.rules.specs.State.{State, Values}
 use Rattle.rules.specs.Table.{threadsOf}
 use Rattle.rules.specs.Condition as claims
+use Rattle.rules.specs.Event as events
+use Rattle.rules.specs.Event.{noSite}
 use Rattle.rules.specs.Path.{Branch, openIn}
 use Rattle.rules.specs.Explorer as explorer
 use Rattle.rules.specs.Explorer.{Walk, Execution, executionOf, Tick, goes, over, faulted, stopsHere, goesOn, stop, nextLedger, after}
@@ -27,16 +27,16 @@ use Rattle.condition.specs.Reads.{registerIn}
 use Rattle.path.specs.Holds.{Holds}
 use Rattle.path.specs.Steps.{AnyOpen}
 use Rattle.event.specs.declared.Fault.{Fault}
+use Rattle.event.specs.declared.Fault.the-variants as fault
 use Rattle.event.specs.declared.Site.{Site}
 use Rattle.report.specs.Answers.{answerFits}
 use Rattle.report.specs.declared.Answer.{Answer}
 use Rattle.report.specs.declared.Answer.the-variants as answer
-use Rattle.meeting.specs.Stands.{Lent, Stands, Comes}
+use Rattle.meeting.specs.Stands.{Lent, Stands, Comes, siteOf}
 use Rattle.meeting.specs.declared.Cursor.{Cursor}
 use Rattle.meeting.specs.declared.Outcome.{Outcome}
 use Rattle.meeting.specs.declared.Outcome.the-variants as code
-use Rattle.meeting.proofs.Outcome.{the-type as outcomes}
-use Rattle.ending.specs.Ends.{metBy, endedAs, judgedAs, Judges}
+use Rattle.ending.specs.Ends.{metBy, nowhere, endedAs, judgedAs, Judges}
 use Rattle.ending.specs.declared.After.{After}
 use Rattle.ending.specs.declared.After.the-variants as afterwards
 
@@ -49,25 +49,31 @@ no-threads (b ∷ table) e = absurd (omega arith)
 pub held-by : (table condition : List ℕ) (values : Values) {threads : ℕ} {held : Bool} → threads ≡ threadsOf table → held ≡ claims.holds threads (registerIn values) condition → held ≡ metBy table condition values
 held-by table condition values e h = rw e at h
 
-no-fault : (met : Bool) (o : Outcome) → OneOf (0 ∷ 1 ∷ []) (tagOf outcomes o) → (n : ℕ) (last : Bool) → judgedAs met o n last ≡ endedAs met n last
-no-fault met code.Goes k n last = refl
-no-fault met code.Ends k n last = refl
-no-fault met (code.Stops f s) k n last = absurd (miss (0 ∷ 1 ∷ []) 2 tt k)
-
 module _ (path : List ℕ) (met : Bool) (o : Outcome) (len : ℕ) (last : Bool) where
+  pub judge-goes : {s : Site} → o ≡ code.Goes → siteOf s ≡ noSite → Judges path met o len last (afterwards.Answers (answer.Stopped fault.Impossible s))
+  judge-goes e z =
+      record {
+        continues = tt;
+        is = λ bs h l.
+            ap (λ (y : events.Site). afterwards.Answers (answer.Stopped fault.Impossible (record { thread = y .thread; row = y .row }))) z
+            ∙ ap (λ (y : Outcome). judgedAs met y (openIn bs) last) (sym e);
+      }
+
   pub judge-fault : {f : Fault} {s : Site} → o ≡ code.Stops f s → Judges path met o len last (afterwards.Answers (answer.Stopped f s))
   judge-fault e = record { continues = tt; is = λ bs h l. ap (λ (y : Outcome). judgedAs met y (openIn bs) last) (sym e) }
 
-  module _ (k : OneOf (0 ∷ 1 ∷ []) (tagOf outcomes o)) {held : Bool} (q : held ≡ met) where
+  module _ (k : o ≡ code.Ends) {held : Bool} (q : held ≡ met) where
+    as-ended : (bs : List Branch) {b : Bool} → held ≡ b → judgedAs met o (openIn bs) last ≡ endedAs b (openIn bs) last
+    as-ended bs e = ap (λ (y : Outcome). judgedAs met y (openIn bs) last) k ∙ ap (λ (y : Bool). endedAs y (openIn bs) last) (sym q ∙ e)
+
     pub judge-unmet : held ≡ false → Judges path met o len last (afterwards.Answers answer.Unmet)
-    judge-unmet e =
-        record { continues = tt; is = λ bs h l. sym (no-fault met o k (openIn bs) last ∙ ap (λ (y : Bool). endedAs y (openIn bs) last) (sym q ∙ e)) }
+    judge-unmet e = record { continues = tt; is = λ bs h l. sym (as-ended bs e) }
 
     -- the condition is met
     module _ (held-so : held ≡ true) {any : Bool} (a : AnyOpen path len any) where
       as-open : {none : Bool} (bs : List Branch) → eqb (openIn bs) 0 ≡ none → judgedAs met o (openIn bs) last ≡ cond none (afterwards.Answers answer.Exhausted) (cond last (afterwards.Answers answer.Spent) afterwards.GoesOn)
       as-open bs z =
-          no-fault met o k (openIn bs) last ∙ ap (λ (y : Bool). endedAs y (openIn bs) last) (sym q ∙ held-so)
+          as-ended bs held-so
           ∙ ap (λ (y : Bool). cond y (afterwards.Answers answer.Exhausted) (cond last (afterwards.Answers answer.Spent) afterwards.GoesOn)) z
 
       pub judge-exhausted : any ≡ false → Judges path met o len last (afterwards.Answers answer.Exhausted)
@@ -147,18 +153,26 @@ module _ (final : State → Bool) (x : Lent) (c : Cursor) (last : Bool) (past : 
   over-goes w true false true q n l e stands = absurd (answers-not answer.Spent (sym e))
   over-goes w true false false q n l e stands = record { walk = w; is = rw (q, n, l) refl; stands = stands; left = refl }
 
-  pub stops-with : (o : Outcome) (t : Tick State) (a : Answer) → ((w : Walk State) → t ≡ goes w → ⊥) → Comes o c x t
+  pub stops-with : (o : Outcome) (t : Tick State) (a : Answer) → Comes o c x t
       → afterwards.Answers a ≡ judgedAs met o (openIn (leftBy t .ledger .path)) last → StopsWith final x c last past t a
   unfolding after
-  stops-with code.Goes (goes w) a never h e = absurd (never w refl)
-  stops-with code.Goes (over w) a never h e = absurd h
-  stops-with code.Goes (faulted g s w) a never h e = absurd h
-  stops-with code.Ends (goes w) a never h e = absurd h
-  stops-with code.Ends (over w) a never h e = over-stops w a met (eqb (openIn (w .ledger .path)) 0) last (met-by w h) refl refl e h
-  stops-with code.Ends (faulted g s w) a never h e = absurd h
-  stops-with (code.Stops f s) (goes w) a never h e = absurd h
-  stops-with (code.Stops f s) (over w) a never h e = absurd h
-  stops-with (code.Stops f s) (faulted g there w) a never h e =
+  stops-with code.Goes (goes w) a h e =
+      record {
+        verdict = explorer.stopped events.impossible noSite;
+        walk = w;
+        is = refl;
+        fits = rw (answers-same a (answer.Stopped fault.Impossible nowhere) e) refl;
+        stands = h;
+        left = refl;
+      }
+  stops-with code.Goes (over w) a h e = absurd h
+  stops-with code.Goes (faulted g s w) a h e = absurd h
+  stops-with code.Ends (goes w) a h e = absurd h
+  stops-with code.Ends (over w) a h e = over-stops w a met (eqb (openIn (w .ledger .path)) 0) last (met-by w h) refl refl e h
+  stops-with code.Ends (faulted g s w) a h e = absurd h
+  stops-with (code.Stops f s) (goes w) a h e = absurd h
+  stops-with (code.Stops f s) (over w) a h e = absurd h
+  stops-with (code.Stops f s) (faulted g there w) a h e =
       record {
         verdict = explorer.stopped g there;
         walk = w;
@@ -168,17 +182,17 @@ module _ (final : State → Bool) (x : Lent) (c : Cursor) (last : Bool) (past : 
         left = refl;
       }
 
-  pub goes-with : (o : Outcome) (t : Tick State) → ((w : Walk State) → t ≡ goes w → ⊥) → Comes o c x t
+  pub goes-with : (o : Outcome) (t : Tick State) → Comes o c x t
       → afterwards.GoesOn ≡ judgedAs met o (openIn (leftBy t .ledger .path)) last → GoesWith final x c last past t
-  goes-with code.Goes (goes w) never h e = absurd (never w refl)
-  goes-with code.Goes (over w) never h e = absurd h
-  goes-with code.Goes (faulted g s w) never h e = absurd h
-  goes-with code.Ends (goes w) never h e = absurd h
-  goes-with code.Ends (over w) never h e = over-goes w met (eqb (openIn (w .ledger .path)) 0) last (met-by w h) refl refl e h
-  goes-with code.Ends (faulted g s w) never h e = absurd h
-  goes-with (code.Stops f s) (goes w) never h e = absurd h
-  goes-with (code.Stops f s) (over w) never h e = absurd h
-  goes-with (code.Stops f s) (faulted g there w) never h e = absurd (answers-not (answer.Stopped f s) (sym e))
+  goes-with code.Goes (goes w) h e = absurd (answers-not (answer.Stopped fault.Impossible nowhere) (sym e))
+  goes-with code.Goes (over w) h e = absurd h
+  goes-with code.Goes (faulted g s w) h e = absurd h
+  goes-with code.Ends (goes w) h e = absurd h
+  goes-with code.Ends (over w) h e = over-goes w met (eqb (openIn (w .ledger .path)) 0) last (met-by w h) refl refl e h
+  goes-with code.Ends (faulted g s w) h e = absurd h
+  goes-with (code.Stops f s) (goes w) h e = absurd h
+  goes-with (code.Stops f s) (over w) h e = absurd h
+  goes-with (code.Stops f s) (faulted g there w) h e = absurd (answers-not (answer.Stopped f s) (sym e))
 
 -- the walk that an outcome leaves stands for the tables and bytes
 pub left-stands : (x : Lent) (c : Cursor) (o : Outcome) (t : Tick State) → Comes o c x t → Stands x c (leftBy t)

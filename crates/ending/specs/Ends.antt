@@ -1,5 +1,6 @@
 -- What an execution that is over says of the run. Assumes nothing.
 --     metBy               whether the final condition holds at the end of an execution
+--     nowhere             no thread and no row
 --     endedAs, judgedAs, Continues, Judges      what it says of the run
 --     Finished            the report of a run that stops
 use Prim.Native.Nat.{ℕ}
@@ -11,10 +12,13 @@ use lib.ListN.{length}
 use Rattle.rules.specs.State.{Clocks, Marks, Values, Numbers}
 use Rattle.rules.specs.Table.{threadsOf}
 use Rattle.rules.specs.Condition as claims
+use Rattle.rules.specs.Event.{noSite}
 use Rattle.rules.specs.Path.{Branch, openIn}
 use Rattle.layout.specs.Tables.{state}
 use Rattle.condition.specs.Reads.{registerIn}
 use Rattle.path.specs.Holds.{Holds}
+use Rattle.event.specs.declared.Fault.the-variants as fault
+use Rattle.event.specs.declared.Site.{Site}
 use Rattle.report.specs.Answers.{reportOf, ranReport}
 use Rattle.report.specs.declared.Answer.{Answer}
 use Rattle.report.specs.declared.Answer.the-variants as answer
@@ -29,16 +33,21 @@ use Rattle.ending.specs.declared.After.the-variants as afterwards
 abbrev pub metBy : List ℕ → List ℕ → Values → Bool
 metBy table condition values = claims.holds (threadsOf table) (registerIn values) condition
 
+-- the site of a fault that no thread meets
+abbrev pub nowhere : Site
+nowhere = record { thread = noSite .thread; row = noSite .row }
+
 -- with so many choices open
 abbrev pub endedAs : Bool → ℕ → Bool → After
 endedAs met n last =
     cond (not met) (afterwards.Answers answer.Unmet)
     (cond (eqb n 0) (afterwards.Answers answer.Exhausted) (cond last (afterwards.Answers answer.Spent) afterwards.GoesOn))
 
+-- case by case as the definition's `after`: one that would still go on is the impossible outcome
 abbrev pub judgedAs : Bool → Outcome → ℕ → Bool → After
-judgedAs met (outcome.Stops f site) n last = afterwards.Answers (answer.Stopped f site)
+judgedAs met outcome.Goes n last = afterwards.Answers (answer.Stopped fault.Impossible nowhere)
 judgedAs met outcome.Ends n last = endedAs met n last
-judgedAs met outcome.Goes n last = endedAs met n last
+judgedAs met (outcome.Stops f site) n last = afterwards.Answers (answer.Stopped f site)
 
 abbrev pub Continues : After → Bool → Type 0
 Continues afterwards.GoesOn last = last ≡ false

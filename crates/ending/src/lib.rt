@@ -2,6 +2,7 @@
 ghost use mathlib.Core.Path.{_≡_};
 ghost use Rattle.rules.specs.Table.{threadsOf};
 ghost use Rattle.ending.specs.Ends.{metBy, Judges, Finished};
+use event::Fault;
 use layout::Clocks;
 use layout::Numbers;
 use layout::Values;
@@ -20,22 +21,31 @@ pub enum After {
 }
 
 // A fault is the answer. An execution that ended answers 18 if the final condition is false of the registers, 0 if nothing is open,
-// and 1 if it was the last allowed.
+// and 1 if it was the last allowed. One that would still go on is not over: that is the impossible outcome, as in the definition.
 pub fn judge_end(
+    values: &Values,
     path: &[u8],
     table: &[u8],
     condition: &[u8],
-    values: &Values,
     over: Ticked,
     last: bool,
 ) -> After
     ensures { λ r. ⌜ Judges (now (path .entry)) (metBy (now (table .entry)) (now (condition .entry)) (now (values .entry))) (over .outcome) (over .cursor .len) last r ⌝ }
 {
     let outcome = over.outcome;
-    if let Outcome::Stops { fault, site } = outcome {
-        return After::Answers(Answer::Stopped { fault, site });
+    match outcome {
+        Outcome::Goes => {
+            return After::Answers(Answer::Stopped {
+                fault: Fault::Impossible,
+                site: walk::nowhere(),
+            });
+        }
+        Outcome::Ends => {}
+        Outcome::Stops { fault, site } => {
+            return After::Answers(Answer::Stopped { fault, site });
+        }
     }
-    if !condition::holds(condition, threads_of(table), values) {
+    if !condition::holds(values, condition, threads_of(table)) {
         return After::Answers(Answer::Unmet);
     }
     let cursor = over.cursor;

@@ -1,12 +1,13 @@
 -- What a fault, an answer and an event of the code stand for in the definition, for every case. Assumes nothing.
 --     faultOf       a fault
 --     matchedFor    what a row that asks for a slot is offered
+--     entryIf       the entry of a row that asks, if it is complete
 --     moveOf        an event, with the state that it leaves
 use Prim.Native.Nat.{ℕ}
-use mathlib.Core.List.{[]}
+use mathlib.Core.List.{List, []}
 use mathlib.Core.Bool.{Bool, true, false}
 use Rattle.rules.specs.Event as rules
-use Rattle.rules.specs.Event.{Matched, Move}
+use Rattle.rules.specs.Event.{Entry, Matched, Move}
 use Rattle.rules.specs.State.{State, marksOf}
 use Rattle.rules.specs.Cell.{matchedLoad, matchedRmw}
 use Rattle.rules.specs.Machine.{schedules, entry, noSlot, isExploring}
@@ -53,17 +54,20 @@ matchedFor st t (Table.decoded (Table.spurious r)) = rules.offers []
 matchedFor st t (Table.decoded (Table.plainRead c r)) = rules.offers []
 matchedFor st t (Table.decoded (Table.plainWrite c a)) = rules.offers []
 
--- the entry of a yield, which is complete before its scheduling; no other row that asks is complete
-abbrev pub askedBy : Question → Bool → ℕ → ℕ → ℕ → Matched → State → Move State
-askedBy question.Thread true t k opcode m st = schedules st (entry t k opcode noSlot 0 0)
-askedBy question.Thread false t k opcode m st = schedules st []
-askedBy question.Slot yielded t k opcode m st = rules.asks st [] (isExploring (st .numbers)) (rules.whichSlot m)
-askedBy question.Bit yielded t k opcode m st = rules.asks st [] (isExploring (st .numbers)) rules.whichBit
+-- the entry of a row that is complete before it asks, which a yield alone is
+abbrev pub entryIf : Bool → ℕ → ℕ → ℕ → List Entry
+entryIf true t k opcode = entry t k opcode noSlot 0 0
+entryIf false t k opcode = []
+
+abbrev pub askedBy : Question → List Entry → Matched → State → Move State
+askedBy question.Thread es m st = schedules st es
+askedBy question.Slot es m st = rules.asks st es (isExploring (st .numbers)) (rules.whichSlot m)
+askedBy question.Bit es m st = rules.asks st es (isExploring (st .numbers)) rules.whichBit
 
 -- of a thread at a row with this opcode, which is offered this where it asks for a slot; the state is the one left
 abbrev pub moveOf : Event → ℕ → ℕ → ℕ → Matched → State → Move State
 moveOf event.Moves t k opcode m st = rules.moves st []
 moveOf (event.Done slot mask value) t k opcode m st = rules.moves st (entry t k opcode slot mask value)
-moveOf (event.Asks q yielded) t k opcode m st = askedBy q yielded t k opcode m st
+moveOf (event.Asks q yielded) t k opcode m st = askedBy q (entryIf yielded t k opcode) m st
 moveOf event.Ends t k opcode m st = rules.ends st
 moveOf (event.Stops f) t k opcode m st = rules.stops st (faultOf f)

@@ -39,7 +39,7 @@ rowsBehind (suc n) rows bs = rowsBehind n (withLine rows bs) (nextLine bs)
 abbrev pub rowsBefore : ℕ → List ℕ → ℕ
 rowsBefore line text = rowsBehind (line - 1) 0 text
 
--- "A line ends at a line feed, or at a carriage return with a line feed behind it"
+-- a line ends at a line feed, or at a carriage return with a line feed behind it
 unfoldable pub feeds : List ℕ → Bool
 feeds [] = false
 feeds (b ∷ bs) = eqb b lineFeed || (eqb b 13 && eqb (getD bs 0 0) lineFeed)

@@ -1,5 +1,5 @@
 // One execution of a program, a tick at a time, after loom's rt/execution.rs. The machine never sees the path: where a choice
-// is to be made it asks, and goes on with the answer. `tick` is the definition's `next`, `answered` its `answered`.
+// is to be made it asks, and goes on with the answer. `next` and `answered` are the definition's.
 ghost use mathlib.Core.Path.{_≡_};
 ghost use Prim.Native.Nat.{ℕ, _<_, _≤_, _+_};
 ghost use lib.ListN.{getD};
@@ -12,6 +12,7 @@ ghost use Rattle.event.specs.Moves.{moveOf, matchedFor};
 ghost use Rattle.decode.specs.Ops.{opOf, decodedOf, inRange, opWithin};
 ghost use Rattle.execution.specs.Alone.{Unsync, Alone};
 ghost use Rattle.execution.specs.Answers.{Answers, choiceWithin};
+ghost use Rattle.execution.specs.Next.{nextWith};
 use decode::Decoded;
 use decode::Op;
 use event::Choice;
@@ -32,7 +33,7 @@ use table::Shape;
 
 // One tick of the active thread at its row: past its last row it ends; else it begins the row and, if no scheduling comes first
 // or the row has begun already, acts.
-pub fn tick(
+pub fn next(
     clocks: &mut Clocks,
     marks: &mut Marks,
     values: &mut Values,
@@ -43,7 +44,7 @@ pub fn tick(
     row: Decoded,
 ) -> Event
     requires { ⌜ (site .thread < 5) × (getD (now shape) 1 0 ≤ 4) × opWithin row ⌝ }
-    ensures { λ r. ⌜ ((p : machine.Program) → p .operations ≡ limit → cellsOf (p .table) ≡ getD (now (shape .entry)) 1 0 → machine.rowCount p (site .thread) ≡ getD (now (shape .entry)) (2 + site .thread) 0 → machine.rowOf p (site .thread) (site .row) ≡ decodedOf row → moveOf r (site .thread) (site .row) (opcodeIn (decodedOf row)) (matchedFor (state (now (clocks .exit)) (now (marks .exit)) (now (values .exit)) (now (numbers .exit))) (site .thread) (decodedOf row)) (state (now (clocks .exit)) (now (marks .exit)) (now (values .exit)) (now (numbers .exit))) ≡ machine.nextAt p (state (now (clocks .entry)) (now (marks .entry)) (now (values .entry)) (now (numbers .entry))) (site .thread) (site .row)) ⌝ }
+    ensures { λ r. ⌜ ((p : machine.Program) → p .operations ≡ limit → cellsOf (p .table) ≡ getD (now (shape .entry)) 1 0 → moveOf r (site .thread) (site .row) (opcodeIn (decodedOf row)) (matchedFor (state (now (clocks .exit)) (now (marks .exit)) (now (values .exit)) (now (numbers .exit))) (site .thread) (decodedOf row)) (state (now (clocks .exit)) (now (marks .exit)) (now (values .exit)) (now (numbers .exit))) ≡ nextWith p (state (now (clocks .entry)) (now (marks .entry)) (now (values .entry)) (now (numbers .entry))) (site .thread) (site .row) (getD (now (shape .entry)) (2 + site .thread) 0) (decodedOf row)) ⌝ }
 {
     let thread = site.thread;
     let to_begin = thread::is_to_begin(numbers, thread);
@@ -209,8 +210,8 @@ pub fn answered(
         Choice::Thread { chosen, branch } => scheduling::switch(clocks, numbers, chosen, branch),
         Choice::Nobody => scheduling::nobody(numbers),
         Choice::Slot { slot, mask } => {
-            accesses::read_from(clocks, marks, values, numbers, site, slot, mask, row)
+            accesses::read_from(clocks, marks, values, numbers, site, row, slot, mask)
         }
-        Choice::Bit(bit) => rows::take_bit(values, numbers, site, bit, row),
+        Choice::Bit(bit) => rows::take_bit(values, numbers, site, row, bit),
     }
 }

@@ -20,7 +20,7 @@ use Rattle.rules.specs.Explorer.{Walk, Ledger, Execution, executionOf, Tick, Af
 use Rattle.rules.specs.Explored as rules
 use Rattle.rules.specs.Explored.{Settings, limitsOf, stopOf, ran, reported, noted}
 use Rattle.ledger.specs.History.{leftBy}
-use Rattle.ledger.proofs.Ledgers.{never-goes, execution-begun}
+use Rattle.ledger.proofs.Ledgers.{execution-begun}
 use Rattle.layout.specs.Tables.{state}
 use Rattle.path.specs.Holds.{Holds}
 use Rattle.path.specs.Steps.{Steps}
@@ -205,7 +205,7 @@ module _ (table condition : List ℕ) (s : Settings) where
         → length (exit .path) ≡ length path → length (exit .trace) ≡ length trace
         → Running table condition s path' (exit .trace) d
     running-more e {path'} d next long traced =
-        let g = goes-with final exit (r .cursor) its-last past (metBy table condition (exit .values)) is-met (r .outcome) (execution ledger) (never-goes (machineOf table condition s) (limitsOf s) ledger) comes (sym e ∙ judged) in
+        let g = goes-with final exit (r .cursor) its-last past (metBy table condition (exit .values)) is-met (r .outcome) (execution ledger) comes (sym e ∙ judged) in
         let w : Walk State = g .walk in
         let steps : Steps (exit .path) path' (q .cursor .len) (d .cursor .len) = next .steps in
         let its-len : length (w .ledger .path) ≡ q .cursor .len = g .stands .is-len ∙ sym same-len in
@@ -248,7 +248,7 @@ module _ (table condition : List ℕ) (s : Settings) where
         → length (exit .path) ≡ length path → length (exit .trace) ≡ length trace
         → Ran table condition s path trace report (exit .path) trace'
     ran-out a e {trace'} report stops long traced =
-        let g = stops-with final exit (r .cursor) its-last past (metBy table condition (exit .values)) is-met (r .outcome) (execution ledger) a (never-goes (machineOf table condition s) (limitsOf s) ledger) comes (sym e ∙ judged) in
+        let g = stops-with final exit (r .cursor) its-last past (metBy table condition (exit .values)) is-met (r .outcome) (execution ledger) a comes (sym e ∙ judged) in
         let w : Walk State = g .walk in
         let cleared : Cleared (exit .trace) trace' (16 * r .cursor .entries) (16 * q .longest) =
         subst (λ (c : Cursor). Cleared (exit .trace) trace' (16 * c .entries) (16 * q .longest)) (further .same-cursor) (stops .cleared) in

@@ -11,6 +11,8 @@ use iteration::Terms;
 use iteration::execute;
 use layout::CLOCKS;
 use layout::Clocks;
+use layout::MAX_ATOMIC_HISTORY;
+use layout::MAX_CELLS;
 use layout::MAX_THREADS;
 use layout::NONE;
 use layout::NUMBERS;
@@ -61,7 +63,7 @@ fn executions(
     let shape = table::shape(table);
     let terms = terms_of(settings);
     let mut clocks = [[0u16; MAX_THREADS]; CLOCKS];
-    let mut marks = [[[NONE; 5]; 7]; 4];
+    let mut marks = [[[NONE; MAX_THREADS]; MAX_ATOMIC_HISTORY]; MAX_CELLS];
     let mut values = [0u64; VALUES];
     let mut numbers = [0u16; NUMBERS];
     let mut progress = nothing();
@@ -81,7 +83,7 @@ fn executions(
         );
         progress = further(progress, over);
         let last = progress.begun == settings.executions;
-        let after = judge_end(path, table, condition, &values, over, last);
+        let after = judge_end(&values, path, table, condition, over, last);
         if let After::Answers(answer) = after {
             return stop(&clocks, &numbers, path, trace, answer, progress);
         }

@@ -52,7 +52,7 @@ pub lined-steps : (text entry exit : List ℕ) (n : ℕ) (r : Line) (line : Made
     → (m : Made) → Held entry n m → (other : rules.Line) → line m ≡ other → Lined text exit n other r
 lined-steps text entry exit n r line steps m held other e = lined-by text exit n (line m) other r e (steps .is m held)
 
--- "finally": by whether the buffer has a thread
+-- `finally`: by whether the buffer has a thread
 module _ (text table : List ℕ) (n here to : ℕ) (line : rules.Line) (m : Made) (held : Held table n m)
     (some : 1 ≤ m .threads → line ≡ rules.concludes m (drop to text)) (none : m .threads < 1 → line ≡ rules.refusedLine (drop here text)) where
   condition-by : (b : Bool) → ltb 0 (getD table 0 0) ≡ b → Lined text table n line (cond b (Concludes to) (Refused here))

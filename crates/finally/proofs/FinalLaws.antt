@@ -119,7 +119,7 @@ condition-long (b ∷ bs) =
     let units : List ℕ = unitsShown (suc (length bs)) false (b ∷ bs) in
     omega (arith, length-append units (10 ∷ []), units-long (suc (length bs)) false (b ∷ bs))
 
--- "the longest condition" has 1024 bytes
+-- the longest condition has 1024 bytes
 pub line-fits : (threads : ℕ) (bs : List ℕ) → length (claimShown threads bs) ≤ 4160
 unfolding claimShown isCondition
 line-fits threads bs = on (leb threads 10 && isCondition threads bs) refl

@@ -22,7 +22,7 @@ use Rattle.unmet.specs.declared.Part.{Part}
 abbrev pub truth : Bool → String
 truth holds = cond holds "  true: " "  false: "
 
--- what stands in a condition's line between "finally " and the line's end
+-- what stands in a condition's line between `finally` with a blank and the line's end
 unfoldable pub wordsIn : List ℕ → List ℕ
 wordsIn line = take (length line - 1 - 8) (drop 8 line)
 

@@ -7,7 +7,7 @@ use mathlib.Core.List.{List}
 use mathlib.Core.Bool.{Bool, true, cond, not, _&&_, _||_}
 use lib.Dec.{ltb, leb, eqb}
 use lib.ListN.{length, getD}
-use Rattle.rules.specs.Table.{Room, loadOrder, storeOrder, fenceOrder}
+use Rattle.rules.specs.Table.{Room, isLoadOrder, isStoreOrder, isFenceOrder}
 use Rattle.rules.specs.Token.{Found, numberIn, registerIn, plainIn}
 use Rattle.rules.specs.Form.{orderIn, fieldOf}
 
@@ -28,7 +28,7 @@ mayBe room b v =
     (cond (eqb b 84) (ltb v (room .threads))
     (cond (eqb b 74) (leb v (room .rows))
     (cond (eqb b 71) (leb v (room .rows) && not (eqb v (room .row)))
-    (cond (eqb b 76 || eqb b 88) (loadOrder v)
-    (cond (eqb b 83) (storeOrder v)
-    (cond (eqb b 70) (fenceOrder v)
+    (cond (eqb b 76 || eqb b 88) (isLoadOrder v)
+    (cond (eqb b 83) (isStoreOrder v)
+    (cond (eqb b 70) (isFenceOrder v)
     true)))))))

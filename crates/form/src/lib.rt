@@ -30,7 +30,9 @@ pub struct Room {
 
 // A row's fields in the order in which they stand in its bytes: opcode, cell or thread, order, failure order, change kind, register, jump
 // target, a, b.
-pub type Fields = [u64; 9];
+pub type Fields = [u64; FIELDS];
+
+pub const FIELDS: usize = 9;
 
 // A line that was read: of a form, with its fields and the place of the next line; or of none, with the place of the first token that no
 // form has there.
@@ -168,7 +170,7 @@ fn tried(forms: &[u8], text: &[u8], at: usize, room: Room) -> Row
     Row {
         fits: false,
         at: best,
-        fields: [0; 9],
+        fields: [0; FIELDS],
     }
 }
 
@@ -236,7 +238,7 @@ fn stuck(at: usize) -> Row
     Row {
         fits: false,
         at,
-        fields: [0; 9],
+        fields: [0; FIELDS],
     }
 }
 
@@ -244,7 +246,7 @@ fn stuck(at: usize) -> Row
 fn value_of(room: Room, piece: &[u8], text: &[u8], at: usize, to: usize) -> Found
     ensures { λ r. ⌜ foundOf r ≡ valueOf (roomOf room) (now (piece .entry)) (part at to (now (text .entry))) ⌝ }
 {
-    if field_in(piece) < 9 {
+    if field_in(piece) < FIELDS {
         return letter_in(room, piece[0], text, at, to);
     }
     if token::is_word(text, at, to, piece) {
@@ -259,23 +261,23 @@ fn with_field(fields: Fields, piece: &[u8], value: u64) -> Fields
 {
     let mut made = fields;
     let field = field_in(piece);
-    if field < 9 {
+    if field < FIELDS {
         made[field] = value;
     }
     made
 }
 
-// The field that a piece stands for; 9 is none.
+// The field that a piece stands for; FIELDS is none.
 fn field_in(piece: &[u8]) -> usize
     ensures { λ r. ⌜ r ≡ fieldIn (now (piece .entry)) ⌝ }
 {
     if piece.len() != 1 {
-        return 9;
+        return FIELDS;
     }
     field_of(piece[0])
 }
 
-// The field that a letter stands for; 9 is none.
+// The field that a letter stands for; FIELDS is none.
 pub fn field_of(letter: u8) -> usize
     ensures { λ r. ⌜ r ≡ fieldOf letter ⌝ }
 {
@@ -287,7 +289,7 @@ pub fn field_of(letter: u8) -> usize
         b'B' => 8,
         b'L' | b'S' | b'O' | b'F' => 2,
         b'X' => 3,
-        _ => 9,
+        _ => FIELDS,
     }
 }
 

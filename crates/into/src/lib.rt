@@ -8,6 +8,7 @@ ghost use Rattle.report.specs.Answers.{numberOf, summariesOf};
 ghost use Rattle.settings.specs.Given.{settingsOf};
 ghost use Rattle.explorer.specs.Explores.{exploredOf};
 ghost use Rattle.into.specs.Listed.{exploredIntoOf, miscounts};
+use layout::MAX_THREADS;
 use report::Answer;
 use report::Report;
 use report::ThreadRecord;
@@ -30,9 +31,9 @@ pub fn explore_into(
     report
 }
 
-// Explores the program for a list of so many records; only five will do. The length is judged with the trace buffer's, so after
-// the settings and the path buffer.
-fn explore_counted(
+// The same for a list of so many records, without the copy; only five will do. The length is judged with the trace buffer's, so
+// after the settings and the path buffer.
+pub fn explore_counted(
     table: &[u8],
     condition: &[u8],
     settings: Settings,
@@ -52,7 +53,7 @@ fn explore_counted(
 fn miscounted(settings: Settings, bytes: usize, listed: usize) -> bool
     ensures { λ r. ⌜ r ≡ miscounts (settingsOf settings) bytes listed ⌝ }
 {
-    let counted = listed == 5;
+    let counted = listed == MAX_THREADS;
     let fine = settings::settings_fine(settings);
     let held = settings::holds(bytes, settings.branches);
     !(counted | !fine | !held)
@@ -67,7 +68,7 @@ fn ran(report: Report) -> bool
     !((2 <= number) & (number <= 5))
 }
 
-fn threads_of(report: Report) -> [ThreadRecord; 5]
+fn threads_of(report: Report) -> [ThreadRecord; MAX_THREADS]
     ensures { λ r. ⌜ r ≡ report .threads ⌝ }
 {
     report.threads

@@ -9,6 +9,12 @@ use change::Changed;
 use decode::Decoded;
 use decode::Op;
 use decode::opcode;
+use decode::opcodes::LOAD;
+use decode::opcodes::PLAIN_READ;
+use decode::opcodes::PLAIN_WRITE;
+use decode::opcodes::RMW;
+use decode::opcodes::UNSYNC_LOAD;
+use decode::opcodes::WITH_MUT;
 
 // How a step accesses a cell or, in the last two, a plain cell. A change that fails only loads.
 pub enum Kind {
@@ -19,19 +25,6 @@ pub enum Kind {
     PlainRead,
     PlainWrite,
 }
-
-// The opcodes that access one.
-const LOAD: u8 = 0;
-
-const RMW: u8 = 3;
-
-const UNSYNC_LOAD: u8 = 5;
-
-const WITH_MUT: u8 = 6;
-
-const PLAIN_READ: u8 = 17;
-
-const PLAIN_WRITE: u8 = 18;
 
 // The last of the first `n` steps in which a thread so accesses a cell, counted from 1; 0 for none.
 pub fn last(table: &[u8], trace: &[u8], n: usize, thread: u64, cell: u64, kind: Kind) -> u64

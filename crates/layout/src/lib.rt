@@ -86,3 +86,16 @@ pub fn short8(x: u8) -> u16
 {
     x as u16
 }
+
+// The same as numbers of eight bytes.
+pub fn long8(x: u8) -> u64
+    ensures { λ r. ⌜ r ≡ x ⌝ }
+{
+    x as u64
+}
+
+pub fn long16(x: u16) -> u64
+    ensures { λ r. ⌜ r ≡ x ⌝ }
+{
+    x as u64
+}

@@ -3,13 +3,14 @@ ghost use mathlib.Core.Path.{_≡_};
 ghost use mathlib.Core.Bool.{cond, _&&_};
 ghost use lib.Dec.{eqb};
 ghost use lib.ListN.{length};
+use layout::MAX_THREADS;
 use report::ThreadRecord;
 
 // Copies the five summaries of a run into the caller's list, if it holds exactly five.
-pub fn copy_into(list: &mut [ThreadRecord], ran: bool, threads: [ThreadRecord; 5])
+pub fn copy_into(list: &mut [ThreadRecord], ran: bool, threads: [ThreadRecord; MAX_THREADS])
     ensures { λ _. ⌜ now (list .exit) ≡ cond (ran && eqb (length (now (list .entry))) 5) threads (now (list .entry)) ⌝ }
 {
-    if !(ran & (list.len() == 5)) {
+    if !(ran & (list.len() == MAX_THREADS)) {
         return;
     }
     list[0] = threads[0];

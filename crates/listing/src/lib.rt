@@ -7,6 +7,7 @@ ghost use Rattle.page.specs.Pages.{ended, putText};
 ghost use Rattle.steps.specs.Entries.{entryAt};
 ghost use Rattle.listing.specs.Steps.{rowOfStep, widthOf, rowsEnd, putHead, putNumbers, putSlots, putSlot, putOffers, putOffer, putStep, isShown, putBetween};
 use page::Page;
+use page::WIDTH;
 use steps::held::Held;
 
 mod came;
@@ -32,7 +33,7 @@ pub fn width(table: &[u8], trace: &[u8]) -> usize
 fn row_width(table: &[u8], trace: &[u8], i: usize) -> usize
     ensures { λ r. ⌜ r ≡ length (rowOfStep (now (table .entry)) (now (trace .entry)) i) ⌝ }
 {
-    let mut page = [0u8; 16384];
+    let mut page = [0u8; WIDTH];
     put_row(&mut page, 0, table, trace, i)
 }
 

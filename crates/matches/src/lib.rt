@@ -48,8 +48,8 @@ pub fn match_load_to_stores(
     clocks: &Clocks,
     marks: [[u16; MAX_THREADS]; MAX_ATOMIC_HISTORY],
     numbers: &Numbers,
-    access: Access,
     dst: &mut [u8; MAX_ATOMIC_HISTORY],
+    access: Access,
 ) -> Matched
     requires { ⌜ (access .thread < 5) × (access .cell < 4) ⌝ }
     ensures { λ r. ⌜ scanned r (now (dst .exit)) ≡ offered (matchedLoad (now (clocks .entry)) marks (now (numbers .entry)) (access .thread) (access .cell) (access .order)) (now (dst .entry)) ⌝ }
@@ -118,8 +118,8 @@ fn load_fate(
 pub fn match_rmw_to_stores(
     clocks: &Clocks,
     numbers: &Numbers,
-    cell: usize,
     dst: &mut [u8; MAX_ATOMIC_HISTORY],
+    cell: usize,
 ) -> Matched
     requires { ⌜ cell < 4 ⌝ }
     ensures { λ r. ⌜ scanned r (now (dst .exit)) ≡ offered (matchedRmw (now (clocks .entry)) (now (numbers .entry)) cell) (now (dst .entry)) ⌝ }

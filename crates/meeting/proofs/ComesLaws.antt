@@ -16,7 +16,6 @@ use Rattle.rules.specs.Explorer as explorer
 use Rattle.rules.specs.Explorer.{Walk, Tick, goes, over, faulted}
 use types.Run.{OneOf, miss}
 use denote.Enum.Declared.{tagOf}
-use Rattle.event.proofs.Question.{the-type as asked}
 use Rattle.event.proofs.Event.{the-type as happened}
 use Rattle.trace.specs.Entries.{Notes, Front, Appended}
 use Rattle.trace.proofs.FrontLaws.{front-more}
@@ -221,8 +220,7 @@ module _ (h : Here) where
 
   asked-again : (q : Question) (yielded : Bool) (p : Program) (L : explorer.Limits) (w : Walk State) → concluded (event.Asks q yielded) p L w ≡ faulted rules.impossible (siteOf (h .site)) w
   unfolding schedules
-  asked-again question.Thread true p L w = refl
-  asked-again question.Thread false p L w = refl
+  asked-again question.Thread yielded p L w = refl
   asked-again question.Slot yielded p L w = refl
   asked-again question.Bit yielded p L w = refl
 
@@ -253,28 +251,13 @@ module _ (h : Here) where
       pub conclude-stops : {f : Fault} → e ≡ event.Stops f → Stopped f (h .site) c r → Lands c r trace trace (concluded e)
       conclude-stops {f} is s = done-lands (event.Stops f) is (lands-stops c r trace room (concluded (event.Stops f)) s (λ p L w. refl))
 
--- The entry of a yield
+-- The entry of a row that is complete before it asks
 
-module _ (h : Here) (c : Cursor) (r : Ticked) (q : Question) where
-  abbrev completed : Question → Bool → Program → explorer.Limits → Walk State → Tick State
-  completed k y = completedAt k y h
+module _ (h : Here) (c : Cursor) (r : Ticked) (yielded : Bool) where
+  pub complete-noted : {entry exit : List ℕ} → yielded ≡ true → Lands c r entry exit (notedAt h noSlot 0 0) → Lands c r entry exit (completedAt yielded h)
+  complete-noted {entry} {exit} e l = subst (λ (y : Bool). Lands c r entry exit (completedAt y h)) (sym e) l
 
-  pub complete-noted : (yielded : Bool) {entry exit : List ℕ} → q ≡ question.Thread → yielded ≡ true → Lands c r entry exit (notedAt h noSlot 0 0) → Lands c r entry exit (completed q yielded)
-  complete-noted yielded {entry} {exit} e t l =
-      subst (λ (k : Question). Lands c r entry exit (completed k yielded)) (sym e)
-      (subst (λ (y : Bool). Lands c r entry exit (completed question.Thread y)) (sym t) l)
-
-  module _ (trace : List ℕ) (room : 16 * c .entries ≤ length trace) (g : GoesOn c r) where
-    pub complete-waits : (yielded : Bool) → q ≡ question.Thread → yielded ≡ false → Lands c r trace trace (completed q yielded)
-    complete-waits yielded e f =
-        subst (λ (k : Question). Lands c r trace trace (completed k yielded)) (sym e)
-        (subst (λ (y : Bool). Lands c r trace trace (completed question.Thread y)) (sym f)
-        (lands-goes c r trace room (completed question.Thread false) g (λ p L w fits. landed-none L (siteOf (h .site)) w fits)))
-
-    other-completed : (k : Question) (yielded : Bool) → OneOf (1 ∷ 2 ∷ []) (tagOf asked k) → (p : Program) (L : explorer.Limits) (w : Walk State) → length (w .trace) ≤ L .operations → completed k yielded p L w ≡ goes w
-    other-completed question.Thread yielded n p L w fits = absurd (miss (1 ∷ 2 ∷ []) 0 tt n)
-    other-completed question.Slot yielded n p L w fits = landed-none L (siteOf (h .site)) w fits
-    other-completed question.Bit yielded n p L w fits = landed-none L (siteOf (h .site)) w fits
-
-    pub complete-other : (yielded : Bool) → OneOf (1 ∷ 2 ∷ []) (tagOf asked q) → Lands c r trace trace (completed q yielded)
-    complete-other yielded n = lands-goes c r trace room (completed q yielded) g (other-completed q yielded n)
+  pub complete-not : (trace : List ℕ) → 16 * c .entries ≤ length trace → GoesOn c r → yielded ≡ false → Lands c r trace trace (completedAt yielded h)
+  complete-not trace room g e =
+      subst (λ (y : Bool). Lands c r trace trace (completedAt y h)) (sym e)
+      (lands-goes c r trace room (completedAt false h) g (λ p L w fits. landed-none L (siteOf (h .site)) w fits))

@@ -4,22 +4,20 @@
 --     entryAt, completedBy, moveAt    an entry, and what an event comes to, of a thread at its row
 --     landed, notedAt, completedAt, concludedAt      the definition's
 use Prim.Native.Nat.{ℕ, _+_, _*_, _≤_}
-use mathlib.Core.List.{List, []}
-use mathlib.Core.Bool.{Bool, true, false, cond}
+use mathlib.Core.List.{List}
+use mathlib.Core.Bool.{Bool, cond}
 use mathlib.Core.Path.{_≡_}
 use lib.Dec.{leb}
 use lib.ListN.{length, getD}
 use Rattle.rules.specs.Event as rules
 use Rattle.rules.specs.State.{State}
 use Rattle.rules.specs.Table.{opcodeIn}
-use Rattle.rules.specs.Machine.{Program, machine, entry, noSlot}
+use Rattle.rules.specs.Machine.{Program, machine, entry}
 use Rattle.rules.specs.Explorer as explorer
 use Rattle.rules.specs.Explorer.{Walk, Tick, goes, faulted}
 use Rattle.decode.specs.Ops.{decodedOf}
-use Rattle.event.specs.Moves.{moveOf, matchedFor}
+use Rattle.event.specs.Moves.{entryIf, moveOf, matchedFor}
 use Rattle.event.specs.declared.Event.{Event}
-use Rattle.event.specs.declared.Question.{Question}
-use Rattle.event.specs.declared.Question.the-variants as question
 use Rattle.meeting.specs.Stands.{Lent, lent, Stands, Comes, siteOf}
 use Rattle.meeting.specs.declared.Cursor.{Cursor}
 use Rattle.meeting.specs.declared.Here.{Here}
@@ -56,12 +54,9 @@ opcodeAt h = opcodeIn (decodedOf (h .row))
 abbrev pub entryAt : Here → ℕ → ℕ → ℕ → List rules.Entry
 entryAt h slot mask v = entry (h .site .thread) (h .site .row) (opcodeAt h) slot mask v
 
--- the entry of a yield; no other row that asks is complete
-abbrev pub completedBy : Question → Bool → Here → List rules.Entry
-completedBy question.Thread true h = entryAt h noSlot 0 0
-completedBy question.Thread false h = []
-completedBy question.Slot yielded h = []
-completedBy question.Bit yielded h = []
+-- the entry of a row that asks, if it is complete
+abbrev pub completedBy : Bool → Here → List rules.Entry
+completedBy yielded h = entryIf yielded (h .site .thread) (h .site .row) (opcodeAt h)
 
 -- an event, with the state that it leaves
 abbrev pub moveAt : Event → Here → State → rules.Move State
@@ -73,12 +68,12 @@ abbrev pub landed : explorer.Limits → rules.Site → Walk State → List rules
 landed L site w es =
     cond (leb (length (w .trace) + length es) (L .operations)) (goes (explorer.noted w (w .state) es)) (faulted rules.impossible site w)
 
--- the entry of a row that is complete, of a yield before its scheduling, and what an event comes to that asks nothing more
+-- the entry of a row that is complete, of one that asks then, and what an event comes to that asks nothing more
 abbrev pub notedAt : Here → ℕ → ℕ → ℕ → Program → explorer.Limits → Walk State → Tick State
 notedAt h slot mask v p L w = landed L (siteOf (h .site)) w (entryAt h slot mask v)
 
-abbrev pub completedAt : Question → Bool → Here → Program → explorer.Limits → Walk State → Tick State
-completedAt q yielded h p L w = landed L (siteOf (h .site)) w (completedBy q yielded h)
+abbrev pub completedAt : Bool → Here → Program → explorer.Limits → Walk State → Tick State
+completedAt yielded h p L w = landed L (siteOf (h .site)) w (completedBy yielded h)
 
 abbrev pub concludedAt : Event → Here → Program → explorer.Limits → Walk State → Tick State
 concludedAt e h p L w = explorer.followed (machine p) L (siteOf (h .site)) w (moveAt e h (w .state))

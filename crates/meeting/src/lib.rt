@@ -165,7 +165,7 @@ fn add_load(
     let site = here.site;
     let row = here.row;
     let mut seed = [0u8; MAX_ATOMIC_HISTORY];
-    let Matched::Offers(n) = accesses::offers(clocks, marks, numbers, site.thread, row, &mut seed)
+    let Matched::Offers(n) = accesses::offers(clocks, marks, numbers, &mut seed, site.thread, row)
     else {
         return stops(Fault::Equal, site, cursor);
     };
@@ -231,20 +231,11 @@ pub fn conclude(trace: &mut [u8], here: Here, event: Event, cursor: Cursor) -> T
     }
 }
 
-// The entry of a yield, before its scheduling. No other row that asks is complete.
-pub fn note_if(
-    trace: &mut [u8],
-    question: Question,
-    yielded: bool,
-    here: Here,
-    cursor: Cursor,
-) -> Ticked
+// The entry of a row that is complete before it asks, as a yield is and no other.
+pub fn note_if(trace: &mut [u8], here: Here, yielded: bool, cursor: Cursor) -> Ticked
     requires { ⌜ 16 * cursor .entries ≤ length (now trace) ⌝ }
-    ensures { λ r. ⌜ Lands cursor r (now (trace .entry)) (now (trace .exit)) (completedAt question yielded here) ⌝ }
+    ensures { λ r. ⌜ Lands cursor r (now (trace .entry)) (now (trace .exit)) (completedAt yielded here) ⌝ }
 {
-    let Question::Thread = question else {
-        return goes(cursor);
-    };
     if yielded {
         return note(trace, here, NO_SLOT, 0, 0, cursor);
     }

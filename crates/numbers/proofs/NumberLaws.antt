@@ -7,7 +7,7 @@ use mathlib.Core.Path.{_≡_, refl, sym, ap, _∙_}
 use native.Mathlib.Omega.{arith}
 use lib.ListN.{length, getD}
 use lib.Seq.{ext-getD}
-use Rattle.report.specs.Answers.{reportOf, summaryOf, summariesOf, numberOf, kindOf, otherOf}
+use Rattle.report.specs.Answers.{reportOf, summaryOf, summariesOf, numberOf, kindOf, otherOf, threadOf, rowOf}
 use Rattle.report.specs.declared.ThreadRecord.{ThreadRecord}
 use Rattle.report.specs.declared.Report.{Report}
 use Rattle.numbers.specs.Numbers.{fourOf, summaryNumbers, numbersOf}
@@ -64,14 +64,14 @@ twenty-spread : (t : List ℕ) → spread 20 0 t
 unfolding spread
 twenty-spread t = refl
 
-module _ (r : Report) (answer kind other : ℕ) (t : List ℕ) where
-  pub numbers-made : answer ≡ numberOf (r .answer) → kind ≡ kindOf (r .answer) → other ≡ otherOf (r .answer)
+module _ (r : Report) (answer thread row kind other : ℕ) (t : List ℕ) where
+  pub numbers-made : answer ≡ numberOf (r .answer) → thread ≡ threadOf (r .answer) → row ≡ rowOf (r .answer) → kind ≡ kindOf (r .answer) → other ≡ otherOf (r .answer)
       → (t ≡ summaryNumbers (summariesOf (r .threads))) × (length t ≡ 20)
-      → answer ∷ r .begun ∷ r .opened ∷ r .«open» ∷ r .rows ∷ r .thread ∷ r .row ∷ kind ∷ other
+      → answer ∷ r .begun ∷ r .opened ∷ r .«open» ∷ r .rows ∷ thread ∷ row ∷ kind ∷ other
       ∷ getD t 0 0 ∷ getD t 1 0 ∷ getD t 2 0 ∷ getD t 3 0 ∷ getD t 4 0 ∷ getD t 5 0 ∷ getD t 6 0 ∷ getD t 7 0 ∷ getD t 8 0 ∷ getD t 9 0
       ∷ getD t 10 0 ∷ getD t 11 0 ∷ getD t 12 0 ∷ getD t 13 0 ∷ getD t 14 0 ∷ getD t 15 0 ∷ getD t 16 0 ∷ getD t 17 0 ∷ getD t 18 0 ∷ getD t 19 0 ∷ []
       ≡ numbersOf (reportOf r)
-  numbers-made f g h l =
-      rw (f, g, h)
-      (ap (λ (xs : List ℕ). numberOf (r .answer) ∷ r .begun ∷ r .opened ∷ r .«open» ∷ r .rows ∷ r .thread ∷ r .row ∷ kindOf (r .answer) ∷ otherOf (r .answer) ∷ xs)
+  numbers-made f p q g h l =
+      rw (f, p, q, g, h)
+      (ap (λ (xs : List ℕ). numberOf (r .answer) ∷ r .begun ∷ r .opened ∷ r .«open» ∷ r .rows ∷ threadOf (r .answer) ∷ rowOf (r .answer) ∷ kindOf (r .answer) ∷ otherOf (r .answer) ∷ xs)
       (sym (twenty-spread t) ∙ all-spread 20 t (l .1) ∙ l .0))

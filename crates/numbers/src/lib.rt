@@ -3,11 +3,14 @@ ghost use mathlib.Core.Path.{_≡_};
 ghost use lib.ListN.{length};
 ghost use Rattle.report.specs.Answers.{reportOf, summaryOf, summariesOf};
 ghost use Rattle.numbers.specs.Numbers.{numbersOf, fourOf, summaryNumbers};
+use layout::MAX_THREADS;
 use report::Report;
 use report::ThreadRecord;
 
-// How many numbers a report has: nine, and four for each of the five threads.
-pub const NUMBERS: usize = 29;
+// How many numbers a thread's summary has, and a report: nine, and those of the five threads.
+const SUMMARY: usize = 4;
+
+pub const NUMBERS: usize = 9 + MAX_THREADS * SUMMARY;
 
 // The report as numbers: the answer, the counts, the place, the race, and each thread's summary.
 pub fn of_report(done: Report) -> [u64; NUMBERS]
@@ -22,8 +25,8 @@ pub fn of_report(done: Report) -> [u64; NUMBERS]
         done.opened,
         done.open,
         done.rows,
-        done.thread,
-        done.row,
+        report::thread_of(answer),
+        report::row_of(answer),
         report::race_kind(answer),
         report::other_thread(answer),
         t[0],
@@ -50,7 +53,7 @@ pub fn of_report(done: Report) -> [u64; NUMBERS]
 }
 
 // Those of the five threads.
-fn summaries(threads: [ThreadRecord; 5]) -> [u64; 20]
+fn summaries(threads: [ThreadRecord; MAX_THREADS]) -> [u64; MAX_THREADS * SUMMARY]
     ensures { λ r. ⌜ (r ≡ summaryNumbers (summariesOf threads)) × (length r ≡ 20) ⌝ }
 {
     let a = summary(threads[0]);
@@ -83,7 +86,7 @@ fn summaries(threads: [ThreadRecord; 5]) -> [u64; 20]
 }
 
 // One thread's: its state, rows begun, yields and version.
-fn summary(thread: ThreadRecord) -> [u64; 4]
+fn summary(thread: ThreadRecord) -> [u64; SUMMARY]
     ensures { λ r. ⌜ r ≡ fourOf (summaryOf thread) ⌝ }
 {
     [

@@ -30,7 +30,7 @@ replicate-in P zero k x d h p = absurd (omega arith)
 replicate-in P (suc n) zero x d h p = p
 replicate-in P (suc n) (suc k) x d h p = replicate-in P n k x d (omega arith) p
 
--- "the marks of a store that no thread has seen"
+-- the marks of a store that no thread has seen
 unmarked : (c i t v : ℕ) → Marked (rowIn (replicate cells (replicate history (unseens threads))) c i) t v
 unmarked c i t v =
     replicate-has (λ (rows : List (List ℕ)). Marked (getD rows i []) t v) cells c (replicate history (unseens threads)) []

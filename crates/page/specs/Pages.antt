@@ -20,7 +20,7 @@ pub record Page : Type 0 where
 abbrev pub ended : List ℕ → ℕ → Page
 ended bytes at = record { bytes = bytes; end = at }
 
--- "what does not fit is left out"
+-- what does not fit is left out
 unfoldable pub putByte : Page → ℕ → Page
 putByte l b = cond (ltb (l .end) 16384) (ended (set (l .bytes) (l .end) b) (l .end + 1)) l
 

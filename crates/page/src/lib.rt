@@ -5,10 +5,11 @@ ghost use mathlib.Core.List.{[], _∷_};
 ghost use Prim.Native.Nat.{_-_};
 ghost use Rattle.digits.specs.Shown.{shown};
 ghost use Rattle.page.specs.Pages.{ended, putText, putOne, filled, padded, rightAt};
+use digits::MOST;
 
 pub const WIDTH: usize = 16384;
 
-pub type Page = [u8; 16384];
+pub type Page = [u8; WIDTH];
 
 // Puts a text behind the end, `at`; answers the new end.
 pub fn put(page: &mut Page, at: usize, text: &[u8]) -> usize
@@ -31,7 +32,7 @@ pub fn put(page: &mut Page, at: usize, text: &[u8]) -> usize
 pub fn put_number(page: &mut Page, at: usize, n: u64) -> usize
     ensures { λ r. ⌜ ended (now (page .exit)) r ≡ putText (ended (now (page .entry)) at) (shown n) ⌝ }
 {
-    let mut digits = [0u8; 20];
+    let mut digits = [0u8; MOST];
     let k = digits::spell(n, &mut digits);
     put(page, at, &digits[..k])
 }

@@ -54,7 +54,7 @@ pub enum Bound {
 
 // Adds a schedule branch with the seed's thread states. It opens what the seed has Pending, which
 // is nothing in a run: backtrack opens.
-pub fn push_thread(path: &mut [u8], len: usize, exploring: bool, seed: [u8; 5]) -> Pushed
+pub fn push_thread(path: &mut [u8], len: usize, exploring: bool, seed: [u8; MAX_THREADS]) -> Pushed
     ensures { λ r. ⌜ PushesThread (now (path .entry)) (now (path .exit)) len exploring seed r ⌝ }
 {
     if path.len() / RECORD <= len {
@@ -93,7 +93,13 @@ pub fn branch_thread(path: &[u8], pos: usize) -> Chosen
 
 // Adds a load branch that offers the seed's first n slots, of which it chooses the first. The
 // others are opened where it is explored.
-pub fn push_load(path: &mut [u8], len: usize, exploring: bool, seed: [u8; 7], n: usize) -> Pushed
+pub fn push_load(
+    path: &mut [u8],
+    len: usize,
+    exploring: bool,
+    seed: [u8; MAX_ATOMIC_HISTORY],
+    n: usize,
+) -> Pushed
     ensures { λ r. ⌜ Pushes (now (path .entry)) (now (path .exit)) len 6 (λ B bs. loadAdded B bs exploring (take n seed)) r ⌝ }
 {
     if path.len() / RECORD <= len {

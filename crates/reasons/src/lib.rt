@@ -7,6 +7,21 @@ ghost use Rattle.reasons.specs.Wrong.{blankOrder, blankTarget, firstFiel
 pub use decode::Room;
 use decode::Row;
 use decode::is_row;
+use decode::opcodes::CHECK;
+use decode::opcodes::FENCE;
+use decode::opcodes::JOIN;
+use decode::opcodes::JUMP;
+use decode::opcodes::JUMP_IF;
+use decode::opcodes::JUMP_UNLESS;
+use decode::opcodes::LOAD;
+use decode::opcodes::PLAIN_READ;
+use decode::opcodes::PLAIN_WRITE;
+use decode::opcodes::RMW;
+use decode::opcodes::SPURIOUS;
+use decode::opcodes::STORE;
+use decode::opcodes::STORE_REGISTER;
+use decode::opcodes::UNSYNC_LOAD;
+use decode::opcodes::WITH_MUT;
 
 // The fields of a row, in the order in which they are judged.
 pub enum Field {
@@ -112,14 +127,14 @@ fn first_fields(row: Row, own: usize, n: usize) -> Row
 fn blank_order(opcode: u8) -> u8
     ensures { λ r. ⌜ r ≡ blankOrder opcode ⌝ }
 {
-    byte_if(opcode == 4, 1, 0)
+    byte_if(opcode == FENCE, 1, 0)
 }
 
 // A jump may not lead to its own row, and at row 0 that is where a target of 0 leads.
 fn blank_target(opcode: u8, own: usize) -> u16
     ensures { λ r. ⌜ r ≡ blankTarget opcode own ⌝ }
 {
-    target_if((opcode == 9) & (own == 0), 1, 0)
+    target_if((opcode == JUMP) & (own == 0), 1, 0)
 }
 
 fn byte_if(looked: bool, byte: u8, other: u8) -> u8
@@ -179,7 +194,7 @@ fn may_if(test: bool, may: May, other: May) -> May
 fn object_may(opcode: u8) -> May
     ensures { λ r. ⌜ r ≡ mayObject opcode ⌝ }
 {
-    let thread = may_if(opcode == 8, May::AnyThread, May::ZeroByOpcode);
+    let thread = may_if(opcode == JOIN, May::AnyThread, May::ZeroByOpcode);
     let plain = may_if(has_plain(opcode), May::AnyPlain, thread);
     may_if(has_cell(opcode), May::AnyCell, plain)
 }
@@ -188,10 +203,14 @@ fn object_may(opcode: u8) -> May
 fn order_may(opcode: u8) -> May
     ensures { λ r. ⌜ r ≡ mayOrder opcode ⌝ }
 {
-    let fence = may_if(opcode == 4, May::FenceOrder, May::ZeroByOpcode);
-    let change = may_if(opcode == 3, May::AnyOrder, fence);
-    let store = may_if((opcode == 1) | (opcode == 2), May::StoreOrder, change);
-    may_if(opcode == 0, May::LoadOrder, store)
+    let fence = may_if(opcode == FENCE, May::FenceOrder, May::ZeroByOpcode);
+    let change = may_if(opcode == RMW, May::AnyOrder, fence);
+    let store = may_if(
+        (opcode == STORE) | (opcode == STORE_REGISTER),
+        May::StoreOrder,
+        change,
+    );
+    may_if(opcode == LOAD, May::LoadOrder, store)
 }
 
 // The order of a change that fails.
@@ -199,7 +218,7 @@ fn failure_may(opcode: u8, kind: u8) -> May
     ensures { λ r. ⌜ r ≡ mayFailure opcode kind ⌝ }
 {
     let used = may_if((kind == 11) | (kind == 12), May::LoadOrder, May::ZeroByKind);
-    may_if(opcode == 3, used, May::ZeroByOpcode)
+    may_if(opcode == RMW, used, May::ZeroByOpcode)
 }
 
 // The target: a jump without a test may not lead to its own row.
@@ -207,44 +226,44 @@ fn target_may(opcode: u8) -> May
     ensures { λ r. ⌜ r ≡ mayTarget opcode ⌝ }
 {
     let tested = may_if(is_jump(opcode), May::AnyTarget, May::ZeroByOpcode);
-    may_if(opcode == 9, May::OtherTarget, tested)
+    may_if(opcode == JUMP, May::OtherTarget, tested)
 }
 
 fn has_cell(opcode: u8) -> bool
     ensures { λ r. ⌜ r ≡ hasCell opcode ⌝ }
 {
-    (opcode <= 3) | (opcode == 5) | (opcode == 6)
+    (opcode <= RMW) | (opcode == UNSYNC_LOAD) | (opcode == WITH_MUT)
 }
 
 fn has_plain(opcode: u8) -> bool
     ensures { λ r. ⌜ r ≡ hasPlain opcode ⌝ }
 {
-    (opcode == 17) | (opcode == 18)
+    (opcode == PLAIN_READ) | (opcode == PLAIN_WRITE)
 }
 
 fn is_jump(opcode: u8) -> bool
     ensures { λ r. ⌜ r ≡ isJump opcode ⌝ }
 {
-    (opcode == 9) | (opcode == 10) | (opcode == 11)
+    (opcode == JUMP) | (opcode == JUMP_IF) | (opcode == JUMP_UNLESS)
 }
 
 fn has_register(opcode: u8) -> bool
     ensures { λ r. ⌜ r ≡ hasRegister opcode ⌝ }
 {
-    (opcode == 0)
-        | (opcode == 2)
-        | (opcode == 3)
-        | (opcode == 5)
-        | (opcode == 6)
-        | (opcode == 10)
-        | (opcode == 11)
-        | (opcode == 12)
-        | (opcode == 16)
-        | (opcode == 17)
+    (opcode == LOAD)
+        | (opcode == STORE_REGISTER)
+        | (opcode == RMW)
+        | (opcode == UNSYNC_LOAD)
+        | (opcode == WITH_MUT)
+        | (opcode == JUMP_IF)
+        | (opcode == JUMP_UNLESS)
+        | (opcode == CHECK)
+        | (opcode == SPURIOUS)
+        | (opcode == PLAIN_READ)
 }
 
 fn is_change(opcode: u8) -> bool
     ensures { λ r. ⌜ r ≡ isChange opcode ⌝ }
 {
-    (opcode == 3) | (opcode == 6)
+    (opcode == RMW) | (opcode == WITH_MUT)
 }

@@ -15,7 +15,7 @@ use layout::MAX_ATOMIC_HISTORY;
 use layout::wide8;
 
 // Sets the values to the seed's first n, and how many there are.
-pub fn put_values(path: &mut [u8], at: usize, seed: [u8; 7], n: usize)
+pub fn put_values(path: &mut [u8], at: usize, seed: [u8; MAX_ATOMIC_HISTORY], n: usize)
     requires { ⌜ (16 * at + 16 ≤ length (now path)) × (n ≤ 7) ⌝ }
     ensures { λ _. ⌜ now (path .exit) ≡ withValues (now (path .entry)) at seed n ⌝ }
 {

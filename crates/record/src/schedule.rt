@@ -110,7 +110,7 @@ fn position_of(prev: Found) -> usize
 }
 
 // Sets the five thread states to the seed.
-pub fn put_threads(path: &mut [u8], at: usize, seed: [u8; 5])
+pub fn put_threads(path: &mut [u8], at: usize, seed: [u8; MAX_THREADS])
     requires { ⌜ 16 * at + 16 ≤ length (now path) ⌝ }
     ensures { λ _. ⌜ now (path .exit) ≡ withStatesAt (now (path .entry)) at seed ⌝ }
 {

@@ -126,12 +126,6 @@ fn bound_of(number: u64) -> Bound {
     Bound::AtMost((number % 256) as u8)
 }
 
-// Whether a thread list of another length than five is passed. `explore` takes none: the entry that does refuses it.
-pub fn list_is_wrong(numbers: &Numbers) -> bool {
-    let list = numbers[LIST];
-    list != NOT_GIVEN && list != 5
-}
-
 // Writes a table's or a condition's bytes; answers how many there are, or more than fit.
 pub fn read_table(text: &[u8], table: &mut [u8; MOST_TABLE]) -> usize {
     if fields::is_byte(text, b'-') {

@@ -6,11 +6,15 @@ use crate::case::MOST_TABLE;
 use crate::case::Numbers;
 use crate::fields;
 use crate::fields::FIELDS;
+use crate::fields::NOT_GIVEN;
 use crate::fields::Starts;
+use layout::long8;
+use numbers::NUMBERS;
+use numbers::of_report;
 use report::Report;
 
-// The 29 numbers of a report.
-pub type Given = [u64; 29];
+// The numbers of a report.
+pub type Given = [u64; NUMBERS];
 
 // How a case comes out.
 pub enum Outcome {
@@ -113,8 +117,7 @@ fn run_case(
     judge(line, starts, numbers, &given, path, trace)
 }
 
-// What the explorer answers. The entry that takes a thread list refuses one that does not hold five records, after it has judged
-// the settings and the path: that refusal stands in here.
+// What the explorer answers.
 fn ask(
     table: &[u8],
     condition: &[u8],
@@ -124,28 +127,23 @@ fn ask(
 ) -> Given {
     buffers::fill(path);
     buffers::fill(trace);
-    let report = explorer::explore(table, condition, case::settings(numbers), path, trace);
-    let given = flat(report);
-    if !case::list_is_wrong(numbers) {
-        return given;
-    }
-    let answer = given[0];
-    if answer == 2 || answer == 3 {
-        return given;
-    }
-    buffers::fill(path);
-    buffers::fill(trace);
-    refused_list()
+    of_report(explored(table, condition, numbers, path, trace))
 }
 
-// Answer 4: nothing begun, nothing at fault.
-fn refused_list() -> Given {
-    let mut given = [0u64; 29];
-    given[0] = 4;
-    given[5] = 255;
-    given[6] = 255;
-    given[8] = 255;
-    given
+// By the first entry, or by the second where the case has a thread list: that one judges its length.
+fn explored(
+    table: &[u8],
+    condition: &[u8],
+    numbers: &Numbers,
+    path: &mut [u8],
+    trace: &mut [u8],
+) -> Report {
+    let settings = case::settings(numbers);
+    let listed = numbers[case::LIST];
+    if listed == NOT_GIVEN {
+        return explorer::explore(table, condition, settings, path, trace);
+    }
+    into::explore_counted(table, condition, settings, path, trace, listed as usize)
 }
 
 // Holds what a run gave to what the list says.
@@ -158,7 +156,7 @@ fn judge(
     trace: &[u8],
 ) -> Outcome {
     let place = first_other(given, numbers);
-    if place < 29 {
+    if place < NUMBERS {
         return Outcome::Number {
             place,
             given: given[place],
@@ -187,50 +185,19 @@ fn judge(
 // A byte of a buffer, or 0 past its end.
 fn byte_at(buffer: &[u8], at: usize) -> u64 {
     if at < buffer.len() {
-        return wide(buffer[at]);
+        return long8(buffer[at]);
     }
     0
 }
 
-// A byte as a number of more bits.
-fn wide(x: u8) -> u64 {
-    x as u64
-}
-
-// The first of the 29 numbers that is not the list's, or 29.
+// The first of the numbers that is not the list's, or NUMBERS.
 fn first_other(given: &Given, numbers: &Numbers) -> usize {
     let mut i = 0;
-    while i < 29 {
+    while i < NUMBERS {
         if given[i] != numbers[case::ANSWER + i] {
             return i;
         }
         i += 1;
     }
     i
-}
-
-// A report's 29 numbers.
-fn flat(report: Report) -> Given {
-    let answer = report.answer;
-    let mut out = [0u64; 29];
-    out[0] = report::number(answer);
-    out[1] = report.begun;
-    out[2] = report.opened;
-    out[3] = report.open;
-    out[4] = report.rows;
-    out[5] = report.thread;
-    out[6] = report.row;
-    out[7] = report::race_kind(answer);
-    out[8] = report::other_thread(answer);
-    let threads = report.threads;
-    let mut t = 0;
-    while t < 5 {
-        let thread = threads[t];
-        out[9 + 4 * t] = thread.state as u64;
-        out[10 + 4 * t] = thread.rows as u64;
-        out[11 + 4 * t] = thread.yields as u64;
-        out[12 + 4 * t] = thread.version as u64;
-        t += 1;
-    }
-    out
 }

@@ -16,7 +16,7 @@ use Rattle.layout.specs.Tables.{state}
 use Rattle.report.specs.declared.Answer.{Answer}
 use Rattle.report.specs.declared.ThreadRecord.{ThreadRecord}
 use Rattle.report.specs.declared.Report as code
-use Rattle.report.specs.Answers.{summaryOf, summariesOf, reportOf, refusal, ranReport, threadOf, rowOf}
+use Rattle.report.specs.Answers.{summaryOf, summariesOf, reportOf, refusal, ranReport}
 
 module _ (clocks : Clocks) (numbers : Numbers) (t : ℕ) (r : ThreadRecord) where
   pub summary-absent : getD numbers (0 + t) 0 ≡ 0 → summaryOf r ≡ explored.noSummary → (marks : Marks) (values : Values) → summaryOf r ≡ summary (state clocks marks values numbers) t
@@ -45,19 +45,15 @@ pub of-five :
 of-five st a b c d e f g h i j = cc
 
 pub refused-so :
-    (a : Answer) (t k : ℕ) (r : ThreadRecord)
-    → t ≡ threadOf a
-    → k ≡ rowOf a
+    (a : Answer) (r : ThreadRecord)
     → summaryOf r ≡ explored.noSummary
-    → reportOf (record { answer = a; begun = 0; opened = 0; «open» = 0; rows = 0; thread = t; row = k; threads = r ∷ r ∷ r ∷ r ∷ r ∷ [] }) ≡ refusal a
-refused-so a t k r e f s = cc
+    → reportOf (record { answer = a; begun = 0; opened = 0; «open» = 0; rows = 0; threads = r ∷ r ∷ r ∷ r ∷ r ∷ [] }) ≡ refusal a
+refused-so a r s = cc
 
 pub finished-so :
-    (a : Answer) (executions opened stillOpen rows t k : ℕ) (rs : List ThreadRecord) (st : State)
-    → t ≡ threadOf a
-    → k ≡ rowOf a
+    (a : Answer) (executions opened stillOpen rows : ℕ) (rs : List ThreadRecord) (st : State)
     → rows ≡ number (st .numbers) begun
     → summariesOf rs ≡ map (summary st) everyThread
-    → reportOf (record { answer = a; begun = executions; opened = opened; «open» = stillOpen; rows = rows; thread = t; row = k; threads = rs })
+    → reportOf (record { answer = a; begun = executions; opened = opened; «open» = stillOpen; rows = rows; threads = rs })
     ≡ ranReport a executions opened stillOpen st
-finished-so a executions opened stillOpen rows t k rs st e f r s = cc
+finished-so a executions opened stillOpen rows rs st r s = cc

@@ -42,6 +42,7 @@ pub struct ThreadRecord {
     pub version: u16,
 }
 
+// The answer says thread and row at fault too, and the race (`thread_of`, `row_of`, `race_kind`, `other_thread`).
 pub struct Report {
     pub answer: Answer,
     // Executions begun, choices opened in the whole history, choices open in the path left, rows begun.
@@ -49,9 +50,6 @@ pub struct Report {
     pub opened: u64,
     pub open: u64,
     pub rows: u64,
-    // Thread and row at fault, or 255.
-    pub thread: u64,
-    pub row: u64,
     pub threads: [ThreadRecord; MAX_THREADS],
 }
 
@@ -78,16 +76,12 @@ pub fn absent() -> ThreadRecord
 pub fn refused(answer: Answer) -> Report
     ensures { λ r. ⌜ reportOf r ≡ refusal answer ⌝ }
 {
-    let thread = thread_of(answer);
-    let row = row_of(answer);
     Report {
         answer,
         begun: 0,
         opened: 0,
         open: 0,
         rows: 0,
-        thread,
-        row,
         threads: [absent(); MAX_THREADS],
     }
 }
@@ -96,8 +90,6 @@ pub fn refused(answer: Answer) -> Report
 pub fn finished(clocks: &Clocks, numbers: &Numbers, answer: Answer, counts: Counts) -> Report
     ensures { λ r. ⌜ ((marks : State.Marks) (values : State.Values) → reportOf r ≡ ranReport answer (counts .begun) (counts .opened) (counts .open) (state (now (clocks .entry)) marks values (now (numbers .entry)))) ⌝ }
 {
-    let thread = thread_of(answer);
-    let row = row_of(answer);
     let threads = summaries(clocks, numbers);
     let rows = wide16(numbers[ROWS_BEGUN]);
     Report {
@@ -106,8 +98,6 @@ pub fn finished(clocks: &Clocks, numbers: &Numbers, answer: Answer, counts: Coun
         opened: counts.opened,
         open: counts.open,
         rows: rows as u64,
-        thread,
-        row,
         threads,
     }
 }

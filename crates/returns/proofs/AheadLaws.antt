@@ -16,7 +16,7 @@ use Rattle.rules.specs.Text.{says, rowsAhead, threadsAhead}
 use Rattle.rules.specs.Writer.{rowShown, rowsShown, threadsShown}
 use Rattle.returns.proofs.RowLine.{PlainLine}
 
--- Where the threads end: at the text's end, or at "finally"
+-- Where the threads end: at the text's end, or at `finally`
 abbrev pub Ending : List ℕ → Type 0
 Ending rest = (isEmpty (skip rest) || says "finally" rest) ≡ true
 

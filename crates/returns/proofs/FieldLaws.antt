@@ -11,7 +11,7 @@ use native.Mathlib.Omega.{arith}
 use lib.Dec.{ltb, leb, eqb}
 use lib.ListN.{getD}
 use borrow.Author.Tests.{eqb-true, ltb-true, leb-true, lt-ltb, le-leb}
-use Rattle.rules.specs.Table.{Room, isRegister, anyOrder, loadOrder, storeOrder, fenceOrder}
+use Rattle.rules.specs.Table.{Room, isRegister, anyOrder, isLoadOrder, isStoreOrder, isFenceOrder}
 use Rattle.rules.specs.Token.{found, onlyIf, only, numberIn, plainIn}
 use Rattle.rules.specs.Form.{orderIn, fieldOf, letterIn}
 use Rattle.rules.specs.Writer.{shown, orderShown, letterShown}
@@ -55,21 +55,21 @@ inRange room b v =
     (cond (eqb b 74) (leb v (room .rows))
     (cond (eqb b 71) (leb v (room .rows) && not (eqb v (room .row)))
     (cond (eqb b 65 || eqb b 66) true
-    (cond (eqb b 76 || eqb b 88) (loadOrder v)
-    (cond (eqb b 83) (storeOrder v)
-    (cond (eqb b 70) (fenceOrder v)
+    (cond (eqb b 76 || eqb b 88) (isLoadOrder v)
+    (cond (eqb b 83) (isStoreOrder v)
+    (cond (eqb b 70) (isFenceOrder v)
     (anyOrder v))))))))))
 
 pub any-below : (o : ℕ) → anyOrder o ≡ true → o < 5
 any-below o e = omega (arith, leb-true o 4 e)
 
-pub load-any : (o : ℕ) → loadOrder o ≡ true → anyOrder o ≡ true
+pub load-any : (o : ℕ) → isLoadOrder o ≡ true → anyOrder o ≡ true
 load-any o e = both-left (anyOrder o) _ (both-left (anyOrder o && not (eqb o 1)) _ e)
 
-pub store-any : (o : ℕ) → storeOrder o ≡ true → anyOrder o ≡ true
+pub store-any : (o : ℕ) → isStoreOrder o ≡ true → anyOrder o ≡ true
 store-any o e = both-left (anyOrder o) _ (both-left (anyOrder o && not (eqb o 2)) _ e)
 
-pub fence-any : (o : ℕ) → fenceOrder o ≡ true → anyOrder o ≡ true
+pub fence-any : (o : ℕ) → isFenceOrder o ≡ true → anyOrder o ≡ true
 fence-any o e = both-left (anyOrder o) _ e
 
 -- As it is written, and read back
@@ -101,11 +101,11 @@ module _ (room : Room) (fields : List ℕ) where
       (λ e l. number-only (λ (v : ℕ). leb v (room .rows) && not (eqb v (room .row))) (getD fields 6 0) e l)
       (λ e l. number-back (getD fields 7 0) l)
       (λ e l. number-back (getD fields 8 0) l)
-      (λ e l. order-only loadOrder (getD fields 2 0) e (load-any (getD fields 2 0) e))
-      (λ e l. order-only storeOrder (getD fields 2 0) e (store-any (getD fields 2 0) e))
+      (λ e l. order-only isLoadOrder (getD fields 2 0) e (load-any (getD fields 2 0) e))
+      (λ e l. order-only isStoreOrder (getD fields 2 0) e (store-any (getD fields 2 0) e))
       (λ e l. order-back (getD fields 2 0) (any-below (getD fields 2 0) e) .0)
-      (λ e l. order-only fenceOrder (getD fields 2 0) e (fence-any (getD fields 2 0) e))
-      (λ e l. order-only loadOrder (getD fields 3 0) e (load-any (getD fields 3 0) e))
+      (λ e l. order-only isFenceOrder (getD fields 2 0) e (fence-any (getD fields 2 0) e))
+      (λ e l. order-only isLoadOrder (getD fields 3 0) e (load-any (getD fields 3 0) e))
 
   abbrev Worded : ℕ → Type 0
   Worded b = inRange room b (getD fields (fieldOf b) 0) ≡ true → isWord (letterShown b fields) ≡ true
@@ -152,8 +152,8 @@ module _ (room : Room) (word : List ℕ) (v : ℕ) where
       (λ e. number-known (λ (x : ℕ). leb x (room .rows) && not (eqb x (room .row))) e)
       (λ e. (refl, number-below word v e))
       (λ e. (refl, number-below word v e))
-      (λ e. order-known loadOrder e)
-      (λ e. order-known storeOrder e)
+      (λ e. order-known isLoadOrder e)
+      (λ e. order-known isStoreOrder e)
       (λ e. let k = order-below word v e in (load-few v k, (omega arith)))
-      (λ e. order-known fenceOrder e)
-      (λ e. order-known loadOrder e)
+      (λ e. order-known isFenceOrder e)
+      (λ e. order-known isLoadOrder e)

@@ -16,7 +16,7 @@ use lib.Seq.{getD-drop}
 use borrow.Author.Tests.{eqb-true, ltb-true, ltb-false, eq-eqb, ne-eqb, not-true}
 use Rattle.rules.specs.Change as Change
 use Rattle.rules.specs.Change.{Change}
-use Rattle.rules.specs.Table.{Room, Row, Op, refused, onlyIf, isFine, rowDecoded, changeDecoded, rmwRow, exclusiveRow, isRegister, loadOrder, storeOrder, fenceOrder, anyOrder, failureOrder, unused}
+use Rattle.rules.specs.Table.{Room, Row, Op, refused, onlyIf, isFine, rowDecoded, changeDecoded, rmwRow, exclusiveRow, isRegister, isLoadOrder, isStoreOrder, isFenceOrder, anyOrder, isFailureOrder, unused}
 use Rattle.rules.specs.Token.{bytesOf}
 use Rattle.rules.specs.Form.{Form, forms, fieldOf, blankFields}
 use Rattle.rules.specs.Writer.{formIn, fieldsOf}
@@ -134,10 +134,10 @@ module _ (room : Room) (ob or fa re t a b : ℕ) where
   singles : (k : ℕ) → Singles k
   unfolding rowDecoded rowFine formIn forms lettersIn lettersFine names keeps bytesOf fieldOf inRange
   singles k = record {
-    load = only-fine _ _ ∙ last-first (ltb ob (room .cells)) (loadOrder or) (isRegister re) (unused (fa ∷ k ∷ t ∷ a ∷ b ∷ []));
-    store = only-fine _ _ ∙ two (ltb ob (room .cells)) (storeOrder or) (unused (fa ∷ k ∷ re ∷ t ∷ b ∷ []));
-    storeRegister = only-fine _ _ ∙ last-first (ltb ob (room .cells)) (storeOrder or) (isRegister re) (unused (fa ∷ k ∷ t ∷ a ∷ b ∷ []));
-    fence = only-fine _ _ ∙ one (fenceOrder or) (unused (ob ∷ fa ∷ k ∷ re ∷ t ∷ a ∷ b ∷ []));
+    load = only-fine _ _ ∙ last-first (ltb ob (room .cells)) (isLoadOrder or) (isRegister re) (unused (fa ∷ k ∷ t ∷ a ∷ b ∷ []));
+    store = only-fine _ _ ∙ two (ltb ob (room .cells)) (isStoreOrder or) (unused (fa ∷ k ∷ re ∷ t ∷ b ∷ []));
+    storeRegister = only-fine _ _ ∙ last-first (ltb ob (room .cells)) (isStoreOrder or) (isRegister re) (unused (fa ∷ k ∷ t ∷ a ∷ b ∷ []));
+    fence = only-fine _ _ ∙ one (isFenceOrder or) (unused (ob ∷ fa ∷ k ∷ re ∷ t ∷ a ∷ b ∷ []));
     unsyncLoad = only-fine _ _ ∙ turned (ltb ob (room .cells)) (isRegister re) (unused (or ∷ fa ∷ k ∷ t ∷ a ∷ b ∷ []));
     yield = only-fine _ _;
     join = only-fine _ _ ∙ one (ltb ob (room .threads)) (unused (or ∷ fa ∷ k ∷ re ∷ t ∷ a ∷ b ∷ []));
@@ -155,7 +155,7 @@ module _ (room : Room) (ob or fa re t a b : ℕ) where
 
   -- those with changes have one for each kind
   rmw-only : (k : ℕ) (x : Bool) (c : Change) → isFine (rmwRow (room .cells) (rowOf 3 ob or fa k re t a b) (onlyIf x c)) ≡
-      (x && (ltb ob (room .cells) && anyOrder or && failureOrder k fa && isRegister re && (eqb t 0 && true)))
+      (x && (ltb ob (room .cells) && anyOrder or && isFailureOrder k fa && isRegister re && (eqb t 0 && true)))
   rmw-only k true c = only-fine _ _
   rmw-only k false c = refl
 
@@ -168,9 +168,9 @@ module _ (room : Room) (ob or fa re t a b : ℕ) where
   Kind o k = judges o k ≡ byForm o k (formIn o k forms)
 
   rmw-simple : (k : ℕ) (c : Change) → isFine (rmwRow (room .cells) (rowOf 3 ob or fa k re t a b) (onlyIf (eqb b 0) c)) ≡
-      ((isRegister re && (ltb ob (room .cells) && (anyOrder or && true))) && (failureOrder k fa && (eqb t 0 && (eqb b 0 && true))))
+      ((isRegister re && (ltb ob (room .cells) && (anyOrder or && true))) && (isFailureOrder k fa && (eqb t 0 && (eqb b 0 && true))))
   rmw-simple k c =
-      rmw-only k (eqb b 0) c ∙ rmw-plain (ltb ob (room .cells)) (anyOrder or) (failureOrder k fa) (isRegister re) (eqb t 0) (eqb b 0)
+      rmw-only k (eqb b 0) c ∙ rmw-plain (ltb ob (room .cells)) (anyOrder or) (isFailureOrder k fa) (isRegister re) (eqb t 0) (eqb b 0)
 
   rmw-kinds : Below (Kind 3) 13
   unfolding rowDecoded changeDecoded rowFine formIn forms lettersIn lettersFine names keeps bytesOf fieldOf inRange
@@ -187,9 +187,9 @@ module _ (room : Room) (ob or fa re t a b : ℕ) where
       ▸ rmw-simple 8 (Change.least a)
       ▸ rmw-simple 9 (Change.signedGreatest a)
       ▸ rmw-simple 10 (Change.signedLeast a)
-      ▸ (only-fine _ _ ∙ rmw-compare (ltb ob (room .cells)) (anyOrder or) (failureOrder 11 fa) (isRegister re) (eqb t 0))
+      ▸ (only-fine _ _ ∙ rmw-compare (ltb ob (room .cells)) (anyOrder or) (isFailureOrder 11 fa) (isRegister re) (eqb t 0))
       ▸ (rmw-only 12 (eqb a 0 && eqb b 0) Change.decrement
-      ∙ rmw-decrement (ltb ob (room .cells)) (anyOrder or) (failureOrder 12 fa) (isRegister re) (eqb t 0) (eqb a 0) (eqb b 0))
+      ∙ rmw-decrement (ltb ob (room .cells)) (anyOrder or) (isFailureOrder 12 fa) (isRegister re) (eqb t 0) (eqb a 0) (eqb b 0))
 
   mut-simple : (k : ℕ) (c : Change) → isFine (exclusiveRow (room .cells) (rowOf 6 ob or fa k re t a b) (onlyIf (eqb b 0) c)) ≡
       ((isRegister re && (ltb ob (room .cells) && true)) && (eqb or 0 && (eqb fa 0 && (eqb t 0 && (eqb b 0 && true)))))

@@ -164,7 +164,7 @@ compare-in : (s : ℕ) → isSign s ≡ true → only isSign (markIn (getD marks
 unfolding bytesOf placeIn equal
 compare-in s h = compare-cases (λ (x : ℕ). only isSign (markIn (getD marks (x - 1) [])) ≡ found x) s h refl refl refl refl refl refl
 
--- "THREAD.rREGISTER"
+-- `THREAD.rREGISTER`
 abbrev named : ℕ → ℕ → List ℕ
 named th re = (48 + th) ∷ 46 ∷ 114 ∷ (48 + re) ∷ []
 

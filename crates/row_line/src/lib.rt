@@ -8,8 +8,11 @@ ghost use Rattle.rules.specs.Writer.{formShown, formIn, fieldsOf, rowShown};
 ghost use Rattle.form.specs.Lines.{coded};
 ghost use Rattle.put.specs.Puts.{Puts};
 ghost use Rattle.row_line.specs.Pieces.{pieceShown};
+use form::FIELDS;
 use form::FORMS;
 use form::Fields;
+use layout::long8;
+use layout::long16;
 use put::put_byte;
 use put::put_bytes;
 use put::put_number;
@@ -31,28 +34,16 @@ fn fields_at(table: &[u8], values: usize, index: usize) -> Fields
 {
     let row = table::row_at(table, values, index);
     [
-        wide(row.opcode),
-        wide(row.object),
-        wide(row.order),
-        wide(row.failure),
-        wide(row.kind),
-        wide(row.register),
-        wide_two(row.target),
+        long8(row.opcode),
+        long8(row.object),
+        long8(row.order),
+        long8(row.failure),
+        long8(row.kind),
+        long8(row.register),
+        long16(row.target),
         row.a,
         row.b,
     ]
-}
-
-fn wide(byte: u8) -> u64
-    ensures { λ r. ⌜ r ≡ byte ⌝ }
-{
-    byte as u64
-}
-
-fn wide_two(number: u16) -> u64
-    ensures { λ r. ⌜ r ≡ number ⌝ }
-{
-    number as u64
 }
 
 // The words of the row's form, with its fields. The forms are those of crate form, a line for each.
@@ -65,7 +56,7 @@ fn put_form(text: &mut [u8], at: usize, forms: &[u8], fields: Fields) -> usize
     let mut from = 0;
     while from < forms.len() {
         let to = token::next_line(forms, from + 2);
-        if (wide(forms[from]) == opcode) & (wide(forms[from + 1]) == kind) {
+        if (long8(forms[from]) == opcode) & (long8(forms[from + 1]) == kind) {
             return put_words(text, at, token::part(forms, from + 2, to - 1), fields);
         }
         from = to;
@@ -91,7 +82,7 @@ fn put_piece(text: &mut [u8], at: usize, byte: u8, fields: Fields) -> usize
     ensures { λ r. ⌜ Puts (now (text .entry)) (now (text .exit)) at (pieceShown byte fields) r ⌝ }
 {
     let field = form::field_of(byte);
-    if 9 <= field {
+    if FIELDS <= field {
         return put_byte(text, at, byte);
     }
     let value = fields[field];

@@ -1,6 +1,7 @@
 -- The laws of rows: from what each call leaves to what the definition says of the row. Assumes nothing.
 --     pends-none, pends-as          the pending operation of a row
---     begins-..                     a row that may not begin, one that sets no operation, one that does
+--     begun-..                      a row that may not begin, one that sets no operation, one that does
+--     begins-to                     a row that has begun and asks nothing acts: the definition's `begins`
 --     done-as                       a row without slot and value
 --     fences-as, yields-as          the fence, the yield
 --     joins-..                      a join that goes through, and one that blocks
@@ -12,7 +13,7 @@ use mathlib.Core.List.{List, [], _∷_}
 use mathlib.Core.Bool.{Bool, true, false, cond, not}
 use lib.Dec.{leb}
 use mathlib.Core.Path.{_≡_, refl, ap, sym, _∙_}
-use mathlib.Core.Logic.{_≢_, _⊎_, inl, inr}
+use mathlib.Core.Logic.{_≢_}
 use lib.ListN.{getD, set}
 use borrow.Author.Tests.{le-leb, lt-leb, eq-eqb, ne-eqb, not-true, not-false}
 use types.Run.{OneOf, miss}
@@ -21,9 +22,9 @@ use Rattle.rules.specs.Event as Event
 use Rattle.rules.specs.Event.{Move, moves, stops}
 use Rattle.rules.specs.Cell.{fenced}
 use Rattle.rules.specs.State as State
-use Rattle.rules.specs.State.{State, Clocks, Marks, Values, Numbers, number, withNumber, withValue, causality, scheduleOf, ofRegister, begun, rowsOf, phase, operation, operatesOn, exploring, skipping}
+use Rattle.rules.specs.State.{State, Clocks, Marks, Values, Numbers, number, withNumber, begun, rowsOf, phase, operation, operatesOn, exploring, skipping}
 use Rattle.rules.specs.Machine as machine
-use Rattle.rules.specs.Machine.{Program, acts, begins, rowBegun, withOperation, pendingOf, done, completed, entry, noSlot, versionRaised, fences, yieldDone, schedules, joins, joinedWith, blockedOn, jumps, checks, explores, bitTaken, isIn, ended, withNumbers}
+use Rattle.rules.specs.Machine.{Program, begins, begunAs, rowBegun, withOperation, pendingOf, done, completed, entry, noSlot, versionRaised, fences, yieldDone, schedules, joins, joinedWith, blockedOn, jumps, checks, explores, bitTaken, isIn, ended, withNumbers}
 use Rattle.rules.specs.Table.{cellsOf, opcodeIn}
 use Rattle.rules.specs.Table as rules
 use Rattle.rules.specs.Vector.{oneMore, joined}
@@ -36,6 +37,7 @@ use Rattle.decode.specs.declared.Decoded.the-variants.{Refused, Row as Says}
 use Rattle.decode.specs.Ops.{opOf, decodedOf, inRange, opWithin}
 use Rattle.rows.specs.declared.Pending.{Pending}
 use Rattle.rows.specs.declared.Pending.the-variants as pending
+use Rattle.rows.specs.Begins.{pendingSet, begunTo, thenActs}
 use Rattle.rows.specs.Pendings.{Pends}
 
 -- the rows that set no operation
@@ -79,30 +81,41 @@ module _ (r : Pending) (op : rules.Op) (means : Pends r (pendingOf op)) where
 
 -- A row begins
 
-pub begins-not : (p : Program) (st : State) (t k limit : ℕ) (op : rules.Op) → p .operations ≡ limit → limit ≤ number (st .numbers) begun → stops st Event.rows ≡ begins p st t k op
-unfolding begins
-begins-not p st t k limit op e h = rw (e, le-leb limit (number (st .numbers) begun) h)
+pub begun-not : (st : State) (t limit : ℕ) (op : rules.Op) → limit ≤ number (st .numbers) begun → stops st Event.rows ≡ begunTo limit st t op
+begun-not st t limit op h = rw (le-leb limit (number (st .numbers) begun) h)
 
-module _ (clocks : Clocks) (marks : Marks) (values : Values) (numbers : Numbers) (t all own : ℕ)
-    (counted : all ≡ oneMore (number numbers begun)) (mine : own ≡ oneMore (number (withNumber numbers begun all) (rowsOf t))) where
+module _ (clocks : Clocks) (marks : Marks) (values : Values) (numbers : Numbers) (t all own limit : ℕ) (op : rules.Op)
+    (counted : all ≡ oneMore (number numbers begun)) (mine : own ≡ oneMore (number (withNumber numbers begun all) (rowsOf t)))
+    (fewer : number numbers begun < limit) where
   begun-as : state clocks marks values (withNumber (withNumber (withNumber numbers begun all) (rowsOf t) own) (phase t) machine.toAct) ≡ rowBegun (state clocks marks values numbers) t
   begun-as = rw (mine, counted)
 
-  module _ (p : Program) (k limit : ℕ) (op : rules.Op) (e : p .operations ≡ limit) (fewer : number numbers begun < limit) where
-    may-begin : leb (p .operations) (number numbers begun) ≡ false
-    may-begin = rw e (lt-leb limit (number numbers begun) fewer)
+  may-begin : leb limit (number numbers begun) ≡ false
+  may-begin = lt-leb limit (number numbers begun) fewer
 
-    pub begins-bare : pendingOf op ≡ machine.nothing →
-        acts p (state clocks marks values (withNumber (withNumber (withNumber numbers begun all) (rowsOf t) own) (phase t) machine.toAct)) t k op
-        ≡ begins p (state clocks marks values numbers) t k op
-    unfolding begins
-    begins-bare n = rw (may-begin, n) (ap (λ (st : State). acts p st t k op) begun-as)
+  pub begun-bare : pendingOf op ≡ machine.nothing →
+      moves (state clocks marks values (withNumber (withNumber (withNumber numbers begun all) (rowsOf t) own) (phase t) machine.toAct)) []
+      ≡ begunTo limit (state clocks marks values numbers) t op
+  begun-bare n = rw (may-begin, n) (ap (λ (st : State). moves st []) begun-as)
 
-    pub begins-asking : (action cell : ℕ) → pendingOf op ≡ machine.pends action cell →
-        schedules (state clocks marks values (withNumber (withNumber (withNumber (withNumber (withNumber numbers begun all) (rowsOf t) own) (phase t) machine.toAct) (operation t) action) (operatesOn t) cell)) []
-        ≡ begins p (state clocks marks values numbers) t k op
-    unfolding begins
-    begins-asking action cell n = rw (may-begin, n) (ap (λ (st : State). schedules (withOperation st t action cell) []) begun-as)
+  pub begun-asking : (action cell : ℕ) → pendingOf op ≡ machine.pends action cell →
+      schedules (state clocks marks values (withNumber (withNumber (withNumber (withNumber (withNumber numbers begun all) (rowsOf t) own) (phase t) machine.toAct) (operation t) action) (operatesOn t) cell)) []
+      ≡ begunTo limit (state clocks marks values numbers) t op
+  begun-asking action cell n = rw (may-begin, n) (ap (λ (st : State). schedules (withOperation st t action cell) []) begun-as)
+
+module _ (p : Program) (t k : ℕ) (op : rules.Op) where
+  set-acts : (st : State) (x : machine.Pending) → begunAs p st t k op x ≡ thenActs p t k op (pendingSet st t x)
+  unfolding schedules
+  set-acts st machine.nothing = refl
+  set-acts st (machine.pends action c) = refl
+
+  unless : (b : Bool) (st : State) (x y : Move State) → x ≡ thenActs p t k op y → cond b (stops st Event.rows) x ≡ thenActs p t k op (cond b (stops st Event.rows) y)
+  unless true st x y e = refl
+  unless false st x y e = e
+
+  pub begins-to : (st : State) → begins p st t k op ≡ thenActs p t k op (begunTo (p .operations) st t op)
+  unfolding begins
+  begins-to st = unless (leb (p .operations) (number (st .numbers) begun)) st _ _ (set-acts (rowBegun st t) (pendingOf op))
 
 -- Rows that leave neither slot nor value
 

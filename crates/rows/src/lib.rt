@@ -10,7 +10,7 @@ ghost use Rattle.rules.specs.Vector.{oneMore};
 ghost use Rattle.layout.specs.Tables.{state};
 ghost use Rattle.event.specs.Moves.{moveOf};
 ghost use Rattle.decode.specs.Ops.{opOf, decodedOf, inRange, opWithin};
-ghost use Rattle.rows.specs.Begins.{begunBy};
+ghost use Rattle.rows.specs.Begins.{begunTo};
 ghost use Rattle.rows.specs.Pendings.{Pends};
 use decode::Decoded;
 use decode::Op;
@@ -44,10 +44,10 @@ pub enum Pending {
 }
 
 // Begins a row, if fewer than the limit have begun. Opcodes 0 to 3 set their operation and call the scheduling first; where the
-// event is that it moves, the row acts at once.
+// event is that it moves, the row is to act at once.
 pub fn begin(numbers: &mut Numbers, thread: usize, limit: u16, op: Op) -> Event
     requires { ⌜ (thread < 5) × inRange (opOf op) ⌝ }
-    ensures { λ r. ⌜ ((p : machine.Program) (clocks : rules.Clocks) (marks : rules.Marks) (values : rules.Values) (k opcode : ℕ) (m : Matched) → p .operations ≡ limit → begunBy r (machine.acts p (state clocks marks values (now (numbers .exit))) thread k (opOf op)) (moveOf r thread k opcode m (state clocks marks values (now (numbers .exit)))) ≡ machine.begins p (state clocks marks values (now (numbers .entry))) thread k (opOf op)) ⌝ }
+    ensures { λ r. ⌜ ((clocks : rules.Clocks) (marks : rules.Marks) (values : rules.Values) (k opcode : ℕ) (m : Matched) → moveOf r thread k opcode m (state clocks marks values (now (numbers .exit))) ≡ begunTo limit (state clocks marks values (now (numbers .entry))) thread (opOf op)) ⌝ }
 {
     if limit <= numbers[ROWS_BEGUN] {
         return Event::Stops(Fault::Rows);
@@ -206,8 +206,8 @@ pub fn take_bit(
     values: &mut Values,
     numbers: &mut Numbers,
     site: Site,
-    bit: bool,
     row: Decoded,
+    bit: bool,
 ) -> Event
     requires { ⌜ (site .thread < 5) × opWithin row ⌝ }
     ensures { λ r. ⌜ ((clocks : rules.Clocks) (marks : rules.Marks) (m : Matched) → moveOf r (site .thread) (site .row) (opcodeIn (decodedOf row)) m (state clocks marks (now (values .exit)) (now (numbers .exit))) ≡ machine.bitTaken (state clocks marks (now (values .entry)) (now (numbers .entry))) (site .thread) (site .row) (cond bit 1 0) (decodedOf row)) ⌝ }

@@ -44,7 +44,7 @@ module _ (table condition : List ℕ) (s : Settings) (path trace : List ℕ) whe
             rw (explored, a, eq-eqb (length path) (recordBytes * s .branches) b, eq-eqb (length trace) (recordBytes * s .operations) c, d)
 
         module _ (d : judged table ≡ good) where
-          -- "those that are no condition .. are answer 5 with thread and row 255"
+          -- bytes that are no condition are answer 5 with thread and row 255
           pub explored-5-condition : isCondition (threadsOf table) condition ≡ false →
               explored table condition s path trace ≡ refused 5 255 255 path trace
           unfolding explored

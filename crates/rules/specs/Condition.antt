@@ -12,7 +12,7 @@ use Rattle.rules.specs.Table.{u64At, isRegister}
 
 -- Bytes
 
--- the signs of comparisons: "=, !=, <, <=, >, >= on unsigned numbers"
+-- the signs of comparisons: =, !=, <, <=, >, >= on unsigned numbers
 abbrev pub equals : ℕ
 equals = 1
 
@@ -141,7 +141,7 @@ abbrev pub holdsIn : Read → Bool
 holdsIn (bad rest) = false
 holdsIn (read v rest) = v
 
--- "bytes that are no condition, or name a thread or register that is none"
+-- neither are bytes that are no condition, or that name a thread or register that is none
 unfoldable pub isCondition : ℕ → List ℕ → Bool
 isCondition threads bs = leb (length bs) conditionBytes && ends (claimAt threads (λ t r. 0) bs)
 

@@ -78,7 +78,7 @@ refused answer t k path trace = record {
     row = k;
     kind = 0;
     other = 255;
-    threads = replicate 5 noSummary;
+    threads = replicate State.threads noSummary;
   };
   path = path;
   trace = trace;
@@ -182,9 +182,9 @@ unfoldable pub settingsFine : Settings → Bool
 settingsFine s =
     within (s .branches) maxBranches && within (s .operations) maxOperations && within (s .executions) maxExecutions
 
--- "2 B, L or N out of range; 3 path buffer length wrong; 4 trace buffer .. length wrong; 5 table refused". "The path buffer has
--- exactly 16·B bytes, the trace buffer 16·L." And of the condition's bytes (docs/GRAMMAR.md): "those that are no condition .. are
--- answer 5 with thread and row 255; a bad table is answered first"
+-- 2: "B, L or N out of range"; 3: "path buffer length wrong"; 4: "trace buffer or thread list length wrong"; 5: "table refused". "The
+-- path buffer has exactly 16·B bytes, the trace buffer 16·L." Bytes that are no condition are answer 5 with thread and row 255; a
+-- bad table is answered first (docs/GRAMMAR.md)
 unfoldable pub explored : List ℕ → List ℕ → Settings → List ℕ → List ℕ → Explored
 explored table condition s path trace =
     elim (settingsFine s) [
@@ -225,7 +225,7 @@ copied e list = record { explored = e; list = cond (isRefusal (e .report .answer
 -- "4 trace buffer or thread list length wrong": judged with the trace buffer, so before the table [Q13]
 unfoldable pub exploredInto : List ℕ → List ℕ → Settings → List ℕ → List ℕ → List Summary → ExploredInto
 exploredInto table condition s path trace list =
-    elim (eqb (length list) 5 || not (settingsFine s) || not (eqb (length path) (recordBytes * s .branches))) [
+    elim (eqb (length list) State.threads || not (settingsFine s) || not (eqb (length path) (recordBytes * s .branches))) [
       | true ↦ copied (explored table condition s path trace) list
       | false ↦ record { explored = refused 4 255 255 path trace; list = list }
     ]

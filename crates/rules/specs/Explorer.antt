@@ -13,6 +13,7 @@ use lib.ListN.{length, getD, take}
 use Rattle.rules.specs.Path.{Branch, schedule, load, spurious, Load, Bound, Added, added, Choice}
 use Rattle.rules.specs.Path.{threadAdded, loadAdded, spuriousAdded, openAt, backtracked, stepped, openIn, choiceOf, activeIn, noBranch}
 use Rattle.rules.specs.Path.{disabled, skip, yield, toActive}
+use Rattle.rules.specs.State.{history}
 use Rattle.rules.specs.Vector.{Whom}
 use Rattle.rules.specs.Event as Event
 use Rattle.rules.specs.Event.{Standing, yielded, cannotRun, other, slotsOf}
@@ -91,7 +92,7 @@ pub data Reply : Type 0 where
   unexpected : Reply
 
 abbrev pub maxSlots : ℕ
-maxSlots = 7
+maxSlots = history
 
 unfoldable pub allBelow : ℕ → List ℕ → Bool
 allBelow n [] = true

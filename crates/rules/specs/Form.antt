@@ -1,4 +1,4 @@
--- How each row of a program is written: docs/GRAMMAR.md, "Rows". Assumes nothing.
+-- How each row of a program is written: docs/GRAMMAR.md, on rows. Assumes nothing.
 --     forms               a form for each opcode and change kind
 --     valueOf             what may stand for a word of a form
 --     rowIn               a line that is a row: its fields; or the first token that no form has there
@@ -10,7 +10,7 @@ use mathlib.Core.Bool.{Bool, true, false, cond, not, _&&_, _||_}
 use lib.Dec.{ltb, leb, eqb}
 use lib.ListN.{length, getD, set, take}
 use Rattle.rules.specs.Vector.{equal}
-use Rattle.rules.specs.Table.{Room, loadOrder, storeOrder, fenceOrder}
+use Rattle.rules.specs.Table.{Room, isLoadOrder, isStoreOrder, isFenceOrder}
 use Rattle.rules.specs.Event.{little}
 use Rattle.rules.specs.Token.{bytesOf, isEmpty, endsLine, skip, token, pastToken, nextLine, Found, nothing, found, onlyIf, only, numberIn, registerIn, plainIn, placeIn}
 
@@ -103,9 +103,9 @@ letterIn room b word =
     (cond (eqb b 74) (only (λ (v : ℕ). leb v (room .rows)) (numberIn word))
     (cond (eqb b 71) (only (λ (v : ℕ). leb v (room .rows) && not (eqb v (room .row))) (numberIn word))
     (cond (eqb b 65 || eqb b 66) (numberIn word)
-    (cond (eqb b 76 || eqb b 88) (only loadOrder (orderIn word))
-    (cond (eqb b 83) (only storeOrder (orderIn word))
-    (cond (eqb b 70) (only fenceOrder (orderIn word))
+    (cond (eqb b 76 || eqb b 88) (only isLoadOrder (orderIn word))
+    (cond (eqb b 83) (only isStoreOrder (orderIn word))
+    (cond (eqb b 70) (only isFenceOrder (orderIn word))
     (orderIn word))))))))))
 
 -- a letter alone stands for a field, every other word for itself
@@ -148,7 +148,7 @@ blankFields f = f .opcode ∷ 0 ∷ 0 ∷ 0 ∷ f .kind ∷ 0 ∷ 0 ∷ 0 ∷ 0 
 abbrev pub further : List ℕ → List ℕ → List ℕ
 further one other = cond (ltb (length other) (length one)) other one
 
--- "A line that is of no form is refused at the first token that no form has there."
+-- a line that is of no form is refused at the first token that no form has there
 unfoldable pub tried : Room → List Form → List ℕ → List ℕ → Followed
 tried room [] best bs = stuck best
 tried room (f ∷ fs) best bs =

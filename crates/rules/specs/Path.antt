@@ -11,6 +11,7 @@ use mathlib.Core.List.{List, [], _∷_, _++_, map}
 use mathlib.Core.Bool.{Bool, true, false, cond, not, _&&_, _||_}
 use lib.Dec.{ltb, leb, eqb}
 use lib.ListN.{length, getD, set, replicate}
+use Rattle.rules.specs.State.{history}
 use Rattle.rules.specs.Vector.{Whom, nobody, thread, next}
 
 -- Branches
@@ -80,9 +81,6 @@ isExploring (spurious u) = u .exploring
 abbrev pub recordBytes : ℕ
 recordBytes = 16
 
-abbrev pub maxValues : ℕ
-maxValues = 7
-
 abbrev pub flag : Bool → ℕ
 flag b = cond b 1 0
 
@@ -94,7 +92,7 @@ encoded (schedule s) =
 encoded (load l) =
     2
     ∷ flag (l .exploring)
-    ∷ (l .values ++ (replicate (maxValues - length (l .values)) 0 ++ (l .pos ∷ length (l .values) ∷ replicate 5 0)))
+    ∷ (l .values ++ (replicate (history - length (l .values)) 0 ++ (l .pos ∷ length (l .values) ∷ replicate 5 0)))
 encoded (spurious u) = 3 ∷ flag (u .exploring) ∷ flag (u .bit) ∷ replicate 13 0
 
 unfoldable pub encodedAll : List Branch → List ℕ

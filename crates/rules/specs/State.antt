@@ -1,6 +1,6 @@
 -- The state of an execution: four tables, and a name for each thing that they hold. Positions are worked out here and nowhere
 -- else: a vector, a number or a value is read and written by its name. Assumes nothing.
--- In the comments of these files a quotation stands in document 01, with .. for what is left out; [Q23] is question 23 of those
+-- In the comments of these files a quotation stands in document 01 or 02, with .. for what is left out; [Q23] is question 23 of those
 -- that docs/DECISIONS.md settles, 1 to 32; (path.rs: step) is a function of loom 0.7.2's source.
 --     vector, withVector     a vector of five parts, by its name
 --     marksOf, withMarks     a cell's marks of first sight
@@ -23,17 +23,20 @@ cells = 4
 abbrev pub plains : ℕ
 plains = 4
 
+abbrev pub registers : ℕ
+registers = 4
+
 -- a number that stands for none: no last yield, no last access (docs/DECISIONS.md, 50)
 abbrev pub none : ℕ
 none = 65535
 
 -- the number of a cell's slot among those of all cells
 abbrev pub storeAt : ℕ → ℕ → ℕ
-storeAt cell slot = 7 * cell + slot
+storeAt cell slot = history * cell + slot
 
 -- the number of a thread's register among those of all threads
 abbrev pub registerAt : ℕ → ℕ → ℕ
-registerAt t r = 4 * t + r
+registerAt t r = registers * t + r
 
 -- Vectors
 

@@ -11,20 +11,21 @@ use lib.Dec.{ltb, leb, eqb}
 use lib.ListN.{length, getD, take, drop, replicate}
 use Rattle.rules.specs.Change as Change
 use Rattle.rules.specs.Change.{Change}
+use Rattle.rules.specs.State as State
 
 -- Limits
 
 -- "MAX_THREADS is 5"
 abbrev pub maxThreads : ℕ
-maxThreads = 5
+maxThreads = State.threads
 
 -- "cells 1..4"
 abbrev pub maxCells : ℕ
-maxCells = 4
+maxCells = State.cells
 
 -- "Add up to four unsynchronised cells" (document 02, §5): plain cells
 abbrev pub maxPlains : ℕ
-maxPlains = 4
+maxPlains = State.plains
 
 -- the start values of the largest table
 abbrev pub maxValues : ℕ
@@ -52,7 +53,7 @@ rowBytes = 24
 
 -- "register 0..3"
 abbrev pub registers : ℕ
-registers = 4
+registers = State.registers
 
 -- Numbers
 
@@ -241,20 +242,20 @@ abbrev pub anyOrder : ℕ → Bool
 anyOrder o = leb o 4
 
 -- "Refused: load or failure order 1 or 3"
-abbrev pub loadOrder : ℕ → Bool
-loadOrder o = anyOrder o && not (eqb o 1) && not (eqb o 3)
+abbrev pub isLoadOrder : ℕ → Bool
+isLoadOrder o = anyOrder o && not (eqb o 1) && not (eqb o 3)
 
 -- "store order 2 or 3"
-abbrev pub storeOrder : ℕ → Bool
-storeOrder o = anyOrder o && not (eqb o 2) && not (eqb o 3)
+abbrev pub isStoreOrder : ℕ → Bool
+isStoreOrder o = anyOrder o && not (eqb o 2) && not (eqb o 3)
 
 -- "fence 0"
-abbrev pub fenceOrder : ℕ → Bool
-fenceOrder o = anyOrder o && not (eqb o 0)
+abbrev pub isFenceOrder : ℕ → Bool
+isFenceOrder o = anyOrder o && not (eqb o 0)
 
 -- "Only kinds 11 and 12 may fail, and only they, in RMW, use a failure order."
-abbrev pub failureOrder : ℕ → ℕ → Bool
-failureOrder kind f = cond (eqb kind 11 || eqb kind 12) (loadOrder f) (eqb f 0)
+abbrev pub isFailureOrder : ℕ → ℕ → Bool
+isFailureOrder kind f = cond (eqb kind 11 || eqb kind 12) (isLoadOrder f) (eqb f 0)
 
 -- "register 0..3"
 abbrev pub isRegister : ℕ → Bool
@@ -301,21 +302,21 @@ roomOf t rows row = record { threads = threadsOf t; cells = cellsOf t; plains = 
 abbrev pub loadRow : ℕ → Row → Decoded Op
 loadRow cells r =
     onlyIf
-    (ltb (r .object) cells && loadOrder (r .order) && isRegister (r .register)
+    (ltb (r .object) cells && isLoadOrder (r .order) && isRegister (r .register)
     && unused (r .failure ∷ r .kind ∷ r .target ∷ r .a ∷ r .b ∷ []))
     (load (r .object) (r .order) (r .register))
 
 abbrev pub storeRow : ℕ → Row → Decoded Op
 storeRow cells r =
     onlyIf
-    (ltb (r .object) cells && storeOrder (r .order)
+    (ltb (r .object) cells && isStoreOrder (r .order)
     && unused (r .failure ∷ r .kind ∷ r .register ∷ r .target ∷ r .b ∷ []))
     (store (r .object) (r .order) (r .a))
 
 abbrev pub storeRegisterRow : ℕ → Row → Decoded Op
 storeRegisterRow cells r =
     onlyIf
-    (ltb (r .object) cells && storeOrder (r .order) && isRegister (r .register)
+    (ltb (r .object) cells && isStoreOrder (r .order) && isRegister (r .register)
     && unused (r .failure ∷ r .kind ∷ r .target ∷ r .a ∷ r .b ∷ []))
     (storeRegister (r .object) (r .order) (r .register))
 
@@ -324,14 +325,14 @@ abbrev pub rmwRow : ℕ → Row → Decoded Change → Decoded Op
 rmwRow cells r refused = refused
 rmwRow cells r (decoded change) =
     onlyIf
-    (ltb (r .object) cells && anyOrder (r .order) && failureOrder (r .kind) (r .failure) && isRegister (r .register)
+    (ltb (r .object) cells && anyOrder (r .order) && isFailureOrder (r .kind) (r .failure) && isRegister (r .register)
     && unused (r .target ∷ []))
     (rmw (r .object) (r .order) (r .failure) change (r .register))
 
 abbrev pub fenceRow : Row → Decoded Op
 fenceRow r =
     onlyIf
-    (fenceOrder (r .order)
+    (isFenceOrder (r .order)
     && unused (r .object ∷ r .failure ∷ r .kind ∷ r .register ∷ r .target ∷ r .a ∷ r .b ∷ []))
     (fence (r .order))
 

@@ -25,7 +25,7 @@ marks = map bytesOf ("=" ∷ "!=" ∷ "<" ∷ "<=" ∷ ">" ∷ ">=" ∷ "(" ∷ 
 abbrev pub markIn : List ℕ → Found
 markIn word = placeIn 1 word marks
 
--- "THREAD.rREGISTER": 4 times the thread, and the register
+-- `THREAD.rREGISTER`: 4 times the thread, and the register
 unfoldable pub threadRegisterIn : List ℕ → Found
 threadRegisterIn bs =
     onlyIf
@@ -43,7 +43,7 @@ abbrev pub comparisonOf : ℕ → ℕ → ℕ → List ℕ
 comparisonOf sign at n = sign ∷ (at / 4) ∷ (at % 4) ∷ little 8 n
 
 module _ (lines : ℕ) where
-  -- behind "THREAD.rREGISTER SIGN"
+  -- behind `THREAD.rREGISTER SIGN`
   abbrev pub numberBehind : ℕ → ℕ → List ℕ → Unit
   numberBehind at sign bs =
       elim (numberIn (token (content lines bs))) [
@@ -51,7 +51,7 @@ module _ (lines : ℕ) where
         | found n ↦ unit (comparisonOf sign at n) (pastToken (content lines bs))
       ]
 
-  -- behind "THREAD.rREGISTER"
+  -- behind `THREAD.rREGISTER`
   abbrev pub signBehind : ℕ → List ℕ → Unit
   signBehind at bs =
       elim (only isSign (markIn (token (content lines bs)))) [
@@ -233,7 +233,7 @@ aThread lines m bs =
     (bareThen (rowsAhead lines (nextLine (skip bs))) (withThread m) (pastToken (skip bs)))
     (refusedLine (skip bs))
 
--- "finally", once there is a thread
+-- `finally`, once there is a thread
 abbrev pub theCondition : Made → List ℕ → Line
 theCondition m bs = cond (leb 1 (m .threads)) (concludes m (pastToken (skip bs))) (refusedLine (skip bs))
 
@@ -315,7 +315,7 @@ pub record ReadInto : Type 0 where
   pub table : List ℕ
   pub condition : List ℕ
 
--- "bytes past the last are zero"
+-- bytes past the last are zero
 abbrev pub filled : ℕ → List ℕ → List ℕ
 filled n bs = bs ++ replicate (n - length bs) 0
 

@@ -24,23 +24,23 @@ lineFeed = 10
 abbrev pub space : ℕ
 space = 32
 
--- "Blanks are spaces and tabs."
+-- blanks are spaces and tabs
 abbrev pub isBlank : ℕ → Bool
 isBlank b = eqb b space || eqb b 9
 
 abbrev pub isBetween : ℕ → ℕ → ℕ → Bool
 isBetween least most b = leb least b && leb b most
 
--- "A word is a run of letters, digits, `_` and `.`"
+-- a word is a run of letters, digits, `_` and `.`
 abbrev pub isLetter : ℕ → Bool
 isLetter b = isBetween 48 57 b || isBetween 65 90 b || isBetween 97 122 b || eqb b 95 || eqb b 46
 
--- "a sign a run of `=`, `!`, `<` and `>`"
+-- a sign is a run of `=`, `!`, `<` and `>`
 abbrev pub isMark : ℕ → Bool
 isMark b = eqb b 61 || eqb b 33 || eqb b 60 || eqb b 62
 
--- "A line ends at a line feed, or at a carriage return with a line feed behind it; a comment, from `#` on, belongs to the line's end;
--- so does the text's end."
+-- a line ends at a line feed, or at a carriage return with a line feed behind it; a comment, from `#` on, belongs to the line's end;
+-- so does the text's end
 unfoldable pub endsLine : List ℕ → Bool
 endsLine [] = true
 endsLine (b ∷ bs) = eqb b lineFeed || eqb b 35 || (eqb b 13 && eqb (getD bs 0 0) lineFeed)
@@ -56,7 +56,7 @@ run p (b ∷ bs) = cond (p b) (suc (run p bs)) 0
 abbrev pub skip : List ℕ → List ℕ
 skip bs = drop (run isBlank bs) bs
 
--- how long the token is that stands here: none at the line's end; "any other byte is a token by itself"
+-- how long the token is that stands here: none at the line's end; any other byte is a token by itself
 unfoldable pub tokenLength : List ℕ → ℕ
 tokenLength bs =
     cond (endsLine bs) 0
@@ -110,7 +110,7 @@ digitsBehind v [] = found v
 digitsBehind v (b ∷ bs) =
     elim (isDigit b && ltb (10 * v + (b - 48)) (2 ^ 64)) [ true ↦ digitsBehind (10 * v + (b - 48)) bs | false ↦ nothing ]
 
--- "Numbers are decimal, from 0 to 2^64 − 1, without leading zeros."
+-- numbers are decimal, from 0 to 2^64 − 1, without leading zeros
 unfoldable pub numberIn : List ℕ → Found
 numberIn bs =
     cond (isEmpty bs || (eqb (getD bs 0 0) 48 && not (eqb (length bs) 1))) nothing (digitsBehind 0 bs)
@@ -120,11 +120,11 @@ abbrev pub fourth : ℕ → List ℕ → Found
 fourth letter bs =
     onlyIf (eqb (length bs) 2 && eqb (getD bs 0 0) letter && isBetween 48 51 (getD bs 1 0)) (getD bs 1 0 - 48)
 
--- "r0 to r3"
+-- r0 to r3
 unfoldable pub registerIn : List ℕ → Found
 registerIn bs = fourth 114 bs
 
--- "p0 to p3"
+-- p0 to p3
 unfoldable pub plainIn : List ℕ → Found
 plainIn bs = fourth 112 bs
 

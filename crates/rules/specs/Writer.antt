@@ -1,4 +1,4 @@
--- A table and a final condition written as text: docs/GRAMMAR.md, "The text that is written". Assumes nothing.
+-- A table and a final condition written as text: docs/GRAMMAR.md, the text that is written. Assumes nothing.
 --     shown               a number in decimal
 --     rowShown            a row, by its form
 --     writtenText         the whole text

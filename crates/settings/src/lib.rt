@@ -47,5 +47,5 @@ fn within(n: u64, most: u64) -> bool
 pub fn holds(bytes: usize, records: u64) -> bool
     ensures { λ r. ⌜ r ≡ eqb bytes (16 * records) ⌝ }
 {
-    bytes % 16 == 0 && (bytes / 16) as u64 == records
+    bytes % RECORD == 0 && (bytes / RECORD) as u64 == records
 }

@@ -2,9 +2,8 @@
 ghost use mathlib.Core.Path.{_≡_};
 ghost use Prim.Native.Nat.{_-_};
 ghost use Rattle.spin.specs.Loops.{sameRow, repeatsIn, periodOf, isYield, yieldsIn};
+use decode::opcodes::YIELD;
 use table::limits::MAX_ROWS;
-
-const YIELD: u8 = 7;
 
 // The longest loop that is looked for.
 const LONGEST: usize = MAX_ROWS;

@@ -18,7 +18,9 @@ use layout::REGISTERS;
 use layout::wide8;
 
 // All of it in one table: 28 writers, 4 counts, 4 values, 20 registers, 5 rows, 4 writers of plain cells.
-pub type Held = [u64; 65];
+pub type Held = [u64; HELD];
+
+const HELD: usize = 65;
 
 const COUNT: usize = 28;
 
@@ -34,7 +36,7 @@ const PLAIN_WRITER: usize = 61;
 pub fn start(table: &[u8]) -> Held
     ensures { λ r. ⌜ r ≡ holds.heldAtStart (now (table .entry)) ⌝ }
 {
-    let mut held = [0; 65];
+    let mut held = [0; HELD];
     store(&mut held, 0, table::start_value(table, 0), 0);
     store(&mut held, 1, table::start_value(table, 1), 0);
     store(&mut held, 2, table::start_value(table, 2), 0);

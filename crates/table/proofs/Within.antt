@@ -8,7 +8,7 @@ use lib.Dec.{ltb, leb, eqb}
 use lib.ListN.{length}
 use borrow.Author.Tests.{ltb-true, leb-true}
 use Rattle.rules.specs.Change.{Change}
-use Rattle.rules.specs.Table.{maxThreads, maxCells, maxPlains, Row, Room, Op, Decoded, refused, decoded, onlyIf, isRegister, fenceOrder, load, store, storeRegister, rmw, fence, unsyncLoad, exclusive, yield, join, jump, jumpIf, jumpUnless, check, critical, exploreState, skipBranch, spurious, plainRead, plainWrite, loadRow, storeRow, storeRegisterRow, rmwRow, fenceRow, unsyncLoadRow, exclusiveRow, bareRow, joinRow, jumpRow, jumpOnRow, checkRow, spuriousRow, plainReadRow, plainWriteRow, changeDecoded, rowDecoded, rowAt, opAt}
+use Rattle.rules.specs.Table.{maxThreads, maxCells, maxPlains, Row, Room, Op, Decoded, refused, decoded, onlyIf, isRegister, isFenceOrder, load, store, storeRegister, rmw, fence, unsyncLoad, exclusive, yield, join, jump, jumpIf, jumpUnless, check, critical, exploreState, skipBranch, spurious, plainRead, plainWrite, loadRow, storeRow, storeRegisterRow, rmwRow, fenceRow, unsyncLoadRow, exclusiveRow, bareRow, joinRow, jumpRow, jumpOnRow, checkRow, spuriousRow, plainReadRow, plainWriteRow, changeDecoded, rowDecoded, rowAt, opAt}
 use Rattle.decode.specs.declared.Decoded as row
 use Rattle.decode.specs.declared.Decoded.the-variants as rows
 use Rattle.decode.specs.declared.Op as code
@@ -79,7 +79,7 @@ module _ (room : Room) (r : Row) (few : room .threads ≤ 5) (small : room .cell
   store-register-in = only (ltb (r .object) (room .cells) && _ && isRegister (r .register) && _) (storeRegister (r .object) (r .order) (r .register)) (λ e. later (room .cells) (r .object) (r .register) small _ _ e)
 
   fence-in : In (fenceRow r)
-  fence-in = only (fenceOrder (r .order) && _) (fence (r .order)) (λ e. tt)
+  fence-in = only (isFenceOrder (r .order) && _) (fence (r .order)) (λ e. tt)
 
   unsync-load-in : In (unsyncLoadRow (room .cells) r)
   unsync-load-in = only (ltb (r .object) (room .cells) && isRegister (r .register) && _) (unsyncLoad (r .object) (r .register)) (λ e. next (room .cells) (r .object) (r .register) small _ e)

@@ -34,7 +34,9 @@ use limits::VALUE;
 
 // A table's shape: threads, cells, the five row counts, the number of each thread's first row among all rows, and plain cells. Its
 // first seven numbers are the header's, in their places.
-pub type Shape = [u16; 13];
+pub type Shape = [u16; SHAPE];
+
+pub const SHAPE: usize = 13;
 
 pub const THREADS: usize = 0;
 
@@ -90,7 +92,7 @@ pub fn shape(table: &[u8]) -> Shape
     ensures { λ r. ⌜ r ≡ shapeOf (now (table .entry)) ⌝ }
 {
     if table.len() < HEADER {
-        return [0; 13];
+        return [0; SHAPE];
     }
     let threads = short8(table[0]);
     let cells = short8(table[1]);

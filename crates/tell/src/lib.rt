@@ -45,7 +45,9 @@ fn ran(page: &mut Page, table: &[u8], trace: &[u8], report: Report, whole: bool)
     let threads = report.threads;
     let is_limit = limit::is_limit(number);
     last::execution(page, table, trace, whole || !is_limit);
-    let to = stop::put_place(page, 0, table, report.thread, report.row, is_limit);
+    let thread = report::thread_of(answer);
+    let row = report::row_of(answer);
+    let to = stop::put_place(page, 0, table, thread, row, is_limit);
     out::write(page, to);
     if number == 10 {
         threads::waiting(page, table, trace, threads);

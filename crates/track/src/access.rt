@@ -19,9 +19,7 @@ use layout::of_cell::NON_LOAD_BRANCH;
 use layout::of_thread::SCHEDULE;
 use vv::VersionVec;
 
-// The operation that a thread is about to take, as a number: none, load, store, read-modify-write.
-pub const NO_ACTION: u16 = 0;
-
+// The operation that a thread is about to take, as a number; 0 is none (crate thread).
 pub const LOAD: u16 = 1;
 
 pub const STORE: u16 = 2;

@@ -25,7 +25,7 @@ nextFrom bs from = firstNot (isOther bs) (length bs - from) from
 abbrev pub noPart : Part
 noPart = record { sign = 0; thread = 0; register = 0; number = 0; value = 0; holds = true }
 
--- "its sign, the thread, the register, the number's eight": with what is held
+-- its sign, the thread, the register, the number's eight bytes: with what is held
 abbrev pub partFrom : List ℕ → List ℕ → ℕ → Part
 partFrom bs h at = record {
   sign = getD bs at 0;

@@ -77,34 +77,34 @@ refused-else p table condition number thread row a b c h = rw (ne-eqb number 2 a
 
 -- The verdict, by the answer's number n
 
-module _ (p : Page) (table condition trace : List ℕ) (s : Settings) (r : Report) {n : ℕ} (e : n ≡ r .answer) where
-  pub verdict-limit : true ≡ isLimit n → {m : Page} → m ≡ putLimit p trace n s (r .thread) (r .row) → m ≡ putVerdict p table condition trace s r
+module _ (p : Page) (table condition trace : List ℕ) (s : Settings) (r : Report) {n thread row : ℕ} (e : n ≡ r .answer) (threads : thread ≡ r .thread) (rows : row ≡ r .row) where
+  pub verdict-limit : true ≡ isLimit n → {m : Page} → m ≡ putLimit p trace n s thread row → m ≡ putVerdict p table condition trace s r
   unfolding putVerdict
-  verdict-limit l h = rw (← e, ← l) h
+  verdict-limit l h = rw (← e, ← threads, ← rows, ← l) h
 
   module _ (l : false ≡ isLimit n) where
-    pub verdict-refused : true ≡ isRefusal n → {m : Page} → m ≡ putRefused p table condition n (r .thread) (r .row) → m ≡ putVerdict p table condition trace s r
+    pub verdict-refused : true ≡ isRefusal n → {m : Page} → m ≡ putRefused p table condition n thread row → m ≡ putVerdict p table condition trace s r
     unfolding putVerdict
-    verdict-refused k h = rw (← e, ← l, ← k) h
+    verdict-refused k h = rw (← e, ← threads, ← rows, ← l, ← k) h
 
     module _ (k : false ≡ isRefusal n) where
       pub verdict-passed : n ≡ 0 → {m : Page} → m ≡ putPassed p table condition s (r .begun) → m ≡ putVerdict p table condition trace s r
       unfolding putVerdict
       verdict-passed z h = rw (← e, z) h
 
-      pub verdict-race : n ≡ 14 → {m : Page} → m ≡ putRace p table trace (r .thread) (r .row) (r .kind) (r .other) → m ≡ putVerdict p table condition trace s r
+      pub verdict-race : n ≡ 14 → {m : Page} → m ≡ putRace p table trace thread row (r .kind) (r .other) → m ≡ putVerdict p table condition trace s r
       unfolding putVerdict
-      verdict-race z h = rw (← e, z) h
+      verdict-race z h = rw (← e, ← threads, ← rows, z) h
 
-      pub verdict-check : n ≡ 15 → {m : Page} → m ≡ putCheck p table trace (r .thread) (r .row) → m ≡ putVerdict p table condition trace s r
+      pub verdict-check : n ≡ 15 → {m : Page} → m ≡ putCheck p table trace thread row → m ≡ putVerdict p table condition trace s r
       unfolding putVerdict
-      verdict-check z h = rw (← e, z) h
+      verdict-check z h = rw (← e, ← threads, ← rows, z) h
 
       pub verdict-finally : n ≡ 18 → {m : Page} → m ≡ putFinally p table condition trace → m ≡ putVerdict p table condition trace s r
       unfolding putVerdict
       verdict-finally z h = rw (← e, z) h
 
       pub verdict-failed : (n ≡ 0 → ⊥) → (n ≡ 14 → ⊥) → (n ≡ 15 → ⊥) → (n ≡ 18 → ⊥) →
-          {m : Page} → m ≡ putFailed p n (r .thread) (r .row) → m ≡ putVerdict p table condition trace s r
+          {m : Page} → m ≡ putFailed p n thread row → m ≡ putVerdict p table condition trace s r
       unfolding putVerdict
-      verdict-failed a b c d h = rw (← e, ← l, ← k, ne-eqb n 0 a, ne-eqb n 14 b, ne-eqb n 15 c, ne-eqb n 18 d) h
+      verdict-failed a b c d h = rw (← e, ← threads, ← rows, ← l, ← k, ne-eqb n 0 a, ne-eqb n 14 b, ne-eqb n 15 c, ne-eqb n 18 d) h

@@ -25,8 +25,8 @@ pub fn put(
 {
     let answer = report.answer;
     let number = report::number(answer);
-    let thread = report.thread;
-    let row = report.row;
+    let thread = report::thread_of(answer);
+    let row = report::row_of(answer);
     if limit::is_limit(number) {
         return limit::put(page, at, trace, number, settings, thread, row);
     }

@@ -52,12 +52,11 @@ module _ (h : Here) where
   by-fit f true v w = refl
   by-fit f false v w = refl
 
-  taken-asks : (q : Question) (yielded : Bool) (p : Program) (L : explorer.Limits) (w : Walk State) → takenAt (event.Asks q yielded) h p L w ≡ thenOn (asking q p L (w .state)) (completedAt q yielded h p L w)
+  taken-asks : (q : Question) (yielded : Bool) (p : Program) (L : explorer.Limits) (w : Walk State) → takenAt (event.Asks q yielded) h p L w ≡ thenOn (asking q p L (w .state)) (completedAt yielded h p L w)
   unfolding schedules
-  taken-asks question.Thread true p L w = by-fit (asking question.Thread p L (w .state)) (leb (length (w .trace) + length (completedBy question.Thread true h)) (L .operations)) (explorer.noted w (w .state) (completedBy question.Thread true h)) w
-  taken-asks question.Thread false p L w = by-fit (asking question.Thread p L (w .state)) (leb (length (w .trace) + length (completedBy question.Thread false h)) (L .operations)) (explorer.noted w (w .state) []) w
-  taken-asks question.Slot yielded p L w = by-fit (asking question.Slot p L (w .state)) (leb (length (w .trace) + length (completedBy question.Slot yielded h)) (L .operations)) (explorer.noted w (w .state) []) w
-  taken-asks question.Bit yielded p L w = by-fit (asking question.Bit p L (w .state)) (leb (length (w .trace) + length (completedBy question.Bit yielded h)) (L .operations)) (explorer.noted w (w .state) []) w
+  taken-asks question.Thread yielded p L w = by-fit (asking question.Thread p L (w .state)) (leb (length (w .trace) + length (completedBy yielded h)) (L .operations)) (explorer.noted w (w .state) (completedBy yielded h)) w
+  taken-asks question.Slot yielded p L w = by-fit (asking question.Slot p L (w .state)) (leb (length (w .trace) + length (completedBy yielded h)) (L .operations)) (explorer.noted w (w .state) (completedBy yielded h)) w
+  taken-asks question.Bit yielded p L w = by-fit (asking question.Bit p L (w .state)) (leb (length (w .trace) + length (completedBy yielded h)) (L .operations)) (explorer.noted w (w .state) (completedBy yielded h)) w
 
 module _ (c : Cursor) (h : Here) (ev : Event) (bound : Bound) (clocks : Clocks) (marks : MarkTable) (values : Values) (numbers : Numbers) (path trace : List ℕ) (placed : Placed c path trace) where
   abbrev before : Lent
@@ -81,7 +80,7 @@ module _ (c : Cursor) (h : Here) (ev : Event) (bound : Bound) (clocks : Clocks) 
             (l .comes p L before w (rooms .room) s);
       }
 
-  module _ (q : Question) (yielded : Bool) (e : ev ≡ event.Asks q yielded) (n : Ticked) (left : List ℕ) (l : Lands c n trace left (completedAt q yielded h)) where
+  module _ (q : Question) (yielded : Bool) (e : ev ≡ event.Asks q yielded) (n : Ticked) (left : List ℕ) (l : Lands c n trace left (completedAt yielded h)) where
     abbrev noted : Lent
     noted = lent clocks marks values numbers path left
 
@@ -96,7 +95,7 @@ module _ (c : Cursor) (h : Here) (ev : Event) (bound : Bound) (clocks : Clocks) 
           wrote = l .wrote;
           comes = λ p L w rooms needs s.
               subst (λ (y : Tick State). Comes (n .outcome) (n .cursor) noted y) (sym (taken-asks h q yielded p L w))
-              (stays-then (asking h q p L (w .state)) (n .cursor) noted (n .outcome) k (completedAt q yielded h p L w) (l .comes p L before w (rooms .room) s));
+              (stays-then (asking h q p L (w .state)) (n .cursor) noted (n .outcome) k (completedAt yielded h p L w) (l .comes p L before w (rooms .room) s));
         })
 
     module _ (d : Cursor) (marked : List ℕ) (m : Marks (n .cursor) d clocks numbers path marked bound q) (long : length marked ≡ length path) (goes-on : n .outcome ≡ code.Goes) (r : Ticked) (exit : Lent)
@@ -131,7 +130,7 @@ module _ (c : Cursor) (h : Here) (ev : Event) (bound : Bound) (clocks : Clocks) 
               beyond = λ i k. g .wrote .beyond i k ∙ l .wrote .beyond i (omega (arith, k, m .marked .same-entries, g .wrote .more));
             };
             comes = λ p L w rooms needs s.
-                let on = went-on (n .outcome) (completedAt q yielded h p L w) goes-on (l .comes p L before w (rooms .room) s) in
+                let on = went-on (n .outcome) (completedAt yielded h p L w) goes-on (l .comes p L before w (rooms .room) s) in
                 subst (λ (y : Tick State). Comes (r .outcome) (r .cursor) exit y) (sym (taken-asks h q yielded p L w ∙ ap (thenOn (asking h q p L (w .state))) (on .is)))
                 (meets-comes p L w (on .walk) rooms (needs .moves) (needs .is-bound) (on .stands .is-state ∙ sym (s .is-state)) (on .stands));
           })

@@ -29,6 +29,8 @@ use Rattle.event.specs.declared.Event.{Event}
 use Rattle.event.specs.declared.Event.the-variants as event
 use Rattle.event.specs.declared.Question.{Question}
 use Rattle.event.specs.declared.Question.the-variants as question
+use Rattle.execution.specs.Next.{nextWith}
+use Rattle.execution.proofs.TickLaws.{next-with}
 use Rattle.meeting.specs.Stands.{Lent, lent, Comes, siteOf}
 use Rattle.meeting.specs.Entries.{moveAt}
 use Rattle.meeting.specs.declared.Cursor.{Cursor}
@@ -189,8 +191,8 @@ taken-state p L site w s (stops st f) = refl
 taken-state p L site w s (ends st) = refl
 
 module _ (c : Cursor) (h : Here) (ev : Event) (shape : List ℕ) (limits : Limits) (clocks : Clocks) (marks : MarkTable) (values : Values) (numbers : Numbers) (clocks2 : Clocks) (marks2 : MarkTable) (values2 : Values) (numbers2 : Numbers) (path trace : List ℕ)
-    (does : (p : Program) → p .operations ≡ limits .operations → cellsOf (p .table) ≡ getD shape 1 0 → rowCount p (h .site .thread) ≡ getD shape (2 + h .site .thread) 0 → rowOf p (h .site .thread) (h .site .row) ≡ decodedOf (h .row)
-    → moveAt ev h (state clocks2 marks2 values2 numbers2) ≡ nextAt p (state clocks marks values numbers) (h .site .thread) (h .site .row))
+    (does : (p : Program) → p .operations ≡ limits .operations → cellsOf (p .table) ≡ getD shape 1 0
+    → moveAt ev h (state clocks2 marks2 values2 numbers2) ≡ nextWith p (state clocks marks values numbers) (h .site .thread) (h .site .row) (getD shape (2 + h .site .thread) 0) (decodedOf (h .row)))
     (below : h .site .thread < 5) (r : Ticked) (exit : Lent) (g : Goes (lent clocks2 marks2 values2 numbers2 path trace) exit c r 60 h (takesAt ev h (limits .bound)) (takenAt ev h)) where
   abbrev left : State
   left = state clocks2 marks2 values2 numbers2
@@ -204,7 +206,8 @@ module _ (c : Cursor) (h : Here) (ev : Event) (shape : List ℕ) (limits : Limit
         gone = g .gone;
         wrote = g .wrote;
         comes = λ p L w rooms needs s.
-            let is : moveAt ev h left ≡ nextAt p first (h .site .thread) (h .site .row) = does p (needs .operations) (needs .cells) (needs .rows) (rooms .is-row) in
+            let is : moveAt ev h left ≡ nextAt p first (h .site .thread) (h .site .row) =
+            does p (needs .operations) (needs .cells) ∙ next-with p first (h .site .thread) (h .site .row) _ _ (needs .rows) (rooms .is-row) in
             let there : AtRow first h = subst (λ (st : State). AtRow st h) (s .is-state) (needs .there) in
             let kept : AskKeeps (h .site .thread) first (moveAt ev h left) =
             subst (λ (m : Move State). AskKeeps (h .site .thread) first m) (sym is) (next-keeps (h .site .thread) below first p (h .site .row)) in

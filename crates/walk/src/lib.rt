@@ -101,7 +101,7 @@ fn tick_at(
     let row = here.row;
     let operations = limits.operations;
     let bound = limits.bound;
-    let event = execution::tick(clocks, marks, values, numbers, shape, operations, site, row);
+    let event = execution::next(clocks, marks, values, numbers, shape, operations, site, row);
     take(
         clocks,
         marks,
@@ -135,7 +135,7 @@ fn take(
     let Event::Asks { question, yielded } = event else {
         return conclude(trace, here, event, cursor);
     };
-    let noted = note_if(trace, question, yielded, here, cursor);
+    let noted = note_if(trace, here, yielded, cursor);
     let outcome = noted.outcome;
     let Outcome::Goes = outcome else {
         return noted;

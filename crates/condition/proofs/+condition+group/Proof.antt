@@ -24,10 +24,10 @@ use Rattle.condition.proofs.+condition+group.{statement}
 use Rattle.condition.proofs.+condition+group.Tie.{close}
 
 abbrev μ-condition : Measures 2 condition-kinds.ps ℕ
-μ-condition κs a = a .1 .1 .0 + a .1 .1 .0
+μ-condition κs a = a .1 .1 .1 .0 + a .1 .1 .1 .0
 
 abbrev μ-group : Measures 2 group-kinds.ps ℕ
-μ-group κs a = a .1 .1 .0 + a .1 .1 .0 + 1
+μ-group κs a = a .1 .1 .1 .0 + a .1 .1 .1 .0 + 1
 
 -- what each is given at the measure t, and what a call of it asks below t
 abbrev condition-at : ℕ → In 2 condition-kinds.ps
@@ -51,11 +51,11 @@ abbrev group-calls : ℕ → group-lts.Claims
 group-calls t = (condition-below t, condition.Post, byte-at-reads.Asked, byte-at-reads.Learnt, may-join-reads.Asked, may-join-reads.Learnt, joined-by-reads.Asked, joined-by-reads.Learnt)
 
 abbrev Inv-loop : group-lts.InvT-loop
-Inv-loop bytes start deep threads values value behind holds₀ at₀ joint₀ holds at joint =
+Inv-loop values bytes start deep threads value behind holds₀ at₀ joint₀ holds at joint =
     laws.Goes bytes start (conditionAt threads (registerIn values) deep) at joint holds
 
 abbrev μ-loop : group-lts.MeasureT-loop
-μ-loop bytes start deep threads values value behind holds₀ at₀ joint₀ holds at joint = length bytes - at
+μ-loop values bytes start deep threads value behind holds₀ at₀ joint₀ holds at joint = length bytes - at
 
 module _ (t : ℕ) where
   condition-comparison-requires : condition-lts.Need-comparison-requires (condition-calls t) (condition-at t) condition.Post

@@ -13,8 +13,8 @@ wide8-requires-2 c κs = search needs
 named-requires : tie.Need-named-requires
 named-requires c κs = search needs
 
-load-order-requires : tie.Need-load-order-requires
-load-order-requires c κs = search needs
+is-load-order-requires : tie.Need-is-load-order-requires
+is-load-order-requires c κs = search needs
 
 is-register-requires : tie.Need-is-register-requires
 is-register-requires c κs = search needs
@@ -31,7 +31,7 @@ only-if-requires c κs = search needs
 returns : tie.Need-returns
 returns c =
     let g = c .before .before .before .before .before .before .before .before .before .args in
-    load-made (g .cells) (rowOf (g .row)) (c .only-if .ensures) (c .before .before .before .before .before .before .named .ensures) (c .before .before .before .before .before .load-order .ensures) (c .before .before .before .before .is-register .ensures) (c .before .before .before .no-change .ensures) (c .before .no-operands .ensures) (c .before .before .before .before .before .before .before .before .wide8 .ensures .same) (c .before .before .before .before .before .before .before .wide82 .ensures .same)
+    load-made (g .cells) (rowOf (g .row)) (c .only-if .ensures) (c .before .before .before .before .before .before .named .ensures) (c .before .before .before .before .before .is-load-order .ensures) (c .before .before .before .before .is-register .ensures) (c .before .before .before .no-change .ensures) (c .before .no-operands .ensures) (c .before .before .before .before .before .before .before .before .wide8 .ensures .same) (c .before .before .before .before .before .before .before .wide82 .ensures .same)
 
 pub load-row-spec : {M : Type 1} → statement M
 load-row-spec =
@@ -40,7 +40,7 @@ load-row-spec =
     wide8-requires
     wide8-requires-2
     named-requires
-    load-order-requires
+    is-load-order-requires
     is-register-requires
     no-change-requires
     no-operands-requires

@@ -7,8 +7,8 @@ use Rattle.decode.proofs.rmw_fields.Tie as tie
 named-requires : tie.Need-named-requires
 named-requires c κs = search needs
 
-failure-order-requires : tie.Need-failure-order-requires
-failure-order-requires c κs = search needs
+is-failure-order-requires : tie.Need-is-failure-order-requires
+is-failure-order-requires c κs = search needs
 
 is-register-requires : tie.Need-is-register-requires
 is-register-requires c κs = search needs
@@ -16,8 +16,8 @@ is-register-requires c κs = search needs
 returns : tie.Need-returns
 returns c =
     let args = c .before .before .before .before .before .args in
-    fields-told (args .cells) (rowOf (args .row)) (c .before .before .before .before .named .ensures) (c .before .before .failure-order .ensures) (c .before .is-register .ensures)
+    fields-told (args .cells) (rowOf (args .row)) (c .before .before .before .before .named .ensures) (c .before .before .is-failure-order .ensures) (c .before .is-register .ensures)
 
 pub rmw-fields-spec : {M : Type 1} → statement M
 rmw-fields-spec =
-    tie.close (tie.spec named-requires failure-order-requires is-register-requires returns)
+    tie.close (tie.spec named-requires is-failure-order-requires is-register-requires returns)

@@ -7,8 +7,8 @@ use Rattle.decode.proofs.store_register_row.Tie as tie
 named-requires : tie.Need-named-requires
 named-requires c κs = search needs
 
-store-order-requires : tie.Need-store-order-requires
-store-order-requires c κs = search needs
+is-store-order-requires : tie.Need-is-store-order-requires
+is-store-order-requires c κs = search needs
 
 is-register-requires : tie.Need-is-register-requires
 is-register-requires c κs = search needs
@@ -31,14 +31,14 @@ only-if-requires c κs = search needs
 returns : tie.Need-returns
 returns c =
     let g = c .before .before .before .before .before .before .before .before .before .args in
-    store-register-made (g .cells) (rowOf (g .row)) (c .only-if .ensures) (c .before .before .before .before .before .before .before .before .named .ensures) (c .before .before .before .before .before .before .before .store-order .ensures) (c .before .before .before .before .before .before .is-register .ensures) (c .before .before .before .before .before .no-change .ensures) (c .before .before .before .no-operands .ensures) (c .before .before .wide8 .ensures .same) (c .before .wide82 .ensures .same)
+    store-register-made (g .cells) (rowOf (g .row)) (c .only-if .ensures) (c .before .before .before .before .before .before .before .before .named .ensures) (c .before .before .before .before .before .before .before .is-store-order .ensures) (c .before .before .before .before .before .before .is-register .ensures) (c .before .before .before .before .before .no-change .ensures) (c .before .before .before .no-operands .ensures) (c .before .before .wide8 .ensures .same) (c .before .wide82 .ensures .same)
 
 pub store-register-row-spec : {M : Type 1} → statement M
 store-register-row-spec =
     tie.close
     (tie.spec
     named-requires
-    store-order-requires
+    is-store-order-requires
     is-register-requires
     no-change-requires
     no-operands-requires

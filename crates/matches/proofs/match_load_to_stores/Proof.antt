@@ -9,12 +9,12 @@ use Rattle.matches.proofs.match_load_to_stores.Statement.{statement}
 use Rattle.matches.proofs.match_load_to_stores.Tie as tie
 
 abbrev Inv-loop : tie.InvT-loop
-Inv-loop clocks numbers access dst₀ marks thread cell seen last-yield live n₀ i₀ dst n i =
+Inv-loop clocks numbers dst₀ access marks thread cell seen last-yield live n₀ i₀ dst n i =
     let fate = loadFate clocks marks numbers (access .thread) (access .cell) (access .order) in
     (n ≤ i) × (i ≤ 7) × (offering dst n i (matchedFrom fate (live - i) i) ≡ offered (matchedFrom fate (liveIn numbers (access .cell)) 0) dst₀)
 
 abbrev μ-loop : tie.MeasureT-loop
-μ-loop clocks numbers access dst₀ marks thread cell seen last-yield live n₀ i₀ dst n i = 7 - i
+μ-loop clocks numbers dst₀ access marks thread cell seen last-yield live n₀ i₀ dst n i = 7 - i
 
 -- the fate that was answered is the definition's
 fated : (c : tie.After-load-fate Inv-loop μ-loop) →

@@ -9,12 +9,12 @@ use Rattle.matches.proofs.match_rmw_to_stores.Statement.{statement}
 use Rattle.matches.proofs.match_rmw_to_stores.Tie as tie
 
 abbrev Inv-loop : tie.InvT-loop
-Inv-loop clocks numbers cell dst₀ live n₀ i₀ dst n i =
+Inv-loop clocks numbers dst₀ cell live n₀ i₀ dst n i =
     let fate = rmwFate clocks numbers cell in
     (n ≤ i) × (i ≤ 7) × (offering dst n i (matchedFrom fate (live - i) i) ≡ offered (matchedFrom fate (liveIn numbers cell) 0) dst₀)
 
 abbrev μ-loop : tie.MeasureT-loop
-μ-loop clocks numbers cell dst₀ live n₀ i₀ dst n i = 7 - i
+μ-loop clocks numbers dst₀ cell live n₀ i₀ dst n i = 7 - i
 
 add-live-stores : tie.Need-add-live-stores Inv-loop μ-loop
 add-live-stores c = search needs

@@ -4,12 +4,6 @@ use borrow.Author.Needs.{needs}
 use Rattle.report.proofs.finished.Statement.{statement}
 use Rattle.report.proofs.finished.Tie as tie
 
-thread-of-requires : tie.Need-thread-of-requires
-thread-of-requires c κs = search needs
-
-row-of-requires : tie.Need-row-of-requires
-row-of-requires c κs = search needs
-
 summaries-requires : tie.Need-summaries-requires
 summaries-requires c κs = search needs
 
@@ -22,14 +16,10 @@ wide16-requires c κs = search needs
 returns : tie.Need-returns
 returns c =
     let all = c .before .before in
-    let row = all .before in
-    let thread = row .before in
-    let args = thread .before .args in
+    let args = all .before .args in
     λ marks values.
-    finished-so (args .answer) (args .counts .begun) (args .counts .opened) (args .counts .«open») (c .wide16 .result) (thread .thread-of .result) (row .row-of .result) (all .summaries .result)
+    finished-so (args .answer) (args .counts .begun) (args .counts .opened) (args .counts .«open») (c .wide16 .result) (all .summaries .result)
     (state (args .clocks .now) marks values (args .numbers .now))
-    (thread .thread-of .ensures)
-    (row .row-of .ensures)
     (c .wide16 .ensures .same)
     (all .summaries .ensures marks values)
 
@@ -37,8 +27,6 @@ pub finished-spec : {M : Type 1} → statement M
 finished-spec =
     tie.close
     (tie.spec
-    thread-of-requires
-    row-of-requires
     summaries-requires
     element-copy-out-wide16
     wide16-requires

@@ -5,26 +5,26 @@ use Rattle.row_line.proofs.fields_at.Tie as tie
 row-at-requires : tie.Need-row-at-requires
 row-at-requires c κs = search needs
 
-wide-requires : tie.Need-wide-requires
-wide-requires c κs = search needs
+long8-requires : tie.Need-long8-requires
+long8-requires c κs = search needs
 
-wide-requires-2 : tie.Need-wide-requires-2
-wide-requires-2 c κs = search needs
+long8-requires-2 : tie.Need-long8-requires-2
+long8-requires-2 c κs = search needs
 
-wide-requires-3 : tie.Need-wide-requires-3
-wide-requires-3 c κs = search needs
+long8-requires-3 : tie.Need-long8-requires-3
+long8-requires-3 c κs = search needs
 
-wide-requires-4 : tie.Need-wide-requires-4
-wide-requires-4 c κs = search needs
+long8-requires-4 : tie.Need-long8-requires-4
+long8-requires-4 c κs = search needs
 
-wide-requires-5 : tie.Need-wide-requires-5
-wide-requires-5 c κs = search needs
+long8-requires-5 : tie.Need-long8-requires-5
+long8-requires-5 c κs = search needs
 
-wide-requires-6 : tie.Need-wide-requires-6
-wide-requires-6 c κs = search needs
+long8-requires-6 : tie.Need-long8-requires-6
+long8-requires-6 c κs = search needs
 
-wide-two-requires : tie.Need-wide-two-requires
-wide-two-requires c κs = search needs
+long16-requires : tie.Need-long16-requires
+long16-requires c κs = search needs
 
 returns : tie.Need-returns
 returns c = cc
@@ -34,11 +34,11 @@ fields-at-spec =
     tie.close
     (tie.spec
     row-at-requires
-    wide-requires
-    wide-requires-2
-    wide-requires-3
-    wide-requires-4
-    wide-requires-5
-    wide-requires-6
-    wide-two-requires
+    long8-requires
+    long8-requires-2
+    long8-requires-3
+    long8-requires-4
+    long8-requires-5
+    long8-requires-6
+    long16-requires
     returns)

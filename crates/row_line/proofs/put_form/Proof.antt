@@ -41,20 +41,20 @@ add-next-line c = search needs
 next-line-requires : tie.Need-next-line-requires Inv-loop μ-loop
 next-line-requires c κs = search needs
 
-shared-slice-read-wide : tie.Need-shared-slice-read-wide Inv-loop μ-loop
-shared-slice-read-wide c = search needs
+shared-slice-read-long8 : tie.Need-shared-slice-read-long8 Inv-loop μ-loop
+shared-slice-read-long8 c = search needs
 
-wide-requires : tie.Need-wide-requires Inv-loop μ-loop
-wide-requires c κs = search needs
+long8-requires : tie.Need-long8-requires Inv-loop μ-loop
+long8-requires c κs = search needs
 
-add-wide : tie.Need-add-wide Inv-loop μ-loop
-add-wide c = omega (arith, two (c .before .before .before))
+add-long8 : tie.Need-add-long8 Inv-loop μ-loop
+add-long8 c = omega (arith, two (c .before .before .before))
 
-shared-slice-read-wide-2 : tie.Need-shared-slice-read-wide-2 Inv-loop μ-loop
-shared-slice-read-wide-2 c = two (c .before .before .before .before)
+shared-slice-read-long8-2 : tie.Need-shared-slice-read-long8-2 Inv-loop μ-loop
+shared-slice-read-long8-2 c = two (c .before .before .before .before)
 
-wide-requires-2 : tie.Need-wide-requires-2 Inv-loop μ-loop
-wide-requires-2 c κs = search needs
+long8-requires-2 : tie.Need-long8-requires-2 Inv-loop μ-loop
+long8-requires-2 c κs = search needs
 
 add-part : tie.Need-add-part Inv-loop μ-loop
 add-part c = search needs
@@ -83,7 +83,7 @@ returns c =
     let line = first .before .before in
     let round = line .before in
     put-found _ _ _ _ _ _ _ _ (round .before .loop .inv .1)
-    (put .before .part .ensures ∙ look-found _ _ _ _ (turn round) (line .next-line .result) (line .next-line .ensures) (test-there _ _ _ _ _ _ _ (first .wide .ensures) (second .wide2 .ensures) (found .if1 .taken)))
+    (put .before .part .ensures ∙ look-found _ _ _ _ (turn round) (line .next-line .result) (line .next-line .ensures) (test-there _ _ _ _ _ _ _ (first .long8 .ensures) (second .long82 .ensures) (found .if1 .taken)))
     (put .put-words .ensures)
 
 loop-less : tie.Need-loop-less Inv-loop μ-loop
@@ -94,7 +94,7 @@ loop-again c =
     let second = c .before in
     let first = second .before .before in
     let line = first .before .before in
-    (look-on _ _ _ _ (turn (line .before)) (line .next-line .result) (line .next-line .ensures) (test-there _ _ _ _ _ _ _ (first .wide .ensures) (second .wide2 .ensures) (c .if1 .left)), line .before .before .loop .inv .1)
+    (look-on _ _ _ _ (turn (line .before)) (line .next-line .result) (line .next-line .ensures) (test-there _ _ _ _ _ _ _ (first .long8 .ensures) (second .long82 .ensures) (c .if1 .left)), line .before .before .loop .inv .1)
 
 same-length-2 : tie.Need-same-length-2 Inv-loop μ-loop
 same-length-2 c = search needs
@@ -115,11 +115,11 @@ put-form-spec =
     loop-holds
     add-next-line
     next-line-requires
-    shared-slice-read-wide
-    wide-requires
-    add-wide
-    shared-slice-read-wide-2
-    wide-requires-2
+    shared-slice-read-long8
+    long8-requires
+    add-long8
+    shared-slice-read-long8-2
+    long8-requires-2
     add-part
     sub-part
     part-requires

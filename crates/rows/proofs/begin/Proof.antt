@@ -1,7 +1,7 @@
 use native.Mathlib.Omega.{arith}
 use Rattle.layout.specs.Tables.{state}
 use Rattle.decode.specs.Ops.{opOf}
-use Rattle.rows.proofs.RowLaws.{sets-none, sets-one, sets-within, begins-not, begins-bare, begins-asking}
+use Rattle.rows.proofs.RowLaws.{sets-none, sets-one, sets-within, begun-not, begun-bare, begun-asking}
 use borrow.Author.Needs.{needs}
 use Rattle.rows.proofs.begin.Statement.{statement}
 use Rattle.rows.proofs.begin.Tie as tie
@@ -12,7 +12,7 @@ element-copy-out-if1 c = search needs
 returns : tie.Need-returns
 returns c =
     let args = c .before .before .args in
-    λ p clocks marks values k opcode m e. begins-not p (state clocks marks values (args .numbers .now)) (args .thread) k (args .limit) (opOf (args .op)) e (c .if1 .taken)
+    λ clocks marks values k opcode m. begun-not (state clocks marks values (args .numbers .now)) (args .thread) (args .limit) (opOf (args .op)) (c .if1 .taken)
 
 element-copy-out-one-more : tie.Need-element-copy-out-one-more
 element-copy-out-one-more c = search needs
@@ -69,8 +69,8 @@ returns-2 c =
     let one = two .before .before in
     let test = one .before .before in
     let args = test .before .before .args in
-    λ p clocks marks values k opcode m e.
-    begins-bare clocks marks values (args .numbers .now) (args .thread) _ _ (one .one-more .ensures) (two .one-more2 .ensures) p k (args .limit) (opOf (args .op)) e (test .if1 .left)
+    λ clocks marks values k opcode m.
+    begun-bare clocks marks values (args .numbers .now) (args .thread) _ _ (args .limit) (opOf (args .op)) (one .one-more .ensures) (two .one-more2 .ensures) (test .if1 .left)
     (sets-none _ (opOf (args .op)) (pend .pending-of .ensures) (c .enum-told .given .1))
 
 add-numbers-3 : tie.Need-add-numbers-3
@@ -109,8 +109,8 @@ returns-3 c =
     let one = two .before .before in
     let test = one .before .before in
     let args = test .before .before .args in
-    λ p clocks marks values k opcode m e.
-    begins-asking clocks marks values (args .numbers .now) (args .thread) _ _ (one .one-more .ensures) (two .one-more2 .ensures) p k (args .limit) (opOf (args .op)) e (test .if1 .left) _ _
+    λ clocks marks values k opcode m.
+    begun-asking clocks marks values (args .numbers .now) (args .thread) _ _ (args .limit) (opOf (args .op)) (one .one-more .ensures) (two .one-more2 .ensures) (test .if1 .left) _ _
     (sets-one _ (opOf (args .op)) (pend .pending-of .ensures) _ _ (action .action .given .1))
 
 pub begin-spec : {M : Type 1} → statement M

@@ -6,11 +6,10 @@ use Rattle.rules.specs.Event.{offers}
 use Rattle.rules.specs.State.{Numbers}
 use Rattle.layout.specs.Tables.{state}
 use Rattle.decode.specs.Ops.{opOf}
-use Rattle.event.specs.Moves.{moveOf}
 use Rattle.execution.proofs.TickLaws.{row-within, begun-other, begun-acts, next-ended, next-refused, next-begins, next-acts}
 use borrow.Author.Needs.{needs}
-use Rattle.execution.proofs.tick.Statement.{statement}
-use Rattle.execution.proofs.tick.Tie as tie
+use Rattle.execution.proofs.next.Statement.{statement}
+use Rattle.execution.proofs.next.Tie as tie
 
 is-to-begin-requires : tie.Need-is-to-begin-requires
 is-to-begin-requires c κs = search needs
@@ -33,8 +32,8 @@ returns c =
     let first = past .before .before .before in
     let call = first .before in
     let args = call .before .before .args in
-    λ p limited celled counted says.
-    next-ended p (state (args .clocks .now) (args .marks .now) (args .values .now) (args .numbers .now)) (args .site .thread) (args .site .row) _ _ (call .is-to-begin .ensures (args .clocks .now) (args .marks .now) (args .values .now)) counted (first .if1 .taken) (past .if2 .taken) _ (c .end .ensures (args .clocks .now) (args .marks .now) (args .values .now))
+    λ p limited celled.
+    next-ended p (state (args .clocks .now) (args .marks .now) (args .values .now) (args .numbers .now)) (args .site .thread) (args .site .row) _ _ (call .is-to-begin .ensures (args .clocks .now) (args .marks .now) (args .values .now)) (args .row) (first .if1 .taken) (past .if2 .taken) _ (c .end .ensures (args .clocks .now) (args .marks .now) (args .values .now))
 
 enum-known-row : tie.Need-enum-known-row
 enum-known-row c = search needs
@@ -48,8 +47,8 @@ returns-2 c =
     let call = joined .before in
     let start = call .before .before in
     let args = start .args in
-    λ p limited celled counted says.
-    next-refused p (state (args .clocks .now) (args .marks .now) (args .values .now) (args .numbers .now)) (args .site .thread) (args .site .row) _ _ (call .is-to-begin .ensures (args .clocks .now) (args .marks .now) (args .values .now)) counted (⊎-elim (λ w. inl (w .3 .left)) (λ w. inr (w .left)) (joined .if1 .came)) (args .row) says (c .enum-told .given .1)
+    λ p limited celled.
+    next-refused p (state (args .clocks .now) (args .marks .now) (args .values .now) (args .numbers .now)) (args .site .thread) (args .site .row) _ _ (call .is-to-begin .ensures (args .clocks .now) (args .marks .now) (args .values .now)) (args .row) (⊎-elim (λ w. inl (w .3 .left)) (λ w. inr (w .left)) (joined .if1 .came)) (c .enum-told .given .1)
 
 begin-requires : tie.Need-begin-requires
 begin-requires c κs =
@@ -70,9 +69,9 @@ returns-3 c =
     let call = joined .before in
     let start = call .before .before in
     let args = start .args in
-    λ p limited celled counted says.
-    next-begins p (state (args .clocks .now) (args .marks .now) (args .values .now) (args .numbers .now)) (args .site .thread) (args .site .row) _ _ (call .is-to-begin .ensures (args .clocks .now) (args .marks .now) (args .values .now)) counted (⊎-elim (λ w. inl (w .3 .left)) (λ w. inr (w .left)) (joined .if1 .came)) (args .row) says _ (row .row .given .1) (test .if3 .taken) _
-    (begun-other (begin .begin .result) _ _ (c .match2 .keys2) ∙ begin .begin .ensures p (args .clocks .now) (args .marks .now) (args .values .now) (args .site .row) _ _ limited)
+    λ p limited celled.
+    next-begins p (state (args .clocks .now) (args .marks .now) (args .values .now) (args .numbers .now)) (args .site .thread) (args .site .row) _ _ (call .is-to-begin .ensures (args .clocks .now) (args .marks .now) (args .values .now)) (args .row) (⊎-elim (λ w. inl (w .3 .left)) (λ w. inr (w .left)) (joined .if1 .came)) _ (row .row .given .1) (test .if3 .taken) _
+    (begun-other p (state (args .clocks .now) (args .marks .now) (args .values .now) (args .numbers .now)) _ (args .site .thread) (args .site .row) _ _ _ _ (begin .begin .result) limited (begin .begin .ensures (args .clocks .now) (args .marks .now) (args .values .now) (args .site .row) _ _) (c .match2 .keys2))
 
 element-copy-out-wide16 : tie.Need-element-copy-out-wide16
 element-copy-out-wide16 c = search needs
@@ -97,18 +96,18 @@ returns-4 c =
     let call = joined .before in
     let start = call .before .before in
     let args = start .args in
-    λ p limited celled counted says.
-    next-acts p (state (args .clocks .now) (args .marks .now) (args .values .now) (args .numbers .now)) (args .site .thread) (args .site .row) _ _ (call .is-to-begin .ensures (args .clocks .now) (args .marks .now) (args .values .now)) counted (⊎-elim (λ w. inl (w .3 .left)) (λ w. inr (w .left)) (joined .if1 .came)) (args .row) says _ (row .row .given .1)
+    λ p limited celled.
+    next-acts p (state (args .clocks .now) (args .marks .now) (args .values .now) (args .numbers .now)) (args .site .thread) (args .site .row) _ _ (call .is-to-begin .ensures (args .clocks .now) (args .marks .now) (args .values .now)) (args .row) (⊎-elim (λ w. inl (w .3 .left)) (λ w. inr (w .left)) (joined .if1 .came)) _ (row .row .given .1)
     (state (args .clocks .now) (args .marks .now) (args .values .now) (test .if3 .numbers))
     (⊎-elim
-    (λ w. inl (w .0 .taken, begun-acts p (args .site .thread) (args .site .row) (opOf (row .row .given .0 .0)) _ _ (w .2 .result) (moveOf (w .2 .result) (args .site .thread) (args .site .row) 0 (offers []) _) _ (w .4 .given .1) (ap (λ (n : Numbers). state (args .clocks .now) (args .marks .now) (args .values .now) n) (w .5)) (w .2 .ensures p (args .clocks .now) (args .marks .now) (args .values .now) (args .site .row) 0 (offers []) limited)))
+    (λ w. inl (w .0 .taken, begun-acts p (state (args .clocks .now) (args .marks .now) (args .values .now) (args .numbers .now)) _ (args .site .thread) (args .site .row) 0 (args .limit) (opOf (row .row .given .0 .0)) (offers []) (w .2 .result) limited (w .2 .ensures (args .clocks .now) (args .marks .now) (args .values .now) (args .site .row) 0 (offers [])) (w .4 .given .1) _ (ap (λ (n : Numbers). state (args .clocks .now) (args .marks .now) (args .values .now) n) (w .5))))
     (λ w. inr (w .0 .left, ap (λ (n : Numbers). state (args .clocks .now) (args .marks .now) (args .values .now) n) (w .1)))
     (test .if3 .came))
     (c .act .result) _
     (c .act .ensures p (celled ∙ sym (wide .wide16 .ensures .same)))
 
-pub tick-spec : {M : Type 1} → statement M
-tick-spec =
+pub next-spec : {M : Type 1} → statement M
+next-spec =
     tie.close
     (tie.spec
     is-to-begin-requires
