@@ -2,7 +2,7 @@
 --     row-within                                what a row names
 --     begun-other, begun-acts                   a row that has begun: the event is what it comes to, or it acts
 --     such                                      there is a program with any limit and any number of cells
---     next-with                                   of the table's count and row, it is the definition's
+--     next-with                                 of the table's count and row, it is the definition's
 --     next-ended, next-refused, next-begins, next-acts     by where the thread stands
 use Prim.Native.Nat.{ℕ, _≤_, _<_}
 use mathlib.Core.List.{List, [], _∷_}
@@ -67,7 +67,7 @@ not-both : (x y : Bool) → y ≡ false → x && y ≡ false
 not-both true y e = e
 not-both false y e = refl
 
--- a program with this limit and so many cells. There is one, so that what `tick` promises of such a program speaks of every call
+-- a program with this limit and so many cells. There is one, so that what `next` promises of such a program speaks of every call
 pub record Such (limit cells : ℕ) : Type 0 where
   pub program : Program
   pub limited : program .operations ≡ limit
