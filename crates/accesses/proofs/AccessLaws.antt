@@ -11,7 +11,7 @@ use Rattle.rules.specs.Event as Event
 use Rattle.rules.specs.Event.{Move, moves, stops}
 use Rattle.rules.specs.State.{State, Clocks, Marks, Values, Numbers, value, withValue, number, storeAt, registerAt, ofStore, ofRegister, count, threads}
 use Rattle.rules.specs.Vector.{oneMore, zeros}
-use Rattle.rules.specs.Cell.{Access, Race, slotOf, newest, noRace, raceOf, storeRace, storeTracked, storeDone, withClocks}
+use Rattle.rules.specs.Cell.{AccessResult, Race, slotOf, newest, noRace, raceOf, storeRace, storeTracked, storeDone, withClocks}
 use Rattle.rules.specs.Machine.{versionRaised, completed, entry, noSlot, storesUnless, stores, reads, leavesIn, writesUnless}
 use Rattle.layout.specs.Tables.{state}
 use Rattle.atomic.specs.Accesses.{accessOf}
@@ -35,11 +35,11 @@ module _ (t k opcode r : ℕ) where
         moves st (entry t k opcode slot mask v) ≡ reads (accessOf loaded (state clocks marks values numbers)) t k opcode r slot mask
     put-done v e clocks marks values numbers at next f g st h = rw (e, h, g, f)
 
-  pub reads-as : (mask slot n : ℕ) → slot ≡ n → (x y : Access) → x ≡ y → (move : Move State) →
+  pub reads-as : (mask slot n : ℕ) → slot ≡ n → (x y : AccessResult) → x ≡ y → (move : Move State) →
       move ≡ reads x t k opcode r slot mask → move ≡ reads y t k opcode r n mask
   reads-as mask slot n e x y f move p = rw (← e, ← f) p
 
-  module _ (c : ℕ) (m : Mutated) (clocks : Clocks) (marks : Marks) (values : Values) (numbers : Numbers) (x : Access)
+  module _ (c : ℕ) (m : Mutated) (clocks : Clocks) (marks : Marks) (values : Values) (numbers : Numbers) (x : AccessResult)
       (access : mutatedOf m (state clocks marks values numbers) ≡ x) where
     pub mut-raced : (kind other : ℕ) → m ≡ mutates.Raced kind other →
         stops (state clocks marks values numbers) (Event.race kind other) ≡ leavesIn x t k opcode c r

@@ -16,7 +16,7 @@ use denote.Enum.Declared.{tagOf}
 use Rattle.rules.specs.Event as Event
 use Rattle.rules.specs.Event.{Move, stops, slotsFrom}
 use Rattle.rules.specs.State.{State, Clocks, Marks, Values, Numbers, marksOf, number, count}
-use Rattle.rules.specs.Cell.{Access, read, loadDone, rmwDone, matchedLoad, matchedRmw}
+use Rattle.rules.specs.Cell.{AccessResult, read, loadDone, rmwDone, matchedLoad, matchedRmw}
 use Rattle.rules.specs.Machine.{ifLive, reads, readFrom}
 use Rattle.rules.specs.Table as Table
 use Rattle.rules.specs.Table.{opcodeOf, opcodeIn}
@@ -93,7 +93,7 @@ rmw-read op c o f change r e h =
 pub other-read : (op : Op) → OneOf elsewhere (tagOf the-type op) → Means Nothing (opOf op)
 other-read op e = record { is = others op e .nothing; within = tt }
 
-module _ (st : State) (t slot : ℕ) (x : Access) (op : Op) (c o : ℕ) where
+module _ (st : State) (t slot : ℕ) (x : AccessResult) (op : Op) (c o : ℕ) where
   pub load-done : (r : ℕ) → op ≡ code.Load o c r → x ≡ loadDone st t c slot o → x ≡ readDone st t slot (opOf op)
   load-done r e f = f ∙ sym (ap (λ (p : Op). readDone st t slot (opOf p)) e)
 
@@ -181,7 +181,7 @@ module _ (st : State) (t k slot mask : ℕ) where
       pub from-dead : b ≡ false → stops st Event.impossible ≡ readFrom st t k slot mask (decodedOf row)
       from-dead f = rw (by-found (Of cell register) e, ← live, f)
 
-      pub from-live : b ≡ true → (x : Access) → x ≡ readDone st t slot (opOf op) → (move : Move State) →
+      pub from-live : b ≡ true → (x : AccessResult) → x ≡ readDone st t slot (opOf op) → (move : Move State) →
           move ≡ reads x t k (opcodeIn (decodedOf row)) register slot mask → move ≡ readFrom st t k slot mask (decodedOf row)
       from-live f x g move p =
           let q : move ≡ reads x t k (opcodeOf (opOf op)) register slot mask =

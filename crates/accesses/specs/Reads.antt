@@ -3,7 +3,7 @@
 --     Means             the cell and the register
 use Prim.Native.Nat.{ℕ, _<_}
 use mathlib.Core.Path.{_≡_}
-use Rattle.rules.specs.Cell.{Access, read, loadDone, rmwDone}
+use Rattle.rules.specs.Cell.{AccessResult, read, loadDone, rmwDone}
 use Rattle.rules.specs.State.{State}
 use Rattle.rules.specs.Table as Table
 use Rattle.rules.specs.Table.{Op}
@@ -11,7 +11,7 @@ use Rattle.accesses.specs.declared.Reading.{Reading}
 use Rattle.accesses.specs.declared.Reading.the-variants as code
 
 -- the load or the RMW of a thread, of a slot
-abbrev pub readDone : State → ℕ → ℕ → Op → Access
+abbrev pub readDone : State → ℕ → ℕ → Op → AccessResult
 readDone st t slot (Table.load c o r) = loadDone st t c slot o
 readDone st t slot (Table.rmw c o f change r) = rmwDone st t c slot change o f
 readDone st t slot (Table.store c o a) = read 0 st

@@ -21,8 +21,8 @@ use atomic::Mutated;
 use change::Change;
 use decode::Decoded;
 use decode::Op;
-use event::Event;
 use event::Fault;
+use event::Moved;
 use event::NO_SLOT;
 use event::Site;
 use layout::Access;
@@ -58,14 +58,14 @@ pub fn store_row(
     cell: usize,
     order: u8,
     value: u64,
-) -> Event
+) -> Moved
     requires { ⌜ (site .thread < 5) × (cell < 4) ⌝ }
     ensures { λ r. ⌜ ((opcode : ℕ) (m : events.Matched) → moveOf r (site .thread) (site .row) opcode m (state (now (clocks .exit)) (now (marks .exit)) (now (values .exit)) (now (numbers .exit))) ≡ machine.stores (state (now (clocks .entry)) (now (marks .entry)) (now (values .entry)) (now (numbers .entry))) (site .thread) (site .row) opcode cell order value) ⌝ }
 {
     let thread = site.thread;
     thread::raise(clocks, thread);
     if let Race::With { kind, other } = track::track_store(clocks, thread, cell) {
-        return Event::Stops(Fault::Race { kind, other });
+        return Moved::Stops(Fault::Race { kind, other });
     }
     let slot = slots::index(numbers[COUNT + cell]);
     let act = Access {
@@ -75,7 +75,7 @@ pub fn store_row(
     };
     atomic::store(clocks, marks, values, numbers, act, [0; MAX_THREADS], value);
     thread::complete(numbers, thread, vv::one_more(site.row));
-    Event::Done {
+    Moved::Done {
         slot: slot as u8,
         mask: 0,
         value,
@@ -90,7 +90,7 @@ pub fn unsync_load_row(
     site: Site,
     cell: usize,
     register: usize,
-) -> Event
+) -> Moved
     requires { ⌜ (site .thread < 5) × (cell < 4) × (register < 4) ⌝ }
     ensures { λ r. ⌜ ((marks : rules.Marks) (opcode : ℕ) (m : events.Matched) → moveOf r (site .thread) (site .row) opcode m (state (now (clocks .exit)) marks (now (values .exit)) (now (numbers .exit))) ≡ machine.reads (cells.unsyncLoadDone (state (now (clocks .entry)) marks (now (values .entry)) (now (numbers .entry))) (site .thread) cell) (site .thread) (site .row) opcode register (cells.newest (rules.number (now (numbers .entry)) (rules.count cell))) 0) ⌝ }
 {
@@ -109,19 +109,19 @@ pub fn with_mut_row(
     cell: usize,
     change: Change,
     register: usize,
-) -> Event
+) -> Moved
     requires { ⌜ (site .thread < 5) × (cell < 4) × (register < 4) ⌝ }
     ensures { λ r. ⌜ ((marks : rules.Marks) (opcode : ℕ) (m : events.Matched) → moveOf r (site .thread) (site .row) opcode m (state (now (clocks .exit)) marks (now (values .exit)) (now (numbers .exit))) ≡ machine.leavesIn (cells.mutDone (state (now (clocks .entry)) marks (now (values .entry)) (now (numbers .entry))) (site .thread) cell (changeMeant change)) (site .thread) (site .row) opcode cell register) ⌝ }
 {
     let thread = site.thread;
     match atomic::with_mut(clocks, values, numbers, thread, cell, change) {
-        Mutated::Raced { kind, other } => Event::Stops(Fault::Race { kind, other }),
+        Mutated::Raced { kind, other } => Moved::Stops(Fault::Race { kind, other }),
         Mutated::Values { read, .. } => {
             let slot = slots::newest(numbers[COUNT + cell]);
             let left = values[VALUE + store_at(cell, slot)];
             values[REGISTER + register_at(thread, register)] = read;
             thread::complete(numbers, thread, vv::one_more(site.row));
-            Event::Done {
+            Moved::Done {
                 slot: slot as u8,
                 mask: 0,
                 value: left,
@@ -138,7 +138,7 @@ pub fn plain_read_row(
     site: Site,
     plain: usize,
     register: usize,
-) -> Event
+) -> Moved
     requires { ⌜ (site .thread < 5) × (plain < 4) × (register < 4) ⌝ }
     ensures { λ r. ⌜ ((marks : rules.Marks) (opcode : ℕ) (m : events.Matched) → moveOf r (site .thread) (site .row) opcode m (state (now (clocks .exit)) marks (now (values .exit)) (now (numbers .exit))) ≡ machine.reads (plainReadDone (state (now (clocks .entry)) marks (now (values .entry)) (now (numbers .entry))) (site .thread) plain) (site .thread) (site .row) opcode register machine.noSlot 0) ⌝ }
 {
@@ -154,16 +154,16 @@ pub fn plain_write_row(
     site: Site,
     plain: usize,
     value: u64,
-) -> Event
+) -> Moved
     requires { ⌜ (site .thread < 5) × (plain < 4) ⌝ }
     ensures { λ r. ⌜ ((marks : rules.Marks) (opcode : ℕ) (m : events.Matched) → moveOf r (site .thread) (site .row) opcode m (state (now (clocks .exit)) marks (now (values .exit)) (now (numbers .exit))) ≡ machine.writesUnless (plainWriteRace (now (clocks .entry)) (site .thread) plain) (state (now (clocks .entry)) marks (now (values .entry)) (now (numbers .entry))) (plainWriteDone (state (now (clocks .entry)) marks (now (values .entry)) (now (numbers .entry))) (site .thread) plain value) (site .thread) (site .row) opcode value) ⌝ }
 {
     let thread = site.thread;
     if let Race::With { kind, other } = plain::write(clocks, values, thread, plain, value) {
-        return Event::Stops(Fault::Race { kind, other });
+        return Moved::Stops(Fault::Race { kind, other });
     }
     thread::complete(numbers, thread, vv::one_more(site.row));
-    Event::Done {
+    Moved::Done {
         slot: NO_SLOT,
         mask: 0,
         value,
@@ -210,20 +210,20 @@ pub fn read_from(
     row: Decoded,
     slot: usize,
     mask: u8,
-) -> Event
+) -> Moved
     requires { ⌜ (site .thread < 5) × (slot < 7) × opWithin row ⌝ }
     ensures { λ r. ⌜ ((m : events.Matched) → moveOf r (site .thread) (site .row) (opcodeIn (decodedOf row)) m (state (now (clocks .exit)) (now (marks .exit)) (now (values .exit)) (now (numbers .exit))) ≡ machine.readFrom (state (now (clocks .entry)) (now (marks .entry)) (now (values .entry)) (now (numbers .entry))) (site .thread) (site .row) slot mask (decodedOf row)) ⌝ }
 {
     let Decoded::Row(op) = row else {
-        return Event::Stops(Fault::Impossible);
+        return Moved::Stops(Fault::Impossible);
     };
     let Reading::Of { cell, register } = to_read(op) else {
-        return Event::Stops(Fault::Impossible);
+        return Moved::Stops(Fault::Impossible);
     };
     if !is_live(numbers, cell, slot) {
-        return Event::Stops(Fault::Impossible);
+        return Moved::Stops(Fault::Impossible);
     }
-    let loaded = read(clocks, marks, values, numbers, site.thread, slot, op);
+    let loaded = read(clocks, marks, values, numbers, site.thread, op, slot);
     put_value(values, numbers, site, register, slot as u8, mask, loaded)
 }
 
@@ -246,8 +246,8 @@ fn read(
     values: &mut Values,
     numbers: &mut Numbers,
     thread: usize,
-    slot: usize,
     op: Op,
+    slot: usize,
 ) -> Loaded
     requires { ⌜ (thread < 5) × (slot < 7) × inRange (opOf op) ⌝ }
     ensures { λ r. ⌜ accessOf r (state (now (clocks .exit)) (now (marks .exit)) (now (values .exit)) (now (numbers .exit))) ≡ readDone (state (now (clocks .entry)) (now (marks .entry)) (now (values .entry)) (now (numbers .entry))) thread slot (opOf op) ⌝ }
@@ -296,17 +296,17 @@ fn put_value(
     slot: u8,
     mask: u8,
     loaded: Loaded,
-) -> Event
+) -> Moved
     requires { ⌜ (site .thread < 5) × (register < 4) ⌝ }
     ensures { λ r. ⌜ ((clocks : rules.Clocks) (marks : rules.Marks) (opcode : ℕ) (m : events.Matched) → moveOf r (site .thread) (site .row) opcode m (state clocks marks (now (values .exit)) (now (numbers .exit))) ≡ machine.reads (accessOf loaded (state clocks marks (now (values .entry)) (now (numbers .entry)))) (site .thread) (site .row) opcode register slot mask) ⌝ }
 {
     let thread = site.thread;
     match loaded {
-        Loaded::Raced { kind, other } => Event::Stops(Fault::Race { kind, other }),
+        Loaded::Raced { kind, other } => Moved::Stops(Fault::Race { kind, other }),
         Loaded::Value(value) => {
             values[REGISTER + register_at(thread, register)] = value;
             thread::complete(numbers, thread, vv::one_more(site.row));
-            Event::Done { slot, mask, value }
+            Moved::Done { slot, mask, value }
         }
     }
 }

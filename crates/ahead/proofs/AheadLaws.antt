@@ -12,12 +12,12 @@ use lib.Dec.{eqb}
 use lib.ListN.{length, getD, take, drop, length-take, length-drop, drop-of-length-le}
 use lib.Seq.{drop-cons, getD-take, take-all}
 use Rattle.rules.specs.Vector.{equal}
-use Rattle.rules.specs.Token.{bytesOf, lineFeed, isEmpty, endsLine, skip, token, nextLine, tokenLength}
+use Rattle.rules.specs.Token.{bytesOf, lineFeed, isEmpty, endsLine, pastBlanks, token, nextLine, tokenLength}
 use Rattle.rules.specs.Text as rules
 use Rattle.rules.specs.Text.{rowsAhead, threadsAhead, placeBehind, says, isBare}
 use Rattle.token.specs.Places.{part}
 use Rattle.token.proofs.PlaceLaws.{part-token}
-use Rattle.ahead.specs.Counts.{Counts, Behind, rowOf, threadOf}
+use Rattle.ahead.specs.Counts.{Counts, Behind, rowHere, threadHere}
 use Rattle.ahead.specs.declared.Place.{Place}
 
 or-true : (t : Bool) → t || true ≡ true
@@ -30,9 +30,9 @@ is word at to text = equal (part at to text) (bytesOf word)
 
 -- what comes of a line, past its blanks
 abbrev rowsThen : ℕ → List ℕ → Bool → ℕ
-rowsThen n bs t = elim t [ true ↦ 0 | false ↦ rowOf bs + rowsAhead n (nextLine bs) ]
+rowsThen n bs t = elim t [ true ↦ 0 | false ↦ rowHere bs + rowsAhead n (nextLine bs) ]
 
-rows-next : (n : ℕ) (bs : List ℕ) → rowsAhead (suc n) bs ≡ rowsThen n (skip bs) (isEmpty (skip bs) || equal (token (skip bs)) (bytesOf "thread") || equal (token (skip bs)) (bytesOf "finally"))
+rows-next : (n : ℕ) (bs : List ℕ) → rowsAhead (suc n) bs ≡ rowsThen n (pastBlanks bs) (isEmpty (pastBlanks bs) || equal (token (pastBlanks bs)) (bytesOf "thread") || equal (token (pastBlanks bs)) (bytesOf "finally"))
 unfolding rowsAhead
 rows-next n bs = refl
 
@@ -43,7 +43,7 @@ rows-zero bs = refl
 abbrev threadsThen : ℕ → List ℕ → Bool → ℕ
 threadsThen n bs t = elim t [ true ↦ 0 | false ↦ cond (equal (token bs) (bytesOf "thread")) 1 0 + threadsAhead n (nextLine bs) ]
 
-threads-next : (n : ℕ) (bs : List ℕ) → threadsAhead (suc n) bs ≡ threadsThen n (skip bs) (isEmpty (skip bs) || equal (token (skip bs)) (bytesOf "finally"))
+threads-next : (n : ℕ) (bs : List ℕ) → threadsAhead (suc n) bs ≡ threadsThen n (pastBlanks bs) (isEmpty (pastBlanks bs) || equal (token (pastBlanks bs)) (bytesOf "finally"))
 unfolding threadsAhead
 threads-next n bs = refl
 
@@ -58,7 +58,7 @@ module _ (text : List ℕ) (from left : ℕ) where
   pub threads-out : left ≤ 0 → threadsAhead left (drop from text) ≡ 0
   threads-out h = let e : left ≡ 0 = omega arith in ap (λ (n : ℕ). threadsAhead n (drop from text)) e ∙ threads-zero (drop from text)
 
-  module _ (here to : ℕ) (skipped : drop here text ≡ skip (drop from text)) (long : to ≡ here + tokenLength (drop here text)) (more : 0 < left) where
+  module _ (here to : ℕ) (skipped : drop here text ≡ pastBlanks (drop from text)) (long : to ≡ here + tokenLength (drop here text)) (more : 0 < left) where
     word : token (drop here text) ≡ part here to text
     word = sym (part-token text here to long)
 
@@ -109,20 +109,20 @@ module _ (text : List ℕ) (from left : ℕ) where
 
       module _ (next : ℕ) (onward : drop next text ≡ nextLine (drop here text)) where
         pub rows-on : is "thread" here to text ≡ false → is "finally" here to text ≡ false
-            → rowsAhead left (drop from text) ≡ rowOf (drop here text) + rowsAhead (left - 1) (drop next text)
+            → rowsAhead left (drop from text) ≡ rowHere (drop here text) + rowsAhead (left - 1) (drop next text)
         rows-on t f =
             rows-one false
             (ap (λ (b : Bool). b || is "thread" here to text || is "finally" here to text) some
             ∙ ap (λ (b : Bool). b || is "finally" here to text) t
             ∙ f)
-            ∙ ap (λ (bs : List ℕ). rowOf (drop here text) + rowsAhead (left - 1) bs) (sym onward)
+            ∙ ap (λ (bs : List ℕ). rowHere (drop here text) + rowsAhead (left - 1) bs) (sym onward)
 
         pub threads-on : is "finally" here to text ≡ false
-            → threadsAhead left (drop from text) ≡ threadOf here to text + threadsAhead (left - 1) (drop next text)
+            → threadsAhead left (drop from text) ≡ threadHere here to text + threadsAhead (left - 1) (drop next text)
         threads-on f =
             threads-one false (ap (λ (b : Bool). b || is "finally" here to text) some ∙ f)
             ∙ ap (λ (w : List ℕ). cond (equal w (bytesOf "thread")) 1 0 + threadsAhead (left - 1) (nextLine (drop here text))) word
-            ∙ ap (λ (bs : List ℕ). threadOf here to text + threadsAhead (left - 1) bs) (sym onward)
+            ∙ ap (λ (bs : List ℕ). threadHere here to text + threadsAhead (left - 1) bs) (sym onward)
 
 -- The words that are looked for
 
@@ -141,16 +141,16 @@ says-thread text at to r e t h = ap (equal (part at to text)) thread-bytes ∙ s
 pub says-finally : (text : List ℕ) (at to : ℕ) (r : Bool) → r ≡ equal (part at to text) (102 ∷ 105 ∷ 110 ∷ 97 ∷ 108 ∷ 108 ∷ 121 ∷ []) → (t : Bool) → r ≡ t → is "finally" at to text ≡ t
 says-finally text at to r e t h = ap (equal (part at to text)) finally-bytes ∙ sym e ∙ h
 
-pub row-not : (bs : List ℕ) → endsLine bs ≡ true → Counts 0 1 (rowOf bs)
+pub row-not : (bs : List ℕ) → endsLine bs ≡ true → Counts 0 1 (rowHere bs)
 row-not bs e = record { is = rw e; most = omega arith }
 
-pub row-one : (bs : List ℕ) → endsLine bs ≡ false → Counts 1 1 (rowOf bs)
+pub row-one : (bs : List ℕ) → endsLine bs ≡ false → Counts 1 1 (rowHere bs)
 row-one bs e = record { is = rw e; most = omega arith }
 
-pub thread-not : (text : List ℕ) (at to : ℕ) → is "thread" at to text ≡ false → Counts 0 1 (threadOf at to text)
+pub thread-not : (text : List ℕ) (at to : ℕ) → is "thread" at to text ≡ false → Counts 0 1 (threadHere at to text)
 thread-not text at to e = record { is = sym (ap (λ (t : Bool). cond t 1 0) e); most = omega arith }
 
-pub thread-one : (text : List ℕ) (at to : ℕ) → is "thread" at to text ≡ true → Counts 1 1 (threadOf at to text)
+pub thread-one : (text : List ℕ) (at to : ℕ) → is "thread" at to text ≡ true → Counts 1 1 (threadHere at to text)
 thread-one text at to e = record { is = sym (ap (λ (t : Bool). cond t 1 0) e); most = omega arith }
 
 -- Places

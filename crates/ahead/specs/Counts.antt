@@ -1,6 +1,6 @@
 -- What the answers of this crate stand for in the definition. Assumes nothing.
 --     Counts      a count, of so many lines at most
---     Placed      a line and column
+--     PlacedAt      a line and column
 use Prim.Native.Nat.{ℕ, _+_, _≤_}
 use mathlib.Core.List.{List, _∷_}
 use mathlib.Core.Bool.{cond}
@@ -15,11 +15,11 @@ pub record Counts (r lines count : ℕ) : Type 0 where
   pub is : r ≡ count
   pub most : r ≤ lines
 
-abbrev pub rowOf : List ℕ → ℕ
-rowOf bs = cond (endsLine bs) 0 1
+abbrev pub rowHere : List ℕ → ℕ
+rowHere bs = cond (endsLine bs) 0 1
 
-abbrev pub threadOf : ℕ → ℕ → List ℕ → ℕ
-threadOf at to text = cond (equal (part at to text) (bytesOf "thread")) 1 0
+abbrev pub threadHere : ℕ → ℕ → List ℕ → ℕ
+threadHere at to text = cond (equal (part at to text) (bytesOf "thread")) 1 0
 
 abbrev pub placeOf : Place → rules.Place
 placeOf p = record { line = p .line; column = p .column }
@@ -31,5 +31,5 @@ pub record Behind (line column byte : ℕ) (p : Place) : Type 0 where
   pub near : p .column ≤ column + 1
 
 -- the place of what is left of a text
-abbrev pub Placed : List ℕ → List ℕ → Place → Type 0
-Placed text rest p = placeOf p ≡ rules.placeOf text rest
+abbrev pub PlacedAt : List ℕ → List ℕ → Place → Type 0
+PlacedAt text rest p = placeOf p ≡ rules.placeOf text rest

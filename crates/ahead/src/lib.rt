@@ -3,7 +3,7 @@ ghost use mathlib.Core.Path.{_≡_};
 ghost use Prim.Native.Nat.{_<_, _^_};
 ghost use lib.ListN.{drop};
 ghost use Rattle.rules.specs.Text.{rowsAhead, threadsAhead};
-ghost use Rattle.ahead.specs.Counts.{Counts, Placed, Behind, rowOf, threadOf};
+ghost use Rattle.ahead.specs.Counts.{Counts, PlacedAt, Behind, rowHere, threadHere};
 
 // A line and a column, both from 1, the column in bytes.
 pub struct Place {
@@ -19,18 +19,18 @@ pub fn rows_ahead(text: &[u8], at: usize, lines: usize) -> usize
     let mut from = at;
     let mut left = lines;
     while 0 < left {
-        let here = token::skip(text, from);
+        let here = token::past_blanks(text, from);
         let to = token::token_end(text, here);
         if text.len() <= here {
             return rows;
         }
-        if token::is_word(text, here, to, b"thread") {
+        if token::is_word(text, b"thread", here, to) {
             return rows;
         }
-        if token::is_word(text, here, to, b"finally") {
+        if token::is_word(text, b"finally", here, to) {
             return rows;
         }
-        rows += row_of(text, here);
+        rows += row_here(text, here);
         from = token::next_line(text, here);
         left -= 1;
     }
@@ -38,8 +38,8 @@ pub fn rows_ahead(text: &[u8], at: usize, lines: usize) -> usize
 }
 
 // One, where a token stands here.
-fn row_of(text: &[u8], at: usize) -> usize
-    ensures { λ r. ⌜ Counts r 1 (rowOf (drop at (now (text .entry)))) ⌝ }
+fn row_here(text: &[u8], at: usize) -> usize
+    ensures { λ r. ⌜ Counts r 1 (rowHere (drop at (now (text .entry)))) ⌝ }
 {
     if token::ends_line(text, at) {
         return 0;
@@ -55,15 +55,15 @@ pub fn threads_ahead(text: &[u8], at: usize, lines: usize) -> usize
     let mut from = at;
     let mut left = lines;
     while 0 < left {
-        let here = token::skip(text, from);
+        let here = token::past_blanks(text, from);
         let to = token::token_end(text, here);
         if text.len() <= here {
             return threads;
         }
-        if token::is_word(text, here, to, b"finally") {
+        if token::is_word(text, b"finally", here, to) {
             return threads;
         }
-        threads += thread_of(text, here, to);
+        threads += thread_here(text, here, to);
         from = token::next_line(text, here);
         left -= 1;
     }
@@ -71,10 +71,10 @@ pub fn threads_ahead(text: &[u8], at: usize, lines: usize) -> usize
 }
 
 // One, where the token says "thread".
-fn thread_of(text: &[u8], at: usize, to: usize) -> usize
-    ensures { λ r. ⌜ Counts r 1 (threadOf at to (now (text .entry))) ⌝ }
+fn thread_here(text: &[u8], at: usize, to: usize) -> usize
+    ensures { λ r. ⌜ Counts r 1 (threadHere at to (now (text .entry))) ⌝ }
 {
-    if token::is_word(text, at, to, b"thread") {
+    if token::is_word(text, b"thread", at, to) {
         return 1;
     }
     0
@@ -82,7 +82,7 @@ fn thread_of(text: &[u8], at: usize, to: usize) -> usize
 
 // The line and column of a place.
 pub fn place_of(text: &[u8], at: usize) -> Place
-    ensures { λ r. ⌜ Placed (now (text .entry)) (drop at (now (text .entry))) r ⌝ }
+    ensures { λ r. ⌜ PlacedAt (now (text .entry)) (drop at (now (text .entry))) r ⌝ }
 {
     let mut line = 1;
     let mut column = 1;

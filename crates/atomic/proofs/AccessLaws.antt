@@ -14,7 +14,7 @@ use Rattle.rules.specs.Vector.{oneMore}
 use Rattle.rules.specs.Seen.{touched, unseens}
 use Rattle.rules.specs.State.{State, Clocks, Marks, Values, Numbers, vector, marksOf, withMarks, value, withValue, number, withNumber, storeAt, threads, causality, sync, ofStore, count, isSeqCst}
 use Rattle.rules.specs.Cell as rules
-use Rattle.rules.specs.Cell.{slotOf, withStore, version, seqCstOrder, seqCstFlag, storeOrder, storeSynced, storeDone, Access, raced, read}
+use Rattle.rules.specs.Cell.{slotOf, withStore, version, seqCstOrder, seqCstFlag, storeOrder, storeSynced, storeDone, AccessResult, raced, read}
 use Rattle.rules.specs.Cell.{noRace, raceOf, loadRace, loadTracked, storeRace, storeTracked, coherent, touchDone, loadSynced}
 use Rattle.rules.specs.Change as Changes
 use Rattle.rules.specs.Change.{Change, success, failure, applied}
@@ -82,7 +82,7 @@ module _ (clocks : Clocks) (marks : Marks) (values : Values) (numbers : Numbers)
         unfolding rmwDone
         rmw-failed e synced g = rw (← answer, ← at, ← in-sight, ← e, g)
 
-        pub rmw-succeeded : (next : ℕ) → success next ≡ applied change (value values (ofStore store)) → (done : Access) →
+        pub rmw-succeeded : (next : ℕ) → success next ≡ applied change (value values (ofStore store)) → (done : AccessResult) →
             done ≡ succeeded (state ordered marked values numbers) t c store (value values (ofStore store)) next o →
             done ≡ rmwDone (state clocks marks values numbers) t c slot change o f
         unfolding rmwDone

@@ -9,7 +9,7 @@ use Rattle.atomic.specs.declared.Mutated.{Mutated}
 use Rattle.atomic.specs.declared.Mutated.the-variants as code
 
 -- the value found or the race, with the state that is left
-abbrev pub mutatedOf : Mutated → State → rules.Access
+abbrev pub mutatedOf : Mutated → State → rules.AccessResult
 mutatedOf (code.Values read left) st = rules.read read st
 mutatedOf (code.Raced kind other) st = rules.raced kind other st
 

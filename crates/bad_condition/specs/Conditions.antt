@@ -14,8 +14,8 @@ use Rattle.rules.specs.Table.{registers, shapeOf}
 use Rattle.rules.specs.Condition.{opens, comparisonBytes, conditionBytes, groupsDeep, isSign, conditionAt}
 use Rattle.page.specs.Pages.{Page, putText, filled}
 use Rattle.condition.specs.Reads.{foundIn}
-use Rattle.condition.specs.declared.Found.{Found}
-use Rattle.condition.specs.declared.Found.the-variants.{Bad, Ends}
+use Rattle.condition.specs.declared.Extent.{Extent}
+use Rattle.condition.specs.declared.Extent.the-variants.{Bad, Ends}
 
 -- its eleven bytes are there, and its second and third name a thread and a register: what of that is not so first
 unfoldable pub putComparison : Page → List ℕ → ℕ → ℕ → Page
@@ -46,7 +46,7 @@ putBad p condition at threads =
     condition at threads)
     (bytesOf "\n"))
 
-unfoldable pub putFound : Page → List ℕ → ℕ → Found → Page
+unfoldable pub putFound : Page → List ℕ → ℕ → Extent → Page
 putFound p condition threads (Bad at) = putBad p condition at threads
 putFound p condition threads (Ends at) =
     filled p (bytesOf "answer 5: refused: the condition ends before byte #, and # bytes were given\n") at (length condition) 0

@@ -9,8 +9,10 @@ use condition::COMPARISON;
 use condition::CONDITION_BYTES;
 use condition::DEEP;
 use condition::EQUALS;
-use condition::Found;
+use condition::Extent;
 use condition::OPENS;
+use condition::REGISTER_AT;
+use condition::THREAD_AT;
 use layout::REGISTERS;
 use layout::wide8;
 use layout::wide16;
@@ -34,8 +36,8 @@ pub fn put(page: &mut Page, at: usize, table: &[u8], condition: &[u8]) -> usize
     let shape = table::shape(table);
     let threads = wide16(shape[THREADS]);
     match condition::first_bad(condition, threads) {
-        Found::Bad(from) => put_bad(page, at, condition, from, threads),
-        Found::Ends(end) => page::fill(
+        Extent::Bad(from) => put_bad(page, at, condition, from, threads),
+        Extent::Ends(end) => page::fill(
             page,
             at,
             b"answer 5: refused: the condition ends before byte #, and # bytes were given\n",
@@ -108,7 +110,7 @@ fn put_comparison(
     if condition.len() - from < COMPARISON {
         return page::put(page, at, b": its comparison breaks off");
     }
-    let thread = wide8(condition[from + 1]);
+    let thread = wide8(condition[from + THREAD_AT]);
     if threads <= thread {
         return page::fill(
             page,
@@ -119,7 +121,7 @@ fn put_comparison(
             0,
         );
     }
-    let register = wide8(condition[from + 2]);
+    let register = wide8(condition[from + REGISTER_AT]);
     if REGISTERS <= register {
         return page::fill(page, at, b": register # is none", register as u64, 0, 0);
     }

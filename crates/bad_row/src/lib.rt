@@ -1,7 +1,7 @@
 // What is wrong with a row: which of its fields, by crate reasons.
 ghost use mathlib.Core.Path.{_≡_};
 ghost use Prim.Native.Nat.{_<_};
-ghost use Rattle.decode.specs.Ops.{rowOf, roomOf};
+ghost use Rattle.decode.specs.Ops.{rowMeant, roomOf};
 ghost use Rattle.table.specs.Answers.{roomIn};
 ghost use Rattle.page.specs.Pages.{ended};
 ghost use Rattle.bad_row.specs.Rows.{rowIn, putBadRow};
@@ -60,7 +60,7 @@ fn room_in(shape: &Shape, thread: usize, number: u8) -> Room
 // The row itself.
 fn row_in(table: &[u8], shape: &Shape, thread: usize, number: u8) -> Row
     requires { ⌜ thread < 5 ⌝ }
-    ensures { λ r. ⌜ rowOf r ≡ rowIn (now (table .entry)) (now (shape .entry)) thread number ⌝ }
+    ensures { λ r. ⌜ rowMeant r ≡ rowIn (now (table .entry)) (now (shape .entry)) thread number ⌝ }
 {
     let values = wide16(shape[CELLS]) + wide16(shape[PLAINS]);
     let index = wide16(shape[FIRSTS + thread]) + wide8(number);

@@ -2,7 +2,7 @@
 ghost use mathlib.Core.Path.{_≡_};
 ghost use Rattle.rules.specs.Token.{bytesOf};
 ghost use Rattle.page.specs.Pages.{ended, putText};
-ghost use Rattle.decode.specs.Ops.{rowOf, roomOf};
+ghost use Rattle.decode.specs.Ops.{rowMeant, roomOf};
 ghost use Rattle.bad_row.specs.Words.{valueOf, objectName, fieldName, partPast, putCount, putMay, putUnused, putWrong};
 use decode::Row;
 use page::Page;
@@ -12,7 +12,7 @@ use reasons::Room;
 
 // Puts the field, what it is and what it may be.
 pub fn put(page: &mut Page, at: usize, field: Field, row: Row, room: Room) -> usize
-    ensures { λ r. ⌜ ended (now (page .exit)) r ≡ putWrong (ended (now (page .entry)) at) field (rowOf row) (roomOf room) ⌝ }
+    ensures { λ r. ⌜ ended (now (page .exit)) r ≡ putWrong (ended (now (page .entry)) at) field (rowMeant row) (roomOf room) ⌝ }
 {
     let opcode = row.opcode;
     let kind = row.kind;
@@ -37,7 +37,7 @@ pub fn put(page: &mut Page, at: usize, field: Field, row: Row, room: Room) -> us
 
 // The number that stands in this field.
 fn value_of(field: Field, row: Row) -> u64
-    ensures { λ r. ⌜ r ≡ valueOf field (rowOf row) ⌝ }
+    ensures { λ r. ⌜ r ≡ valueOf field (rowMeant row) ⌝ }
 {
     match field {
         Field::Opcode => row.opcode as u64,

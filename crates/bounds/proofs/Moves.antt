@@ -21,7 +21,7 @@ use Rattle.rules.specs.State.{State, Numbers, vector, withVector, number, withN
 use Rattle.rules.specs.State.{scheduleOf, lastAccess, lastNonLoad, rowsOf, operation, operatesOn, phase, accessBranch, nonLoadBranch, activeThread, begun}
 use Rattle.rules.specs.Cell.{version, withClocks}
 use Rattle.rules.specs.Machine
-use Rattle.rules.specs.Machine.{Program, Pending, nothing, pends, pendingOf, active, activeRow, activeOp, rowOf, rowCount, forThreads, runnable, ended, toAct, noOperation}
+use Rattle.rules.specs.Machine.{Program, Pending, nothing, pends, pendingOf, current, activeRow, activeOp, rowOf, rowCount, forThreads, runnable, ended, toAct, noOperation}
 use Rattle.rules.proofs.NumberLaws.{for-threads}
 use Rattle.rules.proofs.MeasureRows.{pick, both-left, Names, RowNames, widest, row-in-place}
 use Rattle.bounds.specs.Bounds
@@ -172,7 +172,7 @@ module _ (p : Program) (fits : Fits p) (t n : ℕ) (rows owing waits least : ℕ
 -- What the active thread does next
 module _ (p : Program) (fits : Fits p) (st : State) (n : ℕ) (s : Holds p st n) where
   abbrev now : ℕ
-  now = active st
+  now = current st
 
   nothing-owed : Machine.isToBegin st now ≡ true → owed (st .numbers) now ≡ 0
   nothing-owed e = rw e refl
@@ -310,7 +310,7 @@ module _ (p : Program) (fits : Fits p) (n : ℕ) where
   scheduled-ending st (thread t) at s =
       pick (Ending p n) (Machine.canRun (st .numbers) t)
       (λ e. no-more (Holds p (Machine.switched st t at)) n
-      (switched-at p fits t n _ _ _ _ (ltb-true t threads (both-left _ _ e)) st (active st) at (opened st s)))
+      (switched-at p fits t n _ _ _ _ (ltb-true t threads (both-left _ _ e)) st (current st) at (opened st s)))
       (λ e. over st (opened st s))
 
   pub thread-ending : (st : State) (whom : Whom) (at : ℕ) → Bounds.Scheduling p st n →
@@ -322,12 +322,12 @@ module _ (p : Program) (fits : Fits p) (n : ℕ) where
       Ending p n (Machine.answered p st (readSlot slot offered))
   unfolding Machine.answered
   slot-ending st slot offered h s =
-      read-ending p fits (active st) n _ _ _ _ (s .0 .tally .runs) (s .1) st (activeRow st) slot (Machine.maskOf 0 offered)
+      read-ending p fits (current st) n _ _ _ _ (s .0 .tally .runs) (s .1) st (activeRow st) slot (Machine.maskOf 0 offered)
       (activeOp p st) h
-      (row-in-place p (active st) (activeRow st)) (opened st (s .0))
+      (row-in-place p (current st) (activeRow st)) (opened st (s .0))
 
   pub spurious-ending : (st : State) (bit : Bool) → Bounds.Reading p st n → Ending p n (Machine.answered p st (takeBit bit))
   unfolding Machine.answered
   spurious-ending st bit s =
-      bit-ending p fits (active st) n _ _ _ _ (s .0 .tally .runs) (s .1) st (activeRow st) (cond bit 1 0) (activeOp p st)
+      bit-ending p fits (current st) n _ _ _ _ (s .0 .tally .runs) (s .1) st (activeRow st) (cond bit 1 0) (activeOp p st)
       (opened st (s .0))

@@ -22,7 +22,7 @@ use Rattle.rules.specs.State as State
 use Rattle.rules.specs.State.{State, vector, number, withNumber, threads, cells, plains, history, storeAt}
 use Rattle.rules.specs.State.{causality, scheduleOf, seqCst, sync, phase, nextRow, yields, lastYield, operation, awaits, count, isSeqCst, exploring, skipping}
 use Rattle.rules.specs.Cell as Cell
-use Rattle.rules.specs.Cell.{version, storeDone, slotOf, withClocks, Access, raced, read, Race, noRace, raceOf, unlessRace, sighted, loadDone, byChange, succeeded, rmwDone, unsyncLoadDone, mutDone}
+use Rattle.rules.specs.Cell.{version, storeDone, slotOf, withClocks, AccessResult, raced, read, Race, noRace, raceOf, unlessRace, sighted, loadDone, byChange, succeeded, rmwDone, unsyncLoadDone, mutDone}
 use Rattle.rules.specs.Plain.{plainReadRace, plainWriteRace, plainReadDone, plainWriteDone}
 use Rattle.rules.specs.Machine
 use Rattle.rules.specs.Machine.{Program, rowCount, completed, toBegin, ended, blocked, yielded}
@@ -137,11 +137,11 @@ module _ (p : Program) (fits : Fits p) (t n : ℕ) (rows owing waits least : ℕ
   with-parts st clocks f s = record { sound = with-clocks st clocks (s .sound) f; tally = s .tally; links = s .links }
 
   -- What an access leaves
-  data AtRead : Access → Type 0 where
+  data AtRead : AccessResult → Type 0 where
     isRaced : {kind other : ℕ} {st : State} → Raised st → AtRead (raced kind other st)
     isRead : {v : ℕ} {st : State} → Acted st → AtRead (read v st)
 
-  unless-race : (r : Race) (st : State) (x : Access) → Raised st → AtRead x → AtRead (unlessRace r st x)
+  unless-race : (r : Race) (st : State) (x : AccessResult) → Raised st → AtRead x → AtRead (unlessRace r st x)
   unless-race noRace st x s h = h
   unless-race (raceOf kind other) st x s h = isRaced s
 
@@ -200,11 +200,11 @@ module _ (p : Program) (fits : Fits p) (t n : ℕ) (rows owing waits least : ℕ
   with-register : (st : State) (r v : ℕ) → Acted st → Acted (Machine.withRegister st t r v)
   with-register st r v s = record { sound = s .sound; tally = s .tally; links = s .links }
 
-  reads-ending : (x : Access) (k opcode r slot mask : ℕ) → AtRead x → Ending p n (Machine.reads x t k opcode r slot mask)
+  reads-ending : (x : AccessResult) (k opcode r slot mask : ℕ) → AtRead x → Ending p n (Machine.reads x t k opcode r slot mask)
   reads-ending (raced kind other st) k opcode r slot mask (isRaced s) = over st s
   reads-ending (read v st) k opcode r slot mask (isRead s) = finished _ (oneMore k) (with-register st r v s)
 
-  leaves-ending : (x : Access) (k opcode c r : ℕ) → AtRead x → Ending p n (Machine.leavesIn x t k opcode c r)
+  leaves-ending : (x : AccessResult) (k opcode c r : ℕ) → AtRead x → Ending p n (Machine.leavesIn x t k opcode c r)
   leaves-ending (raced kind other st) k opcode c r (isRaced s) = over st s
   leaves-ending (read v st) k opcode c r (isRead s) = finished _ (oneMore k) (with-register st r v s)
 

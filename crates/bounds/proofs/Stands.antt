@@ -13,7 +13,7 @@ use Rattle.rules.specs.Vector.{largest}
 use Rattle.rules.specs.Event.{Move}
 use Rattle.rules.specs.State.{State, Numbers, threads}
 use Rattle.rules.specs.Cell.{version}
-use Rattle.rules.specs.Machine.{Program, active, machine}
+use Rattle.rules.specs.Machine.{Program, current, machine}
 use Rattle.rules.proofs.NumberLaws.{five-has, five-same}
 use Rattle.kept.specs.Kept.{OfNext, OfAnswer}
 use Rattle.kept.proofs.Held.{answer-next}
@@ -74,12 +74,12 @@ module _ {p : Program} {t n : ℕ} {rows owing waits least o w : ℕ → ℕ} (s
 
   pub holds : ((u : ℕ) → u < threads → owing u ≤ o u) → ((u : ℕ) → u < threads → but t waits u ≤ w u) → Holds p st n
   holds f g =
-      bounded (owed (st .numbers)) (but (active st) (waiting (st .numbers)))
+      bounded (owed (st .numbers)) (but (current st) (waiting (st .numbers)))
       (λ u b. omega (arith, s .links .owes u b, f u b))
       (λ u b. omega (
         arith,
         g u b,
-        given-less (active st) t 0 (waiting (st .numbers)) waits u (s .links .runs)
+        given-less (current st) t 0 (waiting (st .numbers)) waits u (s .links .runs)
             (s .links .pends u b),
       ))
 
@@ -92,17 +92,17 @@ module _ {p : Program} {t n : ℕ} {rows owing waits least o w : ℕ → ℕ} (s
       ((u : ℕ) → u < threads → but t waits u ≤ w u) →
       Reading p st n
   asks-row below e f g = (
-    bounded (but (active st) (owed (st .numbers))) (but (active st) (waiting (st .numbers)))
+    bounded (but (current st) (owed (st .numbers))) (but (current st) (waiting (st .numbers)))
         (λ u b. omega (
           arith,
           f u b,
-          given-less (active st) t 0 (owed (st .numbers)) owing u (s .links .runs)
+          given-less (current st) t 0 (owed (st .numbers)) owing u (s .links .runs)
               (omega (arith, s .links .owes u b)),
         ))
         (λ u b. omega (
           arith,
           g u b,
-          given-less (active st) t 0 (waiting (st .numbers)) waits u (s .links .runs)
+          given-less (current st) t 0 (waiting (st .numbers)) waits u (s .links .runs)
               (s .links .pends u b),
         )),
     ap (owed (st .numbers)) (s .links .runs) ∙ s .links .owes t below ∙ e,
@@ -110,7 +110,7 @@ module _ {p : Program} {t n : ℕ} {rows owing waits least o w : ℕ → ℕ} (s
 
 -- a bounded state, by what its numbers say
 pub opened : {p : Program} {o w : ℕ → ℕ} {n : ℕ} (st : State) → Bounded p o w st n →
-    At p (active st) n (rowsIn (st .numbers)) (owed (st .numbers)) (owed (st .numbers)) (waiting (st .numbers))
+    At p (current st) n (rowsIn (st .numbers)) (owed (st .numbers)) (owed (st .numbers)) (waiting (st .numbers))
     (version (st .clocks))
     (Part (rowsIn (st .numbers)) o w) st
 opened st s = record {

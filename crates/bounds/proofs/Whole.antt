@@ -13,7 +13,7 @@ use borrow.Author.Tests.{lt-ltb, leb-true}
 use Rattle.rules.specs.Vector.{largest, raised}
 use Rattle.rules.specs.Table.{headerFine, plainsOf}
 use Rattle.rules.specs.Explored.{Settings, settingsFine, programOf}
-use Rattle.rules.specs.Event.{Question, whichThread, whichSlot, whichBit, Answer, runThread, readSlot, takeBit}
+use Rattle.rules.specs.Event.{Question, whichThread, whichSlot, whichBit, Pick, runThread, readSlot, takeBit}
 use Rattle.rules.specs.State.{State, Vector, vector, number, threads, plains, count}
 use Rattle.rules.proofs.StateLaws.{inVectors}
 use Rattle.rules.proofs.LimitLaws.{operations-most, operations-fit}
@@ -34,7 +34,7 @@ module _ (p : Program) (fits : Fits p) where
   asked-over st n (whichSlot m) s = over st (opened st (s .0 .0))
   asked-over st n whichBit s = over st (opened st (s .0))
 
-  goes-on : (st : State) (n : ℕ) (q : Question) (a : Answer) → Asked p st n q → Fitting q a → Ending p n (answered p st a)
+  goes-on : (st : State) (n : ℕ) (q : Question) (a : Pick) → Asked p st n q → Fitting q a → Ending p n (answered p st a)
   goes-on st n (whichThread points initial standings) (runThread whom at) s f = thread-ending p fits n st whom at s
   goes-on st n (whichThread points initial standings) (readSlot slot values) s f = absurd f
   goes-on st n (whichThread points initial standings) (takeBit bit) s f = absurd f

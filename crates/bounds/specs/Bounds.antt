@@ -22,7 +22,7 @@ use Rattle.rules.specs.State as State
 use Rattle.rules.specs.State.{State, Clocks, Numbers, Vector, vector, number, marksOf, vectorsHeld, numbersHeld, threads, cells, plains, history}
 use Rattle.rules.specs.State.{rowsOf, yields, lastYield, operation, phase, count, activeThread, begun}
 use Rattle.rules.specs.Cell.{version, liveIn}
-use Rattle.rules.specs.Machine.{Program, toBegin, noOperation, active}
+use Rattle.rules.specs.Machine.{Program, toBegin, noOperation, current}
 use Rattle.rules.proofs.StateLaws.{inVectors}
 
 -- A program whose threads, cells and plain cells have their numbers, and whose operation limit leaves versions room
@@ -130,13 +130,13 @@ pub record Bounded (p : Program) (owing waits : ℕ → ℕ) (st : State) (n : �
 
 -- between ticks the active thread runs, so its pending operation has been chosen
 abbrev pub Holds : Program → State → ℕ → Type 0
-Holds p st n = Bounded p (owed (st .numbers)) (but (active st) (waiting (st .numbers))) st n
+Holds p st n = Bounded p (owed (st .numbers)) (but (current st) (waiting (st .numbers))) st n
 
 -- a slot or a bit is asked for by a row that is to act, and may have raised the version already; slots are at most seven
 abbrev pub Reading : Program → State → ℕ → Type 0
 Reading p st n =
-    Bounded p (but (active st) (owed (st .numbers))) (but (active st) (waiting (st .numbers))) st n
-    × (owed (st .numbers) (active st) ≡ 1)
+    Bounded p (but (current st) (owed (st .numbers))) (but (current st) (waiting (st .numbers))) st n
+    × (owed (st .numbers) (current st) ≡ 1)
 
 -- a scheduling may choose any thread that waits
 abbrev pub Scheduling : Program → State → ℕ → Type 0

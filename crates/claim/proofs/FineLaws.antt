@@ -10,7 +10,7 @@ use borrow.Author.Tests.{leb-true, ltb-true, eqb-true}
 use lib.Dec.{ltb, leb, eqb}
 use lib.ListN.{length, getD, drop}
 use Rattle.rules.specs.Table.{u64At, isRegister}
-use Rattle.rules.specs.Condition.{isSign, isJoint, mayJoin, joinedBy, opens, closes, both, either, next, compared, comparisonBytes, conditionBytes, groupsDeep, Read, bad, read, behind, groupAt, comparisonAt, conditionAt, claimAt, ends, isCondition}
+use Rattle.rules.specs.Condition.{isSign, isJoint, mayJoin, joinedBy, opens, closes, both, either, nextByte, compared, comparisonBytes, conditionBytes, groupsDeep, Read, bad, read, behind, groupAt, comparisonAt, conditionAt, claimAt, ends, isCondition}
 use Rattle.claim.specs.Units.{Units, none, word, comparison}
 
 -- what is behind it makes the whole
@@ -80,10 +80,10 @@ module _ (member : List ℕ → Read) (fine : Fine member) where
 
 module _ (threads : ℕ) (few : threads ≤ 10) (register : ℕ → ℕ → ℕ) where
   abbrev whole : List ℕ → Bool
-  whole bs = leb comparisonBytes (length bs) && isSign (next bs) && ltb (getD bs 1 0) threads && isRegister (getD bs 2 0)
+  whole bs = leb comparisonBytes (length bs) && isSign (nextByte bs) && ltb (getD bs 1 0) threads && isRegister (getD bs 2 0)
 
   abbrev compares : List ℕ → Bool → Read
-  compares bs t = cond t (read (compared (next bs) (register (getD bs 1 0) (getD bs 2 0)) (u64At bs 3)) (drop comparisonBytes bs)) (bad bs)
+  compares bs t = cond t (read (compared (nextByte bs) (register (getD bs 1 0) (getD bs 2 0)) (u64At bs 3)) (drop comparisonBytes bs)) (bad bs)
 
   compares-next : (bs : List ℕ) → comparisonAt threads register bs ≡ compares bs (whole bs)
   unfolding comparisonAt

@@ -7,11 +7,20 @@ ghost use Rattle.rules.specs.Condition.{isSign};
 ghost use Rattle.rules.specs.Writer.{blankBefore, unitsShown, conditionShown};
 ghost use Rattle.put.specs.Puts.{Puts};
 ghost use Rattle.claim.specs.Units.{Units, markShown, comparisonShown, unitShown, unitBytes};
+use condition::ABOVE;
+use condition::AND;
 use condition::AT_LEAST;
+use condition::AT_MOST;
+use condition::BELOW;
 use condition::CLOSES;
 use condition::COMPARISON;
+use condition::DIFFERS;
 use condition::EQUALS;
+use condition::NUMBER_AT;
 use condition::OPENS;
+use condition::OR;
+use condition::REGISTER_AT;
+use condition::THREAD_AT;
 use put::put_byte;
 use put::put_bytes;
 use put::put_number;
@@ -78,13 +87,13 @@ fn put_comparison(text: &mut [u8], at: usize, condition: &[u8], from: usize) -> 
     requires { ⌜ (from + 11 ≤ length (now condition)) × (getD (now condition) (from + 1) 0 < 10) × (getD (now condition) (from + 2) 0 < 10) ⌝ }
     ensures { λ r. ⌜ Puts (now (text .entry)) (now (text .exit)) at (comparisonShown (getD (now (condition .entry)) from 0) (drop (from + 1) (now (condition .entry)))) r ⌝ }
 {
-    let thread = 48 + condition[from + 1];
-    let register = 48 + condition[from + 2];
+    let thread = b'0' + condition[from + THREAD_AT];
+    let register = b'0' + condition[from + REGISTER_AT];
     let name = [thread, b'.', b'r', register, b' '];
     let named = put_bytes(text, at, &name);
     let signed = put_mark(text, named, condition[from]);
     let blank = put_byte(text, signed, b' ');
-    put_number(text, blank, u64_at(condition, from + 3))
+    put_number(text, blank, u64_at(condition, from + NUMBER_AT))
 }
 
 // The sign or word that a byte is; nothing where it is none.
@@ -93,16 +102,16 @@ fn put_mark(text: &mut [u8], at: usize, byte: u8) -> usize
 {
     match byte {
         0 => put_bytes(text, at, b"="),
-        1 => put_bytes(text, at, b"="),
-        2 => put_bytes(text, at, b"!="),
-        3 => put_bytes(text, at, b"<"),
-        4 => put_bytes(text, at, b"<="),
-        5 => put_bytes(text, at, b">"),
-        6 => put_bytes(text, at, b">="),
-        7 => put_bytes(text, at, b"("),
-        8 => put_bytes(text, at, b")"),
-        9 => put_bytes(text, at, b"and"),
-        10 => put_bytes(text, at, b"or"),
+        EQUALS => put_bytes(text, at, b"="),
+        DIFFERS => put_bytes(text, at, b"!="),
+        BELOW => put_bytes(text, at, b"<"),
+        AT_MOST => put_bytes(text, at, b"<="),
+        ABOVE => put_bytes(text, at, b">"),
+        AT_LEAST => put_bytes(text, at, b">="),
+        OPENS => put_bytes(text, at, b"("),
+        CLOSES => put_bytes(text, at, b")"),
+        AND => put_bytes(text, at, b"and"),
+        OR => put_bytes(text, at, b"or"),
         _ => at,
     }
 }

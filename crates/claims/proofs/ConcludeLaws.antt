@@ -11,10 +11,10 @@ use lib.ListN.{length, take, drop, replicate, length-replicate}
 use lib.Seq.{length-take-le}
 use Rattle.rules.specs.Condition.{conditionBytes, Read, bad, read, conditionAt, groupsDeep, comparisonAt}
 use Rattle.rules.specs.Token.{isEmpty}
-use Rattle.rules.specs.Text.{Made, Claimed, claimed, TextRead, refusedAt, accepted, concluded, tableOf}
+use Rattle.rules.specs.Text.{Draft, Claimed, claimed, TextRead, refusedAt, accepted, concluded, tableOf}
 use Rattle.token.specs.Places.{part}
 use Rattle.condition.specs.Reads.{foundIn}
-use Rattle.condition.specs.declared.Found.the-variants.{Bad, Ends}
+use Rattle.condition.specs.declared.Extent.the-variants.{Bad, Ends}
 use Rattle.claims.specs.Units.{mostClaimed, Claims, Concludes, concludedOf}
 use Rattle.claims.specs.declared.Claim.{Claim}
 use Rattle.claims.specs.declared.Conclusion.{Conclusion}
@@ -76,7 +76,7 @@ module _ (text : List ℕ) (lines at threads : ℕ) (c : Claim) (claims : Claims
   pub piece-long : length piece ≡ c .length
   piece-long = ap length piece-is ∙ length-take-le (c .length) (c .bytes) (omega (arith, claims .most, claims .long))
 
-  all-is : (m : Made) → m .threads ≡ threads
+  all-is : (m : Draft) → m .threads ≡ threads
       → concludeThen lines (drop at text) (tableOf m) piece (c .whole) (judged threads piece) ≡ concluded lines m (drop at text)
   all-is m t =
       ap (λ (p : List ℕ). concludeThen lines (drop at text) (tableOf m) p (c .whole) (judged threads p)) (piece-is ∙ ap (λ (k : Claimed lines). k .made) (claims .is))

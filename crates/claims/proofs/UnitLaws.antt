@@ -14,7 +14,7 @@ use lib.ListN.{length, getD, take, drop, replicate}
 use Rattle.rules.specs.Vector.{equal}
 use Rattle.rules.specs.Event.{little}
 use Rattle.rules.specs.Condition.{isSign}
-use Rattle.rules.specs.Token.{Found, nothing, found, only, onlyIf, isBetween, content, token, pastToken, tokenLength, numberIn, placeIn}
+use Rattle.rules.specs.Token.{Found, nothing, found, only, foundIf, isBetween, content, token, pastToken, tokenLength, numberIn, placeIn}
 use Rattle.rules.specs.Text.{marks, markIn, threadRegisterIn, comparisonOf, numberBehind, signBehind, unitAt}
 use Rattle.rules.specs.Text as rules
 use Rattle.token.specs.Places.{part}
@@ -40,11 +40,11 @@ mark-least word v e = place-bounds 1 word marks v e .0
 pub mark-most : (word : List ℕ) (v : ℕ) → markIn word ≡ found v → v ≤ 10
 mark-most word v e = omega (arith, place-bounds 1 word marks v e .1)
 
-only-is : (t : Bool) (v w : ℕ) → onlyIf t v ≡ found w → t ≡ true
+only-is : (t : Bool) (v w : ℕ) → foundIf t v ≡ found w → t ≡ true
 only-is true v w e = refl
 only-is false v w e = cc
 
-only-value : (t : Bool) (v w : ℕ) → onlyIf t v ≡ found w → v ≡ w
+only-value : (t : Bool) (v w : ℕ) → foundIf t v ≡ found w → v ≡ w
 only-value true v w e = cc
 only-value false v w e = cc
 
@@ -89,8 +89,8 @@ sign-yes v l h = rw (le-leb 1 v l, le-leb v 6 h)
 sign-not : (v : ℕ) → 1 ≤ v → 6 < v → isSign v ≡ false
 sign-not v l h = rw (le-leb 1 v l, lt-leb v 6 h)
 
-only-by : (p : ℕ → Bool) (f : Found) (v : ℕ) (t : Bool) → f ≡ found v → p v ≡ t → only p f ≡ onlyIf t v
-only-by p f v t e h = ap (only p) e ∙ ap (λ (s : Bool). onlyIf s v) h
+only-by : (p : ℕ → Bool) (f : Found) (v : ℕ) (t : Bool) → f ≡ found v → p v ≡ t → only p f ≡ foundIf t v
+only-by p f v t e h = ap (only p) e ∙ ap (λ (s : Bool). foundIf s v) h
 
 module _ (text : List ℕ) (at to : ℕ) where
   pub mark-none : (u : Unit) → (u .size ≡ 0) × (u .bytes ≡ replicate 11 0) → markIn (part at to text) ≡ nothing → Stands text (markAt at to text) u

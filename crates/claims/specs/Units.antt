@@ -59,6 +59,6 @@ concludedOf table text c =
     cond (c .taken) (rules.accepted table (take (c .length) (c .bytes))) (rules.refusedAt (drop (c .at) text))
 
 pub record Concludes (text : List ℕ) (at lines threads : ℕ) (c : Conclusion) : Type 0 where
-  pub is : (m : rules.Made) → m .threads ≡ threads → concludedOf (rules.tableOf m) text c ≡ rules.concluded lines m (drop at text)
+  pub is : (m : rules.Draft) → m .threads ≡ threads → concludedOf (rules.tableOf m) text c ≡ rules.concluded lines m (drop at text)
   pub most : c .length ≤ conditionBytes
   pub long : length (c .bytes) ≡ mostClaimed

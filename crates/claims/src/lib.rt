@@ -8,13 +8,16 @@ ghost use lib.ListN.{drop, replicate};
 ghost use lib.Seq.{paste};
 ghost use Rattle.rules.specs.Text as rules;
 ghost use Rattle.claims.specs.Units.{mostClaimed, Stands, Claims, Concludes, markAt, brokenOf};
+use condition::AT_LEAST;
 use condition::COMPARISON;
 use condition::CONDITION_BYTES;
-use condition::Found as Judged;
+use condition::EQUALS;
+use condition::Extent as Judged;
+use layout::REGISTERS;
 use token::Found;
 
 // The longest condition, and a comparison that broke off behind it.
-pub const MOST: usize = CONDITION_BYTES + COMPARISON;
+pub const MOST_CLAIMED: usize = CONDITION_BYTES + COMPARISON;
 
 // What stands at a place: so many bytes of a condition and where they end, or, with none, nothing that a condition has. A comparison that
 // breaks off is not whole: it is filled up, and ends where it broke off.
@@ -29,7 +32,7 @@ struct Unit {
 struct Claim {
     whole: bool,
     length: usize,
-    bytes: [u8; MOST],
+    bytes: [u8; MOST_CLAIMED],
     at: usize,
 }
 
@@ -38,7 +41,7 @@ pub struct Conclusion {
     pub taken: bool,
     pub at: usize,
     pub length: usize,
-    pub bytes: [u8; MOST],
+    pub bytes: [u8; MOST_CLAIMED],
 }
 
 // The condition that begins here, in a text of so many lines at most and a program of so many threads: its bytes are read, then judged. It is
@@ -77,7 +80,7 @@ fn refused(text: &[u8], at: usize, lines: usize, stop: usize) -> Conclusion
         taken: false,
         at: part.at,
         length: 0,
-        bytes: [0; MOST],
+        bytes: [0; MOST_CLAIMED],
     }
 }
 
@@ -85,7 +88,7 @@ fn refused(text: &[u8], at: usize, lines: usize, stop: usize) -> Conclusion
 fn claimed(text: &[u8], at: usize, lines: usize, stop: usize) -> Claim
     ensures { λ r. ⌜ Claims (now (text .entry)) lines (rules.claimed lines lines stop [] (drop at (now (text .entry)))) r ⌝ }
 {
-    let mut bytes = [0u8; MOST];
+    let mut bytes = [0u8; MOST_CLAIMED];
     let mut length = 0;
     let mut from = at;
     let mut left = lines;
@@ -123,7 +126,7 @@ fn claimed(text: &[u8], at: usize, lines: usize, stop: usize) -> Claim
     claimed_to(bytes, length, token::content(text, from, lines), false)
 }
 
-fn claimed_to(bytes: [u8; MOST], length: usize, at: usize, whole: bool) -> Claim
+fn claimed_to(bytes: [u8; MOST_CLAIMED], length: usize, at: usize, whole: bool) -> Claim
     ensures { λ r. ⌜ (r .bytes ≡ bytes) × (r .length ≡ length) × (r .at ≡ at) × (r .whole ≡ whole) ⌝ }
 {
     Claim {
@@ -135,7 +138,12 @@ fn claimed_to(bytes: [u8; MOST], length: usize, at: usize, whole: bool) -> Claim
 }
 
 // Puts the unit's first bytes behind those that are there.
-fn appended(bytes: [u8; MOST], length: usize, unit: [u8; COMPARISON], size: usize) -> [u8; MOST]
+fn appended(
+    bytes: [u8; MOST_CLAIMED],
+    length: usize,
+    unit: [u8; COMPARISON],
+    size: usize,
+) -> [u8; MOST_CLAIMED]
     requires { ⌜ (length + size ≤ mostClaimed) × (size ≤ 11) ⌝ }
     ensures { λ r. ⌜ r ≡ paste bytes length unit size ⌝ }
 {
@@ -166,7 +174,7 @@ fn mark_at(text: &[u8], at: usize, to: usize) -> Unit
     let Found::Value(mark) = token::mark(text, at, to) else {
         return none(at);
     };
-    if mark <= 6 {
+    if mark <= AT_LEAST as u64 {
         return none(at);
     }
     Unit {
@@ -198,7 +206,7 @@ fn sign_behind(text: &[u8], from: usize, lines: usize, register: u64) -> Unit
     let Found::Value(sign) = token::mark(text, at, to) else {
         return broken(register, at);
     };
-    if 6 < sign {
+    if (AT_LEAST as u64) < sign {
         return broken(register, at);
     }
     number_behind(text, to, lines, register, sign)
@@ -230,7 +238,7 @@ fn broken(register: u64, at: usize) -> Unit
     Unit {
         whole: false,
         size: COMPARISON,
-        bytes: comparison(1, register, 0),
+        bytes: comparison(EQUALS as u64, register, 0),
         at,
     }
 }
@@ -244,8 +252,8 @@ fn comparison(sign: u64, register: u64, n: u64) -> [u8; COMPARISON]
     let high = n / 0x1_0000_0000;
     [
         sign as u8,
-        (register / 4) as u8,
-        (register % 4) as u8,
+        (register / REGISTERS as u64) as u8,
+        (register % REGISTERS as u64) as u8,
         (low % 256) as u8,
         (low / 256 % 256) as u8,
         (low / 65536 % 256) as u8,

@@ -14,8 +14,8 @@ ghost use Rattle.rules.specs.Vector.{less};
 use layout::Clocks;
 use layout::MAX_THREADS;
 use layout::Marks;
-use layout::NONE;
 use layout::Numbers;
+use layout::UNSEEN;
 use layout::of_cell::COUNT;
 use layout::of_store::HAPPENS_BEFORE;
 use layout::of_store::MODIFICATION_ORDER;
@@ -68,7 +68,7 @@ pub fn touch(clocks: &Clocks, marks: &mut Marks, thread: usize, cell: usize, slo
     ensures { λ _. ⌜ now (marks .exit) ≡ touchDone (now (clocks .entry)) (now (marks .entry)) thread cell slot ⌝ }
 {
     let row = marks[cell][slot];
-    if row[thread] != NONE {
+    if row[thread] != UNSEEN {
         return;
     }
     let causality = clocks[CAUSALITY + thread];

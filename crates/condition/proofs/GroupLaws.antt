@@ -11,7 +11,7 @@ use mathlib.Core.Path.{_≡_, sym, subst, _∙_}
 use lib.ListN.{length, drop, length-drop}
 use lib.Seq.{drop-drop}
 use borrow.Author.Tests.{eq-eqb, ne-eqb}
-use Rattle.rules.specs.Condition.{Read, bad, read, next, closes, groupAt, behind, mayJoin, joinedBy}
+use Rattle.rules.specs.Condition.{Read, bad, read, nextByte, closes, groupAt, behind, mayJoin, joinedBy}
 use Rattle.condition.specs.Reads.{Reads, NextByte, readOf}
 use Rattle.condition.specs.declared.Read as code
 use Rattle.condition.specs.declared.Read.the-variants.{Bad, Value}
@@ -32,23 +32,23 @@ pub record Left (member : List ℕ → Read) (joint : ℕ) (v : Bool) (bs : List
 
 -- with so many turns
 module _ (member : List ℕ → Read) (joint : ℕ) (v : Bool) (whole : Read) (bs : List ℕ) where
-  turn-on : (n : ℕ) {w : Bool} {rest : List ℕ} → behind member n joint v bs ≡ whole → length bs ≤ n → mayJoin joint (next bs) ≡ true → member (drop 1 bs) ≡ read w rest → length rest < length bs →
-      Left member (next bs) (joinedBy (next bs) v w) rest whole
+  turn-on : (n : ℕ) {w : Bool} {rest : List ℕ} → behind member n joint v bs ≡ whole → length bs ≤ n → mayJoin joint (nextByte bs) ≡ true → member (drop 1 bs) ≡ read w rest → length rest < length bs →
+      Left member (nextByte bs) (joinedBy (nextByte bs) v w) rest whole
   unfolding behind
   turn-on zero h l m e s = absurd (omega arith)
-  turn-on (suc n) h l m e s = record { turns = n; enough = omega arith; same = rw (ne-eqb _ _ (joins-open joint (next bs) m), m, e, behind) at h }
+  turn-on (suc n) h l m e s = record { turns = n; enough = omega arith; same = rw (ne-eqb _ _ (joins-open joint (nextByte bs) m), m, e, behind) at h }
 
-  turn-bad : (n : ℕ) {rest : List ℕ} → behind member n joint v bs ≡ whole → length bs ≤ n → 0 < length bs → mayJoin joint (next bs) ≡ true → member (drop 1 bs) ≡ bad rest → bad rest ≡ whole
+  turn-bad : (n : ℕ) {rest : List ℕ} → behind member n joint v bs ≡ whole → length bs ≤ n → 0 < length bs → mayJoin joint (nextByte bs) ≡ true → member (drop 1 bs) ≡ bad rest → bad rest ≡ whole
   unfolding behind
   turn-bad zero h l s m e = absurd (omega arith)
-  turn-bad (suc n) h l s m e = rw (ne-eqb _ _ (joins-open joint (next bs) m), m, e, behind) at h
+  turn-bad (suc n) h l s m e = rw (ne-eqb _ _ (joins-open joint (nextByte bs) m), m, e, behind) at h
 
-  turn-closed : (n : ℕ) → behind member n joint v bs ≡ whole → length bs ≤ n → 0 < length bs → next bs ≡ closes → read v (drop 1 bs) ≡ whole
+  turn-closed : (n : ℕ) → behind member n joint v bs ≡ whole → length bs ≤ n → 0 < length bs → nextByte bs ≡ closes → read v (drop 1 bs) ≡ whole
   unfolding behind
   turn-closed zero h l s e = absurd (omega arith)
   turn-closed (suc n) h l s e = rw (eq-eqb _ _ e, behind) at h
 
-  turn-stuck : (n : ℕ) → behind member n joint v bs ≡ whole → mayJoin joint (next bs) ≡ false → (next bs ≡ closes → ⊥) → bad bs ≡ whole
+  turn-stuck : (n : ℕ) → behind member n joint v bs ≡ whole → mayJoin joint (nextByte bs) ≡ false → (nextByte bs ≡ closes → ⊥) → bad bs ≡ whole
   unfolding behind
   turn-stuck zero h m d = h
   turn-stuck (suc n) h m d = rw (ne-eqb _ _ d, m, behind) at h
@@ -83,7 +83,7 @@ module _ (bytes : List ℕ) (start : ℕ) (member : List ℕ → Read) (at joint
   more l = simp length-drop (omega arith)
 
   module _ {b : ℕ} (byte : NextByte bytes at b) {m : Bool} (joins : m ≡ mayJoin joint b) where
-    joined : m ≡ true → mayJoin joint (next (drop at bytes)) ≡ true
+    joined : m ≡ true → mayJoin joint (nextByte (drop at bytes)) ≡ true
     joined e = cc (byte .is)
 
     pub there : m ≡ true → at < length bytes

@@ -14,16 +14,16 @@ use lib.ListN.{length, getD, drop, length-drop, drop-of-length-le}
 use lib.Seq.{getD-drop, drop-drop}
 use borrow.Author.Tests.{lt-leb, le-leb, eq-eqb, ne-eqb}
 use Rattle.rules.specs.Table.{u16At, u32At, u64At, isRegister}
-use Rattle.rules.specs.Condition.{Read, bad, read, next, opens, isSign, compared, comparisonAt, conditionAt, groupAt}
+use Rattle.rules.specs.Condition.{Read, bad, read, nextByte, opens, isSign, compared, comparisonAt, conditionAt, groupAt}
 use Rattle.condition.specs.Reads.{Reads, NextByte}
 use Rattle.condition.specs.declared.Read as code
 use Rattle.condition.specs.declared.Read.the-variants.{Bad, Value}
 
 module _ (bytes : List ℕ) (at : ℕ) where
-  pub here : getD bytes at 0 ≡ next (drop at bytes)
+  pub here : getD bytes at 0 ≡ nextByte (drop at bytes)
   here = ap (λ (k : ℕ). getD bytes k 0) (sym (add-zero at)) ∙ sym (getD-drop at bytes 0 0)
 
-  pub past : length bytes ≤ at → 0 ≡ next (drop at bytes)
+  pub past : length bytes ≤ at → 0 ≡ nextByte (drop at bytes)
   past h = rw (drop-of-length-le bytes h)
 
   pub number : u64At bytes (at + 3) ≡ u64At (drop at bytes) 3
@@ -62,7 +62,7 @@ module _ (threads : ℕ) (register : ℕ → ℕ → ℕ) (bytes : List ℕ) (at
   pub alone : (deep : ℕ) {b : ℕ} → NextByte bytes at b → (b ≡ opens → ⊥) → Reads bytes at r (comparisonAt threads register (drop at bytes)) → Reads bytes at r (conditionAt threads register deep (drop at bytes))
   unfolding conditionAt
   alone zero n d h = h
-  alone (suc deep) n d h = rw (ne-eqb _ _ (λ (q : next (drop at bytes) ≡ opens). d (n .is ∙ q))) h
+  alone (suc deep) n d h = rw (ne-eqb _ _ (λ (q : nextByte (drop at bytes) ≡ opens). d (n .is ∙ q))) h
 
   pub opened : (deep : ℕ) {b : ℕ} → NextByte bytes at b → b ≡ opens → (deep ≡ 0 → ⊥) → Reads bytes (at + 1) r (groupAt (conditionAt threads register (deep - 1)) (drop (at + 1) bytes)) → Reads bytes at r (conditionAt threads register deep (drop at bytes))
   unfolding conditionAt

@@ -16,8 +16,8 @@ use Rattle.rules.specs.State.{valuesHeld}
 use Rattle.condition.specs.Reads.{Reads, registerIn, readOf, foundIn}
 use Rattle.condition.specs.declared.Read as code
 use Rattle.condition.specs.declared.Read.the-variants.{Bad, Value}
-use Rattle.condition.specs.declared.Found.{Found}
-use Rattle.condition.specs.declared.Found.the-variants as found
+use Rattle.condition.specs.declared.Extent.{Extent}
+use Rattle.condition.specs.declared.Extent.the-variants as found
 
 -- a table of zeros holds 0 in every register
 zero-at : (n k : ℕ) → _≡_ {A = ℕ} (getD (replicate n 0) k 0) 0
@@ -89,7 +89,7 @@ module _ (threads : ℕ) where
     unfolding isCondition
     long-bad l = rw (lt-leb _ _ l)
 
-    module _ (l : length bytes ≤ rules.conditionBytes) (d : length bytes ≡ 0 → ⊥) {r : Found}
+    module _ (l : length bytes ≤ rules.conditionBytes) (d : length bytes ≡ 0 → ⊥) {r : Extent}
         (h : r ≡ foundIn (length bytes) (conditionAt threads (λ (t r : ℕ). 0) groupsDeep bytes)) where
       pub bad-bad : {at : ℕ} → r ≡ found.Bad at → false ≡ isCondition threads bytes
       unfolding isCondition

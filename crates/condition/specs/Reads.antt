@@ -7,8 +7,8 @@ use Rattle.rules.specs.Condition as rules
 use Rattle.rules.specs.State.{Values, value, ofRegister, registerAt}
 use Rattle.condition.specs.declared.Read.{Read}
 use Rattle.condition.specs.declared.Read.the-variants.{Bad, Value}
-use Rattle.condition.specs.declared.Found.{Found}
-use Rattle.condition.specs.declared.Found.the-variants as found
+use Rattle.condition.specs.declared.Extent.{Extent}
+use Rattle.condition.specs.declared.Extent.the-variants as found
 
 -- a thread's register in the table of values
 abbrev pub registerIn : Values → ℕ → ℕ → ℕ
@@ -19,22 +19,22 @@ abbrev pub readOf : List ℕ → Read → rules.Read
 readOf bytes (Bad at) = rules.bad (drop at bytes)
 readOf bytes (Value holds at) = rules.read holds (drop at bytes)
 
-abbrev pub placeOf : Read → ℕ
-placeOf (Bad at) = at
-placeOf (Value holds at) = at
+abbrev pub readTo : Read → ℕ
+readTo (Bad at) = at
+readTo (Value holds at) = at
 
 -- what was read from this place on, and where it ends
 pub record Reads (bytes : List ℕ) (at : ℕ) (r : Read) (answer : rules.Read) : Type 0 where
   pub is : readOf bytes r ≡ answer
-  pub on : at ≤ placeOf r
-  pub within : placeOf r ≤ length bytes
+  pub on : at ≤ readTo r
+  pub within : readTo r ≤ length bytes
 
 -- of bytes that are so many: the place from which those that follow are left
-abbrev pub foundIn : ℕ → rules.Read → Found
+abbrev pub foundIn : ℕ → rules.Read → Extent
 foundIn all (rules.bad rest) = found.Bad (all - length rest)
 foundIn all (rules.read holds rest) = found.Ends (all - length rest)
 
 -- the byte at a place, 0 at the end and behind it
 pub record NextByte (bytes : List ℕ) (at r : ℕ) : Type 0 where
-  pub is : r ≡ rules.next (drop at bytes)
+  pub is : r ≡ rules.nextByte (drop at bytes)
   pub there : 0 < r → at < length bytes

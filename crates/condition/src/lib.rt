@@ -10,6 +10,7 @@ use layout::REGISTERS;
 use layout::VALUES;
 use layout::Values;
 use layout::of_thread::REGISTER;
+use layout::register_at;
 use layout::wide8;
 use table::little::u64_at;
 
@@ -39,6 +40,13 @@ pub const COMPARISON: usize = 11;
 
 pub const CONDITION_BYTES: usize = 1024;
 
+// Where a comparison has its thread, its register and its number, behind its sign.
+pub const THREAD_AT: usize = 1;
+
+pub const REGISTER_AT: usize = 2;
+
+pub const NUMBER_AT: usize = 3;
+
 // How deep groups stand in each other at most.
 pub const DEEP: usize = 8;
 
@@ -49,7 +57,7 @@ enum Read {
 }
 
 // The same without its value.
-pub enum Found {
+pub enum Extent {
     Bad(usize),
     Ends(usize),
 }
@@ -65,55 +73,55 @@ pub fn is_condition(bytes: &[u8], threads: usize) -> bool
         return false;
     }
     match first_bad(bytes, threads) {
-        Found::Bad(_) => false,
-        Found::Ends(at) => at == bytes.len(),
+        Extent::Bad(_) => false,
+        Extent::Ends(at) => at == bytes.len(),
     }
 }
 
 // Where the condition ends with which these bytes begin, or which byte of it is the first bad one.
-pub fn first_bad(bytes: &[u8], threads: usize) -> Found
+pub fn first_bad(bytes: &[u8], threads: usize) -> Extent
     ensures { λ r. ⌜ r ≡ foundIn (length (now (bytes .entry))) (rules.conditionAt threads (λ t r. 0) rules.groupsDeep (now (bytes .entry))) ⌝ }
 {
     let zeros = [0u64; VALUES];
-    match condition(&zeros, bytes, 0, DEEP, threads) {
-        Read::Bad(at) => Found::Bad(at),
-        Read::Value(_, at) => Found::Ends(at),
+    match condition(bytes, &zeros, 0, DEEP, threads) {
+        Read::Bad(at) => Extent::Bad(at),
+        Read::Value(_, at) => Extent::Ends(at),
     }
 }
 
 // Whether the condition holds with which these bytes begin. No byte is no condition, and holds.
-pub fn holds(values: &Values, bytes: &[u8], threads: usize) -> bool
+pub fn holds(bytes: &[u8], values: &Values, threads: usize) -> bool
     ensures { λ r. ⌜ r ≡ rules.holds threads (registerIn (now (values .entry))) (now (bytes .entry)) ⌝ }
 {
     if bytes.len() == 0 {
         return true;
     }
-    match condition(values, bytes, 0, DEEP, threads) {
+    match condition(bytes, values, 0, DEEP, threads) {
         Read::Bad(_) => false,
         Read::Value(holds, _) => holds,
     }
 }
 
 // The condition that begins here, with at most so many groups in each other.
-fn condition(values: &Values, bytes: &[u8], at: usize, deep: usize, threads: usize) -> Read
+fn condition(bytes: &[u8], values: &Values, at: usize, deep: usize, threads: usize) -> Read
     requires { ⌜ at ≤ length (now bytes) ⌝ }
     ensures { λ r. ⌜ Reads (now (bytes .entry)) at r (rules.conditionAt threads (registerIn (now (values .entry))) deep (drop at (now (bytes .entry)))) ⌝ }
 {
     if deep == 0 {
-        return comparison(values, bytes, at, threads);
+        return comparison(bytes, values, at, threads);
     }
     if byte_at(bytes, at) == OPENS {
-        return group(values, bytes, at + 1, deep - 1, threads);
+        return group(bytes, values, at + 1, deep - 1, threads);
     }
-    comparison(values, bytes, at, threads)
+    comparison(bytes, values, at, threads)
 }
 
 // The rest of a group, behind its opening bracket. All its members are joined by the same joint.
-fn group(values: &Values, bytes: &[u8], start: usize, deep: usize, threads: usize) -> Read
+fn group(bytes: &[u8], values: &Values, start: usize, deep: usize, threads: usize) -> Read
     requires { ⌜ start ≤ length (now bytes) ⌝ }
     ensures { λ r. ⌜ Reads (now (bytes .entry)) start r (rules.groupAt (rules.conditionAt threads (registerIn (now (values .entry))) deep) (drop start (now (bytes .entry)))) ⌝ }
 {
-    let first = condition(values, bytes, start, deep, threads);
+    let first = condition(bytes, values, start, deep, threads);
     let Read::Value(value, behind) = first else {
         return first;
     };
@@ -122,7 +130,7 @@ fn group(values: &Values, bytes: &[u8], start: usize, deep: usize, threads: usiz
     let mut joint = 0;
     while may_join(joint, byte_at(bytes, at)) {
         joint = byte_at(bytes, at);
-        let member = condition(values, bytes, at + 1, deep, threads);
+        let member = condition(bytes, values, at + 1, deep, threads);
         let Read::Value(value, behind) = member else {
             return member;
         };
@@ -136,7 +144,7 @@ fn group(values: &Values, bytes: &[u8], start: usize, deep: usize, threads: usiz
 }
 
 // The comparison that begins here.
-fn comparison(values: &Values, bytes: &[u8], at: usize, threads: usize) -> Read
+fn comparison(bytes: &[u8], values: &Values, at: usize, threads: usize) -> Read
     requires { ⌜ at ≤ length (now bytes) ⌝ }
     ensures { λ r. ⌜ Reads (now (bytes .entry)) at r (rules.comparisonAt threads (registerIn (now (values .entry))) (drop at (now (bytes .entry)))) ⌝ }
 {
@@ -144,10 +152,10 @@ fn comparison(values: &Values, bytes: &[u8], at: usize, threads: usize) -> Read
         return Read::Bad(at);
     }
     let sign = bytes[at];
-    let thread = wide8(bytes[at + 1]);
-    let register = wide8(bytes[at + 2]);
+    let thread = wide8(bytes[at + THREAD_AT]);
+    let register = wide8(bytes[at + REGISTER_AT]);
     if is_sign(sign) & (thread < threads) & (register < REGISTERS) {
-        let n = u64_at(bytes, at + 3);
+        let n = u64_at(bytes, at + NUMBER_AT);
         let x = register_of(values, thread, register);
         return Read::Value(compared(sign, x, n), at + COMPARISON);
     }
@@ -205,7 +213,7 @@ fn register_of(values: &[u64], thread: usize, register: usize) -> u64
     requires { ⌜ (thread ≤ 255) × (register ≤ 255) ⌝ }
     ensures { λ r. ⌜ r ≡ registerIn (now (values .entry)) thread register ⌝ }
 {
-    let at = REGISTER + (REGISTERS * thread + register);
+    let at = REGISTER + register_at(thread, register);
     if at < values.len() {
         return values[at];
     }

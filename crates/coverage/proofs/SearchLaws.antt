@@ -1,12 +1,12 @@
 -- Laws for the search of rows: one turn of each loop. Assumes nothing.
 use Prim.Native.Nat.{ℕ, suc, _+_, _-_, _≤_, _<_}
 use mathlib.Core.List.{List, [], _∷_}
-use mathlib.Core.Bool.{Bool, true, false, cond, not, _||_}
+use mathlib.Core.Bool.{Bool, true, false, cond, not}
 use mathlib.Core.Path.{_≡_, refl, ap, sym, _∙_}
 use native.Mathlib.Omega.{arith}
 use native.Mathlib.Nat.{sub-zero, zero-add}
 use borrow.Author.Tests.{lt-ltb, le-ltb}
-use lib.Dec.{ltb, eqb}
+use lib.Dec.{ltb}
 use types.Run.{OneOf, miss}
 use denote.Enum.Declared.{tagOf}
 use Rattle.rules.specs.Table as rules
@@ -18,8 +18,8 @@ use Rattle.decode.specs.declared.Decoded.{Decoded}
 use Rattle.decode.specs.declared.Decoded.the-variants.{Refused, Row as Says}
 use Rattle.decode.specs.Ops.{opOf, decodedOf}
 use Rattle.coverage.specs.Covered.{countOf, rowOp, switches, firstIn, firstFrom, firstSwitch, storesTo, oneIf, summed, storesIn, stores}
-use Rattle.coverage.specs.declared.search.Place.{Place}
-use Rattle.coverage.specs.declared.search.Place.the-variants.{Nowhere, At}
+use Rattle.coverage.specs.declared.search.Switch.{Switch}
+use Rattle.coverage.specs.declared.search.Switch.the-variants.{Nowhere, At}
 
 -- The first row of a thread that switches (table/proofs/Walks has the turns of that loop)
 
@@ -37,7 +37,7 @@ told on d e r b q p s = ap (λ (x : rules.Decoded rules.Op). not (switches on x)
 
 -- The first thread that has such a row: what is left to be asked at thread i
 
-module _ (t shape : List ℕ) (on : Bool) (i row count : ℕ) (whole : Place) (left : firstFrom t shape on (5 - i) i ≡ whole)
+module _ (t shape : List ℕ) (on : Bool) (i row count : ℕ) (whole : Switch) (left : firstFrom t shape on (5 - i) i ≡ whole)
     (h : i < 5) (found : row ≡ firstIn t shape on i) (counted : count ≡ countOf shape i) where
   from-one : firstFrom t shape on (5 - i) i ≡ cond (ltb row count) (At i row) (firstFrom t shape on (5 - (i + 1)) (i + 1))
   unfolding firstFrom
@@ -52,7 +52,7 @@ module _ (t shape : List ℕ) (on : Bool) (i row count : ℕ) (whole : Place) (l
 pub from-all : (t shape : List ℕ) (on : Bool) → shape ≡ shapeOf t → firstFrom t shape on 5 0 ≡ firstSwitch t on
 from-all t shape on e = rw e
 
-pub from-none : (t shape : List ℕ) (on : Bool) (i : ℕ) (whole : Place) → firstFrom t shape on (5 - i) i ≡ whole → 5 ≤ i → Nowhere ≡ whole
+pub from-none : (t shape : List ℕ) (on : Bool) (i : ℕ) (whole : Switch) → firstFrom t shape on (5 - i) i ≡ whole → 5 ≤ i → Nowhere ≡ whole
 unfolding firstFrom
 from-none t shape on i whole left h = let e : 5 - i ≡ 0 = omega arith in rw e at left
 
@@ -139,9 +139,45 @@ pub switches-none : (on : Bool) (row : Decoded) → row ≡ Refused → false �
 switches-none true row p = rw p
 switches-none false row p = rw p
 
-module _ (on : Bool) (row : Decoded) (op : Op) (k : ℕ) (p : row ≡ Says op) (code : k ≡ rules.opcodeOf (opOf op)) where
-  pub switches-on : on ≡ true → eqb k 14 ≡ switches on (decodedOf row)
-  switches-on e = rw (e, p, code)
+-- a row by what is said of it where exploring is to go on, and where it is to go off
+switches-each : (said : Bool → Bool) (d : rules.Decoded rules.Op) → said true ≡ switches true d → said false ≡ switches false d →
+    (on : Bool) → said on ≡ switches on d
+switches-each said d p q true = p
+switches-each said d p q false = q
 
-  pub switches-off : on ≡ false → (eqb k 13 || eqb k 15) ≡ switches on (decodedOf row)
-  switches-off e = rw (e, p, code)
+module _ (on : Bool) (row : Decoded) (op : Op) (p : row ≡ Says op) where
+  pub switches-on : op ≡ code.ExploreState → on ≡ switches on (decodedOf row)
+  switches-on q = rw (p, q) (switches-each (λ (b : Bool). b) _ refl refl on)
+
+  pub switches-off : (m : Op) → op ≡ m → false ≡ switches true (rules.decoded (opOf m)) → true ≡ switches false (rules.decoded (opOf m)) →
+      not on ≡ switches on (decodedOf row)
+  switches-off m q y n = rw (p, q) (switches-each not _ y n on)
+
+-- all but `critical`, `explore_state` and `skip_branch`
+abbrev still : List ℕ
+still = 0 ∷ 1 ∷ 2 ∷ 3 ∷ 4 ∷ 5 ∷ 6 ∷ 7 ∷ 8 ∷ 9 ∷ 10 ∷ 11 ∷ 12 ∷ 16 ∷ 17 ∷ 18 ∷ []
+
+never : (on : Bool) (op : Op) → OneOf still (tagOf Op.the-type op) → false ≡ switches on (rules.decoded (opOf op))
+never on (code.Load order c register) k = switches-each (λ (b : Bool). false) _ refl refl on
+never on (code.Store order c value) k = switches-each (λ (b : Bool). false) _ refl refl on
+never on (code.StoreRegister order c register) k = switches-each (λ (b : Bool). false) _ refl refl on
+never on (code.Rmw order c register change failure) k = switches-each (λ (b : Bool). false) _ refl refl on
+never on (code.Fence order) k = switches-each (λ (b : Bool). false) _ refl refl on
+never on (code.UnsyncLoad c register) k = switches-each (λ (b : Bool). false) _ refl refl on
+never on (code.WithMut c register change) k = switches-each (λ (b : Bool). false) _ refl refl on
+never on code.Yield k = switches-each (λ (b : Bool). false) _ refl refl on
+never on (code.Join thread) k = switches-each (λ (b : Bool). false) _ refl refl on
+never on (code.Jump target) k = switches-each (λ (b : Bool). false) _ refl refl on
+never on (code.JumpIf target register a) k = switches-each (λ (b : Bool). false) _ refl refl on
+never on (code.JumpUnless target register a) k = switches-each (λ (b : Bool). false) _ refl refl on
+never on (code.Check register a) k = switches-each (λ (b : Bool). false) _ refl refl on
+never on code.Critical k = absurd (miss still 13 tt k)
+never on code.ExploreState k = absurd (miss still 14 tt k)
+never on code.SkipBranch k = absurd (miss still 15 tt k)
+never on (code.Spurious register) k = switches-each (λ (b : Bool). false) _ refl refl on
+never on (code.PlainRead plain register) k = switches-each (λ (b : Bool). false) _ refl refl on
+never on (code.PlainWrite plain value) k = switches-each (λ (b : Bool). false) _ refl refl on
+
+pub switches-else : (on : Bool) (row : Decoded) (op : Op) → row ≡ Says op → OneOf still (tagOf Op.the-type op) →
+    false ≡ switches on (decodedOf row)
+switches-else on row op p k = rw p (never on op k)

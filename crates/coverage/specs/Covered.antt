@@ -11,8 +11,8 @@ use lib.ListN.{getD}
 use Rattle.rules.specs.Table.{Op, Decoded, refused, decoded, opcodeIn, opAt, shapeOf, firstNot, maxThreads}
 use Rattle.table.specs.Answers.{roomIn}
 use Rattle.rules.specs.Machine.{Pending, nothing, pends, pendingOf, aLoad}
-use Rattle.coverage.specs.declared.search.Place.{Place}
-use Rattle.coverage.specs.declared.search.Place.the-variants.{Nowhere, At}
+use Rattle.coverage.specs.declared.search.Switch.{Switch}
+use Rattle.coverage.specs.declared.search.Switch.the-variants.{Nowhere, At}
 
 -- Rows, in a table of this shape
 
@@ -34,13 +34,13 @@ unfoldable pub firstIn : List ℕ → List ℕ → Bool → ℕ → ℕ
 firstIn t shape on thread = firstNot (λ (row : ℕ). not (switches on (rowOp t shape thread row))) (countOf shape thread) 0
 
 -- of the n threads from this one on
-unfoldable pub firstFrom : List ℕ → List ℕ → Bool → ℕ → ℕ → Place
+unfoldable pub firstFrom : List ℕ → List ℕ → Bool → ℕ → ℕ → Switch
 firstFrom t shape on zero thread = Nowhere
 firstFrom t shape on (suc n) thread =
     cond (ltb (firstIn t shape on thread) (countOf shape thread)) (At thread (firstIn t shape on thread))
     (firstFrom t shape on n (thread + 1))
 
-abbrev pub firstSwitch : List ℕ → Bool → Place
+abbrev pub firstSwitch : List ℕ → Bool → Switch
 firstSwitch t on = firstFrom t (shapeOf t) on maxThreads 0
 
 -- Rows that store

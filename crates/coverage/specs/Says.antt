@@ -16,8 +16,8 @@ use Rattle.rules.specs.Path.{Bound, unbounded, atMost}
 use Rattle.rules.specs.Explored.{Settings}
 use Rattle.page.specs.Pages.{Page, putText, filled}
 use Rattle.coverage.specs.Covered.{firstSwitch, stores}
-use Rattle.coverage.specs.declared.search.Place.{Place}
-use Rattle.coverage.specs.declared.search.Place.the-variants.{Nowhere, At}
+use Rattle.coverage.specs.declared.search.Switch.{Switch}
+use Rattle.coverage.specs.declared.search.Switch.the-variants.{Nowhere, At}
 
 -- The first line
 
@@ -32,13 +32,13 @@ putFirst l what n begun = putText (putExecutions (filled l what n 0 0) begun) (b
 -- What was tried
 
 -- exploring was off at the start: by the first row that switches it on
-abbrev pub putSwitchedOn : Page → Place → Page
+abbrev pub putSwitchedOn : Page → Switch → Page
 putSwitchedOn l Nowhere = putText l (bytesOf "covered: one execution; no other order of the threads and no other load was tried\n")
 putSwitchedOn l (At thread row) =
     filled l (bytesOf "covered: what is varied while exploring is on, by `explore_state` (first at thread #, row #); nothing else\n")
     thread row 0
 
-unfoldable pub putOff : Page → ℕ → Place → Page
+unfoldable pub putOff : Page → ℕ → Switch → Page
 putOff l begun on =
     putSwitchedOn (putFirst l (bytesOf "answer 0: not explored, by --not-exploring; ended after ") 0 begun) on
 
@@ -50,7 +50,7 @@ putExhausted l begun unbounded =
 putExhausted l begun (atMost most) = putFirst l (bytesOf "answer 0: exhausted within --bound # after ") most begun
 
 -- exploring was on at the start: by the first row that switches it off
-unfoldable pub putExplored : Page → ℕ → Bound → Place → Page
+unfoldable pub putExplored : Page → ℕ → Bound → Switch → Page
 putExplored l begun bound Nowhere = putExhausted l begun bound
 putExplored l begun bound (At thread row) =
     filled (putFirst l (bytesOf "answer 0: exhausted in part, since the program switches exploring off, after ") 0 begun)

@@ -10,7 +10,7 @@ use layout::MAX_ATOMIC_HISTORY;
 use layout::MAX_CELLS;
 use page::Page;
 use path::Bound;
-use search::Place;
+use search::Switch;
 use settings::Settings;
 
 mod search;
@@ -59,7 +59,7 @@ fn put_executions(page: &mut Page, at: usize, begun: u64) -> usize
 }
 
 // Exploring was off at the start.
-fn put_off(page: &mut Page, at: usize, begun: u64, on: Place) -> usize
+fn put_off(page: &mut Page, at: usize, begun: u64, on: Switch) -> usize
     ensures { λ r. ⌜ ended (now (page .exit)) r ≡ putOff (ended (now (page .entry)) at) begun on ⌝ }
 {
     let to = put_first(
@@ -69,7 +69,7 @@ fn put_off(page: &mut Page, at: usize, begun: u64, on: Place) -> usize
         0,
         begun,
     );
-    let Place::At { thread, row } = on else {
+    let Switch::At { thread, row } = on else {
         return page::put(
             page,
             to,
@@ -87,10 +87,10 @@ fn put_off(page: &mut Page, at: usize, begun: u64, on: Place) -> usize
 }
 
 // Exploring was on at the start; the program may switch it off.
-fn put_explored(page: &mut Page, at: usize, begun: u64, bound: Bound, switched: Place) -> usize
+fn put_explored(page: &mut Page, at: usize, begun: u64, bound: Bound, switched: Switch) -> usize
     ensures { λ r. ⌜ ended (now (page .exit)) r ≡ putExplored (ended (now (page .entry)) at) begun (boundOf bound) switched ⌝ }
 {
-    let Place::At { thread, row } = switched else {
+    let Switch::At { thread, row } = switched else {
         return put_exhausted(page, at, begun, bound);
     };
     let to = put_first(

@@ -6,22 +6,19 @@ ghost use Rattle.coverage.specs.Covered.{firstSwitch, firstIn, stores, s
 ghost use Rattle.coverage.specs.Covered.{switches as switchesTo};
 use decode::Decoded;
 use decode::Op;
-use decode::opcodes::CRITICAL;
-use decode::opcodes::EXPLORE_STATE;
-use decode::opcodes::SKIP_BRANCH;
 use layout::MAX_THREADS;
 use layout::wide16;
 use table::COUNTS;
 use table::Shape;
 
 // A row of the table, or none.
-pub enum Place {
+pub enum Switch {
     Nowhere,
     At { thread: usize, row: usize },
 }
 
 // The first row, thread by thread, that switches exploring on, or off.
-pub fn first_switch(table: &[u8], on: bool) -> Place
+pub fn first_switch(table: &[u8], on: bool) -> Switch
     ensures { λ r. ⌜ r ≡ firstSwitch (now (table .entry)) on ⌝ }
 {
     let shape = table::shape(table);
@@ -29,11 +26,11 @@ pub fn first_switch(table: &[u8], on: bool) -> Place
     while thread < MAX_THREADS {
         let row = first_in(table, &shape, thread, on);
         if row < wide16(shape[COUNTS + thread]) {
-            return Place::At { thread, row };
+            return Switch::At { thread, row };
         }
         thread += 1;
     }
-    Place::Nowhere
+    Switch::Nowhere
 }
 
 // The first such row of a thread, or its row count.
@@ -59,11 +56,12 @@ fn switches(row: Decoded, on: bool) -> bool
     let Decoded::Row(op) = row else {
         return false;
     };
-    let opcode = table::opcode(op);
-    if on {
-        return opcode == EXPLORE_STATE;
+    match op {
+        Op::ExploreState => on,
+        Op::Critical => !on,
+        Op::SkipBranch => !on,
+        _ => false,
     }
-    (opcode == CRITICAL) | (opcode == SKIP_BRANCH)
 }
 
 // How many rows of all threads may store to a cell.

@@ -41,8 +41,8 @@ abbrev pub changeDecodedOf : ChangeDecoded → rules.Decoded changes.Change
 changeDecodedOf decodes.Refused = rules.refused
 changeDecodedOf (decodes.Change change) = rules.decoded (changeMeant change)
 
-abbrev pub rowOf : Row → rules.Row
-rowOf r = record {
+abbrev pub rowMeant : Row → rules.Row
+rowMeant r = record {
   opcode = r .opcode;
   object = r .object;
   order = r .order;

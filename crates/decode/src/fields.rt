@@ -6,17 +6,14 @@ ghost use Rattle.rules.specs.Table as rules;
 ghost use Rattle.change.specs.Changes.{changeMeant};
 ghost use Rattle.decode.specs.Ops.{changeDecodedOf};
 use crate::Row;
+use crate::kinds::COMPARE;
+use crate::kinds::DECREMENT;
 use change::Change;
 use layout::REGISTERS;
 use layout::order::ACQ_REL;
 use layout::order::ACQUIRE;
 use layout::order::RELEASE;
 use layout::order::SEQ_CST;
-
-// The changes that may fail.
-const COMPARE: u8 = 11;
-
-const DECREMENT: u8 = 12;
 
 // A row's change with its operands, or that the row has none.
 pub enum ChangeDecoded {

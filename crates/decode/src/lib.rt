@@ -5,9 +5,10 @@ ghost use mathlib.Core.Bool.{_&&_};
 ghost use lib.Dec.{ltb, eqb};
 ghost use Prim.Native.Nat.{ℕ};
 ghost use Rattle.rules.specs.Table as rules;
-ghost use Rattle.decode.specs.Ops.{opOf, decodedOf, rowOf, roomOf};
+ghost use Rattle.decode.specs.Ops.{opOf, decodedOf, rowMeant, roomOf};
 
 mod fields;
+pub mod kinds;
 pub mod opcodes;
 
 use change::Change;
@@ -150,7 +151,7 @@ pub struct Row {
 
 // What this row does, in this room.
 pub fn row_decoded(row: Row, room: Room) -> Decoded
-    ensures { λ r. ⌜ decodedOf r ≡ rules.rowDecoded (roomOf room) (rowOf row) ⌝ }
+    ensures { λ r. ⌜ decodedOf r ≡ rules.rowDecoded (roomOf room) (rowMeant row) ⌝ }
 {
     let opcode = row.opcode;
     match opcode {
@@ -179,7 +180,7 @@ pub fn row_decoded(row: Row, room: Room) -> Decoded
 
 // Whether this row says something at all.
 pub fn is_row(row: Row, room: Room) -> bool
-    ensures { λ r. ⌜ r ≡ rules.isFine (rules.rowDecoded (roomOf room) (rowOf row)) ⌝ }
+    ensures { λ r. ⌜ r ≡ rules.isFine (rules.rowDecoded (roomOf room) (rowMeant row)) ⌝ }
 {
     let opcode = row.opcode;
     match opcode {
@@ -217,7 +218,7 @@ fn is_decoded(decoded: Decoded) -> bool
 
 // A load uses cell, order and the register that it loads into.
 fn load_row(row: Row, cells: usize) -> Decoded
-    ensures { λ r. ⌜ decodedOf r ≡ rules.loadRow cells (rowOf row) ⌝ }
+    ensures { λ r. ⌜ decodedOf r ≡ rules.loadRow cells (rowMeant row) ⌝ }
 {
     let cell = wide8(row.object);
     let into = wide8(row.register);
@@ -238,7 +239,7 @@ fn load_row(row: Row, cells: usize) -> Decoded
 
 // A store of operand a uses cell and order beside it.
 fn store_row(row: Row, cells: usize) -> Decoded
-    ensures { λ r. ⌜ decodedOf r ≡ rules.storeRow cells (rowOf row) ⌝ }
+    ensures { λ r. ⌜ decodedOf r ≡ rules.storeRow cells (rowMeant row) ⌝ }
 {
     only_if(
         named(row.object, cells)
@@ -257,7 +258,7 @@ fn store_row(row: Row, cells: usize) -> Decoded
 
 // A store of a register uses cell and order beside it.
 fn store_register_row(row: Row, cells: usize) -> Decoded
-    ensures { λ r. ⌜ decodedOf r ≡ rules.storeRegisterRow cells (rowOf row) ⌝ }
+    ensures { λ r. ⌜ decodedOf r ≡ rules.storeRegisterRow cells (rowMeant row) ⌝ }
 {
     only_if(
         named(row.object, cells)
@@ -276,7 +277,7 @@ fn store_register_row(row: Row, cells: usize) -> Decoded
 
 // An RMW uses cell, order, change kind and register, and what its change uses.
 fn rmw_row(row: Row, cells: usize) -> Decoded
-    ensures { λ r. ⌜ decodedOf r ≡ rules.rmwRow cells (rowOf row) (rules.changeDecoded (row .kind) (row .a) (row .b)) ⌝ }
+    ensures { λ r. ⌜ decodedOf r ≡ rules.rmwRow cells (rowMeant row) (rules.changeDecoded (row .kind) (row .a) (row .b)) ⌝ }
 {
     let ChangeDecoded::Change(change) = change_of(row.kind, row.a, row.b) else {
         return Decoded::Refused;
@@ -296,7 +297,7 @@ fn rmw_row(row: Row, cells: usize) -> Decoded
 // Whether a row is an RMW. Judging does not make the row: with one caller, the function that does is compiled into the tick,
 // and no tick writes a row's fields to memory for it.
 fn is_rmw(row: Row, cells: usize) -> bool
-    ensures { λ r. ⌜ r ≡ rules.isFine (rules.rmwRow cells (rowOf row) (rules.changeDecoded (row .kind) (row .a) (row .b))) ⌝ }
+    ensures { λ r. ⌜ r ≡ rules.isFine (rules.rmwRow cells (rowMeant row) (rules.changeDecoded (row .kind) (row .a) (row .b))) ⌝ }
 {
     let ChangeDecoded::Change(_) = change_of(row.kind, row.a, row.b) else {
         return false;
@@ -317,7 +318,7 @@ fn rmw_fields(row: Row, cells: usize) -> bool
 
 // A fence uses the order.
 fn fence_row(row: Row) -> Decoded
-    ensures { λ r. ⌜ decodedOf r ≡ rules.fenceRow (rowOf row) ⌝ }
+    ensures { λ r. ⌜ decodedOf r ≡ rules.fenceRow (rowMeant row) ⌝ }
 {
     only_if(
         ((row.order <= SEQ_CST) & (row.order != RELAXED))
@@ -332,7 +333,7 @@ fn fence_row(row: Row) -> Decoded
 
 // An unsynchronised load uses cell and register.
 fn unsync_load_row(row: Row, cells: usize) -> Decoded
-    ensures { λ r. ⌜ decodedOf r ≡ rules.unsyncLoadRow cells (rowOf row) ⌝ }
+    ensures { λ r. ⌜ decodedOf r ≡ rules.unsyncLoadRow cells (rowMeant row) ⌝ }
 {
     only_if(
         named(row.object, cells)
@@ -350,7 +351,7 @@ fn unsync_load_row(row: Row, cells: usize) -> Decoded
 
 // An exclusive change uses cell, change kind and register, and the operands of its change.
 fn with_mut_row(row: Row, cells: usize) -> Decoded
-    ensures { λ r. ⌜ decodedOf r ≡ rules.exclusiveRow cells (rowOf row) (rules.changeDecoded (row .kind) (row .a) (row .b)) ⌝ }
+    ensures { λ r. ⌜ decodedOf r ≡ rules.exclusiveRow cells (rowMeant row) (rules.changeDecoded (row .kind) (row .a) (row .b)) ⌝ }
 {
     let ChangeDecoded::Change(change) = change_of(row.kind, row.a, row.b) else {
         return Decoded::Refused;
@@ -371,7 +372,7 @@ fn with_mut_row(row: Row, cells: usize) -> Decoded
 
 // A yield, and the three that steer exploring, use nothing.
 fn bare_row(row: Row, op: Op) -> Decoded
-    ensures { λ r. ⌜ decodedOf r ≡ rules.bareRow (opOf op) (rowOf row) ⌝ }
+    ensures { λ r. ⌜ decodedOf r ≡ rules.bareRow (opOf op) (rowMeant row) ⌝ }
 {
     only_if(
         (row.object == 0)
@@ -386,7 +387,7 @@ fn bare_row(row: Row, op: Op) -> Decoded
 
 // A join uses the thread.
 fn join_row(row: Row, threads: usize) -> Decoded
-    ensures { λ r. ⌜ decodedOf r ≡ rules.joinRow threads (rowOf row) ⌝ }
+    ensures { λ r. ⌜ decodedOf r ≡ rules.joinRow threads (rowMeant row) ⌝ }
 {
     only_if(
         named(row.object, threads)
@@ -403,7 +404,7 @@ fn join_row(row: Row, threads: usize) -> Decoded
 
 // A jump uses the target, which may be the row count but not the jump's own number: it would never end.
 fn jump_row(row: Row, count: usize, own: usize) -> Decoded
-    ensures { λ r. ⌜ decodedOf r ≡ rules.jumpRow count own (rowOf row) ⌝ }
+    ensures { λ r. ⌜ decodedOf r ≡ rules.jumpRow count own (rowMeant row) ⌝ }
 {
     only_if(
         reached(row.target, count)
@@ -419,7 +420,7 @@ fn jump_row(row: Row, count: usize, own: usize) -> Decoded
 
 // A jump on a test uses register, operand a and target.
 fn jump_if_row(row: Row, count: usize) -> Decoded
-    ensures { λ r. ⌜ decodedOf r ≡ rules.jumpOnRow rules.jumpIf count (rowOf row) ⌝ }
+    ensures { λ r. ⌜ decodedOf r ≡ rules.jumpOnRow rules.jumpIf count (rowMeant row) ⌝ }
 {
     let register = wide8(row.register);
     let a = row.a;
@@ -436,7 +437,7 @@ fn jump_if_row(row: Row, count: usize) -> Decoded
 }
 
 fn jump_unless_row(row: Row, count: usize) -> Decoded
-    ensures { λ r. ⌜ decodedOf r ≡ rules.jumpOnRow rules.jumpUnless count (rowOf row) ⌝ }
+    ensures { λ r. ⌜ decodedOf r ≡ rules.jumpOnRow rules.jumpUnless count (rowMeant row) ⌝ }
 {
     let register = wide8(row.register);
     let a = row.a;
@@ -454,7 +455,7 @@ fn jump_unless_row(row: Row, count: usize) -> Decoded
 
 // What both ask of a row that is to be this jump.
 fn jump_on_row(row: Row, count: usize, op: Op) -> Decoded
-    ensures { λ r. ⌜ decodedOf r ≡ rules.jumpOnRow (λ (register a target : ℕ). opOf op) count (rowOf row) ⌝ }
+    ensures { λ r. ⌜ decodedOf r ≡ rules.jumpOnRow (λ (register a target : ℕ). opOf op) count (rowMeant row) ⌝ }
 {
     only_if(
         is_register(row.register)
@@ -469,7 +470,7 @@ fn jump_on_row(row: Row, count: usize, op: Op) -> Decoded
 
 // A check uses register and operand a.
 fn check_row(row: Row) -> Decoded
-    ensures { λ r. ⌜ decodedOf r ≡ rules.checkRow (rowOf row) ⌝ }
+    ensures { λ r. ⌜ decodedOf r ≡ rules.checkRow (rowMeant row) ⌝ }
 {
     only_if(
         is_register(row.register)
@@ -487,7 +488,7 @@ fn check_row(row: Row) -> Decoded
 
 // A spurious choice uses the register.
 fn spurious_row(row: Row) -> Decoded
-    ensures { λ r. ⌜ decodedOf r ≡ rules.spuriousRow (rowOf row) ⌝ }
+    ensures { λ r. ⌜ decodedOf r ≡ rules.spuriousRow (rowMeant row) ⌝ }
 {
     only_if(
         is_register(row.register)
@@ -504,7 +505,7 @@ fn spurious_row(row: Row) -> Decoded
 
 // A plain read uses the plain cell and the register.
 fn plain_read_row(row: Row, plains: usize) -> Decoded
-    ensures { λ r. ⌜ decodedOf r ≡ rules.plainReadRow plains (rowOf row) ⌝ }
+    ensures { λ r. ⌜ decodedOf r ≡ rules.plainReadRow plains (rowMeant row) ⌝ }
 {
     only_if(
         named(row.object, plains)
@@ -522,7 +523,7 @@ fn plain_read_row(row: Row, plains: usize) -> Decoded
 
 // A plain write uses the plain cell and operand a.
 fn plain_write_row(row: Row, plains: usize) -> Decoded
-    ensures { λ r. ⌜ decodedOf r ≡ rules.plainWriteRow plains (rowOf row) ⌝ }
+    ensures { λ r. ⌜ decodedOf r ≡ rules.plainWriteRow plains (rowMeant row) ⌝ }
 {
     only_if(
         named(row.object, plains)

@@ -36,3 +36,6 @@ pub const SPURIOUS: u8 = 16;
 pub const PLAIN_READ: u8 = 17;
 
 pub const PLAIN_WRITE: u8 = 18;
+
+// The opcode of what is no row.
+pub const NO_OPCODE: u8 = 255;

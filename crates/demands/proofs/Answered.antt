@@ -20,7 +20,7 @@ use Rattle.rules.specs.Condition.{isCondition}
 use Rattle.rules.specs.Event as Event
 use Rattle.rules.specs.Event.{Site}
 use Rattle.rules.specs.Explorer.{Verdict, exhausted, spent, unmet, stopped}
-use Rattle.rules.specs.Explored.{Settings, Explored, refused, ran, reported, isRefusal, settingsFine, stopOf, noted, verdictNumber}
+use Rattle.rules.specs.Explored.{Settings, Explored, refused, ran, reported, isRefusal, settingsFine, stopOf, traceLeft, verdictNumber}
 use Rattle.rules.proofs.ExploredLaws.{explored-2, explored-3, explored-4, explored-5-header, explored-5-row, explored-5-condition, explored-ran}
 use Rattle.offers.specs.Offered.{Among}
 use Rattle.demands.specs.Demands.{right, Answered, inRange, pathFits, traceFits, badInput, it, report, run, theAnswers}
@@ -268,7 +268,7 @@ module _ (table condition : List ℕ) (s : Settings) (path trace : List ℕ) whe
   reported-by e = ap (λ (x : Explored). x .report) e
 
   left-by : whole ≡ ran (length path) (length trace) (stopOf table condition s)
-      → (whole .path ≡ written (length path) (run right table condition s path trace .walk .ledger .path)) × (whole .trace ≡ noted (length trace) (run right table condition s path trace .walk .trace))
+      → (whole .path ≡ written (length path) (run right table condition s path trace .walk .ledger .path)) × (whole .trace ≡ traceLeft (length trace) (run right table condition s path trace .walk .trace))
   unfolding ran
   left-by e = (ap (λ (x : Explored). x .path) e, ap (λ (x : Explored). x .trace) e)
 

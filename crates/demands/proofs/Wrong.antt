@@ -17,7 +17,7 @@ use Rattle.rules.specs.Event.{Matched, offers, Question, whichThread, whichSlot
 use Rattle.rules.specs.Explored as Explored
 use Rattle.rules.specs.Explored.{Settings, programOf, limitsOf, verdictNumber}
 use Rattle.rules.specs.Explorer.{Limits, Ledger, empty, Verdict, Walk, Tick, goes, over, faulted}
-use Rattle.rules.specs.Machine.{Program, machine, next, active, activeOp}
+use Rattle.rules.specs.Machine.{Program, machine, next, current, activeOp}
 use Rattle.rules.specs.Path as Path
 use Rattle.rules.specs.Path.{Branch, schedule, load, spurious, noBranch, Choice, choiceOf}
 use Rattle.rules.specs.Table.{judged, good}
@@ -278,14 +278,14 @@ not-seen w t c i t′ c′ i′ e f g h k = true-false k (cc (e, f, g, h))
 unwatched : (p : Program) (limits : Limits) (w v : Walk State) (t c i : ℕ)
     → asksSlot (next p (w .state) .move) ≡ 1 → w .pos < left p limits w .pos
     → choiceOf (getD (left p limits w .ledger .path) (w .pos) noBranch) ≡ Path.reads i
-    → active (stateIn (next p (w .state) .move)) ≡ t → cellIn (activeOp p (stateIn (next p (w .state) .move))) ≡ c
+    → current (stateIn (next p (w .state) .move)) ≡ t → cellIn (activeOp p (stateIn (next p (w .state) .move))) ≡ c
     → sees v t c i ≡ false → Offering p limits w → Watched p limits w v → ⊥
 unfolding choiceOf
 unwatched p limits w v t c i a k e f g h o r =
     let move = next p (w .state) .move in
     let asked = slot-asked move a in
     let it = o .at-slot (stateIn move) (entriesIn move) (exploringIn move) (matchIn (questionIn move)) asked .chosen k in
-    not-seen v (active (stateIn move)) (it .cell) (getD (it .by .values) (it .by .pos) 0) t c i f
+    not-seen v (current (stateIn move)) (it .cell) (getD (it .by .values) (it .by .pos) 0) t c i f
     (read-cell p (stateIn move) (matchIn (questionIn move)) (it .offered) (it .cell) (it .opcode) (it .reading) ∙ g)
     (ap (λ (b : Branch). slotIn (choiceOf b)) (sym (it .at-branch)) ∙ ap slotIn e)
     h (r .read (stateIn move) (entriesIn move) (exploringIn move) (matchIn (questionIn move)) asked it)

@@ -15,11 +15,11 @@ use Rattle.rules.specs.Condition.{isCondition}
 use Rattle.rules.specs.Event as Event
 use Rattle.rules.specs.Event.{Matched, offers, equal, slotsOf, Question, whichThread, whichSlot, whichBit, Move, moves, asks, stops, ends, Entry}
 use Rattle.rules.specs.Explored as Explored
-use Rattle.rules.specs.Explored.{Settings, Report, reported, isRefusal, settingsFine, noted, verdictNumber, programOf, limitsOf}
+use Rattle.rules.specs.Explored.{Settings, Report, reported, isRefusal, settingsFine, traceLeft, verdictNumber, programOf, limitsOf}
 use Rattle.rules.specs.Explorer as Runs
 use Rattle.rules.specs.Explorer.{Stop, empty, Walk, Tick, goes, over, faulted, exhausted, spent, unmet, stopped}
 use Rattle.rules.specs.Machine as Machine
-use Rattle.rules.specs.Machine.{machine, next, final, active, activeOp}
+use Rattle.rules.specs.Machine.{machine, next, final, current, activeOp}
 use Rattle.rules.specs.Path as Path
 use Rattle.rules.specs.Path.{Branch, schedule, load, spurious, noBranch, Choice, choiceOf}
 use Rattle.rules.specs.Seen as Seen
@@ -229,7 +229,7 @@ pub record Computed : Type 0 where
   pub placed : reported (stopBy Wrong.misplacing oneLoad (settings 1 1 1)) .row ≡ 0
   pub over-ran : isRefusal (reportFor Wrong.leavingOver oneLoad (settings 3 2 1) .answer) ≡ false
   pub left-over : getD (leftFor Wrong.leavingOver oneLoad (settings 3 2 1) .trace) 16 0 ≡ 90
-  pub zero-past : getD (noted 32 (stopBy Wrong.leavingOver oneLoad (settings 3 2 1) .walk .trace)) 16 0 ≡ 0
+  pub zero-past : getD (traceLeft 32 (stopBy Wrong.leavingOver oneLoad (settings 3 2 1) .walk .trace)) 16 0 ≡ 0
   -- The balance
   pub twice : Counts Wrong.twice storeAndLoad (p3 2) 2 3 1
   pub uncounted-two : Counts (parting uncounted) storeAndLoad (p3 2) 2 1 1
@@ -305,7 +305,7 @@ pub record Computed : Type 0 where
   pub ticks-asked : asksSlot (moveAt right storeAndLoad (p3 2) 1 4) ≡ 1
   pub ticks-passed : ltb (walkAt right storeAndLoad (p3 2) 1 4 .pos) (leftAt right storeAndLoad (p3 2) 1 4 .pos) ≡ true
   pub ticks-branch : choiceOf (answeringAt right storeAndLoad (p3 2) 1 4) ≡ Path.reads 1
-  pub ticks-thread : active (stateIn (moveAt right storeAndLoad (p3 2) 1 4)) ≡ 1
+  pub ticks-thread : current (stateIn (moveAt right storeAndLoad (p3 2) 1 4)) ≡ 1
   pub ticks-cell : cellIn (activeOp (programOf storeAndLoad [] (p3 2)) (stateIn (moveAt right storeAndLoad (p3 2) 1 4))) ≡ 0
   pub ticks-unseen : sees (Wrong.tickOf Wrong.unseeing storeAndLoad (p3 2) Wrong.beforeLoad) 1 0 1 ≡ false
   -- What holds at every tick
@@ -314,7 +314,7 @@ pub record Computed : Type 0 where
   pub rows-there : There Wrong.oneRowMore twoLoads (settings 5 1 1) 0 3
   pub rows-begun : number (walkAt Wrong.oneRowMore twoLoads (settings 5 1 1) 0 3 .state .numbers) State.begun ≡ 2
   pub asleep-there : There Wrong.forgettingOne yieldAndLoad (settings 5 2 1) 0 2
-  pub asleep-active : active (walkAt Wrong.forgettingOne yieldAndLoad (settings 5 2 1) 0 2 .state) ≡ 1
+  pub asleep-active : current (walkAt Wrong.forgettingOne yieldAndLoad (settings 5 2 1) 0 2 .state) ≡ 1
   pub asleep : number (walkAt Wrong.forgettingOne yieldAndLoad (settings 5 2 1) 0 2 .state .numbers) (State.state 0) ≡ Machine.yielded
   pub refused-made : length (madeBy Wrong.countingRefused twoLoads (settings 5 1 1)) ≡ 1
   pub refused-begun : number (end (courseAt Wrong.countingRefused twoLoads (settings 5 1 1) 0) .state .numbers) State.begun ≡ 2
@@ -334,7 +334,7 @@ unfolding Cell.loadSynced Cell.storeSynced Cell.fateFrom Cell.loadFate Cell.rmwF
     Cell.matchedRmw Cell.loadRace Cell.storeRace Cell.loadTracked Cell.storeTracked Cell.coherentFrom Cell.coherent
     Cell.touchDone Cell.storeOrderFrom Cell.storeOrder Cell.storeDone Cell.sighted Cell.loadDone Event.little Event.entryBytes
     Event.slotsFrom Explored.summary Explored.refused Explored.verdictSite Explored.reported Explored.entriesBytes
-    Explored.noted Explored.stopOf Explored.ran Explored.settingsFine Explored.explored Runs.allMarked Runs.seedOf Runs.pushed
+    Explored.traceLeft Explored.stopOf Explored.ran Explored.settingsFine Explored.explored Runs.allMarked Runs.seedOf Runs.pushed
     Runs.allBelow Runs.reply Runs.tick Runs.walked Runs.execution Runs.after Runs.runFrom Runs.run Machine.forThreads
     Machine.blank Machine.cellsMade Machine.plainsMade Machine.threadsStarted Machine.start Machine.conflict Machine.fewestFrom Machine.initial
     Machine.standing Machine.schedules Machine.accessMade Machine.othersAwake Machine.switched Machine.allOver Machine.scheduled

@@ -21,7 +21,7 @@ use Rattle.rules.specs.Event.{Machine, Fault, Site, impossible}
 use Rattle.rules.specs.State.{State}
 use Rattle.rules.specs.Machine.{machine}
 use Rattle.rules.specs.Explorer.{Walk, Tick, over, faulted, Stop, exhausted, spent, unmet, stopped}
-use Rattle.rules.specs.Explored.{Settings, Explored, Report, explored, refused, reported, isRefusal, settingsFine, stopOf, programOf, limitsOf, noted, verdictNumber}
+use Rattle.rules.specs.Explored.{Settings, Explored, Report, explored, refused, reported, isRefusal, settingsFine, stopOf, programOf, limitsOf, traceLeft, verdictNumber}
 use Rattle.ledger.specs.History.{Every, Course, courses, end, Told}
 use Rattle.ledger.specs.Tree.{Parted, noExecution}
 use Rattle.ledger.specs.Turning as turning
@@ -135,7 +135,7 @@ module _ (x : Explorer) (table condition : List ℕ) (s : Settings) (path trace 
     -- and the buffers hold the records of its path and the entries of its last execution, and zeros past them
     pub ran :
         isRefusal (report .answer) ≡ false
-        → (it .path ≡ written (length path) (run .walk .ledger .path)) × (it .trace ≡ noted (length trace) (run .walk .trace))
+        → (it .path ≡ written (length path) (run .walk .ledger .path)) × (it .trace ≡ traceLeft (length trace) (run .walk .trace))
 
   -- Demand 3
 

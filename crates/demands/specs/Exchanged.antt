@@ -11,7 +11,7 @@ use mathlib.Core.Path.{_≡_}
 use lib.Dec.{eqb}
 use lib.ListN.{length}
 use Rattle.rules.specs.Event as Event
-use Rattle.rules.specs.Event.{Machine, Answer, Move}
+use Rattle.rules.specs.Event.{Machine, Pick, Move}
 use Rattle.rules.specs.State.{State}
 use Rattle.rules.specs.Machine.{Program, start, next, answered, final}
 use Rattle.rules.specs.Explorer.{Limits, Ledger, Walk, Execution, Stop, goes, over, faulted, stopsHere, goesOn, empty}
@@ -23,7 +23,7 @@ use Rattle.demands.specs.Demands.{Explorer, right}
 
 pub record Pieces : Type 0 where
   pub next : Program → State → Event.Event State
-  pub answered : Program → State → Answer → Move State
+  pub answered : Program → State → Pick → Move State
   pub limits : Settings → Limits
   pub parts : Parts State
 

@@ -15,7 +15,7 @@ use Rattle.rules.specs.Path.{Branch, schedule, load, spurious, unbounded, recor
 use Rattle.rules.specs.Table.{judged, good, badHeader, badRow}
 use Rattle.rules.specs.Seen.{unseens}
 use Rattle.rules.specs.Event as Event
-use Rattle.rules.specs.Event.{Matched, offers, equal, Question, whichThread, whichSlot, whichBit, Answer, runThread, readSlot, takeBit, Move, moves, asks, stops, ends}
+use Rattle.rules.specs.Event.{Matched, offers, equal, Question, whichThread, whichSlot, whichBit, Pick, runThread, readSlot, takeBit, Move, moves, asks, stops, ends}
 use Rattle.rules.specs.State as State
 use Rattle.rules.specs.State.{State, Marks, number, withNumber, activeThread, threads, cells, history}
 use Rattle.rules.specs.Machine.{Program, next, answered, withNumbers, rowBegun, versionRaised}
@@ -158,7 +158,7 @@ rescanning f = doing (λ p st. record {
 })
 
 -- the state after a thread was chosen, and after a slot was, as functions of the one before and of the definition's
-abbrev pub byAnswer : (State → State) → (State → State) → Answer → State → State
+abbrev pub byAnswer : (State → State) → (State → State) → Pick → State → State
 byAnswer chosen read (runThread whom at) = chosen
 byAnswer chosen read (readSlot slot offered) = read
 byAnswer chosen read (takeBit bit) = same

@@ -6,14 +6,14 @@ ghost use lib.Seq.{sets};
 ghost use Rattle.digits.specs.Shown.{shown, Spelled};
 
 // As many as a number of 64 bits has at most.
-pub const MOST: usize = 20;
+pub const MOST_DIGITS: usize = 20;
 
 // Puts a number's digits at the start of `out`, which is else left as it is; answers how many there are.
-pub fn spell(n: u64, out: &mut [u8; MOST]) -> usize
+pub fn spell(out: &mut [u8; MOST_DIGITS], n: u64) -> usize
     ensures { λ r. ⌜ Spelled n (now (out .entry)) (now (out .exit)) r ⌝ }
 {
     let k = count(n);
-    write(n, k, out);
+    write(out, n, k);
     k
 }
 
@@ -31,7 +31,7 @@ pub fn count(n: u64) -> usize
 }
 
 // Puts the digits, of which there are `k`, from the last one to the first.
-fn write(n: u64, k: usize, out: &mut [u8; MOST])
+fn write(out: &mut [u8; MOST_DIGITS], n: u64, k: usize)
     requires { ⌜ k ≡ length (shown n) ⌝ }
     ensures { λ _. ⌜ now (out .exit) ≡ sets (now (out .entry)) 0 (shown n) ⌝ }
 {

@@ -23,10 +23,10 @@ pub enum After {
 // A fault is the answer. An execution that ended answers 18 if the final condition is false of the registers, 0 if nothing is open,
 // and 1 if it was the last allowed. One that would still go on is not over: that is the impossible outcome, as in the definition.
 pub fn judge_end(
-    values: &Values,
-    path: &[u8],
     table: &[u8],
     condition: &[u8],
+    values: &Values,
+    path: &[u8],
     over: Ticked,
     last: bool,
 ) -> After
@@ -45,7 +45,7 @@ pub fn judge_end(
             return After::Answers(Answer::Stopped { fault, site });
         }
     }
-    if !condition::holds(values, condition, threads_of(table)) {
+    if !condition::holds(condition, values, threads_of(table)) {
         return After::Answers(Answer::Unmet);
     }
     let cursor = over.cursor;

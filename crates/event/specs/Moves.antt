@@ -10,15 +10,15 @@ use Rattle.rules.specs.Event as rules
 use Rattle.rules.specs.Event.{Entry, Matched, Move}
 use Rattle.rules.specs.State.{State, marksOf}
 use Rattle.rules.specs.Cell.{matchedLoad, matchedRmw}
-use Rattle.rules.specs.Machine.{schedules, entry, noSlot, isExploring}
+use Rattle.rules.specs.Machine.{schedules, entry, noSlot, exploringNow}
 use Rattle.rules.specs.Table as Table
 use Rattle.rules.specs.Table.{Op, Decoded}
 use Rattle.event.specs.declared.Fault.{Fault}
 use Rattle.event.specs.declared.Fault.the-variants as fault
 use Rattle.event.specs.declared.Question.{Question}
 use Rattle.event.specs.declared.Question.the-variants as question
-use Rattle.event.specs.declared.Event.{Event}
-use Rattle.event.specs.declared.Event.the-variants as event
+use Rattle.event.specs.declared.Moved.{Moved}
+use Rattle.event.specs.declared.Moved.the-variants as event
 
 abbrev pub faultOf : Fault → rules.Fault
 faultOf fault.Deadlock = rules.deadlock
@@ -61,11 +61,11 @@ entryIf false t k opcode = []
 
 abbrev pub askedBy : Question → List Entry → Matched → State → Move State
 askedBy question.Thread es m st = schedules st es
-askedBy question.Slot es m st = rules.asks st es (isExploring (st .numbers)) (rules.whichSlot m)
-askedBy question.Bit es m st = rules.asks st es (isExploring (st .numbers)) rules.whichBit
+askedBy question.Slot es m st = rules.asks st es (exploringNow (st .numbers)) (rules.whichSlot m)
+askedBy question.Bit es m st = rules.asks st es (exploringNow (st .numbers)) rules.whichBit
 
 -- of a thread at a row with this opcode, which is offered this where it asks for a slot; the state is the one left
-abbrev pub moveOf : Event → ℕ → ℕ → ℕ → Matched → State → Move State
+abbrev pub moveOf : Moved → ℕ → ℕ → ℕ → Matched → State → Move State
 moveOf event.Moves t k opcode m st = rules.moves st []
 moveOf (event.Done slot mask value) t k opcode m st = rules.moves st (entry t k opcode slot mask value)
 moveOf (event.Asks q yielded) t k opcode m st = askedBy q (entryIf yielded t k opcode) m st

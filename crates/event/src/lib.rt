@@ -30,7 +30,7 @@ pub enum Question {
 
 // What a branch of the path chooses: a thread, chosen at the branch with this position, or nobody; a slot, with the mask of all that were
 // offered; a bit.
-pub enum Choice {
+pub enum Picked {
     Thread { chosen: usize, branch: u16 },
     Nobody,
     Slot { slot: usize, mask: u8 },
@@ -38,7 +38,7 @@ pub enum Choice {
 }
 
 // What a tick, or going on with an answer, comes to.
-pub enum Event {
+pub enum Moved {
     // It goes on, and no row is complete.
     Moves,
     // A row is complete: slot (or 255), offer mask and value of its trace entry.
@@ -52,3 +52,12 @@ pub enum Event {
 
 // A row without slot or value in its trace entry.
 pub const NO_SLOT: u8 = 255;
+
+// In the report: no thread, no row, and no other thread where there is no race.
+pub const NO_PLACE: u64 = 255;
+
+// The same as a thread or a row of a table.
+pub const NOWHERE: usize = NO_PLACE as usize;
+
+// The same as a row of a site.
+pub const NO_ROW: u16 = NO_PLACE as u16;

@@ -8,13 +8,13 @@ use mathlib.Core.Path.{_≡_, refl, ap, sym, _∙_}
 use native.Mathlib.Omega.{arith}
 use lib.ListN.{drop}
 use Rattle.rules.specs.Vector.{equal}
-use Rattle.rules.specs.Token.{isBlank, run, skip, token, tokenLength, endsLine, lineLength, nextLine, bytesOf}
+use Rattle.rules.specs.Token.{isBlank, runLength, pastBlanks, token, tokenLength, endsLine, lineLength, nextLine, bytesOf}
 use Rattle.token.specs.Places.{part}
 use Rattle.token.proofs.PlaceLaws.{left-by, part-token}
 use Rattle.excerpt.specs.Excerpts.{withLine, rowsBehind}
 
-module _ (text : List ℕ) (at rows here : ℕ) (is : here ≡ at + run isBlank (drop at text)) where
-  skipped : drop here text ≡ skip (drop at text)
+module _ (text : List ℕ) (at rows here : ℕ) (is : here ≡ at + runLength isBlank (drop at text)) where
+  skipped : drop here text ≡ pastBlanks (drop at text)
   skipped = left-by text at here _ is
 
   abbrev lineBy : Bool → Bool → ℕ
@@ -48,7 +48,7 @@ with-most rows false false = omega arith
 
 -- no line adds more than one
 pub line-adds : (rows : ℕ) (bs : List ℕ) {r : ℕ} → r ≡ withLine rows bs → r ≤ rows + 1
-line-adds rows bs e = omega (arith, e, with-most rows (endsLine (skip bs)) (equal (token (skip bs)) (bytesOf "thread")))
+line-adds rows bs e = omega (arith, e, with-most rows (endsLine (pastBlanks bs)) (equal (token (pastBlanks bs)) (bytesOf "thread")))
 
 rows-next : (n rows : ℕ) (bs : List ℕ) → rowsBehind (suc n) rows bs ≡ rowsBehind n (withLine rows bs) (nextLine bs)
 unfolding rowsBehind

@@ -13,7 +13,7 @@ use mathlib.Core.Bool.{Bool, true, false, cond, _&&_, _||_}
 use lib.Dec.{ltb, leb, eqb}
 use lib.ListN.{length, getD, drop}
 use Rattle.rules.specs.Vector.{equal}
-use Rattle.rules.specs.Token.{lineFeed, isBlank, run, skip, token, tokenLength, endsLine, lineLength, nextLine, bytesOf}
+use Rattle.rules.specs.Token.{lineFeed, isBlank, runLength, pastBlanks, token, tokenLength, endsLine, lineLength, nextLine, bytesOf}
 use Rattle.token.specs.Places.{part}
 use Rattle.saying.specs.Sayings.{placeShown, whatShown}
 
@@ -28,7 +28,7 @@ beginOf line text = behind (line - 1) text
 
 -- with one line more: each with a token is a row, and "thread" begins anew
 abbrev pub withLine : ℕ → List ℕ → ℕ
-withLine rows bs = cond (endsLine (skip bs)) rows (cond (equal (token (skip bs)) (bytesOf "thread")) 0 (rows + 1))
+withLine rows bs = cond (endsLine (pastBlanks bs)) rows (cond (equal (token (pastBlanks bs)) (bytesOf "thread")) 0 (rows + 1))
 
 -- behind so many lines, with the rows so far
 unfoldable pub rowsBehind : ℕ → ℕ → List ℕ → ℕ
@@ -55,7 +55,7 @@ placeFrom begin end column = cond (leb column (end - begin)) (begin + (column - 
 
 -- the place past blanks
 abbrev pub skipped : List ℕ → ℕ → ℕ
-skipped text from = from + run isBlank (drop from text)
+skipped text from = from + runLength isBlank (drop from text)
 
 -- the last token that begins before a place, of those from here on, n at most; the one found so far, where none is left
 unfoldable pub tokenBefore : List ℕ → ℕ → ℕ → ℕ → ℕ → ℕ

@@ -62,12 +62,12 @@ fn with_line(text: &[u8], at: usize, rows: usize) -> usize
     requires { ⌜ rows + 1 < 2 ^ 64 ⌝ }
     ensures { λ r. ⌜ r ≡ withLine rows (drop at (now (text .entry))) ⌝ }
 {
-    let here = token::skip(text, at);
+    let here = token::past_blanks(text, at);
     if token::ends_line(text, here) {
         return rows;
     }
     let to = token::token_end(text, here);
-    if token::is_word(text, here, to, b"thread") {
+    if token::is_word(text, b"thread", here, to) {
         return 0;
     }
     rows + 1
@@ -130,7 +130,7 @@ pub fn token_before(text: &[u8], begin: usize, at: usize) -> usize
     let mut from = begin;
     let mut left = text.len();
     while 0 < left {
-        let here = token::skip(text, from);
+        let here = token::past_blanks(text, from);
         if at <= here {
             return found;
         }

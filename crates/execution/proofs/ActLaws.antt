@@ -1,9 +1,9 @@
 -- The laws of what a row does, and of how it goes on with an answer: from what the call of its arm leaves to what the definition
 -- says of it. Assumes nothing.
 --     op-within, slot-within         what an operation and an answer name
---     unsync-of, alone-of, asks-bit      the rows that an arm for all others takes together
+--     alone-of, asks-bit             the rows that an arm for all others takes together
 --     act-as, asks-as, alone-as      a row that was taken apart
---     stores-from, jumps-from, unless-from, checks-from     with the register that was read
+--     jumps-from, unless-from, checks-from     with the register that was read
 --     answers-as                     an answer that was taken apart
 use Prim.Native.Nat.{ℕ, _<_}
 use mathlib.Core.List.{List, [], _∷_}
@@ -14,12 +14,12 @@ use types.Run.{OneOf, miss}
 use denote.Enum.Declared.{tagOf}
 use Rattle.rules.specs.Event.{Matched, Move, asks, whichBit}
 use Rattle.rules.specs.State.{State}
-use Rattle.rules.specs.Machine.{Program, acts, actsAs, asksSlot, versionRaised, isExploring, stores, jumps, checks}
+use Rattle.rules.specs.Machine.{Program, acts, actsAs, asksSlot, versionRaised, exploringNow, jumps, checks}
 use Rattle.rules.specs.Table.{opcodeOf, decoded}
 use Rattle.rules.specs.Table as rules
-use Rattle.event.specs.declared.Event.{Event}
-use Rattle.event.specs.declared.Choice.{Choice}
-use Rattle.event.specs.declared.Choice.the-variants as choice
+use Rattle.event.specs.declared.Moved.{Moved}
+use Rattle.event.specs.declared.Picked.{Picked}
+use Rattle.event.specs.declared.Picked.the-variants as choice
 use Rattle.event.specs.Moves.{moveOf, matchedFor}
 use Rattle.decode.proofs.Op as Op
 use Rattle.decode.specs.declared.Op.{Op}
@@ -31,35 +31,10 @@ use Rattle.execution.specs.Answers.{Answers, choiceWithin}
 pub op-within : (op m : Op) → op ≡ m → inRange (opOf op) → inRange (opOf m)
 op-within op m e h = rw e at h
 
-pub slot-within : (c : Choice) (slot mask : ℕ) → c ≡ choice.Slot slot mask → choiceWithin c → slot < 7
+pub slot-within : (c : Picked) (slot mask : ℕ) → c ≡ choice.Slot slot mask → choiceWithin c → slot < 7
 slot-within c slot mask e h = rw e at h
 
--- the places of the rows without synchronisation, among the variants
-abbrev unsync : List ℕ
-unsync = 5 ∷ 6 ∷ 9 ∷ 10 ∷ 11 ∷ 12 ∷ 13 ∷ 14 ∷ 15 ∷ 16 ∷ 17 ∷ 18 ∷ []
-
-pub unsync-of : (op : Op) → OneOf unsync (tagOf Op.the-type op) → Unsync (opOf op)
-unsync-of (code.Load order cell register) k = absurd (miss unsync 0 tt k)
-unsync-of (code.Store order cell value) k = absurd (miss unsync 1 tt k)
-unsync-of (code.StoreRegister order cell register) k = absurd (miss unsync 2 tt k)
-unsync-of (code.Rmw order cell register change failure) k = absurd (miss unsync 3 tt k)
-unsync-of (code.Fence order) k = absurd (miss unsync 4 tt k)
-unsync-of (code.UnsyncLoad cell register) k = tt
-unsync-of (code.WithMut cell register change) k = tt
-unsync-of code.Yield k = absurd (miss unsync 7 tt k)
-unsync-of (code.Join thread) k = absurd (miss unsync 8 tt k)
-unsync-of (code.Jump target) k = tt
-unsync-of (code.JumpIf target register a) k = tt
-unsync-of (code.JumpUnless target register a) k = tt
-unsync-of (code.Check register a) k = tt
-unsync-of code.Critical k = tt
-unsync-of code.ExploreState k = tt
-unsync-of code.SkipBranch k = tt
-unsync-of (code.Spurious register) k = tt
-unsync-of (code.PlainRead plain register) k = tt
-unsync-of (code.PlainWrite plain value) k = tt
-
--- and of those that access no cell without synchronisation
+-- the places of the rows that access no cell without synchronisation, among the variants
 abbrev apart : List ℕ
 apart = 0 ∷ 1 ∷ 2 ∷ 3 ∷ 4 ∷ 7 ∷ 8 ∷ 9 ∷ 10 ∷ 11 ∷ 12 ∷ 13 ∷ 14 ∷ 15 ∷ 16 ∷ []
 
@@ -89,7 +64,7 @@ abbrev rest : List ℕ
 rest = 0 ∷ 1 ∷ 2 ∷ 3 ∷ 4 ∷ 5 ∷ 6 ∷ 7 ∷ 8 ∷ 16 ∷ 17 ∷ 18 ∷ []
 
 module _ (p : Program) (st : State) (t k : ℕ) where
-  pub asks-bit : (op : Op) → OneOf rest (tagOf Op.the-type op) → Alone (opOf op) → asks st [] (isExploring (st .numbers)) whichBit ≡ acts p st t k (opOf op)
+  pub asks-bit : (op : Op) → OneOf rest (tagOf Op.the-type op) → Alone (opOf op) → asks st [] (exploringNow (st .numbers)) whichBit ≡ acts p st t k (opOf op)
   unfolding actsAs
   asks-bit (code.Load order cell register) k own = absurd own
   asks-bit (code.Store order cell value) k own = absurd own
@@ -111,7 +86,7 @@ module _ (p : Program) (st : State) (t k : ℕ) where
   asks-bit (code.PlainRead plain register) k own = absurd own
   asks-bit (code.PlainWrite plain value) k own = absurd own
 
-module _ (p : Program) (r : Event) (st left : State) (t k : ℕ) (op m : Op) (e : op ≡ m) where
+module _ (p : Program) (r : Moved) (st left : State) (t k : ℕ) (op m : Op) (e : op ≡ m) where
   pub act-as : moveOf r t k (opcodeOf (opOf m)) (matchedFor left t (decoded (opOf m))) left ≡ acts p st t k (opOf m) →
       moveOf r t k (opcodeOf (opOf op)) (matchedFor left t (decoded (opOf op))) left ≡ acts p st t k (opOf op)
   act-as h = rw e h
@@ -126,9 +101,6 @@ module _ (p : Program) (r : Event) (st left : State) (t k : ℕ) (op m : Op) (e 
   alone-as offered h = rw e h
 
 module _ (out : Move State) (st : State) (t k n v w : ℕ) (is : v ≡ w) where
-  pub stores-from : (c o : ℕ) → out ≡ stores st t k n c o v → out ≡ stores st t k n c o w
-  stores-from c o h = h ∙ ap (λ (x : ℕ). stores st t k n c o x) is
-
   pub jumps-from : (a target : ℕ) → out ≡ jumps st t k n (eqb v a) target → out ≡ jumps st t k n (eqb w a) target
   jumps-from a target h = h ∙ ap (λ (x : ℕ). jumps st t k n (eqb x a) target) is
 
@@ -138,5 +110,5 @@ module _ (out : Move State) (st : State) (t k n v w : ℕ) (is : v ≡ w) where
   pub checks-from : (a : ℕ) → out ≡ checks st t k n (eqb v a) → out ≡ checks st t k n (eqb w a)
   checks-from a h = h ∙ ap (λ (x : ℕ). checks st t k n (eqb x a)) is
 
-pub answers-as : (c m : Choice) (row : rules.Decoded rules.Op) (t k : ℕ) (st : State) (out : Move State) → c ≡ m → Answers m row t k st out → Answers c row t k st out
+pub answers-as : (c m : Picked) (row : rules.Decoded rules.Op) (t k : ℕ) (st : State) (out : Move State) → c ≡ m → Answers m row t k st out → Answers c row t k st out
 answers-as c m row t k st out e h = rw e h

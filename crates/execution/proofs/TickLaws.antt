@@ -19,9 +19,9 @@ use Rattle.rules.specs.State.{State}
 use Rattle.rules.specs.Machine.{Program, rowCount, rowOf, isToBegin, schedules, threadEnded, begins, acts, nextAt}
 use Rattle.rules.specs.Table as rules
 use Rattle.rules.specs.Table.{cellsOf, opcodeOf, opcodeIn}
-use Rattle.event.specs.declared.Event as code
-use Rattle.event.specs.declared.Event.the-variants as event
-use Rattle.event.proofs.Event as Event′
+use Rattle.event.specs.declared.Moved as code
+use Rattle.event.specs.declared.Moved.the-variants as event
+use Rattle.event.proofs.Moved as Event′
 use Rattle.event.specs.declared.Question.the-variants as question
 use Rattle.event.specs.Moves.{moveOf, matchedFor}
 use Rattle.decode.specs.declared.Op.{Op}
@@ -40,7 +40,7 @@ abbrev comes : List ℕ
 comes = 1 ∷ 2 ∷ 3 ∷ 4 ∷ []
 
 -- what begins and does not move is not acted on
-stays-so : (p : Program) (t k opcode : ℕ) (op : rules.Op) (m : Matched) (left : State) (r : code.Event) → OneOf comes (tagOf Event′.the-type r) →
+stays-so : (p : Program) (t k opcode : ℕ) (op : rules.Op) (m : Matched) (left : State) (r : code.Moved) → OneOf comes (tagOf Event′.the-type r) →
     moveOf r t k opcode m left ≡ thenActs p t k op (moveOf r t k opcode m left)
 unfolding schedules
 stays-so p t k opcode op m left event.Moves h = absurd (miss comes 0 tt h)
@@ -51,7 +51,7 @@ stays-so p t k opcode op m left (event.Asks question.Bit yielded) h = refl
 stays-so p t k opcode op m left event.Ends h = refl
 stays-so p t k opcode op m left (event.Stops fault) h = refl
 
-module _ (p : Program) (st left : State) (t k opcode limit : ℕ) (op : rules.Op) (m : Matched) (r : code.Event) (limited : p .operations ≡ limit)
+module _ (p : Program) (st left : State) (t k opcode limit : ℕ) (op : rules.Op) (m : Matched) (r : code.Moved) (limited : p .operations ≡ limit)
     (begun : moveOf r t k opcode m left ≡ begunTo limit st t op) where
   begins-by : thenActs p t k op (moveOf r t k opcode m left) ≡ begins p st t k op
   begins-by =
@@ -121,7 +121,7 @@ module _ (p : Program) (st : State) (t k count : ℕ) (b : Bool) (asked : b ≡ 
       acting now (inr w) = ap (λ (s : State). acts p s t k (opOf op)) (w .1) ∙ acts-on (w .0)
 
       pub next-acts : (now : State) → ((b ≡ true) × (acts p now t k (opOf op) ≡ begins p st t k (opOf op))) ⊎ ((b ≡ false) × (now ≡ st)) →
-          (r : code.Event) (left : State) →
+          (r : code.Moved) (left : State) →
           moveOf r t k (opcodeOf (opOf op)) (matchedFor left t (decodedOf (Says op))) left ≡ acts p now t k (opOf op) →
           moveOf r t k (opcodeIn (decodedOf row)) (matchedFor left t (decodedOf row)) left ≡ nextWith p st t k count (decodedOf row)
       next-acts now came r left h = rw e (h ∙ (rw e at (acting now came)))

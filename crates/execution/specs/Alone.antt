@@ -1,6 +1,7 @@
 -- Rows that are taken together. Assumes nothing.
 --     Alone      those that concern their own thread alone: neither a cell, plain or not, nor another thread
 --     Unsync     these, and those that access a cell, plain or not, without synchronisation
+--     Storing    these, and those that store
 use Rattle.rules.specs.Table as rules
 use Rattle.rules.specs.Table.{Op}
 
@@ -45,3 +46,24 @@ Unsync rules.skipBranch = Unit
 Unsync (rules.spurious r) = Unit
 Unsync (rules.plainRead c r) = Unit
 Unsync (rules.plainWrite c a) = Unit
+
+abbrev pub Storing : Op → Type 0
+Storing (rules.load c o r) = ⊥
+Storing (rules.store c o a) = Unit
+Storing (rules.storeRegister c o r) = Unit
+Storing (rules.rmw c o f change r) = ⊥
+Storing (rules.fence o) = ⊥
+Storing (rules.unsyncLoad c r) = Unit
+Storing (rules.exclusive c change r) = Unit
+Storing rules.yield = ⊥
+Storing (rules.join target) = ⊥
+Storing (rules.jump target) = Unit
+Storing (rules.jumpIf r a target) = Unit
+Storing (rules.jumpUnless r a target) = Unit
+Storing (rules.check r a) = Unit
+Storing rules.critical = Unit
+Storing rules.exploreState = Unit
+Storing rules.skipBranch = Unit
+Storing (rules.spurious r) = Unit
+Storing (rules.plainRead c r) = Unit
+Storing (rules.plainWrite c a) = Unit

@@ -7,18 +7,18 @@ use Rattle.rules.specs.State.{State}
 use Rattle.rules.specs.Table.{Op, Decoded}
 use Rattle.rules.specs.Vector.{nobody, thread}
 use Rattle.rules.specs.Machine.{scheduled, readFrom, bitTaken}
-use Rattle.event.specs.declared.Choice.{Choice}
-use Rattle.event.specs.declared.Choice.the-variants as choice
+use Rattle.event.specs.declared.Picked.{Picked}
+use Rattle.event.specs.declared.Picked.the-variants as choice
 
 -- a slot is one of the seven
-abbrev pub choiceWithin : Choice → Type 0
+abbrev pub choiceWithin : Picked → Type 0
 choiceWithin (choice.Thread chosen branch) = Unit
 choiceWithin choice.Nobody = Unit
 choiceWithin (choice.Slot slot mask) = slot < 7
 choiceWithin (choice.Bit bit) = Unit
 
 -- of a thread at a row that does this, from a state: the definition's `answered`, where that is the active thread's row
-abbrev pub Answers : Choice → Decoded Op → ℕ → ℕ → State → Move State → Type 0
+abbrev pub Answers : Picked → Decoded Op → ℕ → ℕ → State → Move State → Type 0
 Answers (choice.Thread chosen branch) row t k st move = move ≡ scheduled st (thread chosen) branch
 Answers choice.Nobody row t k st move = (at : ℕ) → move ≡ scheduled st nobody at
 Answers (choice.Slot slot mask) row t k st move = move ≡ readFrom st t k slot mask row

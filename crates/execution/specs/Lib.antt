@@ -1,3 +1,4 @@
 pub mod Alone
 pub mod Answers
 pub mod Next
+pub mod Stores

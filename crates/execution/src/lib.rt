@@ -10,14 +10,15 @@ ghost use Rattle.rules.specs.Table.{cellsOf, opcodeOf, opcodeIn};
 ghost use Rattle.layout.specs.Tables.{state};
 ghost use Rattle.event.specs.Moves.{moveOf, matchedFor};
 ghost use Rattle.decode.specs.Ops.{opOf, decodedOf, inRange, opWithin};
-ghost use Rattle.execution.specs.Alone.{Unsync, Alone};
+ghost use Rattle.execution.specs.Alone.{Storing, Unsync, Alone};
 ghost use Rattle.execution.specs.Answers.{Answers, choiceWithin};
 ghost use Rattle.execution.specs.Next.{nextWith};
+ghost use Rattle.execution.specs.Stores.{Stores};
 use decode::Decoded;
 use decode::Op;
-use event::Choice;
-use event::Event;
 use event::Fault;
+use event::Moved;
+use event::Picked;
 use event::Question;
 use event::Site;
 use layout::Clocks;
@@ -31,18 +32,24 @@ use table::CELLS;
 use table::COUNTS;
 use table::Shape;
 
+// What a row stores, if it is a store: of an operand, or of a register.
+pub enum Stored {
+    Nothing,
+    Of { order: u8, cell: usize, value: u64 },
+}
+
 // One tick of the active thread at its row: past its last row it ends; else it begins the row and, if no scheduling comes first
 // or the row has begun already, acts.
 pub fn next(
+    shape: &Shape,
     clocks: &mut Clocks,
     marks: &mut Marks,
     values: &mut Values,
     numbers: &mut Numbers,
-    shape: &Shape,
     limit: u16,
     site: Site,
     row: Decoded,
-) -> Event
+) -> Moved
     requires { ⌜ (site .thread < 5) × (getD (now shape) 1 0 ≤ 4) × opWithin row ⌝ }
     ensures { λ r. ⌜ ((p : machine.Program) → p .operations ≡ limit → cellsOf (p .table) ≡ getD (now (shape .entry)) 1 0 → moveOf r (site .thread) (site .row) (opcodeIn (decodedOf row)) (matchedFor (state (now (clocks .exit)) (now (marks .exit)) (now (values .exit)) (now (numbers .exit))) (site .thread) (decodedOf row)) (state (now (clocks .exit)) (now (marks .exit)) (now (values .exit)) (now (numbers .exit))) ≡ nextWith p (state (now (clocks .entry)) (now (marks .entry)) (now (values .entry)) (now (numbers .entry))) (site .thread) (site .row) (getD (now (shape .entry)) (2 + site .thread) 0) (decodedOf row)) ⌝ }
 {
@@ -51,18 +58,18 @@ pub fn next(
     if to_begin {
         if shape[COUNTS + thread] <= site.row {
             thread::end(numbers, thread);
-            return Event::Asks {
+            return Moved::Asks {
                 question: Question::Thread,
                 yielded: false,
             };
         }
     }
     let Decoded::Row(op) = row else {
-        return Event::Stops(Fault::Impossible);
+        return Moved::Stops(Fault::Impossible);
     };
     if to_begin {
         let event = rows::begin(numbers, thread, limit, op);
-        let Event::Moves = event else {
+        let Moved::Moves = event else {
             return event;
         };
     }
@@ -79,28 +86,55 @@ pub fn act(
     site: Site,
     cells: usize,
     op: Op,
-) -> Event
+) -> Moved
     requires { ⌜ (site .thread < 5) × (cells ≤ 4) × inRange (opOf op) ⌝ }
     ensures { λ r. ⌜ ((p : machine.Program) → cellsOf (p .table) ≡ cells → moveOf r (site .thread) (site .row) (opcodeOf (opOf op)) (matchedFor (state (now (clocks .exit)) (now (marks .exit)) (now (values .exit)) (now (numbers .exit))) (site .thread) (decodedOf (Decoded.Row op))) (state (now (clocks .exit)) (now (marks .exit)) (now (values .exit)) (now (numbers .exit))) ≡ machine.acts p (state (now (clocks .entry)) (now (marks .entry)) (now (values .entry)) (now (numbers .entry))) (site .thread) (site .row) (opOf op)) ⌝ }
 {
     match op {
         Op::Load { .. } => ask_slot(clocks, site.thread),
-        Op::Store { cell, order, value } => {
-            accesses::store_row(clocks, marks, values, numbers, site, cell, order, value)
-        }
+        Op::Rmw { .. } => ask_slot(clocks, site.thread),
+        Op::Fence { order } => rows::fence_row(clocks, marks, numbers, site, cells, order),
+        Op::Yield => rows::yield_row(clocks, numbers, site),
+        Op::Join { thread: target } => rows::join_row(clocks, numbers, site, target),
+        _ => act_store(clocks, marks, values, numbers, site, op),
+    }
+}
+
+// The rows that store, and those without synchronisation. There is one call for both that store: with two the compiler keeps
+// `store_row` a function of its own, and every row's event goes through memory for it.
+fn act_store(
+    clocks: &mut Clocks,
+    marks: &mut Marks,
+    values: &mut Values,
+    numbers: &mut Numbers,
+    site: Site,
+    op: Op,
+) -> Moved
+    requires { ⌜ (site .thread < 5) × inRange (opOf op) × Storing (opOf op) ⌝ }
+    ensures { λ r. ⌜ ((p : machine.Program) (m : Matched) → moveOf r (site .thread) (site .row) (opcodeOf (opOf op)) m (state (now (clocks .exit)) (now (marks .exit)) (now (values .exit)) (now (numbers .exit))) ≡ machine.acts p (state (now (clocks .entry)) (now (marks .entry)) (now (values .entry)) (now (numbers .entry))) (site .thread) (site .row) (opOf op)) ⌝ }
+{
+    if let Stored::Of { order, cell, value } = to_store(values, site.thread, op) {
+        return accesses::store_row(clocks, marks, values, numbers, site, cell, order, value);
+    }
+    act_unsync(clocks, values, numbers, site, op)
+}
+
+// What a row stores: its operand, or what a register holds.
+fn to_store(values: &Values, thread: usize, op: Op) -> Stored
+    requires { ⌜ (thread < 5) × inRange (opOf op) ⌝ }
+    ensures { λ r. ⌜ Stores r (now (values .entry)) thread (opOf op) ⌝ }
+{
+    match op {
+        Op::Store { cell, order, value } => Stored::Of { order, cell, value },
         Op::StoreRegister {
             cell,
             order,
             register,
         } => {
-            let value = register_of(values, site.thread, register);
-            accesses::store_row(clocks, marks, values, numbers, site, cell, order, value)
+            let value = register_of(values, thread, register);
+            Stored::Of { order, cell, value }
         }
-        Op::Rmw { .. } => ask_slot(clocks, site.thread),
-        Op::Fence { order } => rows::fence_row(clocks, marks, numbers, site, cells, order),
-        Op::Yield => rows::yield_row(clocks, numbers, site),
-        Op::Join { thread: target } => rows::join_row(clocks, numbers, site, target),
-        _ => act_unsync(clocks, values, numbers, site, op),
+        _ => Stored::Nothing,
     }
 }
 
@@ -111,7 +145,7 @@ fn act_unsync(
     numbers: &mut Numbers,
     site: Site,
     op: Op,
-) -> Event
+) -> Moved
     requires { ⌜ (site .thread < 5) × inRange (opOf op) × Unsync (opOf op) ⌝ }
     ensures { λ r. ⌜ ((p : machine.Program) (marks : rules.Marks) (m : Matched) → moveOf r (site .thread) (site .row) (opcodeOf (opOf op)) m (state (now (clocks .exit)) marks (now (values .exit)) (now (numbers .exit))) ≡ machine.acts p (state (now (clocks .entry)) marks (now (values .entry)) (now (numbers .entry))) (site .thread) (site .row) (opOf op)) ⌝ }
 {
@@ -135,7 +169,7 @@ fn act_unsync(
 }
 
 // The rows that concern their own thread alone.
-fn act_alone(values: &Values, numbers: &mut Numbers, site: Site, op: Op) -> Event
+fn act_alone(values: &Values, numbers: &mut Numbers, site: Site, op: Op) -> Moved
     requires { ⌜ (site .thread < 5) × inRange (opOf op) × Alone (opOf op) ⌝ }
     ensures { λ r. ⌜ ((p : machine.Program) (clocks : rules.Clocks) (marks : rules.Marks) (m : Matched) → moveOf r (site .thread) (site .row) (opcodeOf (opOf op)) m (state clocks marks (now (values .entry)) (now (numbers .exit))) ≡ machine.acts p (state clocks marks (now (values .entry)) (now (numbers .entry))) (site .thread) (site .row) (opOf op)) ⌝ }
 {
@@ -165,7 +199,7 @@ fn act_alone(values: &Values, numbers: &mut Numbers, site: Site, op: Op) -> Even
         Op::Critical => rows::explore_row(numbers, site, false),
         Op::ExploreState => rows::explore_row(numbers, site, true),
         Op::SkipBranch => rows::skip_branch(numbers, site),
-        _ => Event::Asks {
+        _ => Moved::Asks {
             question: Question::Bit,
             yielded: false,
         },
@@ -182,12 +216,12 @@ fn register_of(values: &Values, thread: usize, register: usize) -> u64
 
 // A load or a read-modify-write raises its version, and asks for its store: it is offered what the state with the version
 // raised offers.
-fn ask_slot(clocks: &mut Clocks, thread: usize) -> Event
+fn ask_slot(clocks: &mut Clocks, thread: usize) -> Moved
     requires { ⌜ thread < 5 ⌝ }
     ensures { λ r. ⌜ ((marks : rules.Marks) (values : rules.Values) (numbers : rules.Numbers) (t k opcode : ℕ) (offered : rules.State → Matched) → moveOf r t k opcode (offered (state (now (clocks .exit)) marks values numbers)) (state (now (clocks .exit)) marks values numbers) ≡ machine.asksSlot (machine.versionRaised (state (now (clocks .entry)) marks values numbers) thread) (offered (machine.versionRaised (state (now (clocks .entry)) marks values numbers) thread))) ⌝ }
 {
     thread::raise(clocks, thread);
-    Event::Asks {
+    Moved::Asks {
         question: Question::Slot,
         yielded: false,
     }
@@ -201,17 +235,17 @@ pub fn answered(
     numbers: &mut Numbers,
     site: Site,
     row: Decoded,
-    choice: Choice,
-) -> Event
+    choice: Picked,
+) -> Moved
     requires { ⌜ (site .thread < 5) × opWithin row × choiceWithin choice ⌝ }
     ensures { λ r. ⌜ ((m : Matched) → Answers choice (decodedOf row) (site .thread) (site .row) (state (now (clocks .entry)) (now (marks .entry)) (now (values .entry)) (now (numbers .entry))) (moveOf r (site .thread) (site .row) (opcodeIn (decodedOf row)) m (state (now (clocks .exit)) (now (marks .exit)) (now (values .exit)) (now (numbers .exit))))) ⌝ }
 {
     match choice {
-        Choice::Thread { chosen, branch } => scheduling::switch(clocks, numbers, chosen, branch),
-        Choice::Nobody => scheduling::nobody(numbers),
-        Choice::Slot { slot, mask } => {
+        Picked::Thread { chosen, branch } => scheduling::switch(clocks, numbers, chosen, branch),
+        Picked::Nobody => scheduling::nobody(numbers),
+        Picked::Slot { slot, mask } => {
             accesses::read_from(clocks, marks, values, numbers, site, row, slot, mask)
         }
-        Choice::Bit(bit) => rows::take_bit(values, numbers, site, row, bit),
+        Picked::Bit(bit) => rows::take_bit(values, numbers, site, row, bit),
     }
 }

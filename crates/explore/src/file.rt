@@ -2,9 +2,6 @@
 use libc::STDERR_FILENO;
 use source::FILE_BYTES;
 
-// One byte more than is taken of a text or table.
-pub const ROOM: usize = FILE_BYTES + 1;
-
 // A file's bytes, by their count, or a read that failed.
 pub enum Got {
     Bytes(usize),
@@ -18,7 +15,7 @@ pub fn read(name: &[u8], buffer: &mut [u8]) -> Got {
         unreadable(name);
         return Got::Failed;
     }
-    let got = read_all(fd, buffer);
+    let got = read_all(buffer, fd);
     let Got::Bytes(n) = got else {
         unreadable(name);
         libc::close(fd);
@@ -45,7 +42,7 @@ fn unreadable(name: &[u8]) {
 
 // Reads until the file ends or the buffer is full. Each read but the last brings a byte at least, so a read for each byte
 // of the buffer and one more are enough.
-fn read_all(fd: i32, buffer: &mut [u8]) -> Got {
+fn read_all(buffer: &mut [u8], fd: i32) -> Got {
     let mut n = 0;
     let mut reads = 0;
     while reads <= buffer.len() {

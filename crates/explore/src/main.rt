@@ -2,7 +2,6 @@
 // execution; or writes the program as text, or its bytes.
 use condition::CONDITION_BYTES;
 use file::Got;
-use file::ROOM;
 use libc::STDERR_FILENO;
 use libc::STDOUT_FILENO;
 use options::Asked;
@@ -10,6 +9,7 @@ use options::Options;
 use options::Task;
 use reader::ReadText;
 use reader::TABLE_BYTES;
+use source::ROOM;
 
 mod file;
 mod options;
@@ -62,16 +62,16 @@ fn answer(options: Options) {
         return;
     }
     take(
-        options,
         token::part(&name, 0, length),
         token::part(&bytes, 0, n),
+        options,
     );
 }
 
 // A table as it is; a text once it is read.
-fn take(options: Options, name: &[u8], bytes: &[u8]) {
+fn take(name: &[u8], bytes: &[u8], options: Options) {
     if source::is_table(bytes) {
-        beside(options, bytes);
+        beside(bytes, options);
         return;
     }
     if options.condition != 0 {
@@ -87,17 +87,17 @@ fn take(options: Options, name: &[u8], bytes: &[u8]) {
         ReadText::NoRoom => {}
         ReadText::Refused(line, column) => tell::print_refusal(name, bytes, line, column),
         ReadText::Taken(n, claimed) => perform(
-            options,
             token::part(&table, 0, n),
             token::part(&condition, 0, claimed),
+            options,
         ),
     }
 }
 
 // A table, with the condition in the file that is named for it, if one is.
-fn beside(options: Options, table: &[u8]) {
+fn beside(table: &[u8], options: Options) {
     if options.condition == 0 {
-        perform(options, table, b"");
+        perform(table, b"", options);
         return;
     }
     let mut word = io::buffer();
@@ -107,14 +107,14 @@ fn beside(options: Options, table: &[u8]) {
     let Got::Bytes(n) = file::read(name, &mut condition) else {
         return;
     };
-    perform(options, table, token::part(&condition, 0, n));
+    perform(table, token::part(&condition, 0, n), options);
 }
 
 // Does what is asked with the program.
-fn perform(options: Options, table: &[u8], condition: &[u8]) {
+fn perform(table: &[u8], condition: &[u8], options: Options) {
     let task = options.task;
     match task {
         Task::Explore => run::run(table, condition, options.settings(), options.whole),
-        _ => writing::write(task, table, condition, options.settings()),
+        _ => writing::write(table, condition, task, options.settings()),
     }
 }

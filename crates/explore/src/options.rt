@@ -2,13 +2,11 @@
 use decimal::Parsed;
 use libc::STDERR_FILENO;
 use path::Bound;
+use settings::MAX_BOUND;
 use settings::MAX_BRANCHES;
 use settings::MAX_EXECUTIONS;
 use settings::MAX_OPERATIONS;
 use settings::Settings;
-
-// A bound is a byte.
-const MAX_BOUND: u64 = 255;
 
 // An option that takes a number or a name, which is the next word.
 pub enum Awaited {
@@ -117,36 +115,36 @@ fn read_word(options: Options, place: usize) -> Asked {
     if os::errno() != 0 {
         return refuse(b"an argument is too long", b"");
     }
-    take(options, place, &word[..length])
+    take(&word[..length], options, place)
 }
 
 // Takes a word: what is awaited, or a free word.
-fn take(options: Options, place: usize, word: &[u8]) -> Asked {
+fn take(word: &[u8], options: Options, place: usize) -> Asked {
     let awaited = options.awaited;
     let Awaited::Nothing = awaited else {
-        return take_awaited(options, place, 0, word);
+        return take_awaited(word, options, place, 0);
     };
     if is_option(word) {
-        return take_option(options, place, word);
+        return take_option(word, options, place);
     }
-    take_file(options, place, word)
+    take_file(word, options, place)
 }
 
 // What the option that awaits something takes; it stands behind so many bytes of the word at this place.
-fn take_awaited(options: Options, place: usize, behind: usize, word: &[u8]) -> Asked {
+fn take_awaited(word: &[u8], options: Options, place: usize, behind: usize) -> Asked {
     let awaited = options.awaited;
     match awaited {
         Awaited::Nothing => refuse(b"only an option that takes something has a `=`", b""),
-        Awaited::Branches => take_branches(options, word),
-        Awaited::Operations => take_operations(options, word),
-        Awaited::Executions => take_executions(options, word),
-        Awaited::Bound => take_bound(options, word),
+        Awaited::Branches => take_branches(word, options),
+        Awaited::Operations => take_operations(word, options),
+        Awaited::Executions => take_executions(word, options),
+        Awaited::Bound => take_bound(word, options),
         Awaited::Condition => take_condition(options, place, behind),
     }
 }
 
 // The file's name.
-fn take_file(mut options: Options, place: usize, word: &[u8]) -> Asked {
+fn take_file(word: &[u8], mut options: Options, place: usize) -> Asked {
     if options.file != 0 {
         return refuse(b"more than one FILE: ", word);
     }
@@ -163,16 +161,16 @@ fn take_condition(options: Options, place: usize, behind: usize) -> Asked {
 }
 
 // An option, which may have what it takes behind a `=`.
-fn take_option(options: Options, place: usize, word: &[u8]) -> Asked {
+fn take_option(word: &[u8], options: Options, place: usize) -> Asked {
     let end = equals(word);
     if word.len() <= end {
-        return named(options, word);
+        return named(word, options);
     }
-    let asked = named(options, &word[0..end]);
+    let asked = named(&word[0..end], options);
     let Asked::For(next) = asked else {
         return asked;
     };
-    take_awaited(next, place, end + 1, &word[end + 1..])
+    take_awaited(&word[end + 1..], next, place, end + 1)
 }
 
 // Where a word has its first `=`, or its length.
@@ -188,7 +186,7 @@ fn equals(word: &[u8]) -> usize {
 }
 
 // The option of this name.
-fn named(mut options: Options, word: &[u8]) -> Asked {
+fn named(word: &[u8], mut options: Options) -> Asked {
     if same(word, b"--help") || same(word, b"-h") {
         return Asked::Usage;
     }
@@ -209,11 +207,11 @@ fn named(mut options: Options, word: &[u8]) -> Asked {
     if same(word, b"--to-condition") {
         return Asked::For(asking(options, Task::ToCondition));
     }
-    named_with(options, word)
+    named_with(word, options)
 }
 
 // The option of this name, of those that take something.
-fn named_with(options: Options, word: &[u8]) -> Asked {
+fn named_with(word: &[u8], options: Options) -> Asked {
     if same(word, b"--branches") {
         return Asked::For(awaiting(options, Awaited::Branches));
     }
@@ -263,7 +261,7 @@ fn with(options: Options, bound: Bound, task: Task, awaited: Awaited) -> Options
 }
 
 // The number of `--branches`.
-fn take_branches(options: Options, word: &[u8]) -> Asked {
+fn take_branches(word: &[u8], options: Options) -> Asked {
     let Parsed::Number(n) = decimal::number_between(word, 1, MAX_BRANCHES) else {
         return no_number(Awaited::Branches);
     };
@@ -273,7 +271,7 @@ fn take_branches(options: Options, word: &[u8]) -> Asked {
 }
 
 // The number of `--operations`.
-fn take_operations(options: Options, word: &[u8]) -> Asked {
+fn take_operations(word: &[u8], options: Options) -> Asked {
     let Parsed::Number(n) = decimal::number_between(word, 1, MAX_OPERATIONS) else {
         return no_number(Awaited::Operations);
     };
@@ -283,7 +281,7 @@ fn take_operations(options: Options, word: &[u8]) -> Asked {
 }
 
 // The number of `--executions`.
-fn take_executions(options: Options, word: &[u8]) -> Asked {
+fn take_executions(word: &[u8], options: Options) -> Asked {
     let Parsed::Number(n) = decimal::number_between(word, 1, MAX_EXECUTIONS) else {
         return no_number(Awaited::Executions);
     };
@@ -293,7 +291,7 @@ fn take_executions(options: Options, word: &[u8]) -> Asked {
 }
 
 // The number of `--bound`.
-fn take_bound(options: Options, word: &[u8]) -> Asked {
+fn take_bound(word: &[u8], options: Options) -> Asked {
     let Parsed::Number(n) = decimal::number_between(word, 0, MAX_BOUND) else {
         return no_number(Awaited::Bound);
     };

@@ -18,9 +18,9 @@ pub fn run(table: &[u8], condition: &[u8], settings: Settings, whole: bool) {
     run_in(
         table,
         condition,
-        settings,
         &mut path[0..path_size],
         &mut trace[0..trace_size],
+        settings,
         whole,
     );
 }
@@ -39,13 +39,13 @@ fn bytes(records: u64, all: usize) -> usize
 fn run_in(
     table: &[u8],
     condition: &[u8],
-    settings: Settings,
     path: &mut [u8],
     trace: &mut [u8],
+    settings: Settings,
     whole: bool,
 ) {
-    let report = explore(table, condition, settings, path, trace);
-    tell::print_report(table, condition, settings, report, trace, whole);
+    let report = explore(table, condition, path, trace, settings);
+    tell::print_report(table, condition, trace, settings, report, whole);
 }
 
 // Explores. The library gives no word before its answer, so a long run is made with budgets that double: one that is spent
@@ -53,21 +53,21 @@ fn run_in(
 fn explore(
     table: &[u8],
     condition: &[u8],
-    settings: Settings,
     path: &mut [u8],
     trace: &mut [u8],
+    settings: Settings,
 ) -> Report {
     let mut budget = 8192;
     while budget < MAX_EXECUTIONS {
         if settings.executions <= budget {
-            return explorer::explore(table, condition, settings, path, trace);
+            return explorer::explore(table, condition, path, trace, settings);
         }
         let report = explorer::explore(
             table,
             condition,
-            with_budget(settings, budget),
             path,
             trace,
+            with_budget(settings, budget),
         );
         let answer = report.answer;
         let Answer::Spent = answer else {
@@ -76,7 +76,7 @@ fn explore(
         say_spent(budget);
         budget = 2 * budget;
     }
-    explorer::explore(table, condition, settings, path, trace)
+    explorer::explore(table, condition, path, trace, settings)
 }
 
 // Says that a budget is spent.

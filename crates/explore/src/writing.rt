@@ -8,12 +8,12 @@ use source::FILE_BYTES;
 use writer::Written;
 
 // Writes it, unless it is refused: then what a run says of it is said, which is why.
-pub fn write(task: Task, table: &[u8], condition: &[u8], settings: Settings) {
+pub fn write(table: &[u8], condition: &[u8], task: Task, settings: Settings) {
     let mut text = [0u8; FILE_BYTES];
     match writer::write(table, condition, &mut text) {
         Written::Unfit => run::run(table, condition, settings, false),
         Written::Short(needed) => too_long(needed),
-        Written::Text(n) => write_fit(task, table, condition, token::part(&text, 0, n)),
+        Written::Text(n) => write_fit(token::part(&text, 0, n), table, condition, task),
     }
 }
 
@@ -25,7 +25,7 @@ fn too_long(needed: usize) {
 }
 
 // Writes what is asked for of a program that is accepted.
-fn write_fit(task: Task, table: &[u8], condition: &[u8], text: &[u8]) {
+fn write_fit(text: &[u8], table: &[u8], condition: &[u8], task: Task) {
     match task {
         Task::Explore => {}
         Task::ToText => put_out(text),

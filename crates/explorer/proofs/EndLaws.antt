@@ -18,7 +18,7 @@ use Rattle.rules.specs.Event.{Entry}
 use Rattle.rules.specs.Explorer as explorer
 use Rattle.rules.specs.Explorer.{Walk, Ledger, Execution, executionOf, Tick, After, stopsHere, goesOn, Stop, stop, nextLedger, after}
 use Rattle.rules.specs.Explored as rules
-use Rattle.rules.specs.Explored.{Settings, limitsOf, stopOf, ran, reported, noted}
+use Rattle.rules.specs.Explored.{Settings, limitsOf, stopOf, ran, reported, traceLeft}
 use Rattle.ledger.specs.History.{leftBy}
 use Rattle.ledger.proofs.Ledgers.{execution-begun}
 use Rattle.layout.specs.Tables.{state}
@@ -111,7 +111,7 @@ module _ (table condition : List ℕ) (s : Settings) where
   from-goes k l past m more e = from-more k l past ∙ ap (onward k) e
 
   ran-made : (path trace : List ℕ) (r : Stop State) → whole ≡ r → {exitPath exitTrace : List ℕ} (report : Report) → reportOf report ≡ reported r
-      → exitPath ≡ written (length path) (r .walk .ledger .path) → exitTrace ≡ noted (length trace) (r .walk .trace)
+      → exitPath ≡ written (length path) (r .walk .ledger .path) → exitTrace ≡ traceLeft (length trace) (r .walk .trace)
       → Ran table condition s path trace report exitPath exitTrace
   unfolding ran
   ran-made path trace r is report e f g = rw (is, sym e, sym f, sym g) refl
@@ -259,9 +259,9 @@ module _ (table condition : List ℕ) (s : Settings) where
         stops .finished (w .ledger .path) (exit .marks) (exit .values) (g .stands .holds) (g .stands .is-len ∙ sym same-len)
         ∙ (cc (g .stands .is-opened, same-opened, g .stands .is-state, its-begun, ran-reported a stopped (g .fits))) in
         let from : 16 * length (w .trace) ≡ 16 * r .cursor .entries = omega (arith, g .stands .is-entries) in
-        let traces : trace' ≡ noted (length trace') (w .trace) =
+        let traces : trace' ≡ traceLeft (length trace') (w .trace) =
         front-noted trace' (w .trace) (front-left (w .trace) cleared from (g .stands .front))
         (λ i h. zero-past i (omega (arith, from)) cleared) in
         ran-made path trace stopped is report reports
         (g .stands .holds .same ∙ ap (λ (n : ℕ). written n (w .ledger .path)) long)
-        (traces ∙ ap (λ (n : ℕ). noted n (w .trace)) (cleared .long ∙ traced))
+        (traces ∙ ap (λ (n : ℕ). traceLeft n (w .trace)) (cleared .long ∙ traced))

@@ -4,10 +4,11 @@ ghost use Rattle.rules.specs.Explored as rules;
 ghost use Rattle.settings.specs.Given.{settingsOf};
 ghost use Rattle.explorer.specs.Explores.{exploredOf};
 use ending::threads_of;
+use event::NOWHERE;
 use report::Answer;
 use report::Report;
 use settings::Settings;
-use settings::holds;
+use settings::holds_exactly;
 use settings::settings_fine;
 use table::Judged;
 
@@ -18,34 +19,34 @@ mod run;
 pub fn explore(
     table: &[u8],
     condition: &[u8],
-    settings: Settings,
     path: &mut [u8],
     trace: &mut [u8],
+    settings: Settings,
 ) -> Report
     ensures { λ r. ⌜ exploredOf r (now (path .exit)) (now (trace .exit)) ≡ rules.explored (now (table .entry)) (now (condition .entry)) (settingsOf settings) (now (path .entry)) (now (trace .entry)) ⌝ }
 {
     if !settings_fine(settings) {
         return report::refused(Answer::BadSettings);
     }
-    if !holds(path.len(), settings.branches) {
+    if !holds_exactly(path.len(), settings.branches) {
         return report::refused(Answer::BadPath);
     }
-    if !holds(trace.len(), settings.operations) {
+    if !holds_exactly(trace.len(), settings.operations) {
         return report::refused(Answer::BadTrace);
     }
     match table::judge(table) {
         Judged::Accepted => {
             if !condition::is_condition(condition, threads_of(table)) {
                 return report::refused(Answer::BadTable {
-                    thread: 255,
-                    row: 255,
+                    thread: NOWHERE,
+                    row: NOWHERE,
                 });
             }
-            run::run(path, trace, table, condition, settings)
+            run::run(table, condition, path, trace, settings)
         }
         Judged::Header => report::refused(Answer::BadTable {
-            thread: 255,
-            row: 255,
+            thread: NOWHERE,
+            row: NOWHERE,
         }),
         Judged::Row { thread, row } => report::refused(Answer::BadTable { thread, row }),
     }

@@ -14,9 +14,9 @@ use layout::Clocks;
 use layout::MAX_ATOMIC_HISTORY;
 use layout::MAX_CELLS;
 use layout::MAX_THREADS;
-use layout::NONE;
 use layout::NUMBERS;
 use layout::Numbers;
+use layout::UNSEEN;
 use layout::VALUES;
 use report::Answer;
 use report::Report;
@@ -35,10 +35,10 @@ pub struct Progress {
 
 // Runs an accepted table with settings in range and buffers of the right lengths.
 pub fn run(
-    path: &mut [u8],
-    trace: &mut [u8],
     table: &[u8],
     condition: &[u8],
+    path: &mut [u8],
+    trace: &mut [u8],
     settings: Settings,
 ) -> Report
     requires { ⌜ Ready (now table) (settingsOf settings) (now path) (now trace) ⌝ }
@@ -46,15 +46,15 @@ pub fn run(
 {
     clear_all(path);
     clear_all(trace);
-    executions(path, trace, table, condition, settings)
+    executions(table, condition, path, trace, settings)
 }
 
 // One execution after another, over buffers that hold nothing.
 fn executions(
-    path: &mut [u8],
-    trace: &mut [u8],
     table: &[u8],
     condition: &[u8],
+    path: &mut [u8],
+    trace: &mut [u8],
     settings: Settings,
 ) -> Report
     requires { ⌜ Ready (now table) (settingsOf settings) (now path) (now trace) × Empty (now path) × Empty (now trace) ⌝ }
@@ -63,27 +63,27 @@ fn executions(
     let shape = table::shape(table);
     let terms = terms_of(settings);
     let mut clocks = [[0u16; MAX_THREADS]; CLOCKS];
-    let mut marks = [[[NONE; MAX_THREADS]; MAX_ATOMIC_HISTORY]; MAX_CELLS];
+    let mut marks = [[[UNSEEN; MAX_THREADS]; MAX_ATOMIC_HISTORY]; MAX_CELLS];
     let mut values = [0u64; VALUES];
     let mut numbers = [0u16; NUMBERS];
     let mut progress = nothing();
     loop {
         let cursor = progress.cursor;
         let over = execute(
+            table,
+            &shape,
             &mut clocks,
             &mut marks,
             &mut values,
             &mut numbers,
             path,
             trace,
-            table,
-            &shape,
             terms,
             cursor,
         );
         progress = further(progress, over);
         let last = progress.begun == settings.executions;
-        let after = judge_end(&values, path, table, condition, over, last);
+        let after = judge_end(table, condition, &values, path, over, last);
         if let After::Answers(answer) = after {
             return stop(&clocks, &numbers, path, trace, answer, progress);
         }

@@ -4,14 +4,18 @@ ghost use Prim.Native.Nat.{_≤_};
 ghost use lib.ListN.{length};
 ghost use Rattle.path.specs.Bounds.{boundOf};
 ghost use Rattle.exports.specs.Entry.{boundFor, noCondition, entered, left};
-use numbers::NUMBERS;
+use numbers::REPORT_NUMBERS;
 use path::Bound;
+use settings::MAX_BOUND;
 use settings::Settings;
 
 pub mod text;
 
 // What is answered where an argument is out of range; no run answers it.
 pub const NO_RUN: u64 = 255;
+
+// The number that stands for no bound.
+const NO_BOUND: u64 = MAX_BOUND + 1;
 
 // Explores without a final condition; `bound` is 0 to 255, or 256 for none, `exploring` 0 or 1, and `report` takes exactly 29
 // numbers. Answers the report's first number; another bound, exploring or report length gives 255, and nothing is written.
@@ -33,14 +37,14 @@ pub extern "C" fn chjirvollu_explore(
     enter(
         table,
         condition,
+        path,
+        trace,
+        report,
         branches,
         operations,
         executions,
         bound,
         exploring,
-        path,
-        trace,
-        report,
     )
 }
 
@@ -63,14 +67,14 @@ pub extern "C" fn chjirvollu_explore_condition(
     enter(
         table,
         condition,
+        path,
+        trace,
+        report,
         branches,
         operations,
         executions,
         bound,
         exploring,
-        path,
-        trace,
-        report,
     )
 }
 
@@ -78,24 +82,24 @@ pub extern "C" fn chjirvollu_explore_condition(
 fn enter(
     table: &[u8],
     condition: &[u8],
+    path: &mut [u8],
+    trace: &mut [u8],
+    report: &mut [u64],
     branches: u64,
     operations: u64,
     executions: u64,
     bound: u64,
     exploring: u64,
-    path: &mut [u8],
-    trace: &mut [u8],
-    report: &mut [u64],
 ) -> u64
     ensures { λ r. ⌜ left r (now (path .exit)) (now (trace .exit)) (now (report .exit)) ≡ entered (now (table .entry)) (now (condition .entry)) branches operations executions bound exploring (now (path .entry)) (now (trace .entry)) (now (report .entry)) ⌝ }
 {
-    if 256 < bound {
+    if NO_BOUND < bound {
         return NO_RUN;
     }
     if 1 < exploring {
         return NO_RUN;
     }
-    if report.len() != NUMBERS {
+    if report.len() != REPORT_NUMBERS {
         return NO_RUN;
     }
     let bound = bound_of(bound);
@@ -106,7 +110,7 @@ fn enter(
         bound,
         exploring: exploring == 1,
     };
-    let done = explorer::explore(table, condition, settings, path, trace);
+    let done = explorer::explore(table, condition, path, trace, settings);
     let answer = done.answer;
     let number = report::number(answer);
     let all = numbers::of_report(done);
@@ -119,7 +123,7 @@ fn bound_of(number: u64) -> Bound
     requires { ⌜ number ≤ 256 ⌝ }
     ensures { λ r. ⌜ boundOf r ≡ boundFor number ⌝ }
 {
-    if 255 < number {
+    if MAX_BOUND < number {
         return Bound::Unbounded;
     }
     Bound::AtMost((number % 256) as u8)

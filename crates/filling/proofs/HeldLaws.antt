@@ -16,8 +16,8 @@ use lib.Seq.{paste, take-all, take-at, drop-at, drop-append-add, getD-at, set-at
 use Rattle.trace.specs.Entries as trace
 use Rattle.rules.specs.Table.{maxRows, total}
 use Rattle.rules.specs.Event.{little}
-use Rattle.rules.specs.Form.{rowBytes}
-use Rattle.rules.specs.Text.{Made, tableOf, filled, withCell, withPlain, withThread, withRow, rowsSoFar, tableBytes}
+use Rattle.rules.specs.Form.{fieldsAsBytes}
+use Rattle.rules.specs.Text.{Draft, tableOf, filled, withCell, withPlain, withThread, withRow, rowsSoFar, tableBytes}
 use Rattle.rules.proofs.LittleLaws.{little-long}
 use Rattle.filling.specs.Tables.{Held, Counts, howMany, oneMore, Cleared}
 
@@ -62,12 +62,12 @@ unfolding total
 total-most [] h = omega arith
 total-most (c ∷ cs) h = omega (arith, h 0, total-most cs (λ i. h (suc i)))
 
-pub length-tableOf : (m : Made) → length (m .counts) ≡ 5 → length (tableOf m) ≡ 8 + length (m .body)
+pub length-tableOf : (m : Draft) → length (m .counts) ≡ 5 → length (tableOf m) ≡ 8 + length (m .body)
 length-tableOf m h = simp length-append (omega arith)
 
 -- What a buffer holds
 
-pub so-held : (exit : List ℕ) (room n : ℕ) (m : Made) → exit ≡ filled room (tableOf m) → tableBytes ≤ room → m .threads ≤ 5 → m .cells ≤ 4 → m .plains ≤ 4
+pub so-held : (exit : List ℕ) (room n : ℕ) (m : Draft) → exit ≡ filled room (tableOf m) → tableBytes ≤ room → m .threads ≤ 5 → m .cells ≤ 4 → m .plains ≤ 4
     → length (m .counts) ≡ 5 → ((i : ℕ) → getD (m .counts) i 0 ≤ maxRows) → n ≡ 8 + length (m .body) → length (m .body) ≡ 8 * (m .cells + m .plains) + 24 * total (m .counts)
     → Held exit n m
 so-held exit room n m e r threads cells plains five few long body =
@@ -87,18 +87,18 @@ so-held exit room n m e r threads cells plains five few long body =
     }
 
 -- the same with more bytes behind
-abbrev grown : Made → List ℕ → Made
+abbrev grown : Draft → List ℕ → Draft
 grown m bytes = record { cells = m .cells; plains = m .plains; threads = m .threads; counts = m .counts; body = m .body ++ bytes }
 
-grown-table : (m : Made) (bytes : List ℕ) → tableOf m ++ bytes ≡ tableOf (grown m bytes)
+grown-table : (m : Draft) (bytes : List ℕ) → tableOf m ++ bytes ≡ tableOf (grown m bytes)
 grown-table m bytes = ap (λ (x : List ℕ). m .threads ∷ m .cells ∷ x) (append-assoc (m .counts) (m .plains ∷ m .body) bytes)
 
 -- with another number of plain cells
-abbrev plained : Made → ℕ → Made
+abbrev plained : Draft → ℕ → Draft
 plained m v = record { cells = m .cells; plains = v; threads = m .threads; counts = m .counts; body = m .body }
 
 -- the header's last byte
-module _ (room : ℕ) (m : Made) (five : length (m .counts) ≡ 5) where
+module _ (room : ℕ) (m : Draft) (five : length (m .counts) ≡ 5) where
   get-plains : getD (filled room (tableOf m)) 7 0 ≡ m .plains
   get-plains =
       ap (λ (x : List ℕ). getD x 5 0) (append-assoc (m .counts) (m .plains ∷ m .body) (replicate (room - length (tableOf m)) 0))
@@ -114,7 +114,7 @@ module _ (room : ℕ) (m : Made) (five : length (m .counts) ≡ 5) where
       ∙ sym (append-assoc (m .counts) (v ∷ m .body) zeros))
       ∙ ap (λ (k : ℕ). tableOf (plained m v) ++ replicate (room - k) 0) same
 
-module _ (b : List ℕ) (n : ℕ) (m : Made) (held : Held b n m) where
+module _ (b : List ℕ) (n : ℕ) (m : Draft) (held : Held b n m) where
   pub held-threads : getD b 0 0 ≡ m .threads
   held-threads = ap (λ (x : List ℕ). getD x 0 0) (held .is)
 
@@ -201,7 +201,7 @@ pub counts-low : (place : ℕ) → Counts place → place ≤ 7
 counts-low place (inl e) = omega arith
 counts-low place (inr e) = omega arith
 
-pub more-many : (place : ℕ) (m : Made) (v : ℕ) → howMany place (oneMore place m v) ≡ howMany place m + 1
+pub more-many : (place : ℕ) (m : Draft) (v : ℕ) → howMany place (oneMore place m v) ≡ howMany place m + 1
 more-many place m v =
     elim (eqb place 1) as (λ t. cond t ((cond t (withCell m v) (withPlain m v)) .cells) ((cond t (withCell m v) (withPlain m v)) .plains) ≡ cond t (m .cells) (m .plains) + 1) [
       | true ↦ refl
@@ -210,10 +210,10 @@ more-many place m v =
 
 -- A row more
 
-abbrev counted : Made → List ℕ → Made
+abbrev counted : Draft → List ℕ → Draft
 counted m counts = record { cells = m .cells; plains = m .plains; threads = m .threads; counts = counts; body = m .body }
 
-module _ (room : ℕ) (m : Made) (i : ℕ) (h : i < length (m .counts)) where
+module _ (room : ℕ) (m : Draft) (i : ℕ) (h : i < length (m .counts)) where
   zeros : List ℕ
   zeros = replicate (room - length (tableOf m)) 0
 
@@ -231,8 +231,8 @@ module _ (room : ℕ) (m : Made) (i : ℕ) (h : i < length (m .counts)) where
       ∙ ap (λ (x : List ℕ). m .threads ∷ m .cells ∷ (x ++ replicate (room - length (tableOf m)) 0)) (set-append-left (m .counts) (m .plains ∷ m .body) i v h)
       ∙ ap (λ (k : ℕ). tableOf (counted m (set (m .counts) i v)) ++ replicate (room - k) 0) same
 
-pub length-rowBytes : (fields : List ℕ) → length fields ≡ 9 → length (rowBytes fields) ≡ 24
-unfolding rowBytes little
+pub length-rowBytes : (fields : List ℕ) → length fields ≡ 9 → length (fieldsAsBytes fields) ≡ 24
+unfolding fieldsAsBytes little
 length-rowBytes (f0 ∷ f1 ∷ f2 ∷ f3 ∷ f4 ∷ f5 ∷ f6 ∷ f7 ∷ f8 ∷ []) h = refl
 length-rowBytes [] h = absurd (omega arith)
 length-rowBytes (f0 ∷ []) h = absurd (omega arith)
@@ -245,7 +245,7 @@ length-rowBytes (f0 ∷ f1 ∷ f2 ∷ f3 ∷ f4 ∷ f5 ∷ f6 ∷ []) h = absurd
 length-rowBytes (f0 ∷ f1 ∷ f2 ∷ f3 ∷ f4 ∷ f5 ∷ f6 ∷ f7 ∷ []) h = absurd (omega arith)
 length-rowBytes (f0 ∷ f1 ∷ f2 ∷ f3 ∷ f4 ∷ f5 ∷ f6 ∷ f7 ∷ f8 ∷ f9 ∷ fs) h = absurd (omega arith)
 
-module _ (b : List ℕ) (n : ℕ) (m : Made) (held : Held b n m) (some : 1 ≤ getD b 0 0) where
+module _ (b : List ℕ) (n : ℕ) (m : Draft) (held : Held b n m) (some : 1 ≤ getD b 0 0) where
   pub begun : 1 ≤ m .threads
   begun = omega (arith, held-threads b n m held)
 
@@ -259,7 +259,7 @@ module _ (b : List ℕ) (n : ℕ) (m : Made) (held : Held b n m) (some : 1 ≤ g
       ∙ ap (λ (x : List ℕ). getD x (suc (suc (m .threads - 1))) 0) (held .is)
       ∙ get-count (length b) m (m .threads - 1) last
 
-module _ (b : List ℕ) (n : ℕ) (m : Made) (held : Held b n m) (some : 1 ≤ getD b 0 0) (fewer : getD b (1 + getD b 0 0) 0 < maxRows) where
+module _ (b : List ℕ) (n : ℕ) (m : Draft) (held : Held b n m) (some : 1 ≤ getD b 0 0) (fewer : getD b (1 + getD b 0 0) 0 < maxRows) where
   row-some : 1 ≤ m .threads
   row-some = begun b n m held some
 
@@ -301,20 +301,20 @@ module _ (b : List ℕ) (n : ℕ) (m : Made) (held : Held b n m) (some : 1 ≤ g
       ∙ ap (λ (x : List ℕ). getD x (suc (suc (m .threads - 1))) 0) (mid-is b n m held bytes mid fits p)
       ∙ get-count (length b) (grown m bytes) (m .threads - 1) inside
 
-  pub held-row : (fields bytes mid : List ℕ) → bytes ≡ rowBytes fields → length fields ≡ 9 → mid ≡ paste b n bytes (length bytes)
+  pub held-row : (fields bytes mid : List ℕ) → bytes ≡ fieldsAsBytes fields → length fields ≡ 9 → mid ≡ paste b n bytes (length bytes)
       → Held (set mid (1 + getD mid 0 0) (getD mid (1 + getD mid 0 0) 0 + 1)) (n + 24) (withRow m fields)
   held-row fields bytes mid e nine p =
-      let long : length (rowBytes fields) ≡ 24 = length-rowBytes fields nine in
+      let long : length (fieldsAsBytes fields) ≡ 24 = length-rowBytes fields nine in
       let all : length bytes ≡ 24 = ap length e ∙ long in
-      let g : Made = grown m (rowBytes fields) in
-      let is : mid ≡ filled (length b) (tableOf (grown m (rowBytes fields))) = p ∙ grown-held b n m held bytes (omega (arith, row-room)) ∙ ap (λ (x : List ℕ). filled (length b) (tableOf (grown m x))) e in
+      let g : Draft = grown m (fieldsAsBytes fields) in
+      let is : mid ≡ filled (length b) (tableOf (grown m (fieldsAsBytes fields))) = p ∙ grown-held b n m held bytes (omega (arith, row-room)) ∙ ap (λ (x : List ℕ). filled (length b) (tableOf (grown m x))) e in
       let at : 1 + getD mid 0 0 ≡ suc (suc (m .threads - 1)) = ap (λ (x : List ℕ). 1 + getD x 0 0) is ∙ (omega (arith, row-some)) in
       let exit : set mid (1 + getD mid 0 0) (getD mid (1 + getD mid 0 0) 0 + 1) ≡ filled (length b) (tableOf (withRow m fields)) =
       ap (λ (k : ℕ). set mid k (getD mid k 0 + 1)) at
       ∙ ap (λ (x : List ℕ). set x (suc (suc (m .threads - 1))) (getD x (suc (suc (m .threads - 1))) 0 + 1)) is
-      ∙ ap (λ (v : ℕ). set (filled (length b) (tableOf (grown m (rowBytes fields)))) (suc (suc (m .threads - 1))) (v + 1)) (get-count (length b) (grown m (rowBytes fields)) (m .threads - 1) inside)
-      ∙ set-count (length b) (grown m (rowBytes fields)) (m .threads - 1) inside (rowsSoFar m + 1) in
-      let size = length-append (m .body) (rowBytes fields) in
+      ∙ ap (λ (v : ℕ). set (filled (length b) (tableOf (grown m (fieldsAsBytes fields)))) (suc (suc (m .threads - 1))) (v + 1)) (get-count (length b) (grown m (fieldsAsBytes fields)) (m .threads - 1) inside)
+      ∙ set-count (length b) (grown m (fieldsAsBytes fields)) (m .threads - 1) inside (rowsSoFar m + 1) in
+      let size = length-append (m .body) (fieldsAsBytes fields) in
       so-held _ (length b) (n + 24) (withRow m fields) exit (held .room) (held .threads) (held .cells) (held .plains) five-more few-more
       (omega (arith, held .long))
       (omega (arith, held .body, total-more))

@@ -11,9 +11,9 @@ use borrow.Author.Tests.{eq-eqb, ne-eqb, eqb-true, le-leb, lt-leb}
 use lib.Dec.{leb, eqb}
 use lib.ListN.{length, getD, drop, length-drop}
 use Rattle.rules.specs.Vector.{equal}
-use Rattle.rules.specs.Token.{bytesOf, isEmpty, endsLine, skip, token, pastToken, tokenLength, nextLine}
+use Rattle.rules.specs.Token.{bytesOf, isEmpty, endsLine, pastBlanks, token, pastToken, tokenLength, nextLine}
 use Rattle.rules.specs.Text as rules
-use Rattle.rules.specs.Text.{Made, lineOf, valuesLine}
+use Rattle.rules.specs.Text.{Draft, lineOf, valuesLine}
 use Rattle.token.specs.Places.{part}
 use Rattle.token.proofs.PlaceLaws.{left-by, part-token}
 use Rattle.ahead.proofs.AheadLaws.{is}
@@ -29,11 +29,11 @@ pub says-cells : (text : List ℕ) (at to : ℕ) (r : Bool) → r ≡ equal (par
 says-cells text at to r e t h = ap (equal (part at to text)) cells-bytes ∙ sym e ∙ h
 
 -- start values that the header counts at this place
-abbrev pub values : ℕ → Made → List ℕ → rules.Line
+abbrev pub values : ℕ → Draft → List ℕ → rules.Line
 values place m bs = valuesLine (oneMore place) (howMany place) 4 m bs
 
 -- the line of the plain cells, by its first word
-abbrev pub plains : Made → List ℕ → Bool
+abbrev pub plains : Draft → List ℕ → Bool
 plains m word = eqb (m .threads) 0 && eqb (m .plains) 0 && equal word (bytesOf "plain")
 
 -- the same by the buffer
@@ -52,10 +52,10 @@ module _ (b word : List ℕ) where
       let none = and-eq-true-iff (eqb (getD b 0 0) 0 && eqb (getD b 7 0) 0) (equal word (bytesOf "plain")) .0 (sym e ∙ h) .0 in
       eqb-true (getD b 7 0) 0 (and-eq-true-iff (eqb (getD b 0 0) 0) (eqb (getD b 7 0) 0) .0 none .1)
 
-  pub plains-held : (n : ℕ) (m : Made) → Held b n m → (r : Bool) → r ≡ isPlains b word → (t : Bool) → r ≡ t → plains m word ≡ t
+  pub plains-held : (n : ℕ) (m : Draft) → Held b n m → (r : Bool) → r ≡ isPlains b word → (t : Bool) → r ≡ t → plains m word ≡ t
   plains-held n m held r e t h = rw (← held-threads b n m held, ← held-plains b n m held) (sym e ∙ h)
 
-module _ (lines all rows : ℕ) (m : Made) (bs : List ℕ) where
+module _ (lines all rows : ℕ) (m : Draft) (bs : List ℕ) where
   abbrev endBy : List ℕ → Bool → rules.Line
   endBy here b = cond b (rules.ended m) (rules.refusedLine here)
 
@@ -75,11 +75,11 @@ module _ (lines all rows : ℕ) (m : Made) (bs : List ℕ) where
       (cond f (finallyBy here past begun) (rowLine all rows m bs here))))))
 
   line-next : lineOf lines all rows m bs
-      ≡ lineBy (skip bs) (pastToken (skip bs)) (leb 1 (m .threads)) (isEmpty (skip bs)) (endsLine (skip bs)) (eqb (m .cells) 0) (equal (token (skip bs)) (bytesOf "cells")) (plains m (token (skip bs))) (equal (token (skip bs)) (bytesOf "thread")) (equal (token (skip bs)) (bytesOf "finally"))
+      ≡ lineBy (pastBlanks bs) (pastToken (pastBlanks bs)) (leb 1 (m .threads)) (isEmpty (pastBlanks bs)) (endsLine (pastBlanks bs)) (eqb (m .cells) 0) (equal (token (pastBlanks bs)) (bytesOf "cells")) (plains m (token (pastBlanks bs))) (equal (token (pastBlanks bs)) (bytesOf "thread")) (equal (token (pastBlanks bs)) (bytesOf "finally"))
   unfolding lineOf
   line-next = refl
 
-module _ (text : List ℕ) (lines all rows : ℕ) (m : Made) (from here : ℕ) (skipped : drop here text ≡ skip (drop from text)) where
+module _ (text : List ℕ) (lines all rows : ℕ) (m : Draft) (from here : ℕ) (skipped : drop here text ≡ pastBlanks (drop from text)) where
   abbrev by : List ℕ → (begun e b z w x t f : Bool) → rules.Line
   by past begun e b z w x t f = lineBy lines all rows m (drop from text) (drop here text) past begun e b z w x t f
 

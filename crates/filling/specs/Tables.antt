@@ -12,9 +12,9 @@ use mathlib.Core.Path.{_≡_}
 use lib.Dec.{eqb}
 use lib.ListN.{length, getD, replicate}
 use Rattle.rules.specs.Table.{maxThreads, maxCells, maxPlains, maxRows, headerBytes, valueBytes, rowBytes, total}
-use Rattle.rules.specs.Text.{Made, withCell, withPlain, tableOf, filled, tableBytes}
+use Rattle.rules.specs.Text.{Draft, withCell, withPlain, tableOf, filled, tableBytes}
 
-pub record Held (buffer : List ℕ) (n : ℕ) (m : Made) : Type 0 where
+pub record Held (buffer : List ℕ) (n : ℕ) (m : Draft) : Type 0 where
   pub is : buffer ≡ filled (length buffer) (tableOf m)
   pub room : tableBytes ≤ length buffer
   pub threads : m .threads ≤ maxThreads
@@ -26,21 +26,21 @@ pub record Held (buffer : List ℕ) (n : ℕ) (m : Made) : Type 0 where
   pub body : length (m .body) ≡ valueBytes * (m .cells + m .plains) + rowBytes * total (m .counts)
 
 pub record Holds (buffer : List ℕ) (n : ℕ) : Type 0 where
-  pub made : Made
+  pub made : Draft
   pub held : Held buffer n made
 
 -- the header counts cells at its second byte, and plain cells at its last
 abbrev pub Counts : ℕ → Type 0
 Counts place = (place ≡ 1) ⊎ (place ≡ 7)
 
-abbrev pub howMany : ℕ → Made → ℕ
+abbrev pub howMany : ℕ → Draft → ℕ
 howMany place m = cond (eqb place 1) (m .cells) (m .plains)
 
-abbrev pub oneMore : ℕ → Made → ℕ → Made
+abbrev pub oneMore : ℕ → Draft → ℕ → Draft
 oneMore place m v = cond (eqb place 1) (withCell m v) (withPlain m v)
 
-abbrev pub Grows : List ℕ → List ℕ → ℕ → ℕ → (Made → Made) → Type 0
-Grows entry exit n more step = (m : Made) → Held entry n m → Held exit more (step m)
+abbrev pub Grows : List ℕ → List ℕ → ℕ → ℕ → (Draft → Draft) → Type 0
+Grows entry exit n more step = (m : Draft) → Held entry n m → Held exit more (step m)
 
 -- a row more has room: there is a thread, and it has less than all its rows
 pub record RowFits (buffer : List ℕ) (n : ℕ) : Type 0 where

@@ -19,8 +19,8 @@ use layout::MAX_THREADS;
 use table::limits::CELL_COUNT;
 use table::limits::MAX_ROWS;
 use table::limits::PLAIN_COUNT;
-use table::limits::ROW;
-use table::limits::VALUE;
+use table::limits::ROW_BYTES;
+use table::limits::VALUE_BYTES;
 use token::Found;
 
 // How a line comes out: the next one follows, in a thread of so many rows, behind a table of so many bytes; it is refused at a place; the
@@ -35,17 +35,17 @@ pub enum Line {
 // One line, in a text of so many lines at most and so many threads, in a thread of so many rows.
 pub fn line_of(
     text: &[u8],
+    table: &mut [u8],
     from: usize,
     lines: usize,
     all: usize,
     rows: usize,
     length: usize,
-    table: &mut [u8],
 ) -> Line
     requires { ⌜ Holds (now table) length ⌝ }
     ensures { λ r. ⌜ Steps (now (text .entry)) (now (table .entry)) (now (table .exit)) length r (λ m. rules.lineOf lines all rows m (drop from (now (text .entry)))) ⌝ }
 {
-    let here = token::skip(text, from);
+    let here = token::past_blanks(text, from);
     if text.len() <= here {
         if table[0] == 0 {
             return Line::Refused(here);
@@ -57,25 +57,25 @@ pub fn line_of(
     }
     let to = token::token_end(text, here);
     if table[CELL_COUNT] == 0 {
-        if token::is_word(text, here, to, b"cells") {
-            return values_line(text, to, length, CELL_COUNT, MAX_CELLS, table);
+        if token::is_word(text, b"cells", here, to) {
+            return values_line(text, table, to, length, CELL_COUNT, MAX_CELLS);
         }
         return Line::Refused(here);
     }
-    if is_plain_line(text, here, to, table) {
-        return values_line(text, to, length, PLAIN_COUNT, MAX_PLAINS, table);
+    if is_plain_line(text, table, here, to) {
+        return values_line(text, table, to, length, PLAIN_COUNT, MAX_PLAINS);
     }
-    if token::is_word(text, here, to, b"thread") {
-        return a_thread(text, here, to, lines, length, table);
+    if token::is_word(text, b"thread", here, to) {
+        return a_thread(text, table, here, to, lines, length);
     }
-    if token::is_word(text, here, to, b"finally") {
-        return the_condition(here, to, table);
+    if token::is_word(text, b"finally", here, to) {
+        return the_condition(table, here, to);
     }
-    a_row(text, from, here, all, rows, length, table)
+    a_row(text, table, from, here, all, rows, length)
 }
 
 // "finally", once there is a thread.
-fn the_condition(here: usize, to: usize, header: &[u8]) -> Line
+fn the_condition(header: &[u8], here: usize, to: usize) -> Line
     requires { ⌜ 1 ≤ length (now header) ⌝ }
     ensures { λ r. ⌜ r ≡ cond (ltb 0 (getD (now (header .entry)) 0 0)) (Line.Concludes to) (Line.Refused here) ⌝ }
 {
@@ -88,11 +88,11 @@ fn the_condition(here: usize, to: usize, header: &[u8]) -> Line
 // "thread", and its rows.
 fn a_thread(
     text: &[u8],
+    table: &mut [u8],
     here: usize,
     to: usize,
     lines: usize,
     length: usize,
-    table: &mut [u8],
 ) -> Line
     requires { ⌜ Holds (now table) length ⌝ }
     ensures { λ r. ⌜ Steps (now (text .entry)) (now (table .entry)) (now (table .exit)) length r (λ m. threadLine lines m (drop here (now (text .entry))) (drop to (now (text .entry)))) ⌝ }
@@ -109,12 +109,12 @@ fn a_thread(
 // A row: only in a thread, and no more than a thread may have.
 fn a_row(
     text: &[u8],
+    table: &mut [u8],
     from: usize,
     here: usize,
     all: usize,
     rows: usize,
     length: usize,
-    table: &mut [u8],
 ) -> Line
     requires { ⌜ Holds (now table) length ⌝ }
     ensures { λ r. ⌜ Steps (now (text .entry)) (now (table .entry)) (now (table .exit)) length r (λ m. rowLine all rows m (drop from (now (text .entry))) (drop here (now (text .entry)))) ⌝ }
@@ -140,11 +140,11 @@ fn a_row(
     }
     let fields = row.fields;
     add_row(table, length, fields);
-    Line::GoesOn(rows, length + ROW, row.at)
+    Line::GoesOn(rows, length + ROW_BYTES, row.at)
 }
 
 // Whether it is the line of the plain cells: behind the cells, ahead of the threads, once.
-fn is_plain_line(text: &[u8], here: usize, to: usize, table: &[u8]) -> bool
+fn is_plain_line(text: &[u8], table: &[u8], here: usize, to: usize) -> bool
     requires { ⌜ headerBytes ≤ length (now table) ⌝ }
     ensures { λ r. ⌜ r ≡ isPlains (now (table .entry)) (part here to (now (text .entry))) ⌝ }
 {
@@ -154,17 +154,17 @@ fn is_plain_line(text: &[u8], here: usize, to: usize, table: &[u8]) -> bool
     if 0 < table[PLAIN_COUNT] {
         return false;
     }
-    token::is_word(text, here, to, b"plain")
+    token::is_word(text, b"plain", here, to)
 }
 
 // Start values, of cells or of plain cells: one at least, and so many at most. The header counts them at this place.
 fn values_line(
     text: &[u8],
+    table: &mut [u8],
     at: usize,
     length: usize,
     place: usize,
     most: usize,
-    table: &mut [u8],
 ) -> Line
     requires { ⌜ Holds (now table) length × Counts place × (getD (now table) place 0 ≡ 0) × (most ≤ 4) ⌝ }
     ensures { λ r. ⌜ Steps (now (text .entry)) (now (table .entry)) (now (table .exit)) length r (λ m. rules.valuesLine (oneMore place) (howMany place) most m (drop at (now (text .entry)))) ⌝ }
@@ -173,7 +173,7 @@ fn values_line(
     let mut long = length;
     let mut left = most;
     while 0 < left {
-        let here = token::skip(text, from);
+        let here = token::past_blanks(text, from);
         let to = token::token_end(text, here);
         let Found::Value(value) = token::number(text, here, to) else {
             if table[place] == 0 {
@@ -182,7 +182,7 @@ fn values_line(
             return bare_then(text, from, 0, long);
         };
         add_value(table, long, place, value);
-        long += VALUE;
+        long += VALUE_BYTES;
         from = to;
         left -= 1;
     }
@@ -193,7 +193,7 @@ fn values_line(
 fn bare_then(text: &[u8], from: usize, rows: usize, length: usize) -> Line
     ensures { λ r. ⌜ Bare (now (text .entry)) from rows length r ⌝ }
 {
-    let here = token::skip(text, from);
+    let here = token::past_blanks(text, from);
     if token::ends_line(text, here) {
         return Line::GoesOn(rows, length, token::next_line(text, here));
     }

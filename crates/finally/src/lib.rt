@@ -31,7 +31,7 @@ pub fn put(page: &mut Page, at: usize, table: &[u8], condition: &[u8], trace: &[
     let threads = wide16(shape[THREADS]);
     let held = steps::held::after(table, trace, steps::count(trace));
     let to = put_whole(page, to, condition, threads);
-    put_parts(page, to, condition, threads, &held)
+    put_parts(page, to, condition, &held, threads)
 }
 
 // The condition's line.
@@ -47,7 +47,7 @@ fn put_whole(page: &mut Page, at: usize, condition: &[u8], threads: usize) -> us
 }
 
 // Each comparison, in their order. There are fewer than the condition has bytes.
-fn put_parts(page: &mut Page, at: usize, condition: &[u8], threads: usize, held: &Held) -> usize
+fn put_parts(page: &mut Page, at: usize, condition: &[u8], held: &Held, threads: usize) -> usize
     ensures { λ r. ⌜ ended (now (page .exit)) r ≡ putParts (length (now (condition .entry))) (ended (now (page .entry)) at) (now (condition .entry)) threads (now (held .entry)) (nextFrom (now (condition .entry)) 0) ⌝ }
 {
     let mut to = at;
@@ -60,7 +60,7 @@ fn put_parts(page: &mut Page, at: usize, condition: &[u8], threads: usize, held:
         if condition.len() - COMPARISON < from {
             return to;
         }
-        let part = unmet::part_at(condition, from, held);
+        let part = unmet::part_at(condition, held, from);
         to = put_comparison(page, to, &condition[from..from + COMPARISON], threads, part);
         from = unmet::next(condition, from + COMPARISON);
         left -= 1;

@@ -7,7 +7,7 @@ use native.Mathlib.Omega.{arith}
 use lib.ListN.{length, getD, take, drop}
 use lib.Seq.{drop-cons}
 use Rattle.rules.specs.Event.{little}
-use Rattle.rules.specs.Form.{rowBytes}
+use Rattle.rules.specs.Form.{fieldsAsBytes}
 
 -- elements one by one, from the k-th on
 abbrev elements : ℕ → ℕ → List ℕ → List ℕ
@@ -23,6 +23,6 @@ pub row-all : (fields : List ℕ) → length fields ≡ 9 → (target a b : List
     ∷ getD target 0 0 ∷ getD target 1 0
     ∷ getD a 0 0 ∷ getD a 1 0 ∷ getD a 2 0 ∷ getD a 3 0 ∷ getD a 4 0 ∷ getD a 5 0 ∷ getD a 6 0 ∷ getD a 7 0
     ∷ getD b 0 0 ∷ getD b 1 0 ∷ getD b 2 0 ∷ getD b 3 0 ∷ getD b 4 0 ∷ getD b 5 0 ∷ getD b 6 0 ∷ getD b 7 0 ∷ []
-    ≡ rowBytes fields
-unfolding rowBytes little
+    ≡ fieldsAsBytes fields
+unfolding fieldsAsBytes little
 row-all fields n target a b t x y = rw (t, x, y, ← elements-all 6 0 fields (omega arith))

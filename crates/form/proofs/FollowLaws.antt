@@ -9,7 +9,7 @@ use native.Mathlib.Omega.{arith}
 use borrow.Author.Tests.{eq-eqb, ne-eqb}
 use lib.ListN.{length, drop, length-drop}
 use Rattle.rules.specs.Table.{Room}
-use Rattle.rules.specs.Token.{isEmpty, endsLine, skip, token, pastToken, nextLine, tokenLength, Found, nothing, found}
+use Rattle.rules.specs.Token.{isEmpty, endsLine, pastBlanks, token, pastToken, nextLine, tokenLength, Found, nothing, found}
 use Rattle.rules.specs.Form.{valueOf, withField, Followed, stuck, fits, follow}
 use Rattle.token.specs.Places.{part}
 use Rattle.token.proofs.PlaceLaws.{left-by, part-token}
@@ -28,22 +28,22 @@ module _ (room : Room) (fields : List ℕ) where
   abbrev forward : ℕ → List ℕ → List ℕ → Bool → Followed
   forward n words bs t = elim t [ true ↦ ended fields bs | false ↦ onward n words bs (valueOf room (token words) (token bs)) ]
 
-  forward-next : (n : ℕ) (words bs : List ℕ) → follow (suc n) room words fields bs ≡ forward n (skip words) (skip bs) (isEmpty (skip words))
+  forward-next : (n : ℕ) (words bs : List ℕ) → follow (suc n) room words fields bs ≡ forward n (pastBlanks words) (pastBlanks bs) (isEmpty (pastBlanks words))
   unfolding follow
   forward-next n words bs = refl
 
-  pub follow-out : (words text : List ℕ) (to left here : ℕ) → drop here text ≡ skip (drop to text) → left ≤ 0 → stuck (drop here text) ≡ follow left room words fields (drop to text)
+  pub follow-out : (words text : List ℕ) (to left here : ℕ) → drop here text ≡ pastBlanks (drop to text) → left ≤ 0 → stuck (drop here text) ≡ follow left room words fields (drop to text)
   unfolding follow
   follow-out words text to left here left-text h = let e : left ≡ 0 = omega arith in rw (e, left-text)
 
-  module _ (words text : List ℕ) (from to left start here : ℕ) (left-words : drop start words ≡ skip (drop from words)) (left-text : drop here text ≡ skip (drop to text)) where
+  module _ (words text : List ℕ) (from to left start here : ℕ) (left-words : drop start words ≡ pastBlanks (drop from words)) (left-text : drop here text ≡ pastBlanks (drop to text)) where
     module _ (more : 0 < left) where
       one-more : (t : Bool) → isEmpty (drop start words) ≡ t → forward (left - 1) (drop start words) (drop here text) t ≡ follow left room (drop from words) fields (drop to text)
       one-more t e =
           let s : left ≡ suc (left - 1) = omega arith in
           ap (forward (left - 1) (drop start words) (drop here text)) (sym e)
           ∙ ap (λ (ws : List ℕ). forward (left - 1) ws (drop here text) (isEmpty ws)) left-words
-          ∙ ap (λ (bs : List ℕ). forward (left - 1) (skip (drop from words)) bs (isEmpty (skip (drop from words)))) left-text
+          ∙ ap (λ (bs : List ℕ). forward (left - 1) (pastBlanks (drop from words)) bs (isEmpty (pastBlanks (drop from words)))) left-text
           ∙ sym (forward-next (left - 1) (drop from words) (drop to text))
           ∙ ap (λ (n : ℕ). follow n room (drop from words) fields (drop to text)) (sym s)
 

@@ -10,9 +10,9 @@ use Rattle.rules.specs.Form.{Followed, stuck, fits}
 use Rattle.token.specs.Places.{Between}
 use Rattle.token.proofs.PlaceLaws.{between-on}
 use Rattle.form.specs.Rows.{followedOf, Follows}
-use Rattle.form.specs.declared.Row.{Row}
+use Rattle.form.specs.declared.RowRead.{RowRead}
 
-module _ (text : List ℕ) (r : Row) where
+module _ (text : List ℕ) (r : RowRead) where
   pub said-fits : r .fits ≡ true → followedOf text r ≡ fits (r .fields) (drop (r .at) text)
   said-fits t = rw t
 

@@ -13,7 +13,7 @@ use lib.Dec.{ltb, eqb}
 use lib.ListN.{length, getD, take, drop, length-drop, length-append, drop-of-length-le}
 use lib.Seq.{drop-drop, getD-drop, drop-append-add, take-append-seam}
 use Rattle.rules.specs.Table.{Room}
-use Rattle.rules.specs.Token.{lineFeed, lineLength, skip, bytesOf}
+use Rattle.rules.specs.Token.{lineFeed, lineLength, pastBlanks, bytesOf}
 use Rattle.rules.specs.Form.{Form, forms, Followed, stuck, fits, follow, mostWords, blankFields, further, tried, rowIn}
 use Rattle.token.specs.Places.{part, Between}
 use Rattle.token.proofs.PlaceLaws.{left-by}
@@ -136,7 +136,7 @@ module _ (room : Room) (codes text : List ℕ) (at : ℕ) where
   unfolding plain hasNone forms bytesOf
   plain-forms = refl
 
-  pub trying-none : codes ≡ coded forms → (best : ℕ) → drop best text ≡ skip (drop at text) → Between text at best → Trying room codes text at 0 best
+  pub trying-none : codes ≡ coded forms → (best : ℕ) → drop best text ≡ pastBlanks (drop at text) → Between text at best → Trying room codes text at 0 best
   unfolding rowIn
   trying-none e best s b = record { rest = forms; left = e; none = plain-forms; so-far = ap (λ (bs : List ℕ). tried room forms bs (drop at text)) s; between = b }
 

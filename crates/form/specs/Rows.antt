@@ -10,19 +10,19 @@ use Rattle.rules.specs.Table as Table
 use Rattle.rules.specs.Form as rules
 use Rattle.token.specs.Places.{Between}
 use Rattle.form.specs.declared.Room.{Room}
-use Rattle.form.specs.declared.Row.{Row}
+use Rattle.form.specs.declared.RowRead.{RowRead}
 
 abbrev pub roomOf : Room → Table.Room
 roomOf room = record { threads = room .threads; cells = room .cells; plains = room .plains; rows = room .rows; row = room .row }
 
-abbrev pub followedOf : List ℕ → Row → rules.Followed
+abbrev pub followedOf : List ℕ → RowRead → rules.Followed
 followedOf text r = cond (r .fits) (rules.fits (r .fields) (drop (r .at) text)) (rules.stuck (drop (r .at) text))
 
-pub record Follows (text : List ℕ) (at : ℕ) (followed : rules.Followed) (r : Row) : Type 0 where
+pub record Follows (text : List ℕ) (at : ℕ) (followed : rules.Followed) (r : RowRead) : Type 0 where
   pub said : followedOf text r ≡ followed
   pub between : Between text at (r .at)
 
 -- with no fields where no form fits
-pub record Reads (text : List ℕ) (at : ℕ) (followed : rules.Followed) (r : Row) : Type 0 where
+pub record Reads (text : List ℕ) (at : ℕ) (followed : rules.Followed) (r : RowRead) : Type 0 where
   pub follows : Follows text at followed r
   pub none : r .fits ≡ false → r .fields ≡ replicate 9 0

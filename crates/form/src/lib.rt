@@ -7,12 +7,18 @@ ghost use lib.ListN.{drop, replicate};
 ghost use Rattle.rules.specs.Event.{little};
 ghost use Rattle.rules.specs.Token.{endsLine, nextLine};
 ghost use Rattle.rules.specs.Form as Form;
-ghost use Rattle.rules.specs.Form.{fieldOf, letterIn, valueOf, withField, fits, stuck, follow, mostWords, rowIn, rowBytes};
+ghost use Rattle.rules.specs.Form.{fieldOf, letterIn, valueOf, withField, fits, stuck, follow, mostWords, rowIn, fieldsAsBytes};
 ghost use Rattle.token.specs.Places.{part};
 ghost use Rattle.token.specs.Finds.{foundOf};
 ghost use Rattle.form.specs.Rows.{roomOf, Follows, Reads};
 ghost use Rattle.form.specs.Letters.{fieldIn, kindIn, mayBe};
 ghost use Rattle.form.specs.Lines.{coded};
+use layout::order::ACQ_REL;
+use layout::order::ACQUIRE;
+use layout::order::RELAXED;
+use layout::order::RELEASE;
+use layout::order::SEQ_CST;
+use table::limits::ROW_BYTES;
 use token::Found;
 
 // No form has as many words.
@@ -36,7 +42,7 @@ pub const FIELDS: usize = 9;
 
 // A line that was read: of a form, with its fields and the place of the next line; or of none, with the place of the first token that no
 // form has there.
-pub struct Row {
+pub struct RowRead {
     pub fits: bool,
     pub at: usize,
     pub fields: Fields,
@@ -90,7 +96,7 @@ pub const FORMS: [u8; 904] = *b"\
 ";
 
 // The row that stands in this line. Where it is of no form the fields are zeros.
-pub fn row_in(text: &[u8], at: usize, room: Room) -> Row
+pub fn row_in(text: &[u8], at: usize, room: Room) -> RowRead
     ensures { λ r. ⌜ Reads (now (text .entry)) at (rowIn (roomOf room) (drop at (now (text .entry)))) r ⌝ }
 {
     tried(&FORMS, text, at, room)
@@ -98,8 +104,8 @@ pub fn row_in(text: &[u8], at: usize, room: Room) -> Row
 
 // A row's bytes: opcode, cell or thread, order, failure order, change kind, register, the jump target's two, and eight of each operand.
 // Of a field that is a byte its lowest eight bits are taken: a text may name more threads than a table has, until it is refused.
-pub fn row_bytes(fields: Fields) -> [u8; 24]
-    ensures { λ r. ⌜ r ≡ rowBytes fields ⌝ }
+pub fn row_bytes(fields: Fields) -> [u8; ROW_BYTES]
+    ensures { λ r. ⌜ r ≡ fieldsAsBytes fields ⌝ }
 {
     let target = low_bytes(fields[6]);
     let a = low_bytes(fields[7]);
@@ -151,23 +157,23 @@ pub fn low_bytes(value: u64) -> [u8; 8]
 }
 
 // Tries one form after the other, and keeps the furthest place.
-fn tried(forms: &[u8], text: &[u8], at: usize, room: Room) -> Row
+fn tried(forms: &[u8], text: &[u8], at: usize, room: Room) -> RowRead
     requires { ⌜ now forms ≡ coded Form.forms ⌝ }
     ensures { λ r. ⌜ Reads (now (text .entry)) at (rowIn (roomOf room) (drop at (now (text .entry)))) r ⌝ }
 {
-    let mut best = token::skip(text, at);
+    let mut best = token::past_blanks(text, at);
     let mut from = 0;
     while from < forms.len() {
         let to = token::next_line(forms, from + 2);
         let words = token::part(forms, from + 2, to - 1);
-        let row = followed(words, blank(forms[from], forms[from + 1]), text, at, room);
+        let row = followed(words, text, blank(forms[from], forms[from + 1]), at, room);
         if row.fits {
             return row;
         }
         best = further(best, row.at);
         from = to;
     }
-    Row {
+    RowRead {
         fits: false,
         at: best,
         fields: [0; FIELDS],
@@ -192,7 +198,7 @@ fn blank(opcode: u8, kind: u8) -> Fields
 }
 
 // Follows a form along the line, word by word.
-fn followed(words: &[u8], blank: Fields, text: &[u8], at: usize, room: Room) -> Row
+fn followed(words: &[u8], text: &[u8], blank: Fields, at: usize, room: Room) -> RowRead
     ensures { λ r. ⌜ Follows (now (text .entry)) at (follow mostWords (roomOf room) (now (words .entry)) blank (drop at (now (text .entry)))) r ⌝ }
 {
     let mut fields = blank;
@@ -200,30 +206,30 @@ fn followed(words: &[u8], blank: Fields, text: &[u8], at: usize, room: Room) -> 
     let mut to = at;
     let mut left = MOST_WORDS;
     while 0 < left {
-        let start = token::skip(words, from);
-        let here = token::skip(text, to);
+        let start = token::past_blanks(words, from);
+        let here = token::past_blanks(text, to);
         if words.len() <= start {
             return ended(text, here, fields);
         }
         from = token::token_end(words, start);
         to = token::token_end(text, here);
         let piece = token::part(words, start, from);
-        let Found::Value(value) = value_of(room, piece, text, here, to) else {
+        let Found::Value(value) = value_of(piece, text, room, here, to) else {
             return stuck(here);
         };
-        let more = with_field(fields, piece, value);
+        let more = with_field(piece, fields, value);
         fields = more;
         left -= 1;
     }
-    stuck(token::skip(text, to))
+    stuck(token::past_blanks(text, to))
 }
 
 // Past the last word nothing else may stand in the line.
-fn ended(text: &[u8], at: usize, fields: Fields) -> Row
+fn ended(text: &[u8], at: usize, fields: Fields) -> RowRead
     ensures { λ r. ⌜ Follows (now (text .entry)) at (cond (endsLine (drop at (now (text .entry)))) (fits fields (nextLine (drop at (now (text .entry))))) (stuck (drop at (now (text .entry))))) r ⌝ }
 {
     if token::ends_line(text, at) {
-        return Row {
+        return RowRead {
             fits: true,
             at: token::next_line(text, at),
             fields,
@@ -232,10 +238,10 @@ fn ended(text: &[u8], at: usize, fields: Fields) -> Row
     stuck(at)
 }
 
-fn stuck(at: usize) -> Row
+fn stuck(at: usize) -> RowRead
     ensures { λ r. ⌜ (r .fits ≡ false) × (r .at ≡ at) × (r .fields ≡ replicate 9 0) ⌝ }
 {
-    Row {
+    RowRead {
         fits: false,
         at,
         fields: [0; FIELDS],
@@ -243,20 +249,20 @@ fn stuck(at: usize) -> Row
 }
 
 // What a token stands for where a form has this piece: a letter alone stands for a field, every other word for itself.
-fn value_of(room: Room, piece: &[u8], text: &[u8], at: usize, to: usize) -> Found
+fn value_of(piece: &[u8], text: &[u8], room: Room, at: usize, to: usize) -> Found
     ensures { λ r. ⌜ foundOf r ≡ valueOf (roomOf room) (now (piece .entry)) (part at to (now (text .entry))) ⌝ }
 {
     if field_in(piece) < FIELDS {
-        return letter_in(room, piece[0], text, at, to);
+        return letter_in(text, room, piece[0], at, to);
     }
-    if token::is_word(text, at, to, piece) {
+    if token::is_word(text, piece, at, to) {
         return Found::Value(0);
     }
     Found::Nothing
 }
 
 // The fields with this one's value.
-fn with_field(fields: Fields, piece: &[u8], value: u64) -> Fields
+fn with_field(piece: &[u8], fields: Fields, value: u64) -> Fields
     ensures { λ r. ⌜ r ≡ withField fields (now (piece .entry)) value ⌝ }
 {
     let mut made = fields;
@@ -294,10 +300,10 @@ pub fn field_of(letter: u8) -> usize
 }
 
 // What a word stands for where a form has this letter.
-fn letter_in(room: Room, letter: u8, text: &[u8], at: usize, to: usize) -> Found
+fn letter_in(text: &[u8], room: Room, letter: u8, at: usize, to: usize) -> Found
     ensures { λ r. ⌜ foundOf r ≡ letterIn (roomOf room) letter (part at to (now (text .entry))) ⌝ }
 {
-    let Found::Value(value) = kind_in(letter, text, at, to) else {
+    let Found::Value(value) = kind_in(text, letter, at, to) else {
         return Found::Nothing;
     };
     if may_be(room, letter, value) {
@@ -307,7 +313,7 @@ fn letter_in(room: Room, letter: u8, text: &[u8], at: usize, to: usize) -> Found
 }
 
 // The register, plain cell, number or order that a word is.
-fn kind_in(letter: u8, text: &[u8], at: usize, to: usize) -> Found
+fn kind_in(text: &[u8], letter: u8, at: usize, to: usize) -> Found
     ensures { λ r. ⌜ foundOf r ≡ kindIn letter (part at to (now (text .entry))) ⌝ }
 {
     if letter == b'R' {
@@ -338,9 +344,11 @@ fn may_be(room: Room, letter: u8, value: u64) -> bool
         b'T' => value < room.threads,
         b'J' => value <= room.rows,
         b'G' => (value <= room.rows) & (value != room.row),
-        b'L' | b'X' => (value <= 4) & (value != 1) & (value != 3),
-        b'S' => (value <= 4) & (value != 2) & (value != 3),
-        b'F' => (value <= 4) & (value != 0),
+        b'L' | b'X' => (value <= SEQ_CST as u64)
+            & (value != RELEASE as u64)
+            & (value != ACQ_REL as u64),
+        b'S' => (value <= SEQ_CST as u64) & (value != ACQUIRE as u64) & (value != ACQ_REL as u64),
+        b'F' => (value <= SEQ_CST as u64) & (value != RELAXED as u64),
         _ => true,
     }
 }

@@ -29,8 +29,8 @@ pub miscounts-made : (s : rules.Settings) (bytes listed : ℕ) {fine held : Bool
     → not (eqb listed 5 || not fine || not held) ≡ miscounts s bytes listed
 miscounts-made s bytes listed p q = rw (p, q)
 
-pub refusal-made : (a : Answer) {n : ℕ} → n ≡ numberOf a → not (leb 2 n && leb n 5) ≡ not (isRefusal (numberOf a))
-refusal-made a e = rw e
+pub refusal-made : (a : Answer) {n : ℕ} {b : Bool} → n ≡ numberOf a → b ≡ isRefusal n → not b ≡ not (isRefusal (numberOf a))
+refusal-made a e f = rw (f, e)
 
 -- the definition
 module _ (table condition : List ℕ) (s : rules.Settings) (path trace : List ℕ) (list : List Summary) where

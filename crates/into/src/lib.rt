@@ -19,15 +19,15 @@ use settings::Settings;
 pub fn explore_into(
     table: &[u8],
     condition: &[u8],
-    settings: Settings,
     path: &mut [u8],
     trace: &mut [u8],
     list: &mut [ThreadRecord],
+    settings: Settings,
 ) -> Report
     ensures { λ r. ⌜ exploredIntoOf r (now (path .exit)) (now (trace .exit)) (now (list .exit)) ≡ rules.exploredInto (now (table .entry)) (now (condition .entry)) (settingsOf settings) (now (path .entry)) (now (trace .entry)) (summariesOf (now (list .entry))) ⌝ }
 {
-    let report = explore_counted(table, condition, settings, path, trace, list.len());
-    list::copy_into(list, ran(report), threads_of(report));
+    let report = explore_counted(table, condition, path, trace, settings, list.len());
+    list::copy_into(list, ran(report), summaries_of(report));
     report
 }
 
@@ -36,9 +36,9 @@ pub fn explore_into(
 pub fn explore_counted(
     table: &[u8],
     condition: &[u8],
-    settings: Settings,
     path: &mut [u8],
     trace: &mut [u8],
+    settings: Settings,
     listed: usize,
 ) -> Report
     ensures { λ r. ⌜ ((list : List rules.Summary) → length list ≡ listed → exploredOf r (now (path .exit)) (now (trace .exit)) ≡ rules.exploredInto (now (table .entry)) (now (condition .entry)) (settingsOf settings) (now (path .entry)) (now (trace .entry)) list .explored) ⌝ }
@@ -46,7 +46,7 @@ pub fn explore_counted(
     if miscounted(settings, path.len(), listed) {
         return report::refused(Answer::BadTrace);
     }
-    explorer::explore(table, condition, settings, path, trace)
+    explorer::explore(table, condition, path, trace, settings)
 }
 
 // Whether the list's length is wrong, and neither the settings nor the path buffer is.
@@ -55,20 +55,20 @@ fn miscounted(settings: Settings, bytes: usize, listed: usize) -> bool
 {
     let counted = listed == MAX_THREADS;
     let fine = settings::settings_fine(settings);
-    let held = settings::holds(bytes, settings.branches);
+    let held = settings::holds_exactly(bytes, settings.branches);
     !(counted | !fine | !held)
 }
 
-// Whether there was a run: the answer is none from 2 to 5.
+// Whether there was a run: the answer is no refusal.
 fn ran(report: Report) -> bool
     ensures { λ r. ⌜ r ≡ not (rules.isRefusal (numberOf (report .answer))) ⌝ }
 {
     let answer = report.answer;
     let number = report::number(answer);
-    !((2 <= number) & (number <= 5))
+    !report::is_refusal(number)
 }
 
-fn threads_of(report: Report) -> [ThreadRecord; MAX_THREADS]
+fn summaries_of(report: Report) -> [ThreadRecord; MAX_THREADS]
     ensures { λ r. ⌜ r ≡ report .threads ⌝ }
 {
     report.threads

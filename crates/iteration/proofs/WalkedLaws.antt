@@ -23,7 +23,7 @@ use Rattle.meeting.specs.declared.Outcome.the-variants as code
 use Rattle.meeting.specs.declared.Ticked.{Ticked}
 use Rattle.meeting.proofs.Outcome.{the-type as outcomes}
 use Rattle.meeting.proofs.ComesLaws.{same-stands, comes-stops}
-use Rattle.walk.specs.Walks.{Placed, Runs, Gone, Ticks}
+use Rattle.walk.specs.Walks.{CursorPlaced, Runs, Gone, Ticks}
 use Rattle.walk.specs.Parts.{thenOn}
 use Rattle.walk.specs.declared.Limits.{Limits}
 use Rattle.walk.proofs.MeetLaws.{stays-then, went-on}
@@ -61,7 +61,7 @@ runs-kept e f r =
     }
 
 module _ (table shape : List ℕ) (limits : Limits) (c : Cursor) (entry : Lent) where
-  pub ticking-none : Placed c (entry .path) (entry .trace) → Ticking entry entry table shape limits c c 0
+  pub ticking-none : CursorPlaced c (entry .path) (entry .trace) → Ticking entry entry table shape limits c c 0
   ticking-none placed =
       record {
         comes = λ p L w runs stands. record { walk = w; stands = stands; rest = λ m. ap (λ (j : ℕ). explorer.walked (machine p) L j w) (omega arith) };

@@ -2,7 +2,7 @@
 ghost use Prim.Native.Nat.{_+_, _*_, _^_, _<_, _≤_};
 ghost use lib.ListN.{length, getD};
 ghost use Rattle.meeting.specs.Stands.{lent};
-ghost use Rattle.walk.specs.Walks.{Placed};
+ghost use Rattle.walk.specs.Walks.{CursorPlaced};
 ghost use Rattle.iteration.specs.Executes.{mostOpened, Fuel, Afresh, Walks, Executes};
 use event::Fault;
 use layout::Clocks;
@@ -23,14 +23,14 @@ pub struct Terms {
 
 // One execution, from its start to its end or fault. The trace begins anew, the path is what the last one left.
 pub fn execute(
+    table: &[u8],
+    shape: &Shape,
     clocks: &mut Clocks,
     marks: &mut Marks,
     values: &mut Values,
     numbers: &mut Numbers,
     path: &mut [u8],
     trace: &mut [u8],
-    table: &[u8],
-    shape: &Shape,
     terms: Terms,
     cursor: Cursor,
 ) -> Ticked
@@ -38,18 +38,18 @@ pub fn execute(
     ensures { λ r. ⌜ Executes (lent (now (clocks .entry)) (now (marks .entry)) (now (values .entry)) (now (numbers .entry)) (now (path .entry)) (now (trace .entry))) (lent (now (clocks .exit)) (now (marks .exit)) (now (values .exit)) (now (numbers .exit)) (now (path .exit)) (now (trace .exit))) (now (table .entry)) (now (shape .entry)) terms cursor r ⌝ }
 {
     let exploring = terms.exploring;
-    start::start(clocks, marks, values, numbers, table, shape, exploring);
+    start::start(table, shape, clocks, marks, values, numbers, exploring);
     let limits = terms.limits;
     let begins = again(cursor);
     walked(
+        table,
+        shape,
         clocks,
         marks,
         values,
         numbers,
         path,
         trace,
-        table,
-        shape,
         limits,
         begins,
     )
@@ -66,32 +66,32 @@ fn again(mut cursor: Cursor) -> Cursor
 
 // Tick after tick, until the execution ends or stops.
 fn walked(
+    table: &[u8],
+    shape: &Shape,
     clocks: &mut Clocks,
     marks: &mut Marks,
     values: &mut Values,
     numbers: &mut Numbers,
     path: &mut [u8],
     trace: &mut [u8],
-    table: &[u8],
-    shape: &Shape,
     limits: Limits,
     cursor: Cursor,
 ) -> Ticked
-    requires { ⌜ (getD (now shape) 1 0 ≤ 4) × Placed cursor (now path) (now trace) × (cursor .opened + mostOpened < 2 ^ 64) ⌝ }
+    requires { ⌜ (getD (now shape) 1 0 ≤ 4) × CursorPlaced cursor (now path) (now trace) × (cursor .opened + mostOpened < 2 ^ 64) ⌝ }
     ensures { λ r. ⌜ Walks (lent (now (clocks .entry)) (now (marks .entry)) (now (values .entry)) (now (numbers .entry)) (now (path .entry)) (now (trace .entry))) (lent (now (clocks .exit)) (now (marks .exit)) (now (values .exit)) (now (numbers .exit)) (now (path .exit)) (now (trace .exit))) (now (table .entry)) (now (shape .entry)) limits cursor r ⌝ }
 {
     let fuel = ticks(limits.operations);
     let mut now = cursor;
     for _ in 0..fuel {
         let ticked = walk::tick(
+            table,
+            shape,
             clocks,
             marks,
             values,
             numbers,
             path,
             trace,
-            table,
-            shape,
             limits,
             now,
         );

@@ -17,7 +17,7 @@ use borrow.Author.Tests.{lt-ltb, ltb-true, ltb-false}
 use Rattle.rules.specs.Vector.{Whom, nobody, thread}
 use Rattle.rules.specs.Path.{Branch, schedule, load, spurious, disabled, yield, pending, active, visited, firstIn, activeIn, toActive, toVisited, left, unlessActive, toggled, turned, marked, lastSchedule, preemptionsAfter, threadAdded, loadAdded, spuriousAdded}
 use Rattle.rules.specs.Event as Event
-use Rattle.rules.specs.Event.{Standing, yielded, cannotRun, other, Matched, offers, slotsFrom, slotsOf, Question, whichThread, whichSlot, whichBit, Answer, runThread, readSlot, takeBit}
+use Rattle.rules.specs.Event.{Standing, yielded, cannotRun, other, Matched, offers, slotsFrom, slotsOf, Question, whichThread, whichSlot, whichBit, Pick, runThread, readSlot, takeBit}
 use Rattle.rules.specs.Explorer.{seedOf, seedState, pushed, pushes, reply, says, allBelow, maxSlots}
 use Rattle.rules.proofs.SlotLaws.{slots-below}
 use Rattle.ledger.specs.Replay.{Comes, here, marks, visits, Agrees}
@@ -218,7 +218,7 @@ added-agrees B bs x whichBit b p e = let z = just-branch (leb B (length bs)) _ b
 -- And a record that agrees answers
 
 pub answers : (x : Bool) (k : ℕ) (b : Branch) (q : Question) → Answerable q → Agrees x b q →
-    (a : Answer) × (reply k b q ≡ says a) × Fitting q a
+    (a : Pick) × (reply k b q ≡ says a) × Fitting q a
 unfolding reply
 answers x k (schedule s) (whichThread points initial standings) p g =
     (runThread (activeIn (s .states)) k, refl, thread-fits initial standings (s .states) (activeIn (s .states)) p (g .1) refl)

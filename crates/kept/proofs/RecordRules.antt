@@ -16,7 +16,7 @@ use lib.Dec.{ltb, leb, eqb}
 use lib.ListN.{length, getD, set, take, length-append}
 use borrow.Author.Tests.{ltb-true, ltb-false, leb-false}
 use Rattle.rules.specs.Vector.{Whom, nobody, thread}
-use Rattle.rules.specs.Path.{Branch, schedule, load, spurious, yield, pending, active, visited, noThread, noPrev, noBranch, firstIn, activeIn, activeOf, orNone, toActive, toVisited, left, unlessActive, toggled, turned, turnedBranch, marked, openAt, stepped, orTurned, Last, none, at, orFirst, further, lastSchedule, prevOf, initialAfter, preemptionsAfter, Added, threadAdded, loadAdded, spuriousAdded}
+use Rattle.rules.specs.Path.{Branch, schedule, load, spurious, yield, pending, active, visited, noThread, noPrev, noBranch, firstIn, activeIn, activeOf, orNone, toActive, toVisited, left, unlessActive, toggled, turned, turnedBranch, marked, openAt, stepped, orTurned, Last, none, at, orFirst, oneFurther, lastSchedule, prevOf, initialAfter, preemptionsAfter, Added, threadAdded, loadAdded, spuriousAdded}
 use Rattle.rules.specs.Event as Event
 use Rattle.rules.specs.Event.{Standing, yielded, cannotRun, other, Question, whichThread, whichSlot, whichBit, offers, slotsFrom, slotsOf}
 use Rattle.rules.specs.Explorer.{seedOf, seedState, orFault, pushed, pushes}
@@ -95,7 +95,7 @@ unfolding lastSchedule
 last-rule [] = λ k h. h
 last-rule (b ∷ bs) = go b (lastSchedule bs) (last-rule bs)
   where
-    go : (b : Branch) (l : Last) → LastRule bs l → LastRule (b ∷ bs) (orFirst (further l) b)
+    go : (b : Branch) (l : Last) → LastRule bs l → LastRule (b ∷ bs) (orFirst (oneFurther l) b)
     go b (at k s) r =
         record {
           within = omega (arith, r .within);

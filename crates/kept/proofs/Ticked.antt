@@ -11,7 +11,7 @@ use lib.ListN.{length, getD}
 use lib.Seq.{getD-at}
 use borrow.Author.Tests.{eq-eqb}
 use Rattle.rules.specs.Path.{Branch, noBranch}
-use Rattle.rules.specs.Event.{Machine, Move, moves, asks, stops, ends, Entry, Question, Answer, Fault, impossible, Site}
+use Rattle.rules.specs.Event.{Machine, Move, moves, asks, stops, ends, Entry, Question, Pick, Fault, impossible, Site}
 use Rattle.rules.specs.Explorer.{Limits, Ledger, Walk, Tick, goes, over, faulted, reply, Pushed, pushes, faults, pushed, withBranch, withLedger, withState, noted, firstMarked, fits, followed, replied, newBranch, asked, taken, tick}
 use Rattle.ledger.specs.History.{Every, ticksFrom, starting}
 use Rattle.ledger.specs.Replay.{Agrees}
@@ -114,7 +114,7 @@ module _ (M : Machine) (limits : Limits) where
         pushed (limits .branches) (marksMade w q .path) x q ≡ faults f →
         Ticked w (faulted f (site w) (waiting w s es q))
     -- it is answered
-    answered : (s : M .State) (es : List Entry) (x : Bool) (q : Question) (l : Ledger) (a : Answer) →
+    answered : (s : M .State) (es : List Entry) (x : Bool) (q : Question) (l : Ledger) (a : Pick) →
         M .next (w .state) .move ≡ asks s es x q → Met w x q l → Fitting q a →
         Ticked w (followed M limits (site w) (passer w s es l) (M .answered s a))
 

@@ -11,7 +11,7 @@ use mathlib.Core.Path.{_≡_}
 use lib.ListN.{length, getD}
 use Rattle.rules.specs.Vector.{Whom, nobody, thread}
 use Rattle.rules.specs.Event.{impossible, Standing, cannotRun, other, Matched, offers, slotsOf, Question, whichThread, whichSlot, whichBit}
-use Rattle.rules.specs.Event.{Answer, runThread, readSlot, takeBit, Entry, Move, moves, asks, stops, ends, Machine}
+use Rattle.rules.specs.Event.{Pick, runThread, readSlot, takeBit, Entry, Move, moves, asks, stops, ends, Machine}
 use Rattle.rules.specs.Explorer.{Limits}
 
 -- nobody where no thread can run, and else one that can
@@ -28,7 +28,7 @@ pub record FittingSlot (m : Matched) (slot : ℕ) (values : List ℕ) : Type 0 w
   pub within : at < length values
   pub chosen : slot ≡ getD values at 0
 
-abbrev pub Fitting : Question → Answer → Type 0
+abbrev pub Fitting : Question → Pick → Type 0
 Fitting (whichThread points initial standings) (runThread whom at) = FittingThread initial standings whom
 Fitting (whichThread points initial standings) (readSlot slot values) = ⊥
 Fitting (whichThread points initial standings) (takeBit bit) = ⊥
@@ -96,7 +96,7 @@ module _ (M : Machine) where
   pub record Keeps (Holds : Holding) (Asked : Asking) (Over : Holding) : Type 0 where
     pub at-start : Holds (M .start) 0
     pub at-next : (s : M .State) (n : ℕ) → Holds s n → OfNext Holds Asked Over n (M .next s .move)
-    pub at-answer : (s : M .State) (n : ℕ) (q : Question) (a : Answer) → Asked s n q → Fitting q a →
+    pub at-answer : (s : M .State) (n : ℕ) (q : Question) (a : Pick) → Asked s n q → Fitting q a →
         OfAnswer Holds Over n (M .answered s a)
     -- the path may refuse any question, and ticks and entries may run out
     pub at-question : (s : M .State) (n : ℕ) (q : Question) → Asked s n q → Over s n
@@ -108,10 +108,10 @@ module _ (M : Machine) where
     pub room : (s : M .State) (n : ℕ) → Over s n → n ≤ limits .operations
     pub next-possible : (s : M .State) (n : ℕ) → Holds s n → Possible (M .next s .move)
     pub question : (s : M .State) (n : ℕ) (q : Question) → Asked s n q → Answerable q
-    pub answer-possible : (s : M .State) (n : ℕ) (q : Question) (a : Answer) → Asked s n q → Fitting q a → Possible (M .answered s a)
+    pub answer-possible : (s : M .State) (n : ℕ) (q : Question) (a : Pick) → Asked s n q → Fitting q a → Possible (M .answered s a)
     pub left : M .State → ℕ
     pub enough : left (M .start) < limits .ticks
     pub next-falls : (s : M .State) (n : ℕ) → Holds s n → Falls left (left s) (M .next s .move)
     pub answer-falls :
-        (s : M .State) (n : ℕ) (u : M .State) (es : List Entry) (exploring : Bool) (q : Question) (a : Answer) → Holds s n
+        (s : M .State) (n : ℕ) (u : M .State) (es : List Entry) (exploring : Bool) (q : Question) (a : Pick) → Holds s n
         → M .next s .move ≡ asks u es exploring q → Fitting q a → Falls left (left s) (M .answered u a)

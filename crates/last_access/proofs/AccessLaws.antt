@@ -10,12 +10,12 @@ use lib.Dec.{eqb}
 use Rattle.rules.specs.Event.{Entry}
 use Rattle.rules.specs.Table.{Op, Decoded, refused, decoded}
 use Rattle.last_access.specs.Access.{cellIn, accesses, isAccessBy, lastOf}
-use Rattle.last_access.specs.declared.Kind.{Kind}
+use Rattle.last_access.specs.declared.AccessKind.{AccessKind}
 
-pub kind-as : {k m : Kind} (v : ℕ) (op : Op) {b : Bool} → k ≡ m → b ≡ accesses m v op → b ≡ accesses k v op
-kind-as v op e h = h ∙ sym (ap (λ (x : Kind). accesses x v op) e)
+pub kind-as : {k m : AccessKind} (v : ℕ) (op : Op) {b : Bool} → k ≡ m → b ≡ accesses m v op → b ≡ accesses k v op
+kind-as v op e h = h ∙ sym (ap (λ (x : AccessKind). accesses x v op) e)
 
-module _ (thread cell : ℕ) (kind : Kind) (e : Entry) {x : Decoded Op} where
+module _ (thread cell : ℕ) (kind : AccessKind) (e : Entry) {x : Decoded Op} where
   pub access-none : x ≡ refused → false ≡ isAccessBy thread cell kind e x
   access-none p = rw p
 

@@ -1,11 +1,16 @@
--- The laws of the arm of a match that takes all other rows together, where a match asks for the cell or a store. Assumes nothing.
+-- The laws of the arm of a match that takes all other rows together, where a match asks for the cell or an access. Assumes nothing.
 --     no-cell, no-store    the rows that name no cell and no plain cell, that never store
+--     no-number            those that do not have an opcode
 use Prim.Native.Nat.{ℕ}
-use mathlib.Core.Bool.{false}
+use mathlib.Core.Bool.{false, cond, not}
 use mathlib.Core.List.{List, [], _∷_}
-use mathlib.Core.Path.{_≡_, refl}
+use mathlib.Core.Path.{_≡_, refl, sym, subst, _∙_}
+use mir.Val.{hasKey}
+use lib.Dec.{T, eqb}
+use borrow.Author.Tests.{ne-eqb}
 use types.Run.{OneOf, miss}
 use denote.Enum.Declared.{tagOf}
+use Rattle.rules.specs.Table.{opcodeOf}
 use Rattle.decode.proofs.Op.{the-type}
 use Rattle.decode.specs.declared.Op.{Op}
 use Rattle.decode.specs.declared.Op.the-variants as code
@@ -61,3 +66,37 @@ no-store code.SkipBranch v k = refl
 no-store (code.Spurious register) v k = refl
 no-store (code.PlainRead plain register) v k = refl
 no-store (code.PlainWrite plain value) v k = refl
+
+-- the variants stand in the order of their opcodes
+numbered : (op : Op) → tagOf the-type op ≡ opcodeOf (opOf op)
+numbered (code.Load order cell register) = refl
+numbered (code.Store order cell value) = refl
+numbered (code.StoreRegister order cell register) = refl
+numbered (code.Rmw order cell register change failure) = refl
+numbered (code.Fence order) = refl
+numbered (code.UnsyncLoad cell register) = refl
+numbered (code.WithMut cell register change) = refl
+numbered code.Yield = refl
+numbered (code.Join thread) = refl
+numbered (code.Jump target) = refl
+numbered (code.JumpIf target register a) = refl
+numbered (code.JumpUnless target register a) = refl
+numbered (code.Check register a) = refl
+numbered code.Critical = refl
+numbered code.ExploreState = refl
+numbered code.SkipBranch = refl
+numbered (code.Spurious register) = refl
+numbered (code.PlainRead plain register) = refl
+numbered (code.PlainWrite plain value) = refl
+
+-- the places of all but these
+unfoldable pub rest : List ℕ → List ℕ → List ℕ
+rest ks [] = []
+rest ks (x ∷ xs) = cond (hasKey ks x) (rest ks xs) (x ∷ rest ks xs)
+
+abbrev pub allBut : List ℕ → List ℕ
+allBut ks = rest ks (0 ∷ 1 ∷ 2 ∷ 3 ∷ 4 ∷ 5 ∷ 6 ∷ 7 ∷ 8 ∷ 9 ∷ 10 ∷ 11 ∷ 12 ∷ 13 ∷ 14 ∷ 15 ∷ 16 ∷ 17 ∷ 18 ∷ [])
+
+module _ (ks : List ℕ) (op : Op) (p : OneOf ks (tagOf the-type op)) where
+  pub no-number : (k : ℕ) → T (not (hasKey ks k)) → false ≡ eqb (opcodeOf (opOf op)) k
+  no-number k h = sym (ne-eqb (opcodeOf (opOf op)) k (λ e. miss ks k h (subst (λ (n : ℕ). OneOf ks n) (numbered op ∙ e) p)))

@@ -9,8 +9,8 @@ use Rattle.rules.specs.Change.{Changed, success, failure, applied}
 use Rattle.rules.specs.Event.{Entry}
 use Rattle.rules.specs.Table.{Op, Decoded, refused, decoded, opcodeOf, load, store, storeRegister, rmw, fence, unsyncLoad, exclusive, yield, join, jump, jumpIf, jumpUnless, check, critical, exploreState, skipBranch, spurious, plainRead, plainWrite}
 use Rattle.steps.specs.Entries.{entryAt, operationAt}
-use Rattle.last_access.specs.declared.Kind.{Kind}
-use Rattle.last_access.specs.declared.Kind.the-variants.{Load, UnsyncLoad, Store, Exclusive, PlainRead, PlainWrite}
+use Rattle.last_access.specs.declared.AccessKind.{AccessKind}
+use Rattle.last_access.specs.declared.AccessKind.the-variants.{Load, UnsyncLoad, Store, Exclusive, PlainRead, PlainWrite}
 
 -- the cell that a row names, or the plain cell, or 255: its opcode says which
 abbrev pub cellIn : Op → ℕ
@@ -62,7 +62,7 @@ storesAfter v (plainWrite c a) = false
 
 -- how a row accesses its cell, by its opcode: 0 and 3 load, 5 loads unsynchronised, 6 is exclusive, 17 and 18 read
 -- and write a plain cell
-abbrev pub accesses : Kind → ℕ → Op → Bool
+abbrev pub accesses : AccessKind → ℕ → Op → Bool
 accesses Load v op = eqb (opcodeOf op) 0 || eqb (opcodeOf op) 3
 accesses UnsyncLoad v op = eqb (opcodeOf op) 5
 accesses Store v op = storesAfter v op
@@ -71,7 +71,7 @@ accesses PlainRead v op = eqb (opcodeOf op) 17
 accesses PlainWrite v op = eqb (opcodeOf op) 18
 
 -- whether a step that does this, by its entry, is such an access of this thread to this cell
-abbrev pub isAccessBy : ℕ → ℕ → Kind → Entry → Decoded Op → Bool
+abbrev pub isAccessBy : ℕ → ℕ → AccessKind → Entry → Decoded Op → Bool
 isAccessBy thread cell kind e refused = false
 isAccessBy thread cell kind e (decoded op) =
     eqb (e .thread) thread && eqb (cellIn op) cell && accesses kind (e .value) op
@@ -81,9 +81,9 @@ unfoldable pub lastOf : (ℕ → Bool) → ℕ → ℕ
 lastOf test zero = 0
 lastOf test (suc n) = cond (test n) (suc n) (lastOf test n)
 
-unfoldable pub isAccess : List ℕ → List ℕ → ℕ → ℕ → Kind → ℕ → Bool
+unfoldable pub isAccess : List ℕ → List ℕ → ℕ → ℕ → AccessKind → ℕ → Bool
 isAccess table trace thread cell kind i = isAccessBy thread cell kind (entryAt trace i) (operationAt table trace i)
 
 -- the last of the first n steps that is such an access, counted from 1, or 0
-unfoldable pub lastAccess : List ℕ → List ℕ → ℕ → ℕ → ℕ → Kind → ℕ
+unfoldable pub lastAccess : List ℕ → List ℕ → ℕ → ℕ → ℕ → AccessKind → ℕ
 lastAccess table trace n thread cell kind = lastOf (isAccess table trace thread cell kind) n

@@ -1,4 +1,5 @@
 // The steps that access a cell or a plain cell, as a race speaks of them.
+ghost use Prim.Native.Nat.{ℕ};
 ghost use mathlib.Core.Path.{_≡_};
 ghost use Rattle.rules.specs.Change.{applied};
 ghost use Rattle.change.specs.Changes.{changeMeant};
@@ -8,16 +9,12 @@ use change::Change;
 use change::Changed;
 use decode::Decoded;
 use decode::Op;
-use decode::opcode;
-use decode::opcodes::LOAD;
-use decode::opcodes::PLAIN_READ;
-use decode::opcodes::PLAIN_WRITE;
-use decode::opcodes::RMW;
-use decode::opcodes::UNSYNC_LOAD;
-use decode::opcodes::WITH_MUT;
+
+// The cell of a row that names none.
+pub const NO_CELL: u64 = 255;
 
 // How a step accesses a cell or, in the last two, a plain cell. A change that fails only loads.
-pub enum Kind {
+pub enum AccessKind {
     Load,
     UnsyncLoad,
     Store,
@@ -27,7 +24,7 @@ pub enum Kind {
 }
 
 // The last of the first `n` steps in which a thread so accesses a cell, counted from 1; 0 for none.
-pub fn last(table: &[u8], trace: &[u8], n: usize, thread: u64, cell: u64, kind: Kind) -> u64
+pub fn last(table: &[u8], trace: &[u8], n: usize, thread: u64, cell: u64, kind: AccessKind) -> u64
     ensures { λ r. ⌜ r ≡ lastAccess (now (table .entry)) (now (trace .entry)) n thread cell kind ⌝ }
 {
     let mut i = n;
@@ -41,7 +38,7 @@ pub fn last(table: &[u8], trace: &[u8], n: usize, thread: u64, cell: u64, kind: 
 }
 
 // Whether step `i` is such an access.
-fn is_access(table: &[u8], trace: &[u8], i: usize, thread: u64, cell: u64, kind: Kind) -> bool
+fn is_access(table: &[u8], trace: &[u8], i: usize, thread: u64, cell: u64, kind: AccessKind) -> bool
     ensures { λ r. ⌜ r ≡ isAccess (now (table .entry)) (now (trace .entry)) thread cell kind i ⌝ }
 {
     let Decoded::Row(op) = steps::operation(table, trace, i) else {
@@ -53,21 +50,20 @@ fn is_access(table: &[u8], trace: &[u8], i: usize, thread: u64, cell: u64, kind:
 }
 
 // Whether a row so accesses its cell, where it has read this value.
-fn is_of(kind: Kind, op: Op, read: u64) -> bool
+fn is_of(kind: AccessKind, op: Op, read: u64) -> bool
     ensures { λ r. ⌜ r ≡ accesses kind read (opOf op) ⌝ }
 {
-    let number = opcode(op);
     match kind {
-        Kind::Load => (number == LOAD) | (number == RMW),
-        Kind::UnsyncLoad => number == UNSYNC_LOAD,
-        Kind::Store => stores(op, read),
-        Kind::Exclusive => number == WITH_MUT,
-        Kind::PlainRead => number == PLAIN_READ,
-        Kind::PlainWrite => number == PLAIN_WRITE,
+        AccessKind::Load => loads(op),
+        AccessKind::UnsyncLoad => loads_unsync(op),
+        AccessKind::Store => stores(op, read),
+        AccessKind::Exclusive => is_exclusive(op),
+        AccessKind::PlainRead => reads_plain(op),
+        AccessKind::PlainWrite => writes_plain(op),
     }
 }
 
-// The cell that a row names, or the plain cell, or 255: the row says which.
+// The cell that a row names, or the plain cell: the row says which.
 pub fn cell_of(op: Op) -> u64
     ensures { λ r. ⌜ r ≡ cellIn (opOf op) ⌝ }
 {
@@ -80,7 +76,28 @@ pub fn cell_of(op: Op) -> u64
         Op::WithMut { cell, .. } => cell as u64,
         Op::PlainRead { plain, .. } => plain as u64,
         Op::PlainWrite { plain, .. } => plain as u64,
-        _ => 255,
+        _ => NO_CELL,
+    }
+}
+
+// Whether a row loads from a cell; a change does, whether it succeeds or not.
+fn loads(op: Op) -> bool
+    ensures { λ r. ⌜ ((read : ℕ) → r ≡ accesses AccessKind.Load read (opOf op)) ⌝ }
+{
+    match op {
+        Op::Load { .. } => true,
+        Op::Rmw { .. } => true,
+        _ => false,
+    }
+}
+
+// The same without synchronising.
+fn loads_unsync(op: Op) -> bool
+    ensures { λ r. ⌜ ((read : ℕ) → r ≡ accesses AccessKind.UnsyncLoad read (opOf op)) ⌝ }
+{
+    match op {
+        Op::UnsyncLoad { .. } => true,
+        _ => false,
     }
 }
 
@@ -92,6 +109,36 @@ fn stores(op: Op, read: u64) -> bool
         Op::Store { .. } => true,
         Op::StoreRegister { .. } => true,
         Op::Rmw { change, .. } => succeeds(change, read),
+        _ => false,
+    }
+}
+
+// Whether a row changes a cell exclusively.
+fn is_exclusive(op: Op) -> bool
+    ensures { λ r. ⌜ ((read : ℕ) → r ≡ accesses AccessKind.Exclusive read (opOf op)) ⌝ }
+{
+    match op {
+        Op::WithMut { .. } => true,
+        _ => false,
+    }
+}
+
+// Whether a row reads a plain cell.
+fn reads_plain(op: Op) -> bool
+    ensures { λ r. ⌜ ((read : ℕ) → r ≡ accesses AccessKind.PlainRead read (opOf op)) ⌝ }
+{
+    match op {
+        Op::PlainRead { .. } => true,
+        _ => false,
+    }
+}
+
+// Whether it writes one.
+fn writes_plain(op: Op) -> bool
+    ensures { λ r. ⌜ ((read : ℕ) → r ≡ accesses AccessKind.PlainWrite read (opOf op)) ⌝ }
+{
+    match op {
+        Op::PlainWrite { .. } => true,
         _ => false,
     }
 }

@@ -3,7 +3,7 @@
 // thread, cell, store, register or plain cell; nothing else does arithmetic on positions. A new part goes at the end of its table, past
 // all that are there, and the table's size grows by it: then no position that a proof names moves.
 ghost use mathlib.Core.Path.{_≡_};
-ghost use Prim.Native.Nat.{_+_, _*_, _<_};
+ghost use Prim.Native.Nat.{_+_, _*_, _<_, _≤_};
 ghost use Rattle.layout.specs.Wide.{Wide};
 
 pub mod of_cell;
@@ -27,8 +27,11 @@ pub const MAX_ATOMIC_HISTORY: usize = 7;
 // Registers of a thread.
 pub const REGISTERS: usize = 4;
 
-// A number that stands for none: no mark, no yield yet, no access yet.
+// A number that stands for none: no yield yet, no access yet.
 pub const NONE: u16 = 65535;
+
+// The mark of a store that a thread has not seen.
+pub const UNSEEN: u16 = 65535;
 
 // How many vectors, values and numbers the tables hold.
 pub const CLOCKS: usize = 132;
@@ -62,7 +65,7 @@ pub fn store_at(cell: usize, slot: usize) -> usize
 
 // The number of a register among those of all threads.
 pub fn register_at(thread: usize, register: usize) -> usize
-    requires { ⌜ (thread < 5) × (register < 4) ⌝ }
+    requires { ⌜ (thread ≤ 255) × (register ≤ 255) ⌝ }
     ensures { λ r. ⌜ r ≡ 4 * thread + register ⌝ }
 {
     REGISTERS * thread + register

@@ -3,7 +3,7 @@
 pub const SEQ_CST_CAUSALITY: usize = 15;
 
 // numbers: the thread that runs, rows begun, whether exploring and skipping.
-pub const ACTIVE: usize = 80;
+pub const ACTIVE_THREAD: usize = 80;
 
 pub const ROWS_BEGUN: usize = 81;
 

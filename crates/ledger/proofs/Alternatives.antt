@@ -14,7 +14,7 @@ use lib.Dec.{eqb}
 use lib.ListN.{length, getD, set, drop, length-drop, length-map}
 use lib.Seq.{drop-cons}
 use borrow.Author.Tests.{eqb-true, ne-eqb}
-use Rattle.rules.specs.Vector.{Whom, nobody, thread, next}
+use Rattle.rules.specs.Vector.{Whom, nobody, thread, oneUp}
 use Rattle.rules.specs.Path.{Branch, schedule, load, spurious, Schedule, Load, Choice, runs, reads, choiceOf, pending, active, visited, firstIn, activeIn, toVisited, left, turned, pendings, openAt, turnedBranch}
 use Rattle.ledger.specs.History.{Every}
 use Rattle.ledger.specs.Turning.{threadsFrom, running, alternatives}
@@ -165,7 +165,7 @@ unfolding threadsFrom firstIn
 threads-first t p [] y n e = let z : _≡_ {A = ℕ} 0 1 = cc in absurd (omega arith)
 threads-first t p (x ∷ xs) y n e = go (eqb x pending) refl (firstIn pending xs) refl e (λ q k. threads-first (t + 1) q xs y n k)
   where
-    go : (b : Bool) → eqb x pending ≡ b → (w : Whom) → firstIn pending xs ≡ w → cond b (thread 0) (next w) ≡ thread p →
+    go : (b : Bool) → eqb x pending ≡ b → (w : Whom) → firstIn pending xs ≡ w → cond b (thread 0) (oneUp w) ≡ thread p →
         ((q : ℕ) → firstIn pending xs ≡ thread q → threadsFrom (t + 1) pending xs ≡ (t + 1 + q) ∷ threadsFrom (t + 1) pending (set xs q y)) →
         cond b (t ∷ threadsFrom (t + 1) pending xs) (threadsFrom (t + 1) pending xs) ≡ (t + p) ∷ threadsFrom t pending (set (x ∷ xs) p y)
     go true f w k e r =

@@ -12,11 +12,11 @@ use lib.Dec.{ltb, leb}
 use lib.ListN.{length, length-map}
 use Rattle.rules.specs.Vector.{Whom}
 use Rattle.rules.specs.Path.{Branch, schedule, load, spurious, Schedule, Bound, openAt, openIn, isExploring, toggled, lastSchedule, preemptionsAfter, threadAdded, loadAdded, spuriousAdded}
-use Rattle.rules.specs.Event.{Place, nowhere, branch, Question, whichThread, whichSlot, whichBit, Machine, Standing, slotsOf}
+use Rattle.rules.specs.Event.{Point, nowhere, branch, Question, whichThread, whichSlot, whichBit, Machine, Standing, slotsOf}
 use Rattle.rules.specs.Explorer.{seedOf, pushed, Limits, Ledger, allMarked, backtrackFrom, firstMarked, withBranch, Walk, Tick, execution}
 use Rattle.rules.specs.Explorer.{Verdict, exhausted, spent, unmet, stopped, Stop, nextLedger, empty, run}
 use Rattle.ledger.specs.History.{leftBy, Course, executed, courses, Stops, Made, Told, Real}
-use Rattle.ledger.specs.Balance.{begun, opened, Balance, Balanced, Begun, Added, Quiet}
+use Rattle.ledger.specs.Balance.{begun, opened, Balance, Balanced, Begun, AddedOpens, Quiet}
 use Rattle.ledger.proofs.Counts.{pendings-seedOf, openIn-added, stepped-open}
 use Rattle.ledger.proofs.Marks.{backtracked-open, backtracked-kept}
 use Rattle.ledger.proofs.Ledgers.{execution-keeps, execution-begun}
@@ -32,11 +32,11 @@ Ready l = l .begun + openIn (l .path) ≡ l .opened
 
 -- An execution
 
-backtrackFrom-level : (bound : Bound) (l : Ledger) (p : Place) (t : ℕ) → Level l → Level (backtrackFrom bound l p t)
+backtrackFrom-level : (bound : Bound) (l : Ledger) (p : Point) (t : ℕ) → Level l → Level (backtrackFrom bound l p t)
 backtrackFrom-level bound l nowhere t e = e
 backtrackFrom-level bound l (branch point) t e = omega (arith, backtracked-open bound (l .path) point t)
 
-allMarked-level : (bound : Bound) (l : Ledger) (points : List Place) (t : ℕ) → Level l → Level (allMarked bound l points t)
+allMarked-level : (bound : Bound) (l : Ledger) (points : List Point) (t : ℕ) → Level l → Level (allMarked bound l points t)
 unfolding allMarked
 allMarked-level bound l [] t e = e
 allMarked-level bound l (p ∷ points) t e =
@@ -144,8 +144,8 @@ unfolding openAt
 bit-opens true = refl
 bit-opens false = refl
 
-pub added : Added
-unfolding Added pushed threadAdded loadAdded spuriousAdded
+pub added : AddedOpens
+unfolding AddedOpens pushed threadAdded loadAdded spuriousAdded
 added B bs exploring b = record {
   a-schedule = λ points initial standings e.
       let z = only-branch (leb B (length bs)) (ltb 255 (preemptionsAfter (lastSchedule bs))) _ b e in

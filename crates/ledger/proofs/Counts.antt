@@ -12,7 +12,7 @@ use native.Mathlib.Omega.{arith}
 use lib.Dec.{eqb}
 use lib.ListN.{length, getD, set}
 use borrow.Author.Tests.{eqb-true, lt-ltb, le-ltb}
-use Rattle.rules.specs.Vector.{Whom, nobody, thread, next}
+use Rattle.rules.specs.Vector.{Whom, nobody, thread, oneUp}
 use Rattle.rules.specs.Path.{Branch, schedule, load, spurious, yield, pending, active, visited}
 use Rattle.rules.specs.Path.{firstIn, activeIn, toActive, unlessActive, toggled, isPending, pendings}
 use Rattle.rules.specs.Path.{openAt, openIn, toVisited, left, turned, turnedBranch, orTurned, stepped, noBranch}
@@ -41,11 +41,11 @@ pendings-lower (x ∷ xs) (suc t) v e = omega (arith, pendings-lower xs t v e)
 
 -- The first in a state
 
-next-of : (w : Whom) (k : ℕ) → next w ≡ thread k → (m : ℕ) × (w ≡ thread m) × (k ≡ suc m)
+next-of : (w : Whom) (k : ℕ) → oneUp w ≡ thread k → (m : ℕ) × (w ≡ thread m) × (k ≡ suc m)
 next-of nobody k e = let z : _≡_ {A = ℕ} 0 1 = cc in absurd (omega arith)
 next-of (thread t) k e = let z : k ≡ t + 1 = cc in (t, refl, omega arith)
 
-next-none : (w : Whom) → next w ≡ nobody → w ≡ nobody
+next-none : (w : Whom) → oneUp w ≡ nobody → w ≡ nobody
 next-none nobody e = refl
 next-none (thread t) e = let z : _≡_ {A = ℕ} 0 1 = cc in absurd (omega arith)
 
@@ -57,7 +57,7 @@ firstIn-there x d (s ∷ xs) t e =
     ⊎-elim
     (λ (a : eqb s x ≡ true). let z : t ≡ 0 = cc (a) in rw z (omega arith, eqb-true s x a))
     (λ (a : eqb s x ≡ false).
-    let q : next (firstIn x xs) ≡ thread t = rw a at e in
+    let q : oneUp (firstIn x xs) ≡ thread t = rw a at e in
     let m = next-of (firstIn x xs) t q in
     let h = firstIn-there x d xs (m .0) (m .1) in
     rw (m .2) (omega (arith, h .0), h .1))
@@ -71,7 +71,7 @@ firstIn-none (s ∷ xs) e =
     ⊎-elim
     (λ (a : eqb s pending ≡ true). let z : _≡_ {A = ℕ} 0 1 = cc in absurd (omega arith))
     (λ (a : eqb s pending ≡ false).
-    let q : next (firstIn pending xs) ≡ nobody = rw a at e in
+    let q : oneUp (firstIn pending xs) ≡ nobody = rw a at e in
     rw a (omega (arith, firstIn-none xs (next-none (firstIn pending xs) q))))
     (flag (eqb s pending))
 

@@ -13,7 +13,7 @@ use native.Mathlib.Omega.{arith}
 use lib.Dec.{eqb}
 use lib.ListN.{getD, set}
 use borrow.Author.Tests.{eqb-true}
-use Rattle.rules.specs.Path.{skip, pending, visited, disabled, firstIn, activeIn, explored, marked, madePending, pendings}
+use Rattle.rules.specs.Path.{skip, pending, visited, disabled, firstIn, activeIn, skipToPending, marked, madePending, pendings}
 use Rattle.ledger.specs.Balance.{Counted}
 
 -- States
@@ -45,18 +45,18 @@ states-trans (x ∷ xs) [] zs p q = absurd p
 states-trans (x ∷ xs) (y ∷ ys) [] p q = absurd q
 states-trans (x ∷ xs) (y ∷ ys) (z ∷ zs) p q = (state-trans x y z (p .0) (q .0), states-trans xs ys zs (p .1) (q .1))
 
-explored-marked : (x : ℕ) → StateMarked x (explored x)
+explored-marked : (x : ℕ) → StateMarked x (skipToPending x)
 explored-marked x = go (eqb x skip) refl
   where
     go : (b : Bool) → eqb x skip ≡ b → StateMarked x (cond b pending x)
     go true e = inr (eqb-true x skip e, refl)
     go false e = inl refl
 
-all-explored : (xs : List ℕ) → StatesMarked xs (map explored xs)
+all-explored : (xs : List ℕ) → StatesMarked xs (map skipToPending xs)
 all-explored [] = tt
 all-explored (x ∷ xs) = (explored-marked x, all-explored xs)
 
-one-explored : (xs : List ℕ) (t d : ℕ) → StatesMarked xs (set xs t (explored (getD xs t d)))
+one-explored : (xs : List ℕ) (t d : ℕ) → StatesMarked xs (set xs t (skipToPending (getD xs t d)))
 one-explored [] t d = tt
 one-explored (x ∷ xs) zero d = (explored-marked x, states-refl xs)
 one-explored (x ∷ xs) (suc t) d = (inl refl, one-explored xs t d)
@@ -65,7 +65,7 @@ pub marked-states : (xs : List ℕ) (t : ℕ) → StatesMarked xs (marked xs t)
 unfolding marked
 marked-states xs t = go (eqb (getD xs t visited) disabled)
   where
-    go : (b : Bool) → StatesMarked xs (cond b (map explored xs) (set xs t (explored (getD xs t visited))))
+    go : (b : Bool) → StatesMarked xs (cond b (map skipToPending xs) (set xs t (skipToPending (getD xs t visited))))
     go true = all-explored xs
     go false = one-explored xs t visited
 

@@ -11,7 +11,7 @@ use native.Mathlib.Omega.{arith}
 use lib.Dec.{eqb}
 use lib.ListN.{length, getD}
 use Rattle.rules.specs.Path.{Branch, Bound, noBranch}
-use Rattle.rules.specs.Event.{Place, nowhere, branch, Question, whichThread, whichSlot, whichBit, Site, Move, Machine, moves, asks, stops, ends, impossible}
+use Rattle.rules.specs.Event.{Point, nowhere, branch, Question, whichThread, whichSlot, whichBit, Site, Move, Machine, moves, asks, stops, ends, impossible}
 use Rattle.rules.specs.Explorer.{Limits, Ledger, backtrackFrom, allMarked, firstMarked, Pushed, pushes, faults, pushed, withBranch, Reply, says, unexpected, reply}
 use Rattle.rules.specs.Explorer.{Walk, Tick, goes, over, faulted, withLedger, withState, onward, noted, fits, followed, replied, newBranch, met, asked, taken, tick, walked, oneBegun, execution}
 use Rattle.ledger.specs.History.{leftBy, starting}
@@ -102,11 +102,11 @@ never-goes M limits l w e = walked-ends M limits (limits .ticks) (starting M lim
 
 -- Executions begun
 
-backtrackFrom-begun : (bound : Bound) (l : Ledger) (p : Place) (t : ℕ) → backtrackFrom bound l p t .begun ≡ l .begun
+backtrackFrom-begun : (bound : Bound) (l : Ledger) (p : Point) (t : ℕ) → backtrackFrom bound l p t .begun ≡ l .begun
 backtrackFrom-begun bound l nowhere t = refl
 backtrackFrom-begun bound l (branch point) t = refl
 
-allMarked-begun : (bound : Bound) (l : Ledger) (points : List Place) (t : ℕ) → allMarked bound l points t .begun ≡ l .begun
+allMarked-begun : (bound : Bound) (l : Ledger) (points : List Point) (t : ℕ) → allMarked bound l points t .begun ≡ l .begun
 unfolding allMarked
 allMarked-begun bound l [] t = refl
 allMarked-begun bound l (p ∷ points) t =

@@ -9,7 +9,7 @@ use mathlib.Core.Path.{_≡_, refl, ap, _∙_}
 use lib.ListN.{length, getD, set}
 use Rattle.rules.specs.Path.{Branch, schedule, Schedule, Bound, Last, none, at, runs}
 use Rattle.rules.specs.Path.{marked, withStates, scheduleMarked, takesMarks, Marked, markedAt, noBranch, unbounded, atMost, exploringBelow, schedulesBelow, switchIn, markedBefore, backtracked, choiceOf}
-use Rattle.rules.specs.Event.{Place, nowhere, branch, Question, whichThread, whichSlot, whichBit}
+use Rattle.rules.specs.Event.{Point, nowhere, branch, Question, whichThread, whichSlot, whichBit}
 use Rattle.rules.specs.Explorer.{Ledger, backtrackFrom, allMarked, firstMarked, reply}
 use Rattle.ledger.proofs.Events.{marked-states, states-active}
 use Rattle.ledger.proofs.Marks.{Explores, exploringBelow-explores, second-explores}
@@ -106,11 +106,11 @@ backtracked-marking (atMost n) bs point t =
     (markedAt-marking (atMost n) bs first t (exploringBelow-explores bs (point + 1)))
     (markedBefore-marking (atMost n) m first t)
 
-backtrackFrom-marking : (bound : Bound) (l : Ledger) (p : Place) (t : ℕ) → AllMarking (l .path) (backtrackFrom bound l p t .path)
+backtrackFrom-marking : (bound : Bound) (l : Ledger) (p : Point) (t : ℕ) → AllMarking (l .path) (backtrackFrom bound l p t .path)
 backtrackFrom-marking bound l nowhere t = all-refl (l .path)
 backtrackFrom-marking bound l (branch point) t = backtracked-marking bound (l .path) point t
 
-allMarked-marking : (bound : Bound) (l : Ledger) (points : List Place) (t : ℕ) → AllMarking (l .path) (allMarked bound l points t .path)
+allMarked-marking : (bound : Bound) (l : Ledger) (points : List Point) (t : ℕ) → AllMarking (l .path) (allMarked bound l points t .path)
 unfolding allMarked
 allMarked-marking bound l [] t = all-refl (l .path)
 allMarked-marking bound l (p ∷ points) t =

@@ -11,7 +11,7 @@ use lib.ListN.{length, getD, take}
 use borrow.Author.Tests.{ltb-true}
 use Rattle.rules.specs.Path.{Branch, load, noBranch, Added, added, threadAdded, loadAdded, spuriousAdded, lastSchedule, preemptionsAfter}
 use Rattle.rules.specs.Event as Event
-use Rattle.rules.specs.Event.{Machine, asks, Entry, Question, whichThread, whichSlot, whichBit, offers, slotsOf, Answer}
+use Rattle.rules.specs.Event.{Machine, asks, Entry, Question, whichThread, whichSlot, whichBit, offers, slotsOf, Pick}
 use Rattle.rules.specs.Explorer.{Limits, Walk, Tick, goes, over, faulted, says, unexpected, reply}
 use Rattle.rules.specs.Explorer.{pushes, orFault, pushed, loadPushed}
 use Rattle.ledger.specs.Replay.{Agrees, here}
@@ -31,7 +31,7 @@ pub just-branch : (c : Bool) (x b : Branch) → orFault (cond c Added.full (adde
 just-branch true x b e = let z : _≡_ {A = ℕ} 0 1 = cc in absurd (omega arith)
 just-branch false x b e = cc
 
-pub answers-test : (c : Bool) (a : Answer) → Answers (cond c (says a) unexpected) → c ≡ true
+pub answers-test : (c : Bool) (a : Pick) → Answers (cond c (says a) unexpected) → c ≡ true
 answers-test true a h = refl
 answers-test false a h = absurd h
 

@@ -15,7 +15,7 @@ use lib.Seq.{getD-at, take-at}
 use borrow.Author.Tests.{eq-eqb, ne-eqb}
 use Rattle.rules.specs.Path.{Branch, schedule, load, spurious, Choice, choiceOf, noBranch, Added, added, threadAdded, loadAdded, spuriousAdded, lastSchedule, preemptionsAfter}
 use Rattle.rules.specs.Event as Event
-use Rattle.rules.specs.Event.{Machine, moves, asks, stops, ends, Entry, Question, whichThread, whichSlot, whichBit, offers, Answer, readSlot, Fault, impossible, Site}
+use Rattle.rules.specs.Event.{Machine, moves, asks, stops, ends, Entry, Question, whichThread, whichSlot, whichBit, offers, Pick, readSlot, Fault, impossible, Site}
 use Rattle.rules.specs.Explorer.{Limits, Ledger, Walk, Tick, goes, over, faulted, Reply, says, unexpected, reply, Pushed, pushes, faults, orFault, pushed, withBranch, withState, noted, allBelow, maxSlots, firstMarked, followed, replied, newBranch, met, asked, taken, tick, walked}
 use Rattle.ledger.specs.History.{leftBy}
 use Rattle.ledger.specs.Replay.{Agrees}
@@ -109,13 +109,13 @@ module _ (M : Machine) (limits : Limits) where
 
 module _ (M : Machine) (limits : Limits) (n : ℕ) (w : Walk (M .State)) (pre : List Branch) (pos-is : w .pos ≡ length pre)
     (s : M .State) (es : List Entry) (x : Bool) (q : Question) (fit : room M limits (w .trace) es ≡ true) where
-  abbrev Pass : Ledger → List Branch → Answer → Type 0
+  abbrev Pass : Ledger → List Branch → Pick → Type 0
   Pass = Passing M limits n w pre pos-is s es x q fit
 
   abbrev at-next : Ledger → M .State → List Entry → Walk (M .State)
   at-next l s′ tr = record { state = s′; ledger = l; pos = w .pos + 1; trace = tr }
 
-  passed-choices : (l : Ledger) (bs : List Branch) (a : Answer) (p : Pass l bs a) →
+  passed-choices : (l : Ledger) (bs : List Branch) (a : Pick) (p : Pass l bs a) →
       map choiceOf (take (w .pos + 1) (l .path)) ≡ map choiceOf pre ++ (choiceOf (p .b) ∷ [])
   passed-choices l bs a p =
       let k : length (p .pre₁) ≡ w .pos = all-length pre (p .pre₁) (p .marking) ∙ sym pos-is in
@@ -125,7 +125,7 @@ module _ (M : Machine) (limits : Limits) (n : ℕ) (w : Walk (M .State)) (pre : 
       rw (t, map-append, all-choices pre (p .pre₁) (p .marking))
 
   -- the play at this question, with this record's choice first
-  at-answer : (site : Site) (l : Ledger) (bs : List Branch) (a : Answer) (p : Pass l bs a) (ds : List Choice) (ev : Event.Move (M .State)) →
+  at-answer : (site : Site) (l : Ledger) (bs : List Branch) (a : Pick) (p : Pass l bs a) (ds : List Choice) (ev : Event.Move (M .State)) →
       M .answered s a ≡ ev →
       atTick M limits (played M limits n) site (w .trace) (w .pos) (choiceOf (p .b) ∷ ds) (asks s es x q)
       ≡ afterAnswer M limits (played M limits n) site (w .trace ++ es) (w .pos + 1) ds ev
@@ -134,7 +134,7 @@ module _ (M : Machine) (limits : Limits) (n : ℕ) (w : Walk (M .State)) (pre : 
       agreed-answer (w .pos) x (p .b) q (p .agrees) (rw (p .answers) tt) ∙ p .answers in
       rw (fit, r, e)
 
-  followed-plays : (site : Site) (l : Ledger) (bs : List Branch) (a : Answer) → Pass l bs a → (ev : Event.Move (M .State)) →
+  followed-plays : (site : Site) (l : Ledger) (bs : List Branch) (a : Pick) → Pass l bs a → (ev : Event.Move (M .State)) →
       M .answered s a ≡ ev →
       Plays M limits n w pre site (asks s es x q) (followed M limits site (at-next l s (w .trace ++ es)) ev)
   followed-plays site l bs a p (moves s₂ es₂) e = go (room M limits (w .trace ++ es) es₂) refl

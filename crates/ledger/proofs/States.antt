@@ -12,7 +12,7 @@ use lib.Dec.{eqb}
 use lib.ListN.{length, getD, set, length-set}
 use lib.Seq.{getD-set-same, getD-set-other}
 use borrow.Author.Tests.{eq-eqb}
-use Rattle.rules.specs.Vector.{Whom, nobody, thread, next}
+use Rattle.rules.specs.Vector.{Whom, nobody, thread, oneUp}
 use Rattle.rules.specs.Path.{pending, active, visited, firstIn, activeIn, toVisited, left, turned, pendings}
 use Rattle.ledger.proofs.Counts.{firstIn-there}
 
@@ -27,7 +27,7 @@ present x [] t h e f = absurd (omega arith)
 present x (y ∷ ys) zero h e f = let k : eqb y x ≡ true = eq-eqb y x e in let z : _≡_ {A = ℕ} 0 1 = cc (rw k at f) in absurd (omega arith)
 present x (y ∷ ys) (suc t) h e f = go (eqb y x) (firstIn x ys) (present x ys t (omega arith) e) f
   where
-    go : (b : Bool) (w : Whom) → w ≢ nobody → cond b (thread 0) (next w) ≢ nobody
+    go : (b : Bool) (w : Whom) → w ≢ nobody → cond b (thread 0) (oneUp w) ≢ nobody
     go true w n g = let z : _≡_ {A = ℕ} 0 1 = cc in absurd (omega arith)
     go false nobody n g = n refl
     go false (thread m) n g = let z : _≡_ {A = ℕ} 0 1 = cc in absurd (omega arith)
@@ -39,9 +39,9 @@ some-pending [] h = absurd (omega arith)
 some-pending (y ∷ ys) h = go (eqb y pending) h (λ k. some-pending ys k)
   where
     go : (b : Bool) → 0 < cond b 1 0 + pendings ys → (0 < pendings ys → (p : ℕ) × (firstIn pending ys ≡ thread p)) →
-        (p : ℕ) × (cond b (thread 0) (next (firstIn pending ys)) ≡ thread p)
+        (p : ℕ) × (cond b (thread 0) (oneUp (firstIn pending ys)) ≡ thread p)
     go true h r = (0, refl)
-    go false h r = let q = r (omega arith) in (q .0 + 1, ap next (q .1))
+    go false h r = let q = r (omega arith) in (q .0 + 1, ap oneUp (q .1))
 
 -- A visit
 

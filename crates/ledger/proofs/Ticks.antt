@@ -10,7 +10,7 @@ use lib.Seq.{getD-at, take-at, take-all}
 use borrow.Author.Tests.{eq-eqb, ne-eqb}
 use Rattle.rules.specs.Path.{Branch, noBranch}
 use Rattle.rules.specs.Event as Event
-use Rattle.rules.specs.Event.{Machine, moves, asks, stops, ends, Entry, Question, Answer}
+use Rattle.rules.specs.Event.{Machine, moves, asks, stops, ends, Entry, Question, Pick}
 use Rattle.rules.specs.Explorer.{Limits, Ledger, Walk, goes, faulted, Reply, says, unexpected, reply}
 use Rattle.rules.specs.Explorer.{Pushed, pushes, faults, pushed, withBranch, noted, withState, firstMarked, followed, replied, newBranch, met, asked, taken, tick}
 use Rattle.ledger.specs.Replay.{Agrees}
@@ -25,7 +25,7 @@ use Rattle.ledger.proofs.Outcomes.{pushed-agrees, Passed, Back, Stays, 
 module _ (M : Machine) (limits : Limits) (n : ℕ) (w : Walk (M .State)) (pre : List Branch) (pos-is : w .pos ≡ length pre)
     (s : M .State) (es : List Entry) (x : Bool) (q : Question) (fit : room M limits (w .trace) es ≡ true) where
   -- the record that has answered, and those before and after it
-  pub record Passing (l : Ledger) (bs : List Branch) (a : Answer) : Type 0 where
+  pub record Passing (l : Ledger) (bs : List Branch) (a : Pick) : Type 0 where
     pub pre₁ : List Branch
     pub b : Branch
     pub path-is : l .path ≡ pre₁ ++ (b ∷ bs)
@@ -40,20 +40,20 @@ module _ (M : Machine) (limits : Limits) (n : ℕ) (w : Walk (M .State)) (pre : 
   abbrev leaver : Ledger → M .State → Walk (M .State)
   leaver l s′ = record { state = s′; ledger = l; pos = w .pos + 1; trace = w .trace ++ es }
 
-  place : (l : Ledger) (bs : List Branch) (a : Answer) (p : Passing l bs a) → length (p .pre₁) ≡ w .pos
+  place : (l : Ledger) (bs : List Branch) (a : Pick) (p : Passing l bs a) → length (p .pre₁) ≡ w .pos
   place l bs a p = all-length pre (p .pre₁) (p .marking) ∙ sym pos-is
 
-  length-passed : (l : Ledger) (a : Answer) → Passing l [] a → length (l .path) ≡ w .pos + 1
+  length-passed : (l : Ledger) (a : Pick) → Passing l [] a → length (l .path) ≡ w .pos + 1
   length-passed l a p =
       let k = place l [] a p in rw (p .path-is, length-append) (omega arith)
 
-  passed-by : (l : Ledger) (bs : List Branch) (a : Answer) → Passing l bs a → (v : Walk (M .State)) → v .ledger ≡ l →
+  passed-by : (l : Ledger) (bs : List Branch) (a : Pick) → Passing l bs a → (v : Walk (M .State)) → v .ledger ≡ l →
       Passed M limits (asks s es x q) w v
   passed-by l bs a p v e h =
       let k : getD (l .path) (w .pos) noBranch ≡ p .b = rw (p .path-is) (getD-at (p .pre₁) (p .b) bs noBranch (w .pos) (place l bs a p)) in
       (s, es, x, q, refl, rw (e, k) (p .agrees))
 
-  ends-here : (l : Ledger) (a : Answer) → Passing l [] a → (s′ : M .State) → Ends M limits w (asks s es x q) (leaver l s′)
+  ends-here : (l : Ledger) (a : Pick) → Passing l [] a → (s′ : M .State) → Ends M limits w (asks s es x q) (leaver l s′)
   ends-here l a p s′ =
       let k = length-passed l a p in
       record {
@@ -63,7 +63,7 @@ module _ (M : Machine) (limits : Limits) (n : ℕ) (w : Walk (M .State)) (pre : 
       }
 
   -- a record after marks, before what leads on
-  back-by : (l : Ledger) (bs : List Branch) (a : Answer) (p : Passing l bs a) (ev : Event.Move (M .State)) → M .answered s a ≡ ev →
+  back-by : (l : Ledger) (bs : List Branch) (a : Pick) (p : Passing l bs a) (ev : Event.Move (M .State)) → M .answered s a ≡ ev →
       (pre′ rest′ : List Branch) → AllMarking (p .pre₁ ++ (p .b ∷ [])) pre′ →
       Onward M limits (Leads M limits n) (w .trace ++ es) (w .pos + 1) rest′ ev →
       Back M limits n w pre (asks s es x q) (pre′ ++ rest′)
@@ -82,7 +82,7 @@ module _ (M : Machine) (limits : Limits) (n : ℕ) (w : Walk (M .State)) (pre : 
   onward-ahead tr k [] s₂ es₂ o = leads-nil M limits n s₂ (tr ++ es₂) k
   onward-ahead tr k (b ∷ bs) s₂ es₂ o = o .1
 
-  stays-here : (l : Ledger) (bs : List Branch) (a : Answer) (p : Passing l bs a) (s₂ : M .State) (es₂ : List Entry) →
+  stays-here : (l : Ledger) (bs : List Branch) (a : Pick) (p : Passing l bs a) (s₂ : M .State) (es₂ : List Entry) →
       M .answered s a ≡ moves s₂ es₂ →
       room M limits (w .trace ++ es) es₂ ≡ true →
       Onward M limits (Leads M limits n) (w .trace ++ es) (w .pos + 1) bs (moves s₂ es₂) →
@@ -101,7 +101,7 @@ module _ (M : Machine) (limits : Limits) (n : ℕ) (w : Walk (M .State)) (pre : 
         passed = passed-by l bs a p (noted (passer l) s₂ es₂) refl;
       }
 
-  overs-here : (l : Ledger) (a : Answer) (p : Passing l [] a) (s₂ : M .State) → M .answered s a ≡ ends s₂ →
+  overs-here : (l : Ledger) (a : Pick) (p : Passing l [] a) (s₂ : M .State) → M .answered s a ≡ ends s₂ →
       Overs M limits n w pre (asks s es x q) (leaver l s₂)
   overs-here l a p s₂ e =
       record {
@@ -111,7 +111,7 @@ module _ (M : Machine) (limits : Limits) (n : ℕ) (w : Walk (M .State)) (pre : 
         passed = passed-by l [] a p (leaver l s₂) refl;
       }
 
-  followed-fine : (site : Event.Site) (l : Ledger) (bs : List Branch) (a : Answer) → Passing l bs a → (ev : Event.Move (M .State)) →
+  followed-fine : (site : Event.Site) (l : Ledger) (bs : List Branch) (a : Pick) → Passing l bs a → (ev : Event.Move (M .State)) →
       M .answered s a ≡ ev →
       Onward M limits (Leads M limits n) (w .trace ++ es) (w .pos + 1) bs ev →
       Fine M limits n w pre (asks s es x q) (followed M limits site (passer l) ev)

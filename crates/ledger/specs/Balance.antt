@@ -2,7 +2,7 @@
 --     begun, opened, open      the three counts of a run that has stopped
 --     Balance, Balanced        what they come to
 --     Begun                    the executions begun are those of the history
---     Adds, Added              what a record opens that is added
+--     Adds, AddedOpens         what a record opens that is added
 --     Quiet                    records that are not exploring
 --     Counted                  what a mark is counted for
 use Prim.Native.Nat.{ℕ, _+_, _-_, _≤_, _<_}
@@ -12,7 +12,7 @@ use mathlib.Core.Path.{_≡_}
 use lib.ListN.{length, getD}
 use Rattle.rules.specs.Path.{Branch, Bound, isExploring, openAt, openIn, backtracked, noBranch, skip, marked, madePending, pendings, visited}
 use Rattle.rules.specs.Vector.{Whom}
-use Rattle.rules.specs.Event.{Machine, Place, Standing, offers, slotsOf, whichThread, whichSlot, whichBit}
+use Rattle.rules.specs.Event.{Machine, Point, Standing, offers, slotsOf, whichThread, whichSlot, whichBit}
 use Rattle.rules.specs.Explorer.{pushed, pushes, Limits, Stop, run, exhausted, spent}
 
 -- The three counts
@@ -57,14 +57,14 @@ Begun = (M : Machine) (limits : Limits) (n : ℕ) → begun (run M limits n) ≡
 -- What an added record opens is what it then has open. "Opened: .. len−1 at each exploring load added; 1 at each exploring spurious
 -- added": so it is; and a schedule opens none, for no thread of a seed is Pending
 pub record Adds (B : ℕ) (bs : List Branch) (exploring : Bool) (b : Branch) : Type 0 where
-  pub a-schedule : (points : List Place) (initial : Whom) (standings : List Standing) →
+  pub a-schedule : (points : List Point) (initial : Whom) (standings : List Standing) →
       pushed B bs exploring (whichThread points initial standings) ≡ pushes b → openAt b ≡ 0
   pub a-load : (slots : List Bool) → pushed B bs exploring (whichSlot (offers slots)) ≡ pushes b →
       openAt b ≡ cond exploring (length (slotsOf slots) - 1) 0
   pub a-bit : pushed B bs exploring whichBit ≡ pushes b → openAt b ≡ cond exploring 1 0
 
-unfoldable pub Added : Type 0
-Added = (B : ℕ) (bs : List Branch) (exploring : Bool) (b : Branch) → Adds B bs exploring b
+unfoldable pub AddedOpens : Type 0
+AddedOpens = (B : ℕ) (bs : List Branch) (exploring : Bool) (b : Branch) → Adds B bs exploring b
 
 -- Records that are not exploring open nothing and keep nothing open
 pub record Quiet : Type 0 where

@@ -14,7 +14,7 @@ use lib.ListN.{getD, set}
 use Rattle.rules.specs.Path.{Branch, schedule, Bound, unbounded, Last, none, at, pending, visited}
 use Rattle.rules.specs.Path.{withStates, exploringBelow, openAt, turnedBranch}
 use Rattle.rules.specs.Event as Event
-use Rattle.rules.specs.Event.{Place, nowhere, branch, Question, whichThread, whichSlot, whichBit, Site, noSite, Move, Machine, moves, asks, stops, ends}
+use Rattle.rules.specs.Event.{Point, nowhere, branch, Question, whichThread, whichSlot, whichBit, Site, noSite, Move, Machine, moves, asks, stops, ends}
 use Rattle.rules.specs.State.{State}
 use Rattle.rules.specs.Explorer.{Limits, Ledger, Walk, Tick, goes, over, faulted, Execution, Stop, stop, stopped, After, stopsHere, goesOn}
 use Rattle.rules.specs.Explorer.{firstMarked, withState, withLedger, noted, fits, met, taken, fresh, oneBegun, empty, after, run}
@@ -97,7 +97,7 @@ openedAgain bs none t = bs
 openedAgain bs (at k s) t =
     cond (eqb (getD (s .states) t pending) visited) (set bs k (schedule (withStates s (set (s .states) t pending)))) bs
 
-unfoldable pub againFrom : List Branch → List Place → ℕ → List Branch
+unfoldable pub againFrom : List Branch → List Point → ℕ → List Branch
 againFrom bs [] t = bs
 againFrom bs (nowhere ∷ points) t = againFrom bs points (t + 1)
 againFrom bs (branch point ∷ points) t = againFrom (openedAgain bs (exploringBelow bs (point + 1)) t) points (t + 1)

@@ -4,6 +4,7 @@ ghost use Rattle.page.specs.Pages.{ended};
 ghost use Rattle.settings.specs.Given.{settingsOf};
 ghost use Rattle.limit.specs.Limits.{isLimit, putBudget, putReached, putRaise, putSpent, putToDo, putSpin, putLimit};
 use page::Page;
+use report::answers;
 use settings::MAX_BRANCHES;
 use settings::MAX_EXECUTIONS;
 use settings::MAX_OPERATIONS;
@@ -13,7 +14,10 @@ use settings::Settings;
 pub fn is_limit(number: u64) -> bool
     ensures { λ r. ⌜ r ≡ isLimit number ⌝ }
 {
-    (number == 1) | (number == 11) | (number == 12) | (number == 17)
+    (number == answers::SPENT)
+        | (number == answers::FULL)
+        | (number == answers::ROWS)
+        | (number == answers::PREEMPTED)
 }
 
 // Says which limit, which setting to raise, and whether the execution went round in a loop.
@@ -45,8 +49,8 @@ fn put_reached(
     ensures { λ r. ⌜ ended (now (page .exit)) r ≡ putReached (ended (now (page .entry)) at) number (settingsOf settings) thread row ⌝ }
 {
     match number {
-        1 => put_budget(page, at, settings.executions),
-        11 => page::fill(
+        answers::SPENT => put_budget(page, at, settings.executions),
+        answers::FULL => page::fill(
             page,
             at,
             b"answer 11: no verdict: an execution needs more branches than the limit, #, at thread #, row #\n",
@@ -54,7 +58,7 @@ fn put_reached(
             thread,
             row,
         ),
-        12 => page::fill(
+        answers::ROWS => page::fill(
             page,
             at,
             b"answer 12: no verdict: an execution needs more rows than the limit, #, at thread #, row #\n",
@@ -92,9 +96,9 @@ fn put_to_do(page: &mut Page, at: usize, number: u64, settings: Settings) -> usi
     ensures { λ r. ⌜ ended (now (page .exit)) r ≡ putToDo (ended (now (page .entry)) at) number (settingsOf settings) ⌝ }
 {
     match number {
-        1 => put_spent(page, at, settings.executions),
-        11 => put_raise(page, at, b"--branches", settings.branches, MAX_BRANCHES),
-        12 => put_raise(
+        answers::SPENT => put_spent(page, at, settings.executions),
+        answers::FULL => put_raise(page, at, b"--branches", settings.branches, MAX_BRANCHES),
+        answers::ROWS => put_raise(
             page,
             at,
             b"--operations",

@@ -6,6 +6,8 @@ ghost use lib.ListN.{length};
 ghost use Rattle.page.specs.Pages.{ended, putText};
 ghost use Rattle.steps.specs.Entries.{entryAt};
 ghost use Rattle.listing.specs.Steps.{rowOfStep, widthOf, rowsEnd, putHead, putNumbers, putSlots, putSlot, putOffers, putOffer, putStep, isShown, putBetween};
+use event::NO_SLOT;
+use layout::MAX_ATOMIC_HISTORY;
 use page::Page;
 use page::WIDTH;
 use steps::held::Held;
@@ -113,7 +115,7 @@ fn put_slot(page: &mut Page, at: usize, slot: u8, end: usize) -> usize
     requires { ⌜ end < 275 ⌝ }
     ensures { λ r. ⌜ ended (now (page .exit)) r ≡ putSlot (ended (now (page .entry)) at) end slot ⌝ }
 {
-    if slot == 255 {
+    if slot == NO_SLOT {
         let to = page::pad(page, at, end + 5);
         return page::put(page, to, b"-");
     }
@@ -128,7 +130,7 @@ fn put_offers(page: &mut Page, at: usize, mask: u8) -> usize
     let mut first = true;
     let mut rest = mask;
     let mut slot = 0;
-    while slot < 7 {
+    while slot < MAX_ATOMIC_HISTORY as u64 {
         if rest % 2 == 1 {
             to = put_offer(page, to, first, slot);
             first = false;

@@ -23,14 +23,14 @@ use Rattle.matches.specs.declared.Matched.{Matched}
 use Rattle.matches.specs.declared.Matched.the-variants as match
 use Rattle.rules.specs.Path as paths
 use Rattle.rules.specs.Path.{Branch, Added, threadAdded, loadAdded, spuriousAdded, openAt}
-use Rattle.rules.specs.Machine.{isExploring, initial, standing, everyThread}
+use Rattle.rules.specs.Machine.{exploringNow, initial, standing, everyThread}
 use Rattle.rules.specs.Explorer as explorer
 use Rattle.rules.specs.Explorer.{Walk, Tick, goes, seedOf, orFault, faults}
 use Rattle.layout.specs.Tables.{state}
 use Rattle.path.specs.Holds.{Holds}
 use Rattle.path.specs.Places.{recordsOf}
 use Rattle.path.specs.Pushes.{pushedOf, grown, Pushes, PushesThread}
-use Rattle.path.specs.declared.Pushed.{Pushed}
+use Rattle.path.specs.declared.Addition.{Addition}
 use Rattle.event.specs.declared.Fault.the-variants as fault
 use Rattle.event.specs.declared.Site.{Site}
 use Rattle.event.specs.declared.Question.{Question}
@@ -60,29 +60,29 @@ module _ (c : Cursor) (r : Ticked) (site : Site) (clocks : Clocks) (marks : Mark
           is-entries = s .is-entries ∙ sym (m .same-entries);
         }
 
-    answer-comes : (a : Added) (p : Pushed) → p ≡ pushedOf a → Holds exit (grown (w .ledger .path) a) → addedTo p site c r
+    answer-comes : (a : Added) (p : Addition) → p ≡ pushedOf a → Holds exit (grown (w .ledger .path) a) → addedTo p site c r
         → Comes (r .outcome) (r .cursor) (lent clocks marks values numbers exit trace) (branched (siteOf site) w (orFault a))
     answer-comes (paths.added b) p e h to =
-        let m = subst (λ (x : Pushed). addedTo x site c r) e to in
+        let m = subst (λ (x : Addition). addedTo x site c r) e to in
         comes-goes r _ _ _ (m .0) refl (more-stands b h (m .1))
     answer-comes paths.full p e h to =
-        let m = subst (λ (x : Pushed). addedTo x site c r) e to in
+        let m = subst (λ (x : Addition). addedTo x site c r) e to in
         comes-stops r _ w fault.Full site _ (m .is) refl (same-stands (m .stays) (refused-stands h))
     answer-comes paths.preempted p e h to =
-        let m = subst (λ (x : Pushed). addedTo x site c r) e to in
+        let m = subst (λ (x : Addition). addedTo x site c r) e to in
         comes-stops r _ w fault.Preempted site _ (m .is) refl (same-stands (m .stays) (refused-stands h))
 
   records : (L : explorer.Limits) → Holding L entry → recordsOf entry ≡ L .branches
   records L h = omega (arith, h .branches)
 
-  pub pushes-comes : {most : ℕ} {answer : ℕ → List Branch → Added} {p : Pushed} → Pushes entry exit (c .len) most answer p → addedTo p site c r
+  pub pushes-comes : {most : ℕ} {answer : ℕ → List Branch → Added} {p : Addition} → Pushes entry exit (c .len) most answer p → addedTo p site c r
       → (L : explorer.Limits) (w : Walk State) (values : Values) (trace : List ℕ) → Holding L entry → Stands (lent clocks marks values numbers entry trace) c w
       → Comes (r .outcome) (r .cursor) (lent clocks marks values numbers exit trace) (branched (siteOf site) w (orFault (answer (L .branches) (w .ledger .path))))
   pushes-comes {most} {answer} {p} h to L w values trace room s =
       subst (λ (B : ℕ). Comes (r .outcome) (r .cursor) (lent clocks marks values numbers exit trace) (branched (siteOf site) w (orFault (answer B (w .ledger .path))))) (records L room)
       (answer-comes w values trace s (answer (recordsOf entry) (w .ledger .path)) p (h .says (w .ledger .path) (s .holds) (s .is-len)) (h .holds (w .ledger .path) (s .holds) (s .is-len)) to)
 
-  pub pushes-thread-comes : {exploring : Bool} {seed : List ℕ} {p : Pushed} → 16 * c .len ≤ length entry → PushesThread entry exit (c .len) exploring seed p → addedTo p site c r
+  pub pushes-thread-comes : {exploring : Bool} {seed : List ℕ} {p : Addition} → 16 * c .len ≤ length entry → PushesThread entry exit (c .len) exploring seed p → addedTo p site c r
       → (L : explorer.Limits) (w : Walk State) (values : Values) (trace : List ℕ) → Holding L entry → Stands (lent clocks marks values numbers entry trace) c w
       → Comes (r .outcome) (r .cursor) (lent clocks marks values numbers exit trace) (branched (siteOf site) w (orFault (threadAdded (L .branches) (w .ledger .path) exploring seed)))
   pushes-thread-comes {exploring} {seed} {p} within h to L w values trace room s =
@@ -93,7 +93,7 @@ module _ (c : Cursor) (r : Ticked) (site : Site) (clocks : Clocks) (marks : Mark
 
 module _ (c : Cursor) (r : Ticked) (h : Here) (q : Question) (clocks : Clocks) (marks : MarkTable) (numbers : Numbers) (entry exit : List ℕ) where
   abbrev adds : Question → State → explorer.Limits → Walk State → Tick State
-  adds k st L w = branched (siteOf (h .site)) w (explorer.pushed (L .branches) (w .ledger .path) (isExploring (st .numbers)) (askedAt k h st))
+  adds k st L w = branched (siteOf (h .site)) w (explorer.pushed (L .branches) (w .ledger .path) (exploringNow (st .numbers)) (askedAt k h st))
 
   add-as : (k : Question) (w : Walk State) (values : Values) (L : explorer.Limits) → q ≡ k → w .state ≡ state clocks marks values numbers → adds k (state clocks marks values numbers) L w ≡ addedAt q h L w
   add-as k w values L e st = sym (ap (λ (x : Question). addedAt x h L w) e ∙ ap (λ (x : State). adds k x L w) st)
@@ -110,17 +110,17 @@ module _ (c : Cursor) (r : Ticked) (h : Here) (q : Question) (clocks : Clocks) (
               subst (λ (y : Tick State). Comes (r .outcome) (r .cursor) (lent clocks marks values numbers exit trace) y) (add-as k w values L e (s .is-state)) (f L w values trace room s);
         }
 
-    pub thread-reaches : {exploring : Bool} {seed : List ℕ} {p : Pushed} → q ≡ question.Thread → exploring ≡ isExploring numbers → seed ≡ seedOf (initial numbers) (map (standing numbers) everyThread)
+    pub thread-reaches : {exploring : Bool} {seed : List ℕ} {p : Addition} → q ≡ question.Thread → exploring ≡ exploringNow numbers → seed ≡ seedOf (initial numbers) (map (standing numbers) everyThread)
         → 16 * c .len ≤ length entry → PushesThread entry exit (c .len) exploring seed p → addedTo p (h .site) c r → Reaches c r clocks marks numbers entry exit (addedAt q h)
     unfolding explorer.pushed
     thread-reaches {exploring} {seed} {p} e x y within push to =
         added-reaches question.Thread e
         (λ L w values trace room s.
-        subst (λ (z : List ℕ). Comes (r .outcome) (r .cursor) (lent clocks marks values numbers exit trace) (branched (siteOf (h .site)) w (orFault (threadAdded (L .branches) (w .ledger .path) (isExploring numbers) z)))) y
+        subst (λ (z : List ℕ). Comes (r .outcome) (r .cursor) (lent clocks marks values numbers exit trace) (branched (siteOf (h .site)) w (orFault (threadAdded (L .branches) (w .ledger .path) (exploringNow numbers) z)))) y
         (subst (λ (b : Bool). Comes (r .outcome) (r .cursor) (lent clocks marks values numbers exit trace) (branched (siteOf (h .site)) w (orFault (threadAdded (L .branches) (w .ledger .path) b seed)))) x
         (pushes-thread-comes c r (h .site) clocks marks numbers entry exit within push to L w values trace room s)))
 
-    pub bit-reaches : {exploring : Bool} {p : Pushed} → q ≡ question.Bit → exploring ≡ isExploring numbers
+    pub bit-reaches : {exploring : Bool} {p : Addition} → q ≡ question.Bit → exploring ≡ exploringNow numbers
         → Pushes entry exit (c .len) 1 (λ B bs. spuriousAdded B bs exploring) p → addedTo p (h .site) c r → Reaches c r clocks marks numbers entry exit (addedAt q h)
     unfolding explorer.pushed
     bit-reaches {exploring} {p} e x push to =
@@ -250,17 +250,17 @@ read-back n seed dst rules.equal long few e = subst isSlots e tt
 
 module _ (c : Cursor) (r : Ticked) (h : Here) (clocks : Clocks) (marks : MarkTable) (numbers : Numbers) (entry exit : List ℕ) (dst seed : List ℕ) (m : Matched)
     (says : (values : Values) → scanned m seed ≡ offered (matchedFor (state clocks marks values numbers) (h .site .thread) (decodedOf (h .row))) dst) (met : Met c r exit) where
-  offers-comes : (exploring : Bool) → exploring ≡ isExploring numbers → (n : ℕ) → {p : Pushed} → Pushes entry exit (c .len) 6 (λ B bs. loadAdded B bs exploring (take n seed)) p → addedTo p (h .site) c r
+  offers-comes : (exploring : Bool) → exploring ≡ exploringNow numbers → (n : ℕ) → {p : Addition} → Pushes entry exit (c .len) 6 (λ B bs. loadAdded B bs exploring (take n seed)) p → addedTo p (h .site) c r
       → (L : explorer.Limits) (w : Walk State) (values : Values) (trace : List ℕ) → Holding L entry → Stands (lent clocks marks values numbers entry trace) c w
       → (offer : rules.Matched) → ReadBack n seed offer
-      → Comes (r .outcome) (r .cursor) (lent clocks marks values numbers exit trace) (branched (siteOf (h .site)) w (explorer.loadPushed (L .branches) (w .ledger .path) (isExploring numbers) offer))
+      → Comes (r .outcome) (r .cursor) (lent clocks marks values numbers exit trace) (branched (siteOf (h .site)) w (explorer.loadPushed (L .branches) (w .ledger .path) (exploringNow numbers) offer))
   offers-comes exploring x n push to L w values trace room s (rules.offers os) back =
-      subst (λ (z : List ℕ). Comes (r .outcome) (r .cursor) (lent clocks marks values numbers exit trace) (branched (siteOf (h .site)) w (orFault (loadAdded (L .branches) (w .ledger .path) (isExploring numbers) z)))) back
+      subst (λ (z : List ℕ). Comes (r .outcome) (r .cursor) (lent clocks marks values numbers exit trace) (branched (siteOf (h .site)) w (orFault (loadAdded (L .branches) (w .ledger .path) (exploringNow numbers) z)))) back
       (subst (λ (b : Bool). Comes (r .outcome) (r .cursor) (lent clocks marks values numbers exit trace) (branched (siteOf (h .site)) w (orFault (loadAdded (L .branches) (w .ledger .path) b (take n seed))))) x
       (pushes-comes c r (h .site) clocks marks numbers entry exit push to L w values trace room s))
   offers-comes exploring x n push to L w values trace room s rules.equal back = absurd back
 
-  pub offers-reaches : {n : ℕ} (exploring : Bool) {p : Pushed} → m ≡ match.Offers n → exploring ≡ isExploring numbers → length dst ≡ 7 → Pushes entry exit (c .len) 6 (λ B bs. loadAdded B bs exploring (take n seed)) p → addedTo p (h .site) c r
+  pub offers-reaches : {n : ℕ} (exploring : Bool) {p : Addition} → m ≡ match.Offers n → exploring ≡ exploringNow numbers → length dst ≡ 7 → Pushes entry exit (c .len) 6 (λ B bs. loadAdded B bs exploring (take n seed)) p → addedTo p (h .site) c r
       → Reaches c r clocks marks numbers entry exit (addedAt question.Slot h)
   unfolding explorer.pushed
   offers-reaches {n} exploring {p} e x long push to =
@@ -283,5 +283,5 @@ module _ (c : Cursor) (r : Ticked) (h : Here) (clocks : Clocks) (marks : MarkTab
       (λ L w values trace room s.
       let offer : rules.Matched = matchedFor (state clocks marks values numbers) (h .site .thread) (decodedOf (h .row)) in
       comes-stops r _ w fault.Equal (h .site) _ (stop .is)
-      (ap (branched (siteOf (h .site)) w) (equal-out c r h clocks marks numbers entry entry dst seed m says met offer (sym (ap (λ (y : Matched). scanned y seed) e) ∙ says values) (L .branches) (w .ledger .path) (isExploring numbers)))
+      (ap (branched (siteOf (h .site)) w) (equal-out c r h clocks marks numbers entry entry dst seed m says met offer (sym (ap (λ (y : Matched). scanned y seed) e) ∙ says values) (L .branches) (w .ledger .path) (exploringNow numbers)))
       (same-stands (stop .stays) s))

@@ -16,7 +16,7 @@ use Rattle.rules.specs.Explorer as explorer
 use Rattle.rules.specs.Explorer.{Walk, Tick, goes, over, faulted}
 use types.Run.{OneOf, miss}
 use denote.Enum.Declared.{tagOf}
-use Rattle.event.proofs.Event.{the-type as happened}
+use Rattle.event.proofs.Moved.{the-type as happened}
 use Rattle.trace.specs.Entries.{Notes, Front, Appended}
 use Rattle.trace.proofs.FrontLaws.{front-more}
 use Rattle.trace.proofs.TraceLaws.{length-entryBytes}
@@ -26,8 +26,8 @@ use Rattle.decode.specs.declared.Op.{Op}
 use Rattle.decode.specs.declared.Decoded.{Decoded}
 use Rattle.decode.specs.declared.Decoded.the-variants as decode
 use Rattle.event.specs.Moves.{faultOf}
-use Rattle.event.specs.declared.Event.{Event}
-use Rattle.event.specs.declared.Event.the-variants as event
+use Rattle.event.specs.declared.Moved.{Moved}
+use Rattle.event.specs.declared.Moved.the-variants as event
 use Rattle.event.specs.declared.Fault.{Fault}
 use Rattle.event.specs.declared.Fault.the-variants as fault
 use Rattle.event.specs.declared.Site.{Site}
@@ -215,7 +215,7 @@ module _ (c : Cursor) (r : Ticked) (h : Here) (opcode slot mask v : ℕ) (is : o
 -- What an event comes to that asks nothing more
 
 module _ (h : Here) where
-  abbrev concluded : Event → Program → explorer.Limits → Walk State → Tick State
+  abbrev concluded : Moved → Program → explorer.Limits → Walk State → Tick State
   concluded e = concludedAt e h
 
   asked-again : (q : Question) (yielded : Bool) (p : Program) (L : explorer.Limits) (w : Walk State) → concluded (event.Asks q yielded) p L w ≡ faulted rules.impossible (siteOf (h .site)) w
@@ -224,16 +224,16 @@ module _ (h : Here) where
   asked-again question.Slot yielded p L w = refl
   asked-again question.Bit yielded p L w = refl
 
-  asked-by : (e : Event) → OneOf (2 ∷ []) (tagOf happened e) → (p : Program) (L : explorer.Limits) (w : Walk State) → concluded e p L w ≡ faulted rules.impossible (siteOf (h .site)) w
+  asked-by : (e : Moved) → OneOf (2 ∷ []) (tagOf happened e) → (p : Program) (L : explorer.Limits) (w : Walk State) → concluded e p L w ≡ faulted rules.impossible (siteOf (h .site)) w
   asked-by event.Moves k p L w = absurd (miss (2 ∷ []) 0 tt k)
   asked-by (event.Done slot mask v) k p L w = absurd (miss (2 ∷ []) 1 tt k)
   asked-by (event.Asks q yielded) k p L w = asked-again q yielded p L w
   asked-by event.Ends k p L w = absurd (miss (2 ∷ []) 3 tt k)
   asked-by (event.Stops f) k p L w = absurd (miss (2 ∷ []) 4 tt k)
 
-  module _ (c : Cursor) (r : Ticked) (e : Event) where
-    done-lands : (f : Event) {entry exit : List ℕ} → e ≡ f → Lands c r entry exit (concluded f) → Lands c r entry exit (concluded e)
-    done-lands f {entry} {exit} is l = subst (λ (y : Event). Lands c r entry exit (concluded y)) (sym is) l
+  module _ (c : Cursor) (r : Ticked) (e : Moved) where
+    done-lands : (f : Moved) {entry exit : List ℕ} → e ≡ f → Lands c r entry exit (concluded f) → Lands c r entry exit (concluded e)
+    done-lands f {entry} {exit} is l = subst (λ (y : Moved). Lands c r entry exit (concluded y)) (sym is) l
 
     pub conclude-done : {entry exit : List ℕ} {slot mask v : ℕ} → e ≡ event.Done slot mask v → Lands c r entry exit (notedAt h slot mask v) → Lands c r entry exit (concluded e)
     conclude-done {entry} {exit} {slot} {mask} {v} is l = done-lands (event.Done slot mask v) is (lands-as (concluded (event.Done slot mask v)) (λ p L w. refl) l)

@@ -19,26 +19,26 @@ use Rattle.path.specs.Bounds.{boundOf}
 use Rattle.path.specs.Walks.{Backtracks}
 use Rattle.path.specs.declared.Bound.{Bound}
 use Rattle.path.proofs.WalkLaws.{length-backtracked}
-use Rattle.scheduling.specs.Schedules.{placeOf}
-use Rattle.scheduling.specs.declared.Place.{Place}
-use Rattle.scheduling.specs.declared.Place.the-variants as place
+use Rattle.scheduling.specs.Schedules.{pointOf}
+use Rattle.scheduling.specs.declared.Point.{Point}
+use Rattle.scheduling.specs.declared.Point.the-variants as place
 use Rattle.event.proofs.Question.{the-type as asked}
 use Rattle.event.specs.declared.Question.{Question}
 use Rattle.event.specs.declared.Question.the-variants as question
 use Rattle.meeting.specs.Stands.{lent, Stands}
-use Rattle.meeting.specs.Branches.{askedAt, MarkedBy, MarksThread, markedBelow, MarksBelow, MarksThreads, Marks}
+use Rattle.meeting.specs.Branches.{askedAt, MarkedBy, MarksThread, markedBelow, MarksBelow, MarksThreads, CursorMarks}
 use Rattle.meeting.specs.declared.Cursor.{Cursor}
 use Rattle.meeting.specs.declared.Here.{Here}
 
 module _ (clocks : Clocks) (numbers : Numbers) (bound : Bound) where
-  module _ (t : ℕ) (p : Place) (says : (marks : MarkTable) (values : Values) → placeOf p ≡ conflict (state clocks marks values numbers) t) where
+  module _ (t : ℕ) (p : Point) (says : (marks : MarkTable) (values : Values) → pointOf p ≡ conflict (state clocks marks values numbers) t) where
     pub thread-nowhere : p ≡ place.Nowhere → (path : List ℕ) → MarksThread clocks numbers path path bound t 0
     thread-nowhere e path =
         record {
           few = omega arith;
           keeps = refl;
           marks = λ l marks values h.
-              subst (λ (x : rules.Place). MarkedBy path l (backtrackFrom (boundOf bound) l x t) 0) (sym (ap placeOf e) ∙ says marks values)
+              subst (λ (x : rules.Point). MarkedBy path l (backtrackFrom (boundOf bound) l x t) 0) (sym (ap pointOf e) ∙ says marks values)
               (record { holds = h; same = refl; opens = omega arith });
         }
 
@@ -48,8 +48,8 @@ module _ (clocks : Clocks) (numbers : Numbers) (bound : Bound) where
           few = b .few;
           keeps = b .keeps;
           marks = λ l marks values h.
-              let there : rules.branch point ≡ conflict (state clocks marks values numbers) t = ap rules.branch same ∙ sym (ap placeOf e) ∙ says marks values in
-              subst (λ (x : rules.Place). MarkedBy exit l (backtrackFrom (boundOf bound) l x t) r) there
+              let there : rules.branch point ≡ conflict (state clocks marks values numbers) t = ap rules.branch same ∙ sym (ap pointOf e) ∙ says marks values in
+              subst (λ (x : rules.Point). MarkedBy exit l (backtrackFrom (boundOf bound) l x t) r) there
               (record {
                 holds = b .marks (l .path) h .holds;
                 same = length-backtracked (boundOf bound) (l .path) point t;
@@ -112,9 +112,9 @@ module _ (c d : Cursor) (clocks : Clocks) (numbers : Numbers) (bound : Bound) (q
   other-stands question.Slot e path w marks values trace h s = s
   other-stands question.Bit e path w marks values trace h s = s
 
-  pub mark-other : OneOf (1 ∷ 2 ∷ []) (tagOf asked q) → d ≡ c → (path : List ℕ) → Marks c d clocks numbers path path bound q
+  pub mark-other : OneOf (1 ∷ 2 ∷ []) (tagOf asked q) → d ≡ c → (path : List ℕ) → CursorMarks c d clocks numbers path path bound q
   mark-other e same path =
-      subst (λ (x : Cursor). Marks c x clocks numbers path path bound q) (sym same)
+      subst (λ (x : Cursor). CursorMarks c x clocks numbers path path bound q) (sym same)
       (record {
         marked = record { same-len = refl; same-pos = refl; same-entries = refl; few = omega arith };
         stands = other-stands q e path;
@@ -137,9 +137,9 @@ module _ (c d : Cursor) (clocks : Clocks) (numbers : Numbers) (bound : Bound) (q
           is-entries = s .is-entries ∙ sym (more .same-entries);
         }
 
-    pub mark-all : q ≡ question.Thread → Marks c d clocks numbers entry exit bound q
+    pub mark-all : q ≡ question.Thread → CursorMarks c d clocks numbers entry exit bound q
     mark-all e =
-        subst (λ (k : Question). Marks c d clocks numbers entry exit bound k) (sym e)
+        subst (λ (k : Question). CursorMarks c d clocks numbers entry exit bound k) (sym e)
         (record {
           marked = record { same-len = more .same-len; same-pos = more .same-pos; same-entries = more .same-entries; few = omega (arith, more .more, m .few) };
           stands = threads-stand;

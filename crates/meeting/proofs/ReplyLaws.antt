@@ -26,7 +26,7 @@ use Rattle.path.specs.declared.Chosen.{Chosen}
 use Rattle.path.specs.declared.Chosen.the-variants as chosen
 use Rattle.path.specs.declared.Spurious.{Spurious}
 use Rattle.path.specs.declared.Spurious.the-variants as said
-use Rattle.event.specs.declared.Choice.the-variants as choice
+use Rattle.event.specs.declared.Picked.the-variants as choice
 use Rattle.event.specs.declared.Question.{Question}
 use Rattle.event.specs.declared.Question.the-variants as question
 use Rattle.meeting.specs.Branches.{questionOf, replyWithin, AnswersBy, RepliesBy}
@@ -44,7 +44,7 @@ whom-said : (pos : ℕ) (w : Whom) → ThreadSaid pos (chosenIn w) (says (rules.
 whom-said pos nobody = refl
 whom-said pos (thread t) = refl
 
-thread-said : (pos : ℕ) (b : Branch) (points : List rules.Place) (i : Whom) (s : List rules.Standing) → ThreadSaid pos (chosenOf (paths.theSchedule pos b)) (explorer.reply pos b (rules.whichThread points i s))
+thread-said : (pos : ℕ) (b : Branch) (points : List rules.Point) (i : Whom) (s : List rules.Standing) → ThreadSaid pos (chosenOf (paths.theSchedule pos b)) (explorer.reply pos b (rules.whichThread points i s))
 unfolding explorer.reply
 thread-said pos (paths.schedule x) points i s = whom-said pos (paths.activeIn (x .states))
 thread-said pos (paths.load l) points i s = refl

@@ -1,6 +1,6 @@
 -- Marks, a branch that is added, and what a branch answers, by the definition, and what their functions promise. Assumes nothing.
 --     questionOf, askedAt                                   what is asked, of a thread at its row
---     Marked, MarkedBy, MarksThread, MarksThreads, Marks    rule (a)
+--     CursorMarked, MarkedBy, MarksThread, MarksThreads, CursorMarks    rule (a)
 --     pushedFew, OneMore, addedTo                           a branch that was added, and how it is counted
 --     branched, reached                                     the definition's: a branch added, the path met
 --     Met, Holding, Reaches, addedAt, reachedAt             a branch is added where there is none
@@ -15,7 +15,7 @@ use Rattle.rules.specs.Event as rules
 use Rattle.rules.specs.Vector.{nobody, thread}
 use Rattle.rules.specs.State.{State, Clocks, Marks as MarkTable, Values, Numbers}
 use Rattle.rules.specs.Table.{Op, Decoded}
-use Rattle.rules.specs.Machine.{conflict, everyThread, initial, standing, isExploring, maskOf}
+use Rattle.rules.specs.Machine.{conflict, everyThread, initial, standing, exploringNow, maskOf}
 use Rattle.rules.specs.Path.{Branch, noBranch, positions}
 use Rattle.rules.specs.Explorer as explorer
 use Rattle.rules.specs.Explorer.{Walk, Ledger, Tick, goes, faulted, pushes, faults, says, unexpected}
@@ -24,11 +24,11 @@ use Rattle.decode.specs.Ops.{decodedOf}
 use Rattle.path.specs.Holds.{Holds}
 use Rattle.path.specs.Bounds.{boundOf}
 use Rattle.path.specs.declared.Bound.{Bound}
-use Rattle.path.specs.declared.Pushed.{Pushed}
-use Rattle.path.specs.declared.Pushed.the-variants as pushed
+use Rattle.path.specs.declared.Addition.{Addition}
+use Rattle.path.specs.declared.Addition.the-variants as pushed
 use Rattle.event.specs.Moves.{matchedFor}
-use Rattle.event.specs.declared.Choice.{Choice}
-use Rattle.event.specs.declared.Choice.the-variants as choice
+use Rattle.event.specs.declared.Picked.{Picked}
+use Rattle.event.specs.declared.Picked.the-variants as choice
 use Rattle.event.specs.declared.Fault.the-variants as fault
 use Rattle.event.specs.declared.Question.{Question}
 use Rattle.event.specs.declared.Question.the-variants as question
@@ -43,7 +43,7 @@ use Rattle.meeting.specs.declared.Reply.the-variants as reply
 use Rattle.meeting.specs.declared.Ticked.{Ticked}
 
 -- rule (a): at most ten choices are opened for each of five threads
-pub record Marked (c d : Cursor) : Type 0 where
+pub record CursorMarked (c d : Cursor) : Type 0 where
   pub same-len : d .len ≡ c .len
   pub same-pos : d .pos ≡ c .pos
   pub same-entries : d .entries ≡ c .entries
@@ -89,15 +89,15 @@ pub record MarksThreads (clocks : Clocks) (numbers : Numbers) (entry exit : List
       → MarkedBy exit l (explorer.allMarked (boundOf bound) l (map (conflict (state clocks marks values numbers)) everyThread) 0) r
 
 -- before a question meets the path
-pub record Marks (c d : Cursor) (clocks : Clocks) (numbers : Numbers) (entry exit : List ℕ) (bound : Bound) (q : Question) : Type 0 where
-  pub marked : Marked c d
+pub record CursorMarks (c d : Cursor) (clocks : Clocks) (numbers : Numbers) (entry exit : List ℕ) (bound : Bound) (q : Question) : Type 0 where
+  pub marked : CursorMarked c d
   pub stands :
       (w : Walk State) (marks : MarkTable) (values : Values) (trace : List ℕ) (h : Here)
       → Stands (lent clocks marks values numbers entry trace) c w
       → Stands (lent clocks marks values numbers exit trace) d
       (explorer.withLedger w (explorer.firstMarked (boundOf bound) (w .ledger) (askedAt q h (w .state))))
 
-abbrev pub pushedFew : Pushed → Type 0
+abbrev pub pushedFew : Addition → Type 0
 pushedFew (pushed.Added n) = n ≤ 6
 pushedFew pushed.Full = Unit
 pushedFew pushed.Preempted = Unit
@@ -109,7 +109,7 @@ pub record OneMore (c : Cursor) (n : ℕ) (d : Cursor) : Type 0 where
   pub more-opened : d .opened ≡ c .opened + n
   pub same-entries : d .entries ≡ c .entries
 
-abbrev pub addedTo : Pushed → Site → Cursor → Ticked → Type 0
+abbrev pub addedTo : Addition → Site → Cursor → Ticked → Type 0
 addedTo (pushed.Added n) s c r = (r .outcome ≡ outcome.Goes) × OneMore c n (r .cursor)
 addedTo pushed.Full s c r = Stopped fault.Full s c r
 addedTo pushed.Preempted s c r = Stopped fault.Preempted s c r
@@ -148,30 +148,30 @@ reached L site w exploring q =
     (goes w)
 
 abbrev pub pushedAt : explorer.Limits → Walk State → rules.Question → explorer.Pushed
-pushedAt L w q = explorer.pushed (L .branches) (w .ledger .path) (isExploring (w .state .numbers)) q
+pushedAt L w q = explorer.pushed (L .branches) (w .ledger .path) (exploringNow (w .state .numbers)) q
 
 abbrev pub addedAt : Question → Here → explorer.Limits → Walk State → Tick State
 addedAt q h L w = branched (siteOf (h .site)) w (pushedAt L w (askedAt q h (w .state)))
 
 abbrev pub reachedAt : Question → Here → explorer.Limits → Walk State → Tick State
-reachedAt q h L w = reached L (siteOf (h .site)) w (isExploring (w .state .numbers)) (askedAt q h (w .state))
+reachedAt q h L w = reached L (siteOf (h .site)) w (exploringNow (w .state .numbers)) (askedAt q h (w .state))
 
 abbrev pub replyWithin : Reply → Type 0
 replyWithin (reply.Says choice) = choiceWithin choice
 replyWithin reply.Unexpected = Unit
 
 -- the slot, and the mask of all that were offered
-pub record FitsSlot (slot mask : ℕ) (a : rules.Answer) : Type 0 where
+pub record FitsSlot (slot mask : ℕ) (a : rules.Pick) : Type 0 where
   pub values : List ℕ
   pub is : a ≡ rules.readSlot slot values
   pub masked : mask ≡ maskOf 0 values
 
-pub record FitsNobody (a : rules.Answer) : Type 0 where
+pub record FitsNobody (a : rules.Pick) : Type 0 where
   pub at : ℕ
   pub is : a ≡ rules.runThread nobody at
 
 -- a choice is the definition's answer
-abbrev pub Fits : Choice → rules.Answer → Type 0
+abbrev pub Fits : Picked → rules.Pick → Type 0
 Fits (choice.Thread chosen branch) a = a ≡ rules.runThread (thread chosen) branch
 Fits choice.Nobody a = FitsNobody a
 Fits (choice.Slot slot mask) a = FitsSlot slot mask a

@@ -17,7 +17,7 @@ use Rattle.rules.specs.Explorer as explorer
 use Rattle.rules.specs.Explorer.{Walk, Tick, goes, faulted}
 use Rattle.decode.specs.Ops.{decodedOf}
 use Rattle.event.specs.Moves.{entryIf, moveOf, matchedFor}
-use Rattle.event.specs.declared.Event.{Event}
+use Rattle.event.specs.declared.Moved.{Moved}
 use Rattle.meeting.specs.Stands.{Lent, lent, Stands, Comes, siteOf}
 use Rattle.meeting.specs.declared.Cursor.{Cursor}
 use Rattle.meeting.specs.declared.Here.{Here}
@@ -59,7 +59,7 @@ abbrev pub completedBy : Bool → Here → List rules.Entry
 completedBy yielded h = entryIf yielded (h .site .thread) (h .site .row) (opcodeAt h)
 
 -- an event, with the state that it leaves
-abbrev pub moveAt : Event → Here → State → rules.Move State
+abbrev pub moveAt : Moved → Here → State → rules.Move State
 moveAt e h st =
     moveOf e (h .site .thread) (h .site .row) (opcodeAt h) (matchedFor st (h .site .thread) (decodedOf (h .row))) st
 
@@ -75,5 +75,5 @@ notedAt h slot mask v p L w = landed L (siteOf (h .site)) w (entryAt h slot mask
 abbrev pub completedAt : Bool → Here → Program → explorer.Limits → Walk State → Tick State
 completedAt yielded h p L w = landed L (siteOf (h .site)) w (completedBy yielded h)
 
-abbrev pub concludedAt : Event → Here → Program → explorer.Limits → Walk State → Tick State
+abbrev pub concludedAt : Moved → Here → Program → explorer.Limits → Walk State → Tick State
 concludedAt e h p L w = explorer.followed (machine p) L (siteOf (h .site)) w (moveAt e h (w .state))

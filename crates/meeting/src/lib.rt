@@ -4,16 +4,17 @@ ghost use mathlib.Core.Path.{_≡_};
 ghost use Prim.Native.Nat.{_<_, _≤_, _+_, _*_, _^_};
 ghost use lib.ListN.{length};
 ghost use Rattle.rules.specs.Table.{opcodeIn};
-ghost use Rattle.rules.specs.Machine.{isExploring};
+ghost use Rattle.rules.specs.Machine.{exploringNow};
 ghost use Rattle.decode.specs.Ops.{decodedOf};
 ghost use Rattle.meeting.specs.Stands.{HereWithin, GoesOn, Stopped};
-ghost use Rattle.meeting.specs.Branches.{Marks, MarksThreads, Reaches, addedAt, reachedAt, pushedFew, addedTo, RepliesBy};
+ghost use Rattle.meeting.specs.Branches.{CursorMarks, MarksThreads, Reaches, addedAt, reachedAt, pushedFew, addedTo, RepliesBy};
 ghost use Rattle.meeting.specs.Entries.{Lands, notedAt, completedAt, concludedAt};
 use decode::Decoded;
-use event::Choice;
-use event::Event;
+use decode::opcodes::NO_OPCODE;
 use event::Fault;
+use event::Moved;
 use event::NO_SLOT;
+use event::Picked;
 use event::Question;
 use event::Site;
 use layout::Clocks;
@@ -24,12 +25,12 @@ use layout::Numbers;
 use layout::of_run::EXPLORING;
 use layout::wide16;
 use matches::Matched;
+use path::Addition;
 use path::Bound;
 use path::Chosen;
-use path::Pushed;
 use path::Spurious;
 use record::Offered;
-use scheduling::Place;
+use scheduling::Point;
 use trace::Entry;
 
 // Where an execution stands: records in the path, those that it has passed, choices opened in the whole history, entries in
@@ -61,7 +62,7 @@ pub struct Ticked {
 
 // The path's answer to a question: what the branch chooses, or that it is none of the question's kind.
 pub enum Reply {
-    Says(Choice),
+    Says(Picked),
     Unexpected,
 }
 
@@ -76,7 +77,7 @@ pub fn mark(
     mut cursor: Cursor,
 ) -> Cursor
     requires { ⌜ cursor .opened + 50 < 2 ^ 64 ⌝ }
-    ensures { λ r. ⌜ Marks cursor r (now (clocks .entry)) (now (numbers .entry)) (now (path .entry)) (now (path .exit)) bound question ⌝ }
+    ensures { λ r. ⌜ CursorMarks cursor r (now (clocks .entry)) (now (numbers .entry)) (now (path .entry)) (now (path .exit)) bound question ⌝ }
 {
     let Question::Thread = question else {
         return cursor;
@@ -93,7 +94,7 @@ fn mark_threads(clocks: &Clocks, numbers: &Numbers, path: &mut [u8], bound: Boun
     let mut opened = 0;
     let mut t = 0;
     while t < MAX_THREADS {
-        if let Place::Branch(point) = scheduling::conflict(clocks, numbers, t) {
+        if let Point::Branch(point) = scheduling::conflict(clocks, numbers, t) {
             opened += path::backtrack(path, wide16(point), t, bound);
         }
         t += 1;
@@ -159,7 +160,7 @@ fn add_load(
     exploring: bool,
     cursor: Cursor,
 ) -> Ticked
-    requires { ⌜ HereWithin here × (cursor .pos ≤ cursor .len) × (16 * cursor .len ≤ length (now path)) × (cursor .opened + 6 < 2 ^ 64) × (exploring ≡ isExploring (now numbers)) ⌝ }
+    requires { ⌜ HereWithin here × (cursor .pos ≤ cursor .len) × (16 * cursor .len ≤ length (now path)) × (cursor .opened + 6 < 2 ^ 64) × (exploring ≡ exploringNow (now numbers)) ⌝ }
     ensures { λ r. ⌜ Reaches cursor r (now (clocks .entry)) (now (marks .entry)) (now (numbers .entry)) (now (path .entry)) (now (path .exit)) (addedAt Question.Slot here) ⌝ }
 {
     let site = here.site;
@@ -174,18 +175,18 @@ fn add_load(
 }
 
 // A branch that was added is counted, with what it opened; one that was not is a fault.
-fn added(pushed: Pushed, site: Site, mut cursor: Cursor) -> Ticked
+fn added(pushed: Addition, site: Site, mut cursor: Cursor) -> Ticked
     requires { ⌜ pushedFew pushed × (cursor .len + 1 < 2 ^ 64) × (cursor .opened + 6 < 2 ^ 64) ⌝ }
     ensures { λ r. ⌜ addedTo pushed site cursor r ⌝ }
 {
     match pushed {
-        Pushed::Added(opened) => {
+        Addition::Added(opened) => {
             cursor.len = cursor.len + 1;
             cursor.opened = cursor.opened + opened;
             goes(cursor)
         }
-        Pushed::Full => stops(Fault::Full, site, cursor),
-        Pushed::Preempted => stops(Fault::Preempted, site, cursor),
+        Addition::Full => stops(Fault::Full, site, cursor),
+        Addition::Preempted => stops(Fault::Preempted, site, cursor),
     }
 }
 
@@ -195,39 +196,39 @@ pub fn answer(path: &[u8], pos: usize, question: Question) -> Reply
 {
     match question {
         Question::Thread => match path::branch_thread(path, pos) {
-            Chosen::Thread(chosen) => Reply::Says(Choice::Thread {
+            Chosen::Thread(chosen) => Reply::Says(Picked::Thread {
                 chosen,
                 branch: (pos % 65536) as u16,
             }),
-            Chosen::Nobody => Reply::Says(Choice::Nobody),
+            Chosen::Nobody => Reply::Says(Picked::Nobody),
             Chosen::Unexpected => Reply::Unexpected,
         },
         Question::Slot => match path::branch_load(path, pos) {
-            Offered::Slot { slot, mask } => Reply::Says(Choice::Slot { slot, mask }),
+            Offered::Slot { slot, mask } => Reply::Says(Picked::Slot { slot, mask }),
             Offered::Unexpected => Reply::Unexpected,
         },
         Question::Bit => match path::branch_spurious(path, pos) {
-            Spurious::Bit(bit) => Reply::Says(Choice::Bit(bit)),
+            Spurious::Bit(bit) => Reply::Says(Picked::Bit(bit)),
             Spurious::Unexpected => Reply::Unexpected,
         },
     }
 }
 
 // What a tick comes to that asks nothing more.
-pub fn conclude(trace: &mut [u8], here: Here, event: Event, cursor: Cursor) -> Ticked
+pub fn conclude(trace: &mut [u8], here: Here, event: Moved, cursor: Cursor) -> Ticked
     requires { ⌜ 16 * cursor .entries ≤ length (now trace) ⌝ }
     ensures { λ r. ⌜ Lands cursor r (now (trace .entry)) (now (trace .exit)) (concludedAt event here) ⌝ }
 {
     let site = here.site;
     match event {
-        Event::Moves => goes(cursor),
-        Event::Done { slot, mask, value } => note(trace, here, slot, mask, value, cursor),
-        Event::Asks { .. } => stops(Fault::Impossible, site, cursor),
-        Event::Ends => Ticked {
+        Moved::Moves => goes(cursor),
+        Moved::Done { slot, mask, value } => note(trace, here, slot, mask, value, cursor),
+        Moved::Asks { .. } => stops(Fault::Impossible, site, cursor),
+        Moved::Ends => Ticked {
             outcome: Outcome::Ends,
             cursor,
         },
-        Event::Stops(fault) => stops(fault, site, cursor),
+        Moved::Stops(fault) => stops(fault, site, cursor),
     }
 }
 
@@ -270,7 +271,7 @@ fn opcode_in(row: Decoded) -> u8
 {
     match row {
         Decoded::Row(op) => table::opcode(op),
-        Decoded::Refused => 255,
+        Decoded::Refused => NO_OPCODE,
     }
 }
 

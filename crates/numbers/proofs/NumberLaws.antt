@@ -7,7 +7,7 @@ use mathlib.Core.Path.{_≡_, refl, sym, ap, _∙_}
 use native.Mathlib.Omega.{arith}
 use lib.ListN.{length, getD}
 use lib.Seq.{ext-getD}
-use Rattle.report.specs.Answers.{reportOf, summaryOf, summariesOf, numberOf, kindOf, otherOf, threadOf, rowOf}
+use Rattle.report.specs.Answers.{reportOf, summaryOf, summariesOf, numberOf, kindOf, otherOf, threadAtFault, rowAtFault}
 use Rattle.report.specs.declared.ThreadRecord.{ThreadRecord}
 use Rattle.report.specs.declared.Report.{Report}
 use Rattle.numbers.specs.Numbers.{fourOf, summaryNumbers, numbersOf}
@@ -65,7 +65,7 @@ unfolding spread
 twenty-spread t = refl
 
 module _ (r : Report) (answer thread row kind other : ℕ) (t : List ℕ) where
-  pub numbers-made : answer ≡ numberOf (r .answer) → thread ≡ threadOf (r .answer) → row ≡ rowOf (r .answer) → kind ≡ kindOf (r .answer) → other ≡ otherOf (r .answer)
+  pub numbers-made : answer ≡ numberOf (r .answer) → thread ≡ threadAtFault (r .answer) → row ≡ rowAtFault (r .answer) → kind ≡ kindOf (r .answer) → other ≡ otherOf (r .answer)
       → (t ≡ summaryNumbers (summariesOf (r .threads))) × (length t ≡ 20)
       → answer ∷ r .begun ∷ r .opened ∷ r .«open» ∷ r .rows ∷ thread ∷ row ∷ kind ∷ other
       ∷ getD t 0 0 ∷ getD t 1 0 ∷ getD t 2 0 ∷ getD t 3 0 ∷ getD t 4 0 ∷ getD t 5 0 ∷ getD t 6 0 ∷ getD t 7 0 ∷ getD t 8 0 ∷ getD t 9 0
@@ -73,5 +73,5 @@ module _ (r : Report) (answer thread row kind other : ℕ) (t : List ℕ) where
       ≡ numbersOf (reportOf r)
   numbers-made f p q g h l =
       rw (f, p, q, g, h)
-      (ap (λ (xs : List ℕ). numberOf (r .answer) ∷ r .begun ∷ r .opened ∷ r .«open» ∷ r .rows ∷ threadOf (r .answer) ∷ rowOf (r .answer) ∷ kindOf (r .answer) ∷ otherOf (r .answer) ∷ xs)
+      (ap (λ (xs : List ℕ). numberOf (r .answer) ∷ r .begun ∷ r .opened ∷ r .«open» ∷ r .rows ∷ threadAtFault (r .answer) ∷ rowAtFault (r .answer) ∷ kindOf (r .answer) ∷ otherOf (r .answer) ∷ xs)
       (sym (twenty-spread t) ∙ all-spread 20 t (l .1) ∙ l .0))

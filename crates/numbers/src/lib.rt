@@ -7,13 +7,15 @@ use layout::MAX_THREADS;
 use report::Report;
 use report::ThreadRecord;
 
-// How many numbers a thread's summary has, and a report: nine, and those of the five threads.
-const SUMMARY: usize = 4;
+// How many numbers a thread's summary has, a report before the summaries, and with those of the five threads.
+pub const SUMMARY: usize = 4;
 
-pub const NUMBERS: usize = 9 + MAX_THREADS * SUMMARY;
+pub const BEFORE_SUMMARIES: usize = 9;
+
+pub const REPORT_NUMBERS: usize = BEFORE_SUMMARIES + MAX_THREADS * SUMMARY;
 
 // The report as numbers: the answer, the counts, the place, the race, and each thread's summary.
-pub fn of_report(done: Report) -> [u64; NUMBERS]
+pub fn of_report(done: Report) -> [u64; REPORT_NUMBERS]
     ensures { λ r. ⌜ r ≡ numbersOf (reportOf done) ⌝ }
 {
     let answer = done.answer;
@@ -25,8 +27,8 @@ pub fn of_report(done: Report) -> [u64; NUMBERS]
         done.opened,
         done.open,
         done.rows,
-        report::thread_of(answer),
-        report::row_of(answer),
+        report::thread_at_fault(answer),
+        report::row_at_fault(answer),
         report::race_kind(answer),
         report::other_thread(answer),
         t[0],

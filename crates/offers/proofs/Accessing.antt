@@ -14,7 +14,7 @@ use Rattle.rules.specs.Change.{Change, Changed, success, failure, applied}
 use Rattle.rules.specs.Seen.{unseen}
 use Rattle.rules.specs.State.{State, number, vector, vectorAt, value, ofStore, storeAt, threads, count, causality, sync, stored, unsyncLoaded, mutated, readAccess, writeAccess}
 use Rattle.rules.specs.Cell
-use Rattle.rules.specs.Cell.{Access, raced, read, Race, noRace, raceOf, unlessRace, slotOf, withClocks, byChange}
+use Rattle.rules.specs.Cell.{AccessResult, raced, read, Race, noRace, raceOf, unlessRace, slotOf, withClocks, byChange}
 use Rattle.rules.specs.Plain
 use Rattle.offers.specs.Seen.{Sees}
 use Rattle.offers.proofs.Growing.{high, grows-trans, load-sync-grows, recorded-grows}
@@ -47,19 +47,19 @@ sees-steps t n m {a} {b} c i h few q e = go (q .does)
 
 -- what an access of thread t leaves, from a state; what it reads is in this slot
 module _ (t n : ℕ) (below : t < threads) (st : State) where
-  abbrev pub Accessed : Access → Type 0
+  abbrev pub Accessed : AccessResult → Type 0
   Accessed (raced kind other s) = Calm n n st s
   Accessed (read v s) = Steps t n n st s
 
-  abbrev pub SeesRead : ℕ → ℕ → Access → Type 0
+  abbrev pub SeesRead : ℕ → ℕ → AccessResult → Type 0
   SeesRead c slot (raced kind other s) = Unit {0}
   SeesRead c slot (read v s) = Sees s t c slot
 
-  unless-accessed : (r : Race) (s : State) (x : Access) → Calm n n st s → Accessed x → Accessed (unlessRace r s x)
+  unless-accessed : (r : Race) (s : State) (x : AccessResult) → Calm n n st s → Accessed x → Accessed (unlessRace r s x)
   unless-accessed noRace s x q h = h
   unless-accessed (raceOf kind other) s x q h = q
 
-  unless-sees : (c slot : ℕ) (r : Race) (s : State) (x : Access) → SeesRead c slot x → SeesRead c slot (unlessRace r s x)
+  unless-sees : (c slot : ℕ) (r : Race) (s : State) (x : AccessResult) → SeesRead c slot x → SeesRead c slot (unlessRace r s x)
   unless-sees c slot noRace s x h = h
   unless-sees c slot (raceOf kind other) s x h = tt
 

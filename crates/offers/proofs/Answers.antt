@@ -20,9 +20,9 @@ use Rattle.rules.specs.Event.{runThread, readSlot, takeBit, Move, moves, asks, 
 use Rattle.rules.specs.State as State
 use Rattle.rules.specs.State.{State, Numbers, number, withNumber, withVector, threads, cells, count, activeThread, accessBranch, nonLoadBranch, lastAccess, lastNonLoad, scheduleOf, operation}
 use Rattle.rules.specs.Cell
-use Rattle.rules.specs.Cell.{Access, raced, read, withClocks}
+use Rattle.rules.specs.Cell.{AccessResult, raced, read, withClocks}
 use Rattle.rules.specs.Machine
-use Rattle.rules.specs.Machine.{Program, active, activeRow, activeOp, maskOf}
+use Rattle.rules.specs.Machine.{Program, current, activeRow, activeOp, maskOf}
 use Rattle.rules.proofs.MeasureRows.{pick, both-left, RowOnCell, row-on-cell}
 use Rattle.offers.specs.Seen.{Sees}
 use Rattle.offers.proofs.Growing.{schedule-grows, access-grows}
@@ -115,13 +115,13 @@ AfterOf t c i (stops s f) = Unit {0}
 AfterOf t c i (ends s) = Unit {0}
 
 module _ (t n : ℕ) (below : t < threads) (st : State) (sound : SoundState n st) (long : 44 ≤ length (st .numbers)) where
-  reads-answer : (x : Access) (k opcode r slot mask : ℕ) → Accessed t n below st x →
+  reads-answer : (x : AccessResult) (k opcode r slot mask : ℕ) → Accessed t n below st x →
       AnswerOf t n st (Machine.reads x t k opcode r slot mask)
   reads-answer (raced kind other s) k opcode r slot mask h = h
   reads-answer (read v s) k opcode r slot mask h =
       (inl (omega arith), calm-after t n n below (kept-calm n s t r v (oneMore k) below) h)
 
-  reads-after : (x : Access) (c i k opcode r slot mask : ℕ) → SeesRead t n below st c i x →
+  reads-after : (x : AccessResult) (c i k opcode r slot mask : ℕ) → SeesRead t n below st c i x →
       AfterOf t c i (Machine.reads x t k opcode r slot mask)
   reads-after (raced kind other s) c i k opcode r slot mask h = tt
   reads-after (read v s) c i k opcode r slot mask h = sees-calm (kept-calm n s t r v (oneMore k) below) t c i below h
@@ -199,34 +199,34 @@ module _ (t n : ℕ) (below : t < threads) (st : State) (sound : SoundState n st
       (λ e. tt)
 
 module _ (p : Program) (n : ℕ) (st : State) (sound : SoundState n st) (long : 44 ≤ length (st .numbers))
-    (below : active st < threads) where
+    (below : current st < threads) where
   pub slot-steps : (slot : ℕ) (offered : List ℕ) → slot < 7 →
-      AnswerOf (active st) n st (Machine.answered p st (readSlot slot offered))
+      AnswerOf (current st) n st (Machine.answered p st (readSlot slot offered))
   unfolding Machine.answered
   slot-steps slot offered h =
-      read-answer (active st) n below st sound long (activeRow st) slot (maskOf 0 offered) (activeOp p st)
-      (row-on-cell p (active st) (activeRow st)) h
+      read-answer (current st) n below st sound long (activeRow st) slot (maskOf 0 offered) (activeOp p st)
+      (row-on-cell p (current st) (activeRow st)) h
 
   pub bit-steps : (u : ℕ) (bit : Bool) → AnswerOf u n st (Machine.answered p st (takeBit bit))
   unfolding Machine.answered
-  bit-steps u bit = bit-answer (active st) n below st sound long u (activeRow st) (cond bit 1 0) (activeOp p st)
+  bit-steps u bit = bit-answer (current st) n below st sound long u (activeRow st) (cond bit 1 0) (activeOp p st)
 
   module _ (slot : ℕ) (offered : List ℕ) (l : slot < 7) (few : n < unseen) where
     on-cell : (row : Decoded Op) → activeOp p st ≡ row → RowOnCell row
-    on-cell row e = rw e at (row-on-cell p (active st) (activeRow st))
+    on-cell row e = rw e at (row-on-cell p (current st) (activeRow st))
 
     pub load-read : (c o r : ℕ) → activeOp p st ≡ decoded (Table.load c o r) →
-        AfterOf (active st) c slot (Machine.answered p st (readSlot slot offered))
+        AfterOf (current st) c slot (Machine.answered p st (readSlot slot offered))
     unfolding Machine.answered RowOnCell
     load-read c o r e =
         rw e
-        (load-after (active st) n below st sound long (activeRow st) slot (maskOf 0 offered) c o r
+        (load-after (current st) n below st sound long (activeRow st) slot (maskOf 0 offered) c o r
         (on-cell (decoded (Table.load c o r)) e) l few)
 
     pub rmw-read : (c o f : ℕ) (change : Change) (r : ℕ) → activeOp p st ≡ decoded (Table.rmw c o f change r) →
-        AfterOf (active st) c slot (Machine.answered p st (readSlot slot offered))
+        AfterOf (current st) c slot (Machine.answered p st (readSlot slot offered))
     unfolding Machine.answered RowOnCell
     rmw-read c o f change r e =
         rw e
-        (rmw-after (active st) n below st sound long (activeRow st) slot (maskOf 0 offered) c o f change r
+        (rmw-after (current st) n below st sound long (activeRow st) slot (maskOf 0 offered) c o f change r
         (on-cell (decoded (Table.rmw c o f change r)) e) l few)

@@ -15,10 +15,10 @@ use Rattle.rules.specs.Table.{Op, Decoded, refused, decoded}
 use Rattle.rules.specs.Event as Event
 use Rattle.rules.specs.Event.{Entry, Matched, Site, whichThread, whichSlot, whichBit, readSlot, Move, moves, asks, stops, ends}
 use Rattle.rules.specs.State.{State, number, count, marksOf, value, ofStore, storeAt, threads, begun, exploring}
-use Rattle.rules.specs.Cell.{Access, raced, read, Race, noRace, raceOf, unlessRace, newest, sighted, loadRace, loadSynced, loadDone, byChange, succeeded, rmwDone, unsyncLoadDone, mutDone, matchedLoad, matchedRmw, storeRace, storeTracked, withClocks}
+use Rattle.rules.specs.Cell.{AccessResult, raced, read, Race, noRace, raceOf, unlessRace, newest, sighted, loadRace, loadSynced, loadDone, byChange, succeeded, rmwDone, unsyncLoadDone, mutDone, matchedLoad, matchedRmw, storeRace, storeTracked, withClocks}
 use Rattle.rules.specs.Plain.{plainReadDone, plainWriteRace, plainWriteDone}
 use Rattle.rules.specs.Machine
-use Rattle.rules.specs.Machine.{Program, Pending, nothing, pends, pendingOf, machine, active, activeRow, activeOp, rowOf, rowCount, versionRaised, maskOf, entry}
+use Rattle.rules.specs.Machine.{Program, Pending, nothing, pends, pendingOf, machine, current, activeRow, activeOp, rowOf, rowCount, versionRaised, maskOf, entry}
 use Rattle.rules.specs.Explorer.{Limits, Walk, goes, faulted, fits, followed, noted, withState}
 use Rattle.rules.proofs.MeasureRows.{pick}
 use Rattle.offers.specs.Chosen.{Noted}
@@ -56,11 +56,11 @@ module _ (p : Program) (st : State) (t k : ℕ) (row : Decoded Op) (s : State) w
       let up = versionRaised s t in
       unless-ask (storeRace (up .clocks) t c) up (withClocks up (storeTracked (up .clocks) t c)) n c o v
 
-  reads-ask : (x : Access) (n r slot mask : ℕ) → OfMove st t row (Machine.reads x t k n r slot mask)
+  reads-ask : (x : AccessResult) (n r slot mask : ℕ) → OfMove st t row (Machine.reads x t k n r slot mask)
   reads-ask (raced kind other u) n r slot mask = tt
   reads-ask (read v u) n r slot mask = tt
 
-  leaves-ask : (x : Access) (n c r : ℕ) → OfMove st t row (Machine.leavesIn x t k n c r)
+  leaves-ask : (x : AccessResult) (n c r : ℕ) → OfMove st t row (Machine.leavesIn x t k n c r)
   leaves-ask (raced kind other u) n c r = tt
   leaves-ask (read v u) n c r = tt
 
@@ -151,20 +151,20 @@ module _ (p : Program) (st : State) (t k : ℕ) where
       (λ e. schedules-ask p st t k (rowOf p t k) st (Machine.threadEnded st t) [])
       (λ e. row-asks (rowOf p t k))
 
-pub next-asks : (p : Program) (st : State) → OfMove st (active st) (activeOp p st) (Machine.next p st .move)
+pub next-asks : (p : Program) (st : State) → OfMove st (current st) (activeOp p st) (Machine.next p st .move)
 unfolding Machine.next
 next-asks p st =
-    pick (λ (x : Event.Event State). OfMove st (active st) (activeOp p st) (x .move)) (ltb (active st) threads)
-    (λ e. at-asks p st (active st) (activeRow st)) (λ e. tt)
+    pick (λ (x : Event.Event State). OfMove st (current st) (activeOp p st) (x .move)) (ltb (current st) threads)
+    (λ e. at-asks p st (current st) (activeRow st)) (λ e. tt)
 
 -- How a row goes on with its slot
 
 -- the value that an access reads, where no race stops it
-abbrev Reads : ℕ → Access → Type 0
+abbrev Reads : ℕ → AccessResult → Type 0
 Reads v (raced kind other s) = Unit {0}
 Reads v (read x s) = x ≡ v
 
-unless-reads : (v : ℕ) (r : Race) (s : State) (x : Access) → Reads v x → Reads v (unlessRace r s x)
+unless-reads : (v : ℕ) (r : Race) (s : State) (x : AccessResult) → Reads v x → Reads v (unlessRace r s x)
 unless-reads v noRace s x h = h
 unless-reads v (raceOf kind other) s x h = tt
 
@@ -195,7 +195,7 @@ module _ (p : Program) (limits : Limits) (site : Site) (u : Walk State) where
   fits-noted true s es = refl
   fits-noted false s es = refl
 
-  reads-noted : (x : Access) (t k n r slot mask v : ℕ) → Reads v x →
+  reads-noted : (x : AccessResult) (t k n r slot mask v : ℕ) → Reads v x →
       Noted (u .trace) (entry t k n slot mask v) (followed (machine p) limits site u (Machine.reads x t k n r slot mask))
   reads-noted (raced kind other s) t k n r slot mask v h = refl
   reads-noted (read x s) t k n r slot mask v h = rw h (fits-noted (fits (machine p) limits u (entry t k n slot mask v)) _ _)
@@ -212,23 +212,23 @@ module _ (p : Program) (limits : Limits) (site : Site) (u : Walk State) where
     abbrev pub EntryOf : ℕ → ℕ → Type 0
     EntryOf c opcode =
         Noted (u .trace)
-        (entry (active s) (activeRow s) opcode slot (maskOf 0 values) (value (s .values) (ofStore (storeAt c slot))))
+        (entry (current s) (activeRow s) opcode slot (maskOf 0 values) (value (s .values) (ofStore (storeAt c slot))))
         (followed (machine p) limits site u (Machine.answered p s (readSlot slot values)))
 
     pub load-noted : (c o r : ℕ) → activeOp p s ≡ decoded (Table.load c o r) → EntryOf c 0
     unfolding Machine.answered Machine.readFrom
     load-noted c o r e =
         rw e
-        (live-noted s c slot (Machine.reads (loadDone s (active s) c slot o) (active s) (activeRow s) 0 r slot
+        (live-noted s c slot (Machine.reads (loadDone s (current s) c slot o) (current s) (activeRow s) 0 r slot
         (maskOf 0 values)) _
-        (reads-noted (loadDone s (active s) c slot o) (active s) (activeRow s) 0 r slot (maskOf 0 values) _
-        (load-reads s (active s) c slot o)))
+        (reads-noted (loadDone s (current s) c slot o) (current s) (activeRow s) 0 r slot (maskOf 0 values) _
+        (load-reads s (current s) c slot o)))
 
     pub rmw-noted : (c o f r : ℕ) (change : Change) → activeOp p s ≡ decoded (Table.rmw c o f change r) → EntryOf c 3
     unfolding Machine.answered Machine.readFrom
     rmw-noted c o f r change e =
         rw e
-        (live-noted s c slot (Machine.reads (rmwDone s (active s) c slot change o f) (active s) (activeRow s) 3 r slot
+        (live-noted s c slot (Machine.reads (rmwDone s (current s) c slot change o f) (current s) (activeRow s) 3 r slot
         (maskOf 0 values)) _
-        (reads-noted (rmwDone s (active s) c slot change o f) (active s) (activeRow s) 3 r slot (maskOf 0 values) _
-        (rmw-reads s (active s) c slot change o f)))
+        (reads-noted (rmwDone s (current s) c slot change o f) (current s) (activeRow s) 3 r slot (maskOf 0 values) _
+        (rmw-reads s (current s) c slot change o f)))

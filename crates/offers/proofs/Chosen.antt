@@ -12,11 +12,11 @@ use Rattle.rules.specs.Path.{Branch, schedule, load, spurious, Load, noBranch}
 use Rattle.rules.specs.Table as Table
 use Rattle.rules.specs.Table.{Op, Decoded, decoded}
 use Rattle.rules.specs.Event as Event
-use Rattle.rules.specs.Event.{Entry, Matched, offers, slotsOf, whichSlot, Answer, readSlot, asks}
+use Rattle.rules.specs.Event.{Entry, Matched, offers, slotsOf, whichSlot, Pick, readSlot, asks}
 use Rattle.rules.specs.State.{State, marksOf}
 use Rattle.rules.specs.Cell.{matchedLoad}
 use Rattle.rules.specs.Machine as Machine
-use Rattle.rules.specs.Machine.{Program, machine, active, activeOp, versionRaised}
+use Rattle.rules.specs.Machine.{Program, machine, current, activeOp, versionRaised}
 use Rattle.rules.specs.Explorer.{Limits, Walk, Tick, followed, tick, reply, says, unexpected, allBelow}
 use Rattle.ledger.specs.History.{Course, courses}
 use Rattle.ledger.specs.Replay.{Agrees, Answered, Replay, Follows}
@@ -48,7 +48,7 @@ noted-as : (it : List Entry) {before now : List Entry} {t u : Tick State} → be
 noted-as it e f n = rw (← e, f) n
 
 -- it answers with the slot at its position, and all its slots
-pub slot-said : (pos : ℕ) (l : Load) (m : Matched) (a : Answer) → reply pos (load l) (whichSlot m) ≡ says a →
+pub slot-said : (pos : ℕ) (l : Load) (m : Matched) (a : Pick) → reply pos (load l) (whichSlot m) ≡ says a →
     a ≡ readSlot (getD (l .values) (l .pos) 0) (l .values)
 unfolding reply
 slot-said pos l m a e = go (ltb (l .pos) (length (l .values)) && allBelow 7 (l .values)) e
@@ -62,26 +62,26 @@ module _ (p : Program) (limits : Limits) (site : Event.Site) (st s : State) (es 
     (is : m ≡ offers offered) (u : Walk State) (slot : ℕ) (values : List ℕ) where
   -- the state with the version raised has the same active thread and row
   record Read : Type 0 where
-    raised : s ≡ versionRaised st (active st)
+    raised : s ≡ versionRaised st (current st)
     bare : es ≡ []
     cell : ℕ
     opcode : ℕ
     reading : Reading p s m offered cell opcode
     entry : EntryOf p limits site u s slot values cell opcode
 
-  reads-from : (row : Decoded Op) → activeOp p st ≡ row → AsksFor st (active st) s es m row → Read
+  reads-from : (row : Decoded Op) → activeOp p st ≡ row → AsksFor st (current st) s es m row → Read
   unfolding LoadOffered RmwOffered
   reads-from (decoded (Table.load c o r)) e (ofLoad f g h) =
       let row : activeOp p s ≡ decoded (Table.load c o r) = ap (activeOp p) f ∙ e in
-      let t : active s ≡ active st = ap active f in
-      let scan : m ≡ matchedLoad (s .clocks) (marksOf (s .marks) c) (s .numbers) (active s) c o = rw t h in
+      let t : current s ≡ current st = ap current f in
+      let scan : m ≡ matchedLoad (s .clocks) (marksOf (s .marks) c) (s .numbers) (current s) c o = rw t h in
       record {
         raised = f;
         bare = g;
         cell = c;
         opcode = 0;
         reading =
-            aLoad row scan (load-offered (s .clocks) (marksOf (s .marks) c) (s .numbers) (active s) c o offered (sym scan ∙ is));
+            aLoad row scan (load-offered (s .clocks) (marksOf (s .marks) c) (s .numbers) (current s) c o offered (sym scan ∙ is));
         entry = load-noted p limits site u s slot values c o r row;
       }
   reads-from (decoded (Table.rmw c o x change r)) e (ofRmw f g h) =
@@ -125,7 +125,7 @@ module _ (p : Program) (limits : Limits) where
       g .trace-is ∙ (ap (λ (y : List Entry). w .trace ++ y) (r .bare) ∙ append-nil (w .trace)) in
       let tick-is : tick (machine p) limits w ≡ followed (machine p) limits site (g .on)
       (Machine.answered p s (readSlot slot (l .by .values))) =
-      g .tick-is ∙ ap (λ (y : Answer). followed (machine p) limits site (g .on) (Machine.answered p s y)) a in
+      g .tick-is ∙ ap (λ (y : Pick). followed (machine p) limits site (g .on) (Machine.answered p s y)) a in
       record {
         raised = r .raised;
         bare = r .bare;

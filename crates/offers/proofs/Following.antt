@@ -13,7 +13,7 @@ use borrow.Author.Tests.{ltb-true, leb-true}
 use Rattle.rules.specs.Vector.{Whom}
 use Rattle.rules.specs.Path.{Branch, schedule, load, spurious, Load, activeIn}
 use Rattle.rules.specs.Event as Event
-use Rattle.rules.specs.Event.{Entry, Matched, Site, Question, whichThread, whichSlot, whichBit, Answer, runThread, readSlot, takeBit, Move, moves, asks, stops, ends}
+use Rattle.rules.specs.Event.{Entry, Matched, Site, Question, whichThread, whichSlot, whichBit, Pick, runThread, readSlot, takeBit, Move, moves, asks, stops, ends}
 use Rattle.rules.specs.State.{State}
 use Rattle.rules.specs.Machine as Machine
 use Rattle.rules.specs.Machine.{Program, machine}
@@ -29,15 +29,15 @@ below-at (x ∷ xs) zero e h = ltb-true x 7 (both-left (ltb x 7) (allBelow 7 xs)
 below-at (x ∷ xs) (suc k) e h = below-at xs k (both-right (ltb x 7) (allBelow 7 xs) e) (omega arith)
 
 -- by the question: a thread, one of seven slots, a bit
-abbrev pub Replied : Question → Answer → Type 0
+abbrev pub Replied : Question → Pick → Type 0
 Replied (whichThread points initial standings) a = (whom : Whom) × (at : ℕ) × (a ≡ runThread whom at)
 Replied (whichSlot m) a = (slot : ℕ) × (values : List ℕ) × (slot < 7) × (a ≡ readSlot slot values)
 Replied whichBit a = (bit : Bool) × (a ≡ takeBit bit)
 
-never : {A : Type 0} (a : Answer) → unexpected ≡ says a → A
+never : {A : Type 0} (a : Pick) → unexpected ≡ says a → A
 never a e = let z : _≡_ {A = ℕ} 0 1 = cc in absurd (omega arith)
 
-slot-replied : (l : Load) (m : Matched) (a : Answer) (x y : Bool) → ltb (l .pos) (length (l .values)) ≡ x →
+slot-replied : (l : Load) (m : Matched) (a : Pick) (x y : Bool) → ltb (l .pos) (length (l .values)) ≡ x →
     allBelow 7 (l .values) ≡ y →
     cond (x && y) (says (readSlot (getD (l .values) (l .pos) 0) (l .values))) unexpected ≡ says a → Replied (whichSlot m) a
 slot-replied l m a true true e f g =
@@ -45,7 +45,7 @@ slot-replied l m a true true e f g =
 slot-replied l m a true false e f g = never a g
 slot-replied l m a false y e f g = never a g
 
-pub replied : (pos : ℕ) (b : Branch) (q : Question) (a : Answer) → reply pos b q ≡ says a → Replied q a
+pub replied : (pos : ℕ) (b : Branch) (q : Question) (a : Pick) → reply pos b q ≡ says a → Replied q a
 unfolding reply
 replied pos (schedule s) (whichThread points initial standings) a e = (activeIn (s .states), pos, cc)
 replied pos (schedule s) (whichSlot m) a e = never a e

@@ -18,10 +18,10 @@ use Rattle.rules.specs.Event.{Entry, whichThread, whichSlot, whichBit, Move, mo
 use Rattle.rules.specs.State as State
 use Rattle.rules.specs.State.{State, Numbers, Number, number, withNumber, numberAt, threads, count, causality, scheduleOf, stored, phase, nextRow, operation, operatesOn, begun, rowsOf, yields, lastYield, awaits, exploring, skipping}
 use Rattle.rules.specs.Cell
-use Rattle.rules.specs.Cell.{Access, raced, read, Race, noRace, raceOf, withClocks, joinInto}
+use Rattle.rules.specs.Cell.{AccessResult, raced, read, Race, noRace, raceOf, withClocks, joinInto}
 use Rattle.rules.specs.Plain.{plainReadDone, plainWriteRace, plainWriteDone}
 use Rattle.rules.specs.Machine
-use Rattle.rules.specs.Machine.{Program, Pending, nothing, pends, pendingOf, active, activeRow, rowOf, rowCount, completed, versionRaised, forThreads, entry, noSlot}
+use Rattle.rules.specs.Machine.{Program, Pending, nothing, pends, pendingOf, current, activeRow, rowOf, rowCount, completed, versionRaised, forThreads, entry, noSlot}
 use Rattle.rules.proofs.StateLaws.{number-other, number-kept}
 use Rattle.rules.proofs.MeasureRows.{pick, OnCell, RowOnCell, row-on-cell}
 use Rattle.offers.proofs.Joined.{targetOf, RowJoins, row-joins}
@@ -142,7 +142,7 @@ module _ (t n : ℕ) (below : t < threads) (st : State) (sound : SoundState n st
   stores-next k opcode c o v on = unless-next (Cell.storeRace (versionRaised st t .clocks) t c) k opcode c o v on
 
   -- accesses of the newest store
-  reads-next : (x : Access) (k opcode r slot mask : ℕ) → ((m : ℕ) → n ≤ m → Accessed t m below st x) →
+  reads-next : (x : AccessResult) (k opcode r slot mask : ℕ) → ((m : ℕ) → n ≤ m → Accessed t m below st x) →
       NextOf t n st (Machine.reads x t k opcode r slot mask)
   reads-next (raced kind other s) k opcode r slot mask h = λ m l. calm-trans (more m (omega arith)) (h m (omega arith))
   reads-next (read v s) k opcode r slot mask h = (
@@ -152,7 +152,7 @@ module _ (t n : ℕ) (below : t < threads) (st : State) (sound : SoundState n st
         (calm-after t m m below (kept-calm m s t r v (oneMore k) below) (h m (omega arith))),
   )
 
-  leaves-next : (x : Access) (k opcode c r : ℕ) → ((m : ℕ) → n ≤ m → Accessed t m below st x) →
+  leaves-next : (x : AccessResult) (k opcode c r : ℕ) → ((m : ℕ) → n ≤ m → Accessed t m below st x) →
       NextOf t n st (Machine.leavesIn x t k opcode c r)
   leaves-next (raced kind other s) k opcode c r h = λ m l. calm-trans (more m (omega arith)) (h m (omega arith))
   leaves-next (read v s) k opcode c r h = (
@@ -370,9 +370,9 @@ module _ (t n : ℕ) (below : t < threads) (st : State) (sound : SoundState n st
       (λ e. row-next p k (rowOf p t k) (row-on-cell p t k) (row-joins p t k))
 
 pub next-steps : (p : Program) (n : ℕ) (st : State) → SoundState n st → 44 ≤ length (st .numbers) →
-    NextOf (active st) n st (Machine.next p st .move)
+    NextOf (current st) n st (Machine.next p st .move)
 unfolding Machine.next
 next-steps p n st sound long =
-    pick (λ (x : Event.Event State). NextOf (active st) n st (x .move)) (ltb (active st) threads)
-    (λ e. at-next (active st) n (ltb-true (active st) threads e) st sound long p (activeRow st))
+    pick (λ (x : Event.Event State). NextOf (current st) n st (x .move)) (ltb (current st) threads)
+    (λ e. at-next (current st) n (ltb-true (current st) threads e) st sound long p (activeRow st))
     (λ e m h. calm-more n m st (omega arith))

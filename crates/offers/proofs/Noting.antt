@@ -12,13 +12,13 @@ use Rattle.rules.specs.Vector.{Whom, nobody, thread, oneMore}
 use Rattle.rules.specs.Table as Table
 use Rattle.rules.specs.Table.{Op, Decoded, refused, decoded}
 use Rattle.rules.specs.Event as Event
-use Rattle.rules.specs.Event.{Entry, Matched, Question, whichThread, whichSlot, whichBit, Answer, Move, moves, asks, stops, ends}
+use Rattle.rules.specs.Event.{Entry, Matched, Question, whichThread, whichSlot, whichBit, Pick, Move, moves, asks, stops, ends}
 use Rattle.rules.specs.State.{State, number, threads, begun, count, exploring}
 use Rattle.rules.specs.Cell
-use Rattle.rules.specs.Cell.{Access, raced, read, Race, noRace, raceOf, withClocks}
+use Rattle.rules.specs.Cell.{AccessResult, raced, read, Race, noRace, raceOf, withClocks}
 use Rattle.rules.specs.Plain.{plainReadDone, plainWriteRace, plainWriteDone}
 use Rattle.rules.specs.Machine
-use Rattle.rules.specs.Machine.{Program, Pending, nothing, pends, pendingOf, machine, active, activeRow, activeOp, rowOf, rowCount, versionRaised, entry, noSlot}
+use Rattle.rules.specs.Machine.{Program, Pending, nothing, pends, pendingOf, machine, current, activeRow, activeOp, rowOf, rowCount, versionRaised, entry, noSlot}
 use Rattle.rules.specs.Explorer.{Limits, Walk, goes, tick}
 use Rattle.rules.proofs.MeasureRows.{pick}
 use Rattle.ledger.specs.History.{Every}
@@ -56,11 +56,11 @@ module _ (st : State) (t k : ℕ) where
       let up = versionRaised st t in
       unless-entries (Cell.storeRace (up .clocks) t c) up (withClocks up (Cell.storeTracked (up .clocks) t c)) n c o v a b
 
-  reads-entries : (x : Access) (n r slot mask : ℕ) → (n ≡ 0 → ⊥) → (n ≡ 3 → ⊥) → EntriesOf (Machine.reads x t k n r slot mask)
+  reads-entries : (x : AccessResult) (n r slot mask : ℕ) → (n ≡ 0 → ⊥) → (n ≡ 3 → ⊥) → EntriesOf (Machine.reads x t k n r slot mask)
   reads-entries (raced kind other s) n r slot mask a b = tt
   reads-entries (read v s) n r slot mask a b = one-entry t k n slot mask v a b
 
-  leaves-entries : (x : Access) (n c r : ℕ) → (n ≡ 0 → ⊥) → (n ≡ 3 → ⊥) → EntriesOf (Machine.leavesIn x t k n c r)
+  leaves-entries : (x : AccessResult) (n c r : ℕ) → (n ≡ 0 → ⊥) → (n ≡ 3 → ⊥) → EntriesOf (Machine.leavesIn x t k n c r)
   leaves-entries (raced kind other s) n c r a b = tt
   leaves-entries (read v s) n c r a b = ((a, b), tt)
 
@@ -153,8 +153,8 @@ module _ (st : State) (t k : ℕ) where
 next-entries : (p : Program) (st : State) → EntriesOf (Machine.next p st .move)
 unfolding Machine.next
 next-entries p st =
-    pick (λ (x : Event.Event State). EntriesOf (x .move)) (ltb (active st) threads)
-    (λ e. at-entries st (active st) (activeRow st) p) (λ e. tt)
+    pick (λ (x : Event.Event State). EntriesOf (x .move)) (ltb (current st) threads)
+    (λ e. at-entries st (current st) (activeRow st) p) (λ e. tt)
 
 thread-entries : (st : State) (whom : Whom) (at : ℕ) → EntriesOf (Machine.scheduled st whom at)
 unfolding Machine.scheduled
@@ -169,12 +169,12 @@ NoSlot (whichThread points initial standings) = Unit {0}
 NoSlot (whichSlot m) = ⊥
 NoSlot whichBit = Unit {0}
 
-answer-entries : (p : Program) (s : State) (q : Question) (a : Answer) → NoSlot q → Replied q a →
+answer-entries : (p : Program) (s : State) (q : Question) (a : Pick) → NoSlot q → Replied q a →
     EntriesOf (Machine.answered p s a)
 unfolding Machine.answered
 answer-entries p s (whichThread points initial standings) a n (whom, at, e) = rw e (thread-entries s whom at)
 answer-entries p s (whichSlot m) a n r = absurd n
-answer-entries p s whichBit a n (bit, e) = rw e (bit-entries s (active s) (activeRow s) (cond bit 1 0) (activeOp p s))
+answer-entries p s whichBit a n (bit, e) = rw e (bit-entries s (current s) (activeRow s) (cond bit 1 0) (activeOp p s))
 
 -- Ticks
 

@@ -12,14 +12,14 @@ use lib.Seq.{getD-at}
 use borrow.Author.Tests.{eqb-true}
 use Rattle.rules.specs.Path.{Branch, noBranch}
 use Rattle.rules.specs.Event as Event
-use Rattle.rules.specs.Event.{Entry, Question, Answer, Site, Move, Machine, moves, asks, stops, ends}
+use Rattle.rules.specs.Event.{Entry, Question, Pick, Site, Move, Machine, moves, asks, stops, ends}
 use Rattle.rules.specs.Explorer.{Limits, Walk, Tick, goes, faulted, Reply, says, unexpected, reply, Pushed, pushes, faults, pushed, withBranch, withLedger, withState, noted, onward, firstMarked, fits, followed, replied, newBranch, met, asked, taken, tick}
 use Rattle.ledger.specs.History.{leftBy}
 
 module _ (M : Machine) (limits : Limits) (site : Site) where
   -- from a walk that asks: the record at its position answers, and the tick is what follows
   pub record Passing (w : Walk (M .State)) (q : Question) (t : Tick (M .State)) : Type 0 where
-    pub answer : Answer
+    pub answer : Pick
     pub replies : reply (w .pos) (getD (leftBy t .ledger .path) (w .pos) noBranch) q ≡ says answer
     pub on : Walk (M .State)
     pub trace-is : on .trace ≡ w .trace

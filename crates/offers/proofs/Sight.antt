@@ -13,11 +13,11 @@ use lib.Dec.{leb, eqb}
 use lib.ListN.{length, getD, set, length-set, getD-replicate}
 use lib.Seq.{getD-set-same}
 use borrow.Author.Tests.{eqb-true, eqb-false, leb-true, le-leb, ne-eqb}
-use Rattle.rules.specs.Vector.{atMost, Whom, nobody, thread, next}
+use Rattle.rules.specs.Vector.{atMost, Whom, nobody, thread, oneUp}
 use Rattle.rules.proofs.VectorLaws.{atMost-part}
 use Rattle.rules.specs.Seen.{unseen, unseens, markOf, known, seenThrough, someone, seen, touched, touchedAt}
 use Rattle.rules.specs.State.{Clocks, Marks, marksOf, withMarks, vector, vectorAt, causality, threads}
-use Rattle.rules.specs.Cell.{version, touchDone, firstMarked}
+use Rattle.rules.specs.Cell.{version, touchDone, seenByOwn}
 use Rattle.rules.proofs.MeasureRows.{pick}
 use Rattle.offers.proofs.Growing.{set-has, low, Bounded, Grows}
 
@@ -41,7 +41,7 @@ known-made m part k = rw (ne-eqb m unseen (k .0), le-leb m part (k .1))
 abbrev pub SeenBy : List ℕ → List ℕ → Type 0
 SeenBy marks parts = (k : ℕ) × (k < length parts) × Known (markOf marks k) (getD parts k 0)
 
-later : (w : Whom) → someone (next w) ≡ someone w
+later : (w : Whom) → someone (oneUp w) ≡ someone w
 later nobody = refl
 later (thread t) = refl
 
@@ -51,7 +51,7 @@ seen-some [] parts e = absurd (false≢true e)
 seen-some (m ∷ marks) [] e = absurd (false≢true e)
 seen-some (m ∷ marks) (part ∷ parts) e = go (known m part) refl e (λ f. seen-some marks parts f)
   where
-    go : (b : Bool) → known m part ≡ b → someone (cond b (thread 0) (next (seenThrough marks parts))) ≡ true →
+    go : (b : Bool) → known m part ≡ b → someone (cond b (thread 0) (oneUp (seenThrough marks parts))) ≡ true →
         (someone (seenThrough marks parts) ≡ true → SeenBy marks parts) → SeenBy (m ∷ marks) (part ∷ parts)
     go true k f more = (0, omega arith, known-true m part k)
     go false k f more = let s = more (sym (later (seenThrough marks parts)) ∙ f) in (suc (s .0), omega (arith, s .1), s .2)
@@ -64,7 +64,7 @@ seen-made (m ∷ marks) (part ∷ parts) (zero, b, h) = rw (known-made m part h)
 seen-made (m ∷ marks) (part ∷ parts) (suc k, b, h) = go (known m part) (seen-made marks parts (k, omega arith, h))
   where
     go : (x : Bool) → someone (seenThrough marks parts) ≡ true →
-        someone (cond x (thread 0) (next (seenThrough marks parts))) ≡ true
+        someone (cond x (thread 0) (oneUp (seenThrough marks parts))) ≡ true
     go true f = refl
     go false f = later (seenThrough marks parts) ∙ f
 
@@ -205,7 +205,7 @@ module _ (n : ℕ) (clocks : Clocks) (marks : Marks) (t c slot : ℕ) (below : t
       (λ h l. omega (arith, touched-length row t (version clocks t), s .wide c slot h l))
       (λ u h. touched-marked row t (version clocks t) u (version clocks u) (s .marked c slot u h) (λ e. rw e (omega arith)))
 
-  pub first-sound : Sound n clocks (withMarks marks c (firstMarked clocks (marksOf marks c) t slot))
+  pub first-sound : Sound n clocks (withMarks marks c (seenByOwn clocks (marksOf marks c) t slot))
   first-sound =
       written-sound n clocks marks c slot (touched (unseens 5) t (version clocks t)) s
       (λ h l. omega (arith, touched-length (unseens 5) t (version clocks t)))
@@ -231,7 +231,7 @@ module _ (n : ℕ) (clocks : Clocks) (marks : Marks) (t c slot : ℕ) (below : t
         (touched-seen row t (version clocks t) (vector clocks (causality t)) (omega (arith, s .wide c slot h l))
         (omega (arith, s .long t below)) refl small-version (s .marked c slot t below))
 
-    pub first-sees : seen (rowIn (withMarks marks c (firstMarked clocks (marksOf marks c) t slot)) c slot) (vector clocks (causality t)) ≡ true
+    pub first-sees : seen (rowIn (withMarks marks c (seenByOwn clocks (marksOf marks c) t slot)) c slot) (vector clocks (causality t)) ≡ true
     first-sees =
         sees-row (touched (unseens 5) t (version clocks t))
         (touched-seen (unseens 5) t (version clocks t) (vector clocks (causality t)) (omega arith)
@@ -246,7 +246,7 @@ touch-stays clocks marks t d slot c i =
     (λ e f. rw (e, f) (touched-stays (rowIn marks d slot) t (version clocks t)))
 
 pub first-stays : (clocks : Clocks) (marks : Marks) (t d slot c i : ℕ) → (c ≡ d → i ≡ slot → ⊥) →
-    Stays (rowIn marks c i) (rowIn (withMarks marks d (firstMarked clocks (marksOf marks d) t slot)) c i)
+    Stays (rowIn marks c i) (rowIn (withMarks marks d (seenByOwn clocks (marksOf marks d) t slot)) c i)
 first-stays clocks marks t d slot c i n =
     row-has (Stays (rowIn marks c i)) marks d slot (touched (unseens 5) t (version clocks t)) c i (λ k h. refl)
     (λ e f. absurd (n e f))

@@ -19,7 +19,7 @@ use Rattle.rules.specs.Event.{Entry, Matched, slotsOf, Site, Question, whichThr
 use Rattle.rules.specs.State.{State, number, vector, threads, count, causality}
 use Rattle.rules.specs.Cell.{slotOf, liveIn}
 use Rattle.rules.specs.Machine as Machine
-use Rattle.rules.specs.Machine.{Program, machine, active}
+use Rattle.rules.specs.Machine.{Program, machine, current}
 use Rattle.rules.specs.Explorer.{Limits, Walk, goes, noted, tick}
 use Rattle.rules.specs.Measure.{measure, Ready}
 use Rattle.rules.proofs.MeasureRows.{pick}
@@ -110,7 +110,7 @@ module _ (p : Program) (limits : Limits) where
     pub counts : (c : ℕ) → c < 4 → number (w .state .numbers) (count c) ≤ length (w .trace) + 1
 
   pub record Went (w v : Walk State) : Type 0 where
-    pub steps : Steps (active (w .state)) (length (w .trace) + 2) (length (v .trace) + 2) (w .state) (v .state)
+    pub steps : Steps (current (w .state)) (length (w .trace) + 2) (length (v .trace) + 2) (w .state) (v .state)
     pub fit : length (v .trace) ≤ limits .operations
     pub longer : length (w .trace) ≤ length (v .trace)
     pub noted : (length (w .trace) < length (v .trace)) ⊎ Quiet (w .state) (v .state)
@@ -120,7 +120,7 @@ module _ (p : Program) (limits : Limits) where
 
   module _ (limited : p .operations ≤ largest) (w v : Walk State) (h : Holds w) (g : tick (machine p) limits w ≡ goes v) where
     abbrev t : ℕ
-    t = active (w .state)
+    t = current (w .state)
 
     abbrev n : ℕ
     n = length (w .trace) + 2
@@ -198,7 +198,7 @@ module _ (p : Program) (limits : Limits) where
           noting (inr q) = inr (rw (after .state-is) (quiet-trans (calm .quiet) q))
 
     -- "(d) the branch chooses."
-    thread-went : (s : State) (es : List Entry) (x : Bool) (points : List Event.Place) (initial : Whom) (standings : List Event.Standing) →
+    thread-went : (s : State) (es : List Entry) (x : Bool) (points : List Event.Point) (initial : Whom) (standings : List Event.Standing) →
         Machine.next p (w .state) .move ≡ asks s es x (whichThread points initial standings) → Went w v
     thread-went s es x points initial standings e =
         let q = whichThread points initial standings in
@@ -238,7 +238,7 @@ module _ (p : Program) (limits : Limits) where
         slot-went =
             let a = answer-is s es x (whichSlot q) e in
             let r = asked s es x (whichSlot q) e .ready in
-            let same : active s ≡ t = ap active (chosen .raised) in
+            let same : current s ≡ t = ap current (chosen .raised) in
             both-went s es x (whichSlot q) e calm-slot
             (rw (a .3, ← same)
             (slot-steps p m s (calm-slot .sound (h .sound)) (omega (arith, r .whole .long)) (r .below) (a .0) (a .1) (a .2)))
@@ -291,23 +291,23 @@ module _ (p : Program) (limits : Limits) (limited : p .operations ≤ largest) (
         let same : a .0 ≡ slot = cc (a .3, read-slot) in
         omega (arith, same, a .2)
 
-    after-reading : AfterOf (active s) (c .cell) slot (Machine.answered p s (readSlot slot (c .by .values)))
+    after-reading : AfterOf (current s) (c .cell) slot (Machine.answered p s (readSlot slot (c .by .values)))
     after-reading =
         let calm = calm-slot p limits limited w v h g answered s es x q e in
         let r = asked p limits limited w v h g s es x (whichSlot q) e .ready in
         by-reading (calm .sound (h .sound)) (omega (arith, r .whole .long)) (r .below) (omega (arith, went-on .fit)) (c .cell)
         (c .opcode) (c .reading)
       where
-        by-reading : SoundState (length (v .trace) + 2) s → 44 ≤ length (s .numbers) → active s < threads →
+        by-reading : SoundState (length (v .trace) + 2) s → 44 ≤ length (s .numbers) → current s < threads →
             length (v .trace) + 2 < unseen →
             (d o : ℕ) → Reading p s q (c .offered) d o →
-            AfterOf (active s) d slot (Machine.answered p s (readSlot slot (c .by .values)))
+            AfterOf (current s) d slot (Machine.answered p s (readSlot slot (c .by .values)))
         by-reading sound long below few d o (aLoad row m r) =
             load-read p (length (v .trace) + 2) s sound long below slot (c .by .values) slot-small few d _ _ row
         by-reading sound long below few d o (anRmw row m r) =
             rmw-read p (length (v .trace) + 2) s sound long below slot (c .by .values) slot-small few d _ _ _ _ row
 
-    read-seen : Sees (v .state) (active s) (c .cell) slot
+    read-seen : Sees (v .state) (current s) (c .cell) slot
     read-seen =
         let f = after p limits limited w v h g s es x (whichSlot q) e in
         let is : Machine.answered p s (readSlot slot (c .by .values)) ≡ moves (f .state) (f .entries) =
@@ -330,17 +330,17 @@ module _ (p : Program) (limits : Limits) (limited : p .operations ≤ largest) (
   never-offered : (s : State) (es : List Entry) (x : Bool) (m : Matched) →
       Machine.next p (w .state) .move ≡ asks s es x (whichSlot m) →
       (c : Chosen p limits w s es m) (i j : ℕ) → Among i (c .by .values) → j < liveIn (s .numbers) (c .cell) →
-      Sees (w .state) (active s) (c .cell) j → Below (s .clocks) (c .cell) i j → ⊥
+      Sees (w .state) (current s) (c .cell) j → Below (s .clocks) (c .cell) i j → ⊥
   never-offered s es x m e c i j a l k b =
-      let same : active s ≡ active (w .state) = ap active (c .raised) in
+      let same : current s ≡ current (w .state) = ap current (c .raised) in
       let next = next-steps p (length (w .trace) + 2) (w .state) (h .sound) (omega (arith, h .ready .whole .long)) in
-      let asks-it : NextOf (active (w .state)) (length (w .trace) + 2) (w .state) (asks s es x (whichSlot m)) = rw e at next in
+      let asks-it : NextOf (current (w .state)) (length (w .trace) + 2) (w .state) (asks s es x (whichSlot m)) = rw e at next in
       let calm = asks-it (length (w .trace) + 3) (omega arith) in
       by-reading (c .cell) (c .opcode) (c .reading) (rw (c .all) at a) l
-      (sees-calm calm (active s) (c .cell) j (omega (arith, same, h .ready .below)) k) b
+      (sees-calm calm (current s) (c .cell) j (omega (arith, same, h .ready .below)) k) b
     where
       by-reading : (d o : ℕ) → Reading p s m (c .offered) d o → Among i (slotsOf (c .offered)) → j < liveIn (s .numbers) d →
-          Sees s (active s) d j → Below (s .clocks) d i j → ⊥
+          Sees s (current s) d j → Below (s .clocks) d i j → ⊥
       by-reading d o (aLoad row f r) a l k b = r .never i j a l k b
       by-reading d o (anRmw row f r) a l k b = r .never i j a l tt b
 

@@ -17,7 +17,7 @@ use Rattle.rules.specs.Table.{decoded}
 use Rattle.rules.specs.Event.{Entry, Matched, offers, slotsOf, whichSlot, asks}
 use Rattle.rules.specs.State.{State, marksOf, value, ofStore, storeAt}
 use Rattle.rules.specs.Cell.{seenBy, matchedLoad, matchedRmw}
-use Rattle.rules.specs.Machine.{Program, machine, next, active, activeRow, activeOp, versionRaised, maskOf, entry}
+use Rattle.rules.specs.Machine.{Program, machine, next, current, activeRow, activeOp, versionRaised, maskOf, entry}
 use Rattle.rules.specs.Explorer.{Limits, Walk, Tick, goes, over, faulted, tick}
 use Rattle.ledger.specs.History.{Every, Course, courses, leftBy}
 use Rattle.offers.specs.Offered.{OfferedRight}
@@ -26,8 +26,8 @@ use Rattle.offers.specs.Offered.{OfferedRight}
 -- thread, and is right
 pub data Reading (p : Program) (s : State) (m : Matched) (offered : List Bool) : (c opcode : ℕ) → Type 0 where
   aLoad : {c o r : ℕ} → activeOp p s ≡ decoded (Table.load c o r)
-      → m ≡ matchedLoad (s .clocks) (marksOf (s .marks) c) (s .numbers) (active s) c o
-      → OfferedRight (s .clocks) (s .numbers) c (λ j. seenBy (s .clocks) (marksOf (s .marks) c) (active s) j ≡ true) offered
+      → m ≡ matchedLoad (s .clocks) (marksOf (s .marks) c) (s .numbers) (current s) c o
+      → OfferedRight (s .clocks) (s .numbers) c (λ j. seenBy (s .clocks) (marksOf (s .marks) c) (current s) j ≡ true) offered
       → Reading p s m offered c 0
   anRmw : {c o f r : ℕ} {change : Change} → activeOp p s ≡ decoded (Table.rmw c o f change r)
       → m ≡ matchedRmw (s .clocks) (s .numbers) c
@@ -56,7 +56,7 @@ module _ (p : Program) (limits : Limits) where
   -- A tick at which the machine asks in this state for one of these offers, and is answered
   pub record Chosen (w : Walk State) (s : State) (es : List Entry) (m : Matched) : Type 0 where
     -- the state is that of the tick, with the thread's version raised; no row is complete yet
-    pub raised : s ≡ versionRaised (w .state) (active (w .state))
+    pub raised : s ≡ versionRaised (w .state) (current (w .state))
     pub bare : es ≡ []
     -- the record that answers, whether it was added now or known before, has just the slots that are offered now
     pub by : Load
@@ -73,7 +73,7 @@ module _ (p : Program) (limits : Limits) where
     -- the entry names the slot, all that were offered, and the value that stands there
     pub noted :
         Noted (w .trace)
-        (entry (active s) (activeRow s) opcode (getD (by .values) (by .pos) 0) (maskOf 0 (by .values))
+        (entry (current s) (activeRow s) opcode (getD (by .values) (by .pos) 0) (maskOf 0 (by .values))
         (value (s .values) (ofStore (storeAt cell (getD (by .values) (by .pos) 0)))))
         (tick (machine p) limits w)
 

@@ -17,7 +17,7 @@ use Rattle.rules.specs.Table.{headerFine, judged, good}
 use Rattle.rules.specs.Event.{Entry, Matched}
 use Rattle.rules.specs.State.{State, number, marksOf, count, threads, cells}
 use Rattle.rules.specs.Cell.{seenBy, slotOf, liveIn}
-use Rattle.rules.specs.Machine.{Program, machine, active}
+use Rattle.rules.specs.Machine.{Program, machine, current}
 use Rattle.rules.specs.Explorer.{Limits, Walk, goes, tick}
 use Rattle.rules.specs.Explored.{Settings, settingsFine, programOf, limitsOf}
 use Rattle.ledger.specs.History.{Every, Course, courses}
@@ -40,9 +40,9 @@ module _ (p : Program) (limits : Limits) where
     -- the store that a load or an RMW has read is seen by its thread, also where the RMW's own store has taken its place
     pub read :
         (s : State) (es : List Entry) (x : Bool) (m : Matched) → AsksSlot p limits w s es x m
-        → (c : Chosen p limits w s es m) → Sees (v .state) (active s) (c .cell) (getD (c .by .values) (c .by .pos) 0)
+        → (c : Chosen p limits w s es m) → Sees (v .state) (current s) (c .cell) (getD (c .by .values) (c .by .pos) 0)
     -- a store that is new is seen by the thread that made it
-    pub wrote : (c i : ℕ) → c < cells → Taken c i (w .state) (v .state) → Sees (v .state) (active (w .state)) c i
+    pub wrote : (c i : ℕ) → c < cells → Taken c i (w .state) (v .state) → Sees (v .state) (current (w .state)) c i
     -- what any thread has seen it still sees, unless a store took that slot
     pub kept :
         (t c i : ℕ) → t < threads → c < cells → Sees (w .state) t c i → Sees (v .state) t c i ⊎ Taken c i (w .state) (v .state)
@@ -52,7 +52,7 @@ module _ (p : Program) (limits : Limits) where
     pub never :
         (s : State) (es : List Entry) (x : Bool) (m : Matched) → AsksSlot p limits w s es x m
         → (c : Chosen p limits w s es m) (i j : ℕ) → Among i (c .by .values) → j < liveIn (s .numbers) (c .cell)
-        → Sees (w .state) (active s) (c .cell) j → Below (s .clocks) (c .cell) i j → ⊥
+        → Sees (w .state) (current s) (c .cell) j → Below (s .clocks) (c .cell) i j → ⊥
     pub goes-on : (v : Walk State) → tick (machine p) limits w ≡ goes v → Watched w v
 
 -- a later walk, with the slot not taken on the way

@@ -5,7 +5,7 @@ ghost use mathlib.Core.List.{[], _∷_};
 ghost use Prim.Native.Nat.{_-_};
 ghost use Rattle.digits.specs.Shown.{shown};
 ghost use Rattle.page.specs.Pages.{ended, putText, putOne, filled, padded, rightAt};
-use digits::MOST;
+use digits::MOST_DIGITS;
 
 pub const WIDTH: usize = 16384;
 
@@ -32,8 +32,8 @@ pub fn put(page: &mut Page, at: usize, text: &[u8]) -> usize
 pub fn put_number(page: &mut Page, at: usize, n: u64) -> usize
     ensures { λ r. ⌜ ended (now (page .exit)) r ≡ putText (ended (now (page .entry)) at) (shown n) ⌝ }
 {
-    let mut digits = [0u8; MOST];
-    let k = digits::spell(n, &mut digits);
+    let mut digits = [0u8; MOST_DIGITS];
+    let k = digits::spell(&mut digits, n);
     put(page, at, &digits[..k])
 }
 

@@ -9,7 +9,7 @@ use native.Mathlib.Omega.{arith}
 use lib.Dec.{eqb}
 use lib.ListN.{length, getD, set, length-set, length-map}
 use lib.Seq.{set-getD}
-use Rattle.rules.specs.Path.{Branch, Schedule, schedule, explored, marked, madePending, takesMarks, scheduleMarked, noBranch, disabled, visited}
+use Rattle.rules.specs.Path.{Branch, Schedule, schedule, skipToPending, marked, madePending, takesMarks, scheduleMarked, noBranch, disabled, visited}
 use Rattle.rules.proofs.MarkLaws.{made-same}
 use Rattle.record.specs.Fields.{fieldOf, withStatesAt}
 use Rattle.record.specs.Schedules as one
@@ -27,7 +27,7 @@ length-either false l m n e f = f
 length-marked : (l : List ℕ) (t : ℕ) → length (marked l t) ≡ length l
 unfolding marked
 length-marked l t =
-    length-either (eqb (getD l t visited) disabled) l (map explored l) (set l t (explored (getD l t visited))) (length-map l explored) (length-set l t (explored (getD l t visited)))
+    length-either (eqb (getD l t visited) disabled) l (map skipToPending l) (set l t (skipToPending (getD l t visited))) (length-map l skipToPending) (length-set l t (skipToPending (getD l t visited)))
 
 takes-by : (bound : Bound) (s : Schedule) (f : ℕ) → f ≡ s .preemptions → takesMarks (boundOf bound) s ≡ not (reaches bound f)
 unfolding takesMarks
@@ -38,7 +38,7 @@ module _ (bytes : List ℕ) (k : ℕ) (bound : Bound) (t : ℕ) (full : Bool) (e
   takes : {bs : List Branch} {s : Schedule} → HoldsAt bytes bs k s → takesMarks (boundOf bound) s ≡ not full
   takes {bs} {s} h = takes-by bound s (fieldOf bytes k 7) (stands-preemptions (at-stands h)) ∙ ap not (sym e)
 
-  pub marks-by : full ≡ false → (exit : List ℕ) (r : ℕ) → one.Marks bytes exit k t r → MarksAt bytes exit k (boundOf bound) t r
+  pub marks-by : full ≡ false → (exit : List ℕ) (r : ℕ) → one.RecordMarked bytes exit k t r → MarksAt bytes exit k (boundOf bound) t r
   unfolding scheduleMarked
   marks-by f exit r c = record {
     few = c .few;

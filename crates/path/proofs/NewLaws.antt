@@ -22,9 +22,9 @@ use Rattle.record.specs.Answers.{Counts}
 use Rattle.record.specs.Schedules.{positionOf, initialAt}
 use Rattle.path.specs.Pushes.{PushesThread, pushedOf, grown}
 use Rattle.path.specs.Places.{recordsOf}
-use Rattle.path.specs.Walks.{foundOf, standsIn, LastOf, PreemptionsBefore}
-use Rattle.path.specs.declared.Pushed.the-variants.{Added, Full, Preempted}
-use Rattle.record.specs.declared.schedule.Found.{Found}
+use Rattle.path.specs.Walks.{lastAs, standsIn, LastOf, PreemptionsBefore}
+use Rattle.path.specs.declared.Addition.the-variants.{Added, Full, Preempted}
+use Rattle.record.specs.declared.schedule.ScheduleAt.{ScheduleAt}
 use Rattle.record.proofs.FieldLaws.{put-again}
 use Rattle.record.proofs.ThreadLaws.{length-toggled}
 use Rattle.path.proofs.HoldsLaws.{holds-blank, holds-added, at-states}
@@ -60,7 +60,7 @@ module _ (bytes : List ℕ) (len : ℕ) (exploring : Bool) (seed : List ℕ) whe
         holds = λ bs q e z. subst (λ (a : rules.Added). Holds bytes (grown bs a)) (sym (is bs e)) q;
       }
 
-  module _ (room : 16 * len + 16 ≤ length bytes) (prev : Found) (found : LastOf bytes len prev) (p : ℕ) (many : PreemptionsBefore bytes prev p) where
+  module _ (room : 16 * len + 16 ≤ length bytes) (prev : ScheduleAt) (found : LastOf bytes len prev) (p : ℕ) (many : PreemptionsBefore bytes prev p) where
     before-is : {bs : List Branch} → Holds bytes bs → length bs ≡ len → p ≡ preemptionsAfter (lastSchedule bs)
     before-is {bs} q e = many .says bs q (lastSchedule bs) (last-stands bs) (found .says bs q e)
 
@@ -104,7 +104,7 @@ module _ (f : ℕ) where
   fields-of (a ∷ b ∷ c ∷ d ∷ e ∷ []) p i lo hi l = refl
   fields-of (a ∷ b ∷ c ∷ d ∷ e ∷ x ∷ s) p i lo hi l = absurd (omega arith)
 
-position-is : (l : Last) → positionOf (foundOf l) ≡ prevOf l
+position-is : (l : Last) → positionOf (lastAs l) ≡ prevOf l
 position-is none = refl
 position-is (at k s) = refl
 
@@ -147,7 +147,7 @@ module _ (bytes : List ℕ) (len : ℕ) (room : 16 * len + 16 ≤ length bytes) 
         ∙ put-again bytes len room (set (set (set r 8 i) 7 p) 9 lo) l3 10 hi (omega arith)
         ∙ ap (withRecord bytes len) (fields-of (flag exploring) s p i lo hi l)
 
-    initial-is : {bs : List Branch} → Holds bytes bs → (last : Last) → standsIn bs last → foundBelow len (foundOf last) → initialAt (kept s) len (foundOf last) ≡ initialAfter last (orNone (activeIn s))
+    initial-is : {bs : List Branch} → Holds bytes bs → (last : Last) → standsIn bs last → foundBelow len (lastAs last) → initialAt (kept s) len (lastAs last) ≡ initialAfter last (orNone (activeIn s))
     unfolding activeOf
     initial-is h none g b = ap (λ (x : List ℕ). orNone (activeIn x)) kept-states
     initial-is h (at k q) g b =
@@ -157,7 +157,7 @@ module _ (bytes : List ℕ) (len : ℕ) (room : 16 * len + 16 ≤ length bytes) 
 
 -- It is added
 
-module _ (bytes : List ℕ) (len : ℕ) (exploring : Bool) (seed : List ℕ) (room : 16 * len + 16 ≤ length bytes) (prev : Found) (found : LastOf bytes len prev) (p : ℕ) (many : PreemptionsBefore bytes prev p) (few : p ≤ 255) (five : length seed ≡ 5) where
+module _ (bytes : List ℕ) (len : ℕ) (exploring : Bool) (seed : List ℕ) (room : 16 * len + 16 ≤ length bytes) (prev : ScheduleAt) (found : LastOf bytes len prev) (p : ℕ) (many : PreemptionsBefore bytes prev p) (few : p ≤ 255) (five : length seed ≡ 5) where
   abbrev toggledSeed : List ℕ
   toggledSeed = toggled seed
 
@@ -192,10 +192,10 @@ module _ (bytes : List ℕ) (len : ℕ) (exploring : Bool) (seed : List ℕ) (ro
         abbrev last : Last
         last = lastSchedule bs
 
-        prev-is : prev ≡ foundOf last
+        prev-is : prev ≡ lastAs last
         prev-is = found .says bs h same
 
-        last-below : foundBelow len (foundOf last)
+        last-below : foundBelow len (lastAs last)
         last-below = rw prev-is at (found .below)
 
         initial-now : initialAt b₃ len prev ≡ initialAfter last (orNone (activeIn toggledSeed))
@@ -213,7 +213,7 @@ module _ (bytes : List ℕ) (len : ℕ) (exploring : Bool) (seed : List ℕ) (ro
         position-now : positionOf prev ≡ prevOf last
         position-now = ap positionOf prev-is ∙ position-is last
 
-        prev-small : (l : Last) → foundBelow len (foundOf l) → len ≤ positions → prevOf l / 256 % 256 ≡ prevOf l / 256
+        prev-small : (l : Last) → foundBelow len (lastAs l) → len ≤ positions → prevOf l / 256 % 256 ≡ prevOf l / 256
         prev-small none b z = refl
         prev-small (at k s) b z = omega arith
 

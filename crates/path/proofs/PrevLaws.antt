@@ -15,7 +15,7 @@ use borrow.Author.Tests.{ltb-true, ltb-false, eqb-true, eqb-false}
 use lib.Dec.{ltb, eqb}
 use lib.ListN.{length, getD, set, take, length-append, List·getD-append, List·getD-eq-default}
 use lib.Seq.{take-suc, take-all, length-take-le, getD-set-same, getD-set-other, getD-at}
-use Rattle.rules.specs.Path.{Branch, Schedule, Last, Placed, schedule, load, spurious, none, at, noBranch, theSchedule, scheduleAt, andSchedule, schedulesBelow, switchIn, ifExploring, activeOf, lastSchedule, orFirst, further, prevOf}
+use Rattle.rules.specs.Path.{Branch, Schedule, Last, Placed, schedule, load, spurious, none, at, noBranch, theSchedule, scheduleAt, andSchedule, schedulesBelow, switchIn, ifExploring, activeOf, lastSchedule, orFirst, oneFurther, prevOf}
 use Rattle.path.specs.Holds.{lastIn, Prevs}
 use Rattle.path.specs.Walks.{standsIn}
 
@@ -119,7 +119,7 @@ unfolding lastSchedule
 last-here [] s = refl
 last-here (x ∷ xs) s =
     let e : length xs + 1 ≡ suc (length xs) = omega arith in
-    ap (λ (l : Last). orFirst (further l) x) (last-here xs s) ∙ ap (λ (m : ℕ). at m s) e
+    ap (λ (l : Last). orFirst (oneFurther l) x) (last-here xs s) ∙ ap (λ (m : ℕ). at m s) e
 
 first-other : (b : Branch) (k : ℕ) → theSchedule k b ≡ none → orFirst none b ≡ none
 first-other (schedule s) k e = let z : _≡_ {A = ℕ} 0 1 = cc in absurd (omega arith)
@@ -129,7 +129,7 @@ first-other (spurious u) k e = refl
 pub last-other : (xs : List Branch) (b : Branch) (k : ℕ) → theSchedule k b ≡ none → lastSchedule (xs ++ (b ∷ [])) ≡ lastSchedule xs
 unfolding lastSchedule
 last-other [] b k e = first-other b k e
-last-other (x ∷ xs) b k e = ap (λ (l : Last). orFirst (further l) x) (last-other xs b k e)
+last-other (x ∷ xs) b k e = ap (λ (l : Last). orFirst (oneFurther l) x) (last-other xs b k e)
 
 last-on : (k : ℕ) (b : Branch) (xs : List Branch) (m : List Placed) → length xs ≡ k → lastIn m ≡ lastSchedule xs → lastIn (andSchedule k b m) ≡ lastSchedule (xs ++ (b ∷ []))
 last-on k (schedule s) xs m l e = sym (last-here xs s ∙ ap (λ (n : ℕ). at n s) l)

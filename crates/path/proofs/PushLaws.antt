@@ -24,7 +24,7 @@ use Rattle.record.proofs.LoadLaws.{load-new, left-whole}
 use Rattle.path.specs.Holds.{Holds}
 use Rattle.path.specs.Places.{recordsOf}
 use Rattle.path.specs.Pushes.{Pushes, Seven, pushedOf, grown}
-use Rattle.path.specs.declared.Pushed.the-variants.{Added, Full}
+use Rattle.path.specs.declared.Addition.the-variants.{Added, Full}
 use Rattle.path.proofs.HoldsLaws.{holds-blank, holds-added}
 
 pub no-room : (bytes : List ℕ) (len : ℕ) → recordsOf bytes ≤ len → leb (recordsOf bytes) len ≡ true

@@ -19,17 +19,17 @@ use lib.Dec.{leb, eqb}
 use lib.ListN.{length, getD, take, length-set, List·getD-eq-default}
 use lib.Seq.{take-suc, take-all, length-take-le, getD-set-same}
 use Rattle.rules.specs.Path as rules
-use Rattle.rules.specs.Path.{Branch, Schedule, Last, Marked, Placed, schedule, load, spurious, none, at, noBranch, scheduleAt, theSchedule, ifExploring, exploringBelow, lastSchedule, orFirst, further, schedulesBelow, switchIn, preemptionsAfter, active, activeIn, activeOf, scheduleMarked, markedAt, markedBefore, both, backtracked}
+use Rattle.rules.specs.Path.{Branch, Schedule, Last, Marked, Placed, schedule, load, spurious, none, at, noBranch, scheduleAt, theSchedule, ifExploring, exploringBelow, lastSchedule, orFirst, oneFurther, schedulesBelow, switchIn, preemptionsAfter, active, activeIn, activeOf, scheduleMarked, markedAt, markedBefore, withOpened, backtracked}
 use Rattle.record.specs.Fields.{fieldOf, statesAt}
 use Rattle.record.specs.Places.{First, orFive}
 use Rattle.record.specs.Schedules.{PrevOf, PreemptionsOf}
-use Rattle.record.specs.declared.schedule.Found.{Found}
-use Rattle.record.specs.declared.schedule.Found.the-variants.{At, Nowhere}
+use Rattle.record.specs.declared.schedule.ScheduleAt.{ScheduleAt}
+use Rattle.record.specs.declared.schedule.ScheduleAt.the-variants.{At, Nowhere}
 use Rattle.record.proofs.ScheduleLaws.{stands-exploring, active-is, first-of-five, five-alike}
 use Rattle.path.specs.Bounds.{boundOf}
 use Rattle.path.specs.Holds.{Holds, lastIn}
 use Rattle.path.specs.Places.{Through, recordsOf}
-use Rattle.path.specs.Walks.{HoldsAt, foundOf, standsIn, Marks, MarksAt, ExploringFrom, SwitchFrom, MarksBefore}
+use Rattle.path.specs.Walks.{HoldsAt, lastAs, standsIn, PathMarked, MarksAt, ExploringFrom, SwitchFrom, MarksBefore}
 use Rattle.path.specs.declared.Bound.{Bound}
 use Rattle.path.specs.declared.Bound.the-variants.{Unbounded, AtMost}
 use Rattle.path.proofs.HoldsLaws.{holds-room, inside, at-stands, at-five}
@@ -38,7 +38,7 @@ use Rattle.path.proofs.PrevLaws.{schedule-there, last-here, last-other,
 
 -- An answer
 
-pub found-none : (l : Last) → Nowhere ≡ foundOf l → l ≡ none
+pub found-none : (l : Last) → Nowhere ≡ lastAs l → l ≡ none
 found-none none e = refl
 found-none (at k s) e = let z : _≡_ {A = ℕ} 0 1 = cc in absurd (omega arith)
 
@@ -46,7 +46,7 @@ pub record Named (l : Last) (p : ℕ) : Type 0 where
   pub of : Schedule
   pub is : l ≡ at p of
 
-pub found-at : (l : Last) (p : ℕ) → At p ≡ foundOf l → Named l p
+pub found-at : (l : Last) (p : ℕ) → At p ≡ lastAs l → Named l p
 found-at none p e = let z : _≡_ {A = ℕ} 0 1 = cc in absurd (omega arith)
 found-at (at k s) p e = let q : k ≡ p = cc in record { of = s; is = ap (λ (x : ℕ). at x s) q }
 
@@ -111,11 +111,11 @@ module _ (bytes : List ℕ) (n : ℕ) (pos : 0 < n) (kind : Bool) (is : kind ≡
     pub look-quiet : x ≡ false → exploringBelow bs n ≡ exploringBelow bs (n - 1)
     look-quiet q = ap (exploringBelow bs) one-less ∙ past-quiet bs (n - 1) (here .of) (here .is) (sym exploring-is ∙ q)
 
-    pub look-here : x ≡ true → At (n - 1) ≡ foundOf (exploringBelow bs n)
+    pub look-here : x ≡ true → At (n - 1) ≡ lastAs (exploringBelow bs n)
     look-here q =
-        ap foundOf (sym (ap (exploringBelow bs) one-less ∙ stops-here bs (n - 1) (here .of) (here .is) (sym exploring-is ∙ q)))
+        ap lastAs (sym (ap (exploringBelow bs) one-less ∙ stops-here bs (n - 1) (here .of) (here .is) (sym exploring-is ∙ q)))
 
-pub look-none : (bs : List Branch) (n : ℕ) → n ≤ 0 → Nowhere ≡ foundOf (exploringBelow bs n)
+pub look-none : (bs : List Branch) (n : ℕ) → n ≤ 0 → Nowhere ≡ lastAs (exploringBelow bs n)
 unfolding exploringBelow
 look-none bs zero h = refl
 look-none bs (suc n) h = absurd (omega arith)
@@ -143,11 +143,11 @@ module _ (bytes : List ℕ) (n : ℕ) (pos : 0 < n) (kind : Bool) (is : kind ≡
   last-on e =
       ap lastSchedule one-more ∙ last-other (take (n - 1) bs) (getD bs (n - 1) noBranch) (n - 1) (not-there h (n - 1) (sym is ∙ e))
 
-  pub last-at : kind ≡ true → At (n - 1) ≡ foundOf (lastSchedule (take n bs))
+  pub last-at : kind ≡ true → At (n - 1) ≡ lastAs (lastSchedule (take n bs))
   last-at e =
       let t : There bs (n - 1) = there h (n - 1) (sym is ∙ e) in
       let f : length (take (n - 1) bs) ≡ n - 1 = length-take-le (n - 1) bs (omega arith) in
-      ap foundOf
+      ap lastAs
       (sym
       (ap lastSchedule one-more
       ∙ ap (λ (b : Branch). lastSchedule (take (n - 1) bs ++ (b ∷ []))) (t .is)
@@ -157,12 +157,12 @@ module _ (bytes : List ℕ) (n : ℕ) (pos : 0 < n) (kind : Bool) (is : kind ≡
 pub last-all : (bs : List Branch) (n : ℕ) → length bs ≡ n → lastSchedule bs ≡ lastSchedule (take n bs)
 last-all bs n e = ap lastSchedule (sym (take-all n bs (omega arith)))
 
-pub last-none : (bs : List Branch) (n : ℕ) → n ≤ 0 → Nowhere ≡ foundOf (lastSchedule (take n bs))
+pub last-none : (bs : List Branch) (n : ℕ) → n ≤ 0 → Nowhere ≡ lastAs (lastSchedule (take n bs))
 unfolding lastSchedule
 last-none bs zero h = refl
 last-none bs (suc n) h = absurd (omega arith)
 
-last-on-stands : (b : Branch) (bs : List Branch) (l : Last) → standsIn bs l → standsIn (b ∷ bs) (orFirst (further l) b)
+last-on-stands : (b : Branch) (bs : List Branch) (l : Last) → standsIn bs l → standsIn (b ∷ bs) (orFirst (oneFurther l) b)
 last-on-stands (schedule s) bs none h = refl
 last-on-stands (load l) bs none h = tt
 last-on-stands (spurious u) bs none h = tt
@@ -177,11 +177,11 @@ last-stands (b ∷ bs) = last-on-stands b bs (lastSchedule bs) (last-stands bs)
 
 -- The preemptions before a new one
 
-pub before-none : (l : Last) → Nowhere ≡ foundOf l → 0 ≡ preemptionsAfter l
+pub before-none : (l : Last) → Nowhere ≡ lastAs l → 0 ≡ preemptionsAfter l
 before-none none e = refl
 before-none (at k s) e = let z : _≡_ {A = ℕ} 0 1 = cc in absurd (omega arith)
 
-pub before-at : {bytes : List ℕ} {bs : List Branch} (h : Holds bytes bs) (l : Last) (p r : ℕ) → standsIn bs l → At p ≡ foundOf l → PreemptionsOf bytes p r → r ≡ preemptionsAfter l
+pub before-at : {bytes : List ℕ} {bs : List Branch} (h : Holds bytes bs) (l : Last) (p r : ℕ) → standsIn bs l → At p ≡ lastAs l → PreemptionsOf bytes p r → r ≡ preemptionsAfter l
 before-at h none p r s e f = let z : _≡_ {A = ℕ} 0 1 = cc in absurd (omega arith)
 before-at {bytes} {bs} h (at k q) p r s e f =
     let n : p ≡ k = cc in
@@ -201,7 +201,7 @@ Walks bytes from curr = (bs : List Branch) (s : Schedule) → HoldsAt bytes bs f
 pub walk-none : (bytes : List ℕ) (from : ℕ) → Walks bytes from from
 walk-none bytes from bs s h = record { now = s; stands = h .there; same = ap (λ (n : ℕ). switchIn (schedulesBelow bs n)) (add-one from) }
 
-module _ (bytes : List ℕ) (from curr : ℕ) (w : Walks bytes from curr) (f : Found) (g : PrevOf bytes curr f) (x : Bool) (i : x ≡ eqb (fieldOf bytes curr 1) 1) where
+module _ (bytes : List ℕ) (from curr : ℕ) (w : Walks bytes from curr) (f : ScheduleAt) (g : PrevOf bytes curr f) (x : Bool) (i : x ≡ eqb (fieldOf bytes curr 1) 1) where
   module _ {bs : List Branch} {s : Schedule} (h : HoldsAt bytes bs from s) where
     this : Walk bs from curr
     this = w bs s h
@@ -217,11 +217,11 @@ module _ (bytes : List ℕ) (from curr : ℕ) (w : Walks bytes from curr) (f : F
         let b : lastIn (schedulesBelow bs curr) ≡ none = found-none (lastIn (schedulesBelow bs curr)) (sym e ∙ prev-says held f g) in
         this .same ∙ switch-first bs curr (this .now) (this .stands) b
 
-    pub walk-first : f ≡ Nowhere → x ≡ true → At curr ≡ foundOf (switchIn (schedulesBelow bs (from + 1)))
-    walk-first e q = ap foundOf (sym (first-of e ∙ if-true curr (this .now) none (sym explores ∙ q)))
+    pub walk-first : f ≡ Nowhere → x ≡ true → At curr ≡ lastAs (switchIn (schedulesBelow bs (from + 1)))
+    walk-first e q = ap lastAs (sym (first-of e ∙ if-true curr (this .now) none (sym explores ∙ q)))
 
-    pub walk-nowhere : f ≡ Nowhere → x ≡ false → Nowhere ≡ foundOf (switchIn (schedulesBelow bs (from + 1)))
-    walk-nowhere e q = ap foundOf (sym (first-of e ∙ if-false curr (this .now) none (sym explores ∙ q)))
+    pub walk-nowhere : f ≡ Nowhere → x ≡ false → Nowhere ≡ lastAs (switchIn (schedulesBelow bs (from + 1)))
+    walk-nowhere e q = ap lastAs (sym (first-of e ∙ if-false curr (this .now) none (sym explores ∙ q)))
 
     module _ (p : ℕ) (e : f ≡ At p) where
       prior : Named (lastIn (schedulesBelow bs curr)) p
@@ -239,9 +239,9 @@ module _ (bytes : List ℕ) (from curr : ℕ) (w : Walks bytes from curr) (f : F
           ∙ ap (λ (y : ℕ). eqb (orFive (activeIn (this .now .states))) y) (active-is (at-stands back) b n)
           ∙ five-alike (activeIn (this .now .states)) (activeIn (prior .of .states)) (first-of-five active (this .now .states) (at-five held)) (first-of-five active (prior .of .states) (at-five back)))
 
-      pub walk-here : x ≡ true → (a b : ℕ) → First (statesAt bytes curr) active a → First (statesAt bytes p) active b → a ≢ b → At curr ≡ foundOf (switchIn (schedulesBelow bs (from + 1)))
+      pub walk-here : x ≡ true → (a b : ℕ) → First (statesAt bytes curr) active a → First (statesAt bytes p) active b → a ≢ b → At curr ≡ lastAs (switchIn (schedulesBelow bs (from + 1)))
       walk-here q a b m n d =
-          ap foundOf
+          ap lastAs
           (sym (this .same ∙ switch-here bs curr (this .now) (this .stands) p (prior .of) (prior .is) (sym explores ∙ q) (alike a b m n ∙ ne-eqb a b d)))
 
       pub walk-quiet : x ≡ false → Walk bs from p
@@ -262,23 +262,23 @@ module _ (bytes : List ℕ) (from curr : ℕ) (w : Walks bytes from curr) (f : F
 
 module _ (n k t : ℕ) (m : Marked) (s : Schedule) where
   abbrev second : Last → Marked
-  second l = both (m .opened) (markedAt (rules.atMost n) (m .path) l t)
+  second l = withOpened (m .opened) (markedAt (rules.atMost n) (m .path) l t)
 
   second-is : (l : Last) → switchIn (schedulesBelow (m .path) k) ≡ l → markedBefore (rules.atMost n) m (at k s) t ≡ second l
   unfolding markedBefore
   second-is l e = ap second e
 
-  unmarked-second : {bytes : List ℕ} → Holds bytes (m .path) → switchIn (schedulesBelow (m .path) k) ≡ none → Marks bytes (markedBefore (rules.atMost n) m (at k s) t) (m .opened + 0)
+  unmarked-second : {bytes : List ℕ} → Holds bytes (m .path) → switchIn (schedulesBelow (m .path) k) ≡ none → PathMarked bytes (markedBefore (rules.atMost n) m (at k s) t) (m .opened + 0)
   unmarked-second h e = rw (second-is none e) (record { holds = h; opens = refl })
 
-module _ {entry : List ℕ} (n k t : ℕ) (f : Found) (g : PrevOf entry k f) (m : Marked) (s : Schedule) (h : HoldsAt entry (m .path) k s) where
-  pub second-none : f ≡ Nowhere → Marks entry (markedBefore (rules.atMost n) m (at k s) t) (m .opened + 0)
+module _ {entry : List ℕ} (n k t : ℕ) (f : ScheduleAt) (g : PrevOf entry k f) (m : Marked) (s : Schedule) (h : HoldsAt entry (m .path) k s) where
+  pub second-none : f ≡ Nowhere → PathMarked entry (markedBefore (rules.atMost n) m (at k s) t) (m .opened + 0)
   unfolding switchIn
   second-none e =
       let b : lastIn (schedulesBelow (m .path) k) ≡ none = found-none (lastIn (schedulesBelow (m .path) k)) (sym e ∙ prev-says h f g) in
       unmarked-second n k t m s (h .path) (ap switchIn (none-is (m .path) k b))
 
-  module _ (p : ℕ) (e : f ≡ At p) (c : Found) (d : SwitchFrom entry p c) where
+  module _ (p : ℕ) (e : f ≡ At p) (c : ScheduleAt) (d : SwitchFrom entry p c) where
     prior-is : Named (lastIn (schedulesBelow (m .path) k)) p
     prior-is = found-at (lastIn (schedulesBelow (m .path) k)) p (sym e ∙ prev-says h f g)
 
@@ -288,21 +288,21 @@ module _ {entry : List ℕ} (n k t : ℕ) (f : Found) (g : PrevOf entry k f) (m 
     abbrev met : Last
     met = switchIn (schedulesBelow (m .path) k)
 
-    met-is : c ≡ foundOf met
+    met-is : c ≡ lastAs met
     met-is =
         d .says (m .path) (prior-is .of) (record { path = h .path; there = newest .stands })
-        ∙ ap (λ (x : ℕ). foundOf (switchIn (schedulesBelow (m .path) x))) (add-one p)
-        ∙ ap (λ (x : List Placed). foundOf (switchIn x)) (sym (newest .same))
+        ∙ ap (λ (x : ℕ). lastAs (switchIn (schedulesBelow (m .path) x))) (add-one p)
+        ∙ ap (λ (x : List Placed). lastAs (switchIn x)) (sym (newest .same))
 
-    pub second-nowhere : c ≡ Nowhere → Marks entry (markedBefore (rules.atMost n) m (at k s) t) (m .opened + 0)
+    pub second-nowhere : c ≡ Nowhere → PathMarked entry (markedBefore (rules.atMost n) m (at k s) t) (m .opened + 0)
     second-nowhere q = unmarked-second n k t m s (h .path) (found-none met (sym q ∙ met-is))
 
-    pub second-at : (u : ℕ) → c ≡ At u → (exit : List ℕ) (r : ℕ) → MarksAt entry exit u (rules.atMost n) t r → Marks exit (markedBefore (rules.atMost n) m (at k s) t) (m .opened + r)
+    pub second-at : (u : ℕ) → c ≡ At u → (exit : List ℕ) (r : ℕ) → MarksAt entry exit u (rules.atMost n) t r → PathMarked exit (markedBefore (rules.atMost n) m (at k s) t) (m .opened + r)
     second-at u q exit r w =
         let there-is : Named met u = found-at met u (sym q ∙ met-is) in
         let stood : standsIn (m .path) met = switch-stands (m .path) k in
         let stands : standsIn (m .path) (at u (there-is .of)) = rw (there-is .is) at stood in
-        let marks : Marks exit (markedAt (rules.atMost n) (m .path) (at u (there-is .of)) t) r = w .marks (m .path) (there-is .of) (record { path = h .path; there = stands }) in
+        let marks : PathMarked exit (markedAt (rules.atMost n) (m .path) (at u (there-is .of)) t) r = w .marks (m .path) (there-is .of) (record { path = h .path; there = stands }) in
         rw (second-is n k t m s (at u (there-is .of)) (there-is .is)) (record { holds = marks .holds; opens = ap (λ (y : ℕ). m .opened + y) (marks .opens) })
 
 -- Both marks
@@ -312,16 +312,16 @@ second-same : (bound : rules.Bound) (m : Marked) (k : ℕ) (s u : Schedule) (t :
 unfolding markedBefore
 second-same bound m k s u t = refl
 
-module _ {entry : List ℕ} (point t : ℕ) (f : Found) (g : ExploringFrom entry point f) {bs : List Branch} (h : Holds entry bs) where
+module _ {entry : List ℕ} (point t : ℕ) (f : ScheduleAt) (g : ExploringFrom entry point f) {bs : List Branch} (h : Holds entry bs) where
   abbrev first : Last
   first = exploringBelow bs (point + 1)
 
-  unmarked-by : (bound : Bound) → first ≡ none → Marks entry (backtracked (boundOf bound) bs point t) 0
+  unmarked-by : (bound : Bound) → first ≡ none → PathMarked entry (backtracked (boundOf bound) bs point t) 0
   unfolding backtracked markedBefore
   unmarked-by Unbounded e = rw e (record { holds = h; opens = refl })
   unmarked-by (AtMost n) e = rw e (record { holds = h; opens = refl })
 
-  pub mark-none : (bound : Bound) → f ≡ Nowhere → Marks entry (backtracked (boundOf bound) bs point t) 0
+  pub mark-none : (bound : Bound) → f ≡ Nowhere → PathMarked entry (backtracked (boundOf bound) bs point t) 0
   mark-none bound e = unmarked-by bound (found-none first (sym e ∙ g .says bs h))
 
   module _ (k : ℕ) (e : f ≡ At k) where
@@ -334,26 +334,26 @@ module _ {entry : List ℕ} (point t : ℕ) (f : Found) (g : ExploringFrom entry
         let stands : standsIn bs (at k (first-is .of)) = rw (first-is .is) at stood in
         record { path = h; there = stands }
 
-    one-mark : (exit : List ℕ) (r : ℕ) → MarksAt entry exit k rules.unbounded t r → Marks exit (backtracked rules.unbounded bs point t) r
+    one-mark : (exit : List ℕ) (r : ℕ) → MarksAt entry exit k rules.unbounded t r → PathMarked exit (backtracked rules.unbounded bs point t) r
     unfolding backtracked
     one-mark exit r w = rw (first-is .is) (w .marks bs (first-is .of) first-at)
 
-    pub mark-one : (bound : Bound) → bound ≡ Unbounded → (exit : List ℕ) (r : ℕ) → MarksAt entry exit k (boundOf bound) t r → Marks exit (backtracked (boundOf bound) bs point t) r
+    pub mark-one : (bound : Bound) → bound ≡ Unbounded → (exit : List ℕ) (r : ℕ) → MarksAt entry exit k (boundOf bound) t r → PathMarked exit (backtracked (boundOf bound) bs point t) r
     mark-one Unbounded q exit r w = one-mark exit r w
     mark-one (AtMost n) q exit r w = let z : _≡_ {A = ℕ} 0 1 = cc in absurd (omega arith)
 
-    two-marks : (n : ℕ) (mid exit : List ℕ) (r q : ℕ) → MarksAt entry mid k (rules.atMost n) t r → MarksBefore mid exit k n t q → Marks exit (backtracked (rules.atMost n) bs point t) (r + q)
+    two-marks : (n : ℕ) (mid exit : List ℕ) (r q : ℕ) → MarksAt entry mid k (rules.atMost n) t r → MarksBefore mid exit k n t q → PathMarked exit (backtracked (rules.atMost n) bs point t) (r + q)
     unfolding backtracked
     two-marks n mid exit r q w v =
         let s : Schedule = first-is .of in
         let u : Schedule = scheduleMarked (rules.atMost n) s t in
         let m : Marked = markedAt (rules.atMost n) bs (at k s) t in
-        let one : Marks mid m r = w .marks bs s first-at in
+        let one : PathMarked mid m r = w .marks bs s first-at in
         let back : HoldsAt mid (m .path) k u = record { path = one .holds; there = getD-set-same bs k (schedule u) noBranch (inside first-at) } in
-        let two : Marks exit (markedBefore (rules.atMost n) m (at k u) t) (m .opened + q) = v .marks m u back in
+        let two : PathMarked exit (markedBefore (rules.atMost n) m (at k u) t) (m .opened + q) = v .marks m u back in
         rw (first-is .is, one .opens, ← second-same (rules.atMost n) m k s u t) two
 
-    pub mark-two : (bound : Bound) (n : ℕ) → bound ≡ AtMost n → (mid exit : List ℕ) (r q : ℕ) → MarksAt entry mid k (boundOf bound) t r → MarksBefore mid exit k n t q → Marks exit (backtracked (boundOf bound) bs point t) (r + q)
+    pub mark-two : (bound : Bound) (n : ℕ) → bound ≡ AtMost n → (mid exit : List ℕ) (r q : ℕ) → MarksAt entry mid k (boundOf bound) t r → MarksBefore mid exit k n t q → PathMarked exit (backtracked (boundOf bound) bs point t) (r + q)
     mark-two Unbounded n b mid exit r q w v = let z : _≡_ {A = ℕ} 0 1 = cc in absurd (omega arith)
     mark-two (AtMost x) n b mid exit r q w v =
         let i : n ≡ x = cc in

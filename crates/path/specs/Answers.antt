@@ -3,8 +3,8 @@ use Prim.Native.Nat.{ℕ, _+_, _*_, _≤_, _<_}
 use mathlib.Core.List.{List}
 use mathlib.Core.Path.{_≡_}
 use lib.ListN.{length}
-use Rattle.path.specs.declared.Pushed.{Pushed}
-use Rattle.path.specs.declared.Pushed.the-variants as pushed
+use Rattle.path.specs.declared.Addition.{Addition}
+use Rattle.path.specs.declared.Addition.the-variants as pushed
 use Rattle.path.specs.declared.Chosen.{Chosen}
 use Rattle.path.specs.declared.Chosen.the-variants as chosen
 
@@ -19,7 +19,7 @@ pub record Refused (entry exit : List ℕ) (why : Type 0) : Type 0 where
   pub same : exit ≡ entry
 
 -- a new branch: it is refused as full exactly where the next record does not fit
-abbrev pub pushedWithin : List ℕ → List ℕ → ℕ → ℕ → Pushed → Type 0
+abbrev pub pushedWithin : List ℕ → List ℕ → ℕ → ℕ → Addition → Type 0
 pushedWithin entry exit len most (pushed.Added n) = Opened entry len most n
 pushedWithin entry exit len most pushed.Full = Refused entry exit (length entry < 16 * len + 16)
 pushedWithin entry exit len most pushed.Preempted = Refused entry exit (16 * len + 16 ≤ length entry)

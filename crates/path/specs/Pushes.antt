@@ -12,10 +12,10 @@ use Rattle.rules.specs.Path as rules
 use Rattle.path.specs.Answers.{pushedWithin}
 use Rattle.path.specs.Holds.{Holds}
 use Rattle.path.specs.Places.{recordsOf}
-use Rattle.path.specs.declared.Pushed.{Pushed}
-use Rattle.path.specs.declared.Pushed.the-variants.{Added, Full, Preempted}
+use Rattle.path.specs.declared.Addition.{Addition}
+use Rattle.path.specs.declared.Addition.the-variants.{Added, Full, Preempted}
 
-abbrev pub pushedOf : rules.Added → Pushed
+abbrev pub pushedOf : rules.Added → Addition
 pushedOf (rules.added b) = Added (rules.openAt b)
 pushedOf rules.full = Full
 pushedOf rules.preempted = Preempted
@@ -26,7 +26,7 @@ grown bs rules.full = bs
 grown bs rules.preempted = bs
 
 -- As many branches can be present as the buffer has room for records.
-pub record Pushes (entry exit : List ℕ) (len most : ℕ) (answer : ℕ → List rules.Branch → rules.Added) (r : Pushed) : Type 0 where
+pub record Pushes (entry exit : List ℕ) (len most : ℕ) (answer : ℕ → List rules.Branch → rules.Added) (r : Addition) : Type 0 where
   pub within : pushedWithin entry exit len most r
   pub full : length entry < 16 * len + 16 → r ≡ Full
   pub keeps : length exit ≡ length entry
@@ -34,7 +34,7 @@ pub record Pushes (entry exit : List ℕ) (len most : ℕ) (answer : ℕ → Lis
   pub holds : (bs : List rules.Branch) → Holds entry bs → length bs ≡ len → Holds exit (grown bs (answer (recordsOf entry) bs))
 
 -- A schedule added. Two bytes say the position of the last one, so the path has at most as many branches as there are positions.
-pub record PushesThread (entry exit : List ℕ) (len : ℕ) (exploring : Bool) (seed : List ℕ) (r : Pushed) : Type 0 where
+pub record PushesThread (entry exit : List ℕ) (len : ℕ) (exploring : Bool) (seed : List ℕ) (r : Addition) : Type 0 where
   pub within : pushedWithin entry exit len 5 r
   pub full : length entry < 16 * len + 16 → r ≡ Full
   pub keeps : length exit ≡ length entry

@@ -22,12 +22,12 @@ use record::fields::RECORD;
 use record::fields::field;
 use record::load;
 use record::schedule;
-use record::schedule::Found;
+use record::schedule::ScheduleAt;
 
 // What became of a new branch: it was added and opened so many choices; there is no room for it
 // (answer 11); or its preemptions would pass 255 (answer 17). In the last two cases the path is as
 // it was.
-pub enum Pushed {
+pub enum Addition {
     Added(u64),
     Full,
     Preempted,
@@ -54,34 +54,39 @@ pub enum Bound {
 
 // Adds a schedule branch with the seed's thread states. It opens what the seed has Pending, which
 // is nothing in a run: backtrack opens.
-pub fn push_thread(path: &mut [u8], len: usize, exploring: bool, seed: [u8; MAX_THREADS]) -> Pushed
+pub fn push_thread(
+    path: &mut [u8],
+    len: usize,
+    exploring: bool,
+    seed: [u8; MAX_THREADS],
+) -> Addition
     ensures { λ r. ⌜ PushesThread (now (path .entry)) (now (path .exit)) len exploring seed r ⌝ }
 {
     if path.len() / RECORD <= len {
-        return Pushed::Full;
+        return Addition::Full;
     }
     let prev = last_schedule(path, len);
     let preemptions = preemptions_before(path, len, prev);
     if fields::MAX_PREEMPTIONS < preemptions {
-        return Pushed::Preempted;
+        return Addition::Preempted;
     }
-    fields::begin(path, len, fields::SCHEDULE, exploring);
+    fields::begin(path, len, fields::KIND_SCHEDULE, exploring);
     schedule::put_threads(path, len, seed);
     schedule::toggle_yield(path, len);
     schedule::put_initial_active(path, len, prev);
     fields::put(path, len, fields::PREEMPTIONS, (preemptions % 256) as u8);
     schedule::put_prev(path, len, prev);
     if exploring {
-        return Pushed::Added(schedule::pending(path, len));
+        return Addition::Added(schedule::pending(path, len));
     }
-    Pushed::Added(0)
+    Addition::Added(0)
 }
 
 // The thread that the branch at a position has Active.
 pub fn branch_thread(path: &[u8], pos: usize) -> Chosen
     ensures { λ r. ⌜ Chooses (now (path .entry)) pos r ⌝ }
 {
-    if !has_kind(path, pos, fields::SCHEDULE) {
+    if !has_kind(path, pos, fields::KIND_SCHEDULE) {
         return Chosen::Unexpected;
     }
     let thread = schedule::active_thread_index(path, pos);
@@ -99,50 +104,50 @@ pub fn push_load(
     exploring: bool,
     seed: [u8; MAX_ATOMIC_HISTORY],
     n: usize,
-) -> Pushed
+) -> Addition
     ensures { λ r. ⌜ Pushes (now (path .entry)) (now (path .exit)) len 6 (λ B bs. loadAdded B bs exploring (take n seed)) r ⌝ }
 {
     if path.len() / RECORD <= len {
-        return Pushed::Full;
+        return Addition::Full;
     }
     let n = at_most_seven(n);
-    fields::begin(path, len, fields::LOAD, exploring);
+    fields::begin(path, len, fields::KIND_LOAD, exploring);
     load::put_values(path, len, seed, n);
     if exploring {
-        return Pushed::Added(load::left(0, n));
+        return Addition::Added(load::left(0, n));
     }
-    Pushed::Added(0)
+    Addition::Added(0)
 }
 
 // The slot that the branch at a position chooses now, with its offers.
 pub fn branch_load(path: &[u8], pos: usize) -> Offered
     ensures { λ r. ⌜ Reads (now (path .entry)) pos r ⌝ }
 {
-    if !has_kind(path, pos, fields::LOAD) {
+    if !has_kind(path, pos, fields::KIND_LOAD) {
         return Offered::Unexpected;
     }
     load::offered(path, pos)
 }
 
 // Adds a spurious branch, which says no first. Its yes is opened where it is explored.
-pub fn push_spurious(path: &mut [u8], len: usize, exploring: bool) -> Pushed
+pub fn push_spurious(path: &mut [u8], len: usize, exploring: bool) -> Addition
     ensures { λ r. ⌜ Pushes (now (path .entry)) (now (path .exit)) len 1 (λ B bs. spuriousAdded B bs exploring) r ⌝ }
 {
     if path.len() / RECORD <= len {
-        return Pushed::Full;
+        return Addition::Full;
     }
-    fields::begin(path, len, fields::SPURIOUS, exploring);
+    fields::begin(path, len, fields::KIND_SPURIOUS, exploring);
     if exploring {
-        return Pushed::Added(1);
+        return Addition::Added(1);
     }
-    Pushed::Added(0)
+    Addition::Added(0)
 }
 
 // What the branch at a position says now.
 pub fn branch_spurious(path: &[u8], pos: usize) -> Spurious
     ensures { λ r. ⌜ Says (now (path .entry)) pos r ⌝ }
 {
-    if !has_kind(path, pos, fields::SPURIOUS) {
+    if !has_kind(path, pos, fields::KIND_SPURIOUS) {
         return Spurious::Unexpected;
     }
     Spurious::Bit(field(path, pos, fields::SPUR) != 0)
@@ -155,7 +160,7 @@ pub fn branch_spurious(path: &[u8], pos: usize) -> Spurious
 pub fn backtrack(path: &mut [u8], point: usize, thread: usize, bound: Bound) -> u64
     ensures { λ r. ⌜ Backtracks (now (path .entry)) (now (path .exit)) point (boundOf bound) thread r ⌝ }
 {
-    let Found::At(at) = exploring_from(path, point) else {
+    let ScheduleAt::At(at) = exploring_from(path, point) else {
         return 0;
     };
     let opened = backtrack_at(path, at, thread, bound);
@@ -254,45 +259,45 @@ fn at_most_seven(n: usize) -> usize
 }
 
 // The last schedule record of the path.
-fn last_schedule(path: &[u8], len: usize) -> Found
+fn last_schedule(path: &[u8], len: usize) -> ScheduleAt
     requires { ⌜ 16 * len ≤ length (now path) ⌝ }
     ensures { λ r. ⌜ LastOf (now (path .entry)) len r ⌝ }
 {
     let mut last = len;
     while 0 < last {
         last -= 1;
-        if fields::is_kind(path, last, fields::SCHEDULE) {
-            return Found::At(last);
+        if fields::is_kind(path, last, fields::KIND_SCHEDULE) {
+            return ScheduleAt::At(last);
         }
     }
-    Found::Nowhere
+    ScheduleAt::Nowhere
 }
 
 // The preemptions before a new branch at a position, by the schedule record before it.
-fn preemptions_before(path: &[u8], at: usize, prev: Found) -> usize
+fn preemptions_before(path: &[u8], at: usize, prev: ScheduleAt) -> usize
     requires { ⌜ (16 * at ≤ length (now path)) × foundBelow at prev ⌝ }
     ensures { λ r. ⌜ PreemptionsBefore (now (path .entry)) prev r ⌝ }
 {
-    let Found::At(p) = prev else {
+    let ScheduleAt::At(p) = prev else {
         return 0;
     };
     schedule::preemptions(path, p)
 }
 
 // The last exploring schedule record that does not stand after the point.
-fn exploring_from(path: &[u8], point: usize) -> Found
+fn exploring_from(path: &[u8], point: usize) -> ScheduleAt
     ensures { λ r. ⌜ ExploringFrom (now (path .entry)) point r ⌝ }
 {
     let mut at = through(path, point);
     while 0 < at {
         at -= 1;
-        if fields::is_kind(path, at, fields::SCHEDULE) {
+        if fields::is_kind(path, at, fields::KIND_SCHEDULE) {
             if fields::is_exploring(path, at) {
-                return Found::At(at);
+                return ScheduleAt::At(at);
             }
         }
     }
-    Found::Nowhere
+    ScheduleAt::Nowhere
 }
 
 // A mark in the schedule at a position: none where its preemptions have reached the bound.
@@ -324,10 +329,10 @@ fn backtrack_before(path: &mut [u8], at: usize, thread: usize, bound: u8) -> u64
     requires { ⌜ 16 * at + 16 ≤ length (now path) ⌝ }
     ensures { λ r. ⌜ MarksBefore (now (path .entry)) (now (path .exit)) at bound thread r ⌝ }
 {
-    let Found::At(prev) = schedule::prev(path, at) else {
+    let ScheduleAt::At(prev) = schedule::prev(path, at) else {
         return 0;
     };
-    let Found::At(curr) = switch_from(path, prev) else {
+    let ScheduleAt::At(curr) = switch_from(path, prev) else {
         return 0;
     };
     backtrack_at(path, curr, thread, Bound::AtMost(bound))
@@ -335,24 +340,24 @@ fn backtrack_before(path: &mut [u8], at: usize, thread: usize, bound: u8) -> u64
 
 // The last exploring schedule, from one downwards, whose Active thread is not that of the schedule
 // before it. The very first schedule counts too, where it is explored.
-fn switch_from(path: &[u8], from: usize) -> Found
+fn switch_from(path: &[u8], from: usize) -> ScheduleAt
     requires { ⌜ 16 * from + 16 ≤ length (now path) ⌝ }
     ensures { λ r. ⌜ SwitchFrom (now (path .entry)) from r ⌝ }
 {
     let mut curr = from;
     loop {
         let exploring = fields::is_exploring(path, curr);
-        let Found::At(prev) = schedule::prev(path, curr) else {
+        let ScheduleAt::At(prev) = schedule::prev(path, curr) else {
             if exploring {
-                return Found::At(curr);
+                return ScheduleAt::At(curr);
             }
-            return Found::Nowhere;
+            return ScheduleAt::Nowhere;
         };
         if exploring {
             if schedule::active_thread_index(path, curr)
                 != schedule::active_thread_index(path, prev)
             {
-                return Found::At(curr);
+                return ScheduleAt::At(curr);
             }
         }
         curr = prev;

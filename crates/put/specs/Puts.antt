@@ -6,7 +6,7 @@ use mathlib.Core.List.{List}
 use mathlib.Core.Bool.{cond}
 use mathlib.Core.Path.{_≡_}
 use lib.Dec.{leb}
-use lib.ListN.{length, drop}
+use lib.ListN.{length}
 use lib.Seq.{sets}
 
 -- the last place that is counted: no buffer is longer
@@ -27,9 +27,3 @@ pub record Coming (entry now : List ℕ) (at to : ℕ) (all rest : List ℕ) : T
   pub fits : to ≤ last
   pub long : length now ≡ length entry
   pub short : length entry ≤ last
-
--- the bytes from this one of twenty on
-pub record LastOf (bytes : List ℕ) (from : ℕ) (all : List ℕ) : Type 0 where
-  pub within : from ≤ 20
-  pub long : length bytes ≡ 20
-  pub digits : drop from bytes ≡ all

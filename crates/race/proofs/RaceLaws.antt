@@ -14,10 +14,10 @@ use borrow.Author.Tests.{ne-eqb}
 use types.Run.{OneOf, miss}
 use denote.Enum.Declared.{tagOf}
 use lib.Dec.{eqb}
-use Rattle.last_access.proofs.Kind.{the-type}
-use Rattle.last_access.specs.declared.Kind.{Kind}
-use Rattle.last_access.specs.declared.Kind.the-variants.{Load, UnsyncLoad, Store, Exclusive, PlainRead, PlainWrite}
-use Rattle.race.specs.Races.{Race, _against_, raceOf, isPlain}
+use Rattle.last_access.proofs.AccessKind.{the-type}
+use Rattle.last_access.specs.declared.AccessKind.{AccessKind}
+use Rattle.last_access.specs.declared.AccessKind.the-variants.{Load, UnsyncLoad, Store, Exclusive, PlainRead, PlainWrite}
+use Rattle.race.specs.Races.{RaceSaid, _against_, raceSaid, isPlain}
 
 -- The places among the variants of the accesses to a plain cell, and of the others
 
@@ -27,7 +27,7 @@ plain = 4 ∷ 5 ∷ []
 abbrev others : List ℕ
 others = 0 ∷ 1 ∷ 2 ∷ 3 ∷ []
 
-pub plain-yes : (k : Kind) → OneOf plain (tagOf the-type k) → isPlain k ≡ true
+pub plain-yes : (k : AccessKind) → OneOf plain (tagOf the-type k) → isPlain k ≡ true
 unfolding isPlain
 plain-yes Load h = absurd (miss plain 0 tt h)
 plain-yes UnsyncLoad h = absurd (miss plain 1 tt h)
@@ -36,7 +36,7 @@ plain-yes Exclusive h = absurd (miss plain 3 tt h)
 plain-yes PlainRead h = refl
 plain-yes PlainWrite h = refl
 
-pub plain-no : (k : Kind) → OneOf others (tagOf the-type k) → isPlain k ≡ false
+pub plain-no : (k : AccessKind) → OneOf others (tagOf the-type k) → isPlain k ≡ false
 unfolding isPlain
 plain-no Load h = refl
 plain-no UnsyncLoad h = refl
@@ -47,11 +47,11 @@ plain-no PlainWrite h = absurd (miss others 5 tt h)
 
 -- By the number
 
-abbrev pub metBy : ℕ → Kind
-metBy kind = raceOf kind .met
+abbrev pub metBy : ℕ → AccessKind
+metBy kind = raceSaid kind .met
 
-abbrev pub beforeBy : ℕ → Kind
-beforeBy kind = raceOf kind .before
+abbrev pub beforeBy : ℕ → AccessKind
+beforeBy kind = raceSaid kind .before
 
 -- that it is so at each of the n numbers from this one on
 abbrev Each : {A : Type 0} → (ℕ → A) → A → ℕ → ℕ → Type 0
@@ -66,8 +66,8 @@ among f from (suc n) each k h l =
       | no m ↦ let e : from ≡ k = omega arith in each .0 ∙ ap f e
     ]
 
-pub past-last : (k : ℕ) → 13 ≤ k → raceOf k ≡ (Exclusive against Exclusive)
-unfolding raceOf
+pub past-last : (k : ℕ) → 13 ≤ k → raceSaid k ≡ (Exclusive against Exclusive)
+unfolding raceSaid
 past-last k h =
     let not : (n : ℕ) → n < 13 → eqb k n ≡ false = λ n l. ne-eqb k n (λ e. omega arith) in
     rw (
@@ -87,7 +87,7 @@ past-last k h =
 -- The one before, in the kinds 1, 2, 4 and 9 and in what is no kind
 
 before-low : (k : ℕ) → k < 5 → (k ≡ 3 → ⊥) → Exclusive ≡ beforeBy k
-unfolding raceOf
+unfolding raceSaid
 before-low k l n3 =
     elim (decLt k 3) [
       | yes h ↦ among beforeBy 0 3 (refl, (refl, (refl, tt))) k (omega arith) h
@@ -95,11 +95,11 @@ before-low k l n3 =
     ]
 
 before-middle : (k : ℕ) → 5 ≤ k → k < 10 → (k ≡ 5 → ⊥) → (k ≡ 6 → ⊥) → (k ≡ 7 → ⊥) → (k ≡ 8 → ⊥) → Exclusive ≡ beforeBy k
-unfolding raceOf
+unfolding raceSaid
 before-middle k h l n5 n6 n7 n8 = among beforeBy 9 1 (refl, tt) k (omega arith) l
 
 before-high : (k : ℕ) → 10 ≤ k → (k ≡ 10 → ⊥) → (k ≡ 11 → ⊥) → (k ≡ 12 → ⊥) → Exclusive ≡ beforeBy k
-before-high k h n10 n11 n12 = sym (ap (λ (r : Race). r .before) (past-last k (omega arith)))
+before-high k h n10 n11 n12 = sym (ap (λ (r : RaceSaid). r .before) (past-last k (omega arith)))
 
 not-lt : {k n : ℕ} → (k < n → ⊥) → n ≤ k
 not-lt h = omega arith

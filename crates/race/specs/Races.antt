@@ -1,5 +1,5 @@
 -- A race in words, by the access that met it and the one before it. Assumes nothing.
---     raceOf         the two accesses, by the number of the race kind
+--     raceSaid         the two accesses, by the number of the race kind
 --     cellAt         the cell or the plain cell of the row at fault
 --     accessName     what an access is called
 --     putRace        the line that names both, behind a page's end
@@ -13,24 +13,24 @@ use Rattle.rules.specs.Table.{Op, Decoded, refused, decoded}
 use Rattle.page.specs.Pages.{Page, putText, filled}
 use Rattle.steps.specs.Entries.{entryAt, entries, rowSays}
 use Rattle.last_access.specs.Access.{cellIn, lastAccess}
-use Rattle.last_access.specs.declared.Kind.{Kind}
-use Rattle.last_access.specs.declared.Kind.the-variants.{Load, UnsyncLoad, Store, Exclusive, PlainRead, PlainWrite}
+use Rattle.last_access.specs.declared.AccessKind.{AccessKind}
+use Rattle.last_access.specs.declared.AccessKind.the-variants.{Load, UnsyncLoad, Store, Exclusive, PlainRead, PlainWrite}
 
 -- the access that meets a race, and the one before it that it races with
-pub record Race : Type 0 where
-  pub met : Kind
-  pub before : Kind
+pub record RaceSaid : Type 0 where
+  pub met : AccessKind
+  pub before : AccessKind
 
 infix 20 _against_
-abbrev pub _against_ : Kind → Kind → Race
+abbrev pub _against_ : AccessKind → AccessKind → RaceSaid
 met against before = record { met = met; before = before }
 
 -- "Race kinds in check order: load 1 (mut); unsynchronised load 2 (mut), 3 (store); store 4 (mut), 5 (unsynchronised load);
 -- exclusive 6 (load), 7 (unsynchronised load), 8 (store), 9 (mut)." Of plain cells: "A read is refused if a write vector has a
 -- thread ahead (race kind 10). A write is refused if a read vector (kind 11), then a write vector (kind 12), has one." 9 stands
 -- last, for what is no race kind too
-unfoldable pub raceOf : ℕ → Race
-raceOf kind =
+unfoldable pub raceSaid : ℕ → RaceSaid
+raceSaid kind =
     cond (eqb kind 1) (Load against Exclusive)
     (cond (eqb kind 2) (UnsyncLoad against Exclusive)
     (cond (eqb kind 3) (UnsyncLoad against Store)
@@ -52,7 +52,7 @@ cellNamed (decoded op) = cellIn op
 unfoldable pub cellAt : List ℕ → ℕ → ℕ → ℕ
 cellAt table thread row = cellNamed (rowSays table (thread % 256) (row % 256))
 
-abbrev pub accessName : Kind → String
+abbrev pub accessName : AccessKind → String
 accessName Load = "the load"
 accessName UnsyncLoad = "the unsynchronised load"
 accessName Store = "the store"
@@ -60,7 +60,7 @@ accessName Exclusive = "the exclusive change"
 accessName PlainRead = "the plain read"
 accessName PlainWrite = "the plain write"
 
-unfoldable pub isPlain : Kind → Bool
+unfoldable pub isPlain : AccessKind → Bool
 isPlain Load = false
 isPlain UnsyncLoad = false
 isPlain Store = false
@@ -68,13 +68,13 @@ isPlain Exclusive = false
 isPlain PlainRead = true
 isPlain PlainWrite = true
 
-unfoldable pub putWhere : Page → Kind → ℕ → Page
+unfoldable pub putWhere : Page → AccessKind → ℕ → Page
 putWhere l met cell =
     cond (isPlain met) (filled l (bytesOf "answer 14: failed: race on plain cell #: ") cell 0 0)
     (filled l (bytesOf "answer 14: failed: race on cell #: ") cell 0 0)
 
 -- the access that met the race, of the row at fault
-unfoldable pub putMet : Page → ℕ → Kind → ℕ → ℕ → Page
+unfoldable pub putMet : Page → ℕ → AccessKind → ℕ → ℕ → Page
 putMet l cell met thread row =
     filled (putText (putWhere l met cell) (bytesOf (accessName met))) (bytesOf " of thread #, row #, against ") thread row 0
 
@@ -85,11 +85,11 @@ putStep l trace other step =
     (filled l (bytesOf " of thread #, row # (step #)\n") other (entryAt trace (step - 1) .row) step)
 
 -- the access before it: the other thread's last of this kind to the cell
-unfoldable pub putBefore : Page → List ℕ → List ℕ → ℕ → Kind → ℕ → Page
+unfoldable pub putBefore : Page → List ℕ → List ℕ → ℕ → AccessKind → ℕ → Page
 putBefore l table trace cell before other =
     putStep (putText l (bytesOf (accessName before))) trace other (lastAccess table trace (entries trace) other cell before)
 
 unfoldable pub putRace : Page → List ℕ → List ℕ → ℕ → ℕ → ℕ → ℕ → Page
 putRace l table trace thread row kind other =
-    putBefore (putMet l (cellAt table thread row) (raceOf kind .met) thread row) table trace (cellAt table thread row)
-    (raceOf kind .before) other
+    putBefore (putMet l (cellAt table thread row) (raceSaid kind .met) thread row) table trace (cellAt table thread row)
+    (raceSaid kind .before) other

@@ -2,9 +2,10 @@
 ghost use mathlib.Core.Path.{_≡_};
 ghost use Rattle.rules.specs.Token.{bytesOf};
 ghost use Rattle.page.specs.Pages.{ended, putText};
-ghost use Rattle.race.specs.Races.{cellAt, raceOf, accessName, putWhere, putMet, putStep, putBefore, putRace};
+ghost use Rattle.race.specs.Races.{cellAt, raceSaid, accessName, putWhere, putMet, putStep, putBefore, putRace};
 use decode::Decoded;
-use last_access::Kind;
+use last_access::AccessKind;
+use last_access::NO_CELL;
 use page::Page;
 
 // Names both accesses, the other one by its step.
@@ -26,7 +27,7 @@ pub fn put(
 }
 
 // The access that met the race, of the row at fault.
-fn put_met(page: &mut Page, at: usize, cell: u64, kind: Kind, thread: u64, row: u64) -> usize
+fn put_met(page: &mut Page, at: usize, cell: u64, kind: AccessKind, thread: u64, row: u64) -> usize
     ensures { λ r. ⌜ ended (now (page .exit)) r ≡ putMet (ended (now (page .entry)) at) cell kind thread row ⌝ }
 {
     let to = put_where(page, at, kind, cell);
@@ -41,7 +42,7 @@ fn put_before(
     table: &[u8],
     trace: &[u8],
     cell: u64,
-    kind: Kind,
+    kind: AccessKind,
     other: u64,
 ) -> usize
     ensures { λ r. ⌜ ended (now (page .exit)) r ≡ putBefore (ended (now (page .entry)) at) (now (table .entry)) (now (trace .entry)) cell kind other ⌝ }
@@ -52,11 +53,11 @@ fn put_before(
 }
 
 // That it is a race on a cell, or on a plain cell.
-fn put_where(page: &mut Page, at: usize, met: Kind, cell: u64) -> usize
+fn put_where(page: &mut Page, at: usize, met: AccessKind, cell: u64) -> usize
     ensures { λ r. ⌜ ended (now (page .exit)) r ≡ putWhere (ended (now (page .entry)) at) met cell ⌝ }
 {
     match met {
-        Kind::PlainRead | Kind::PlainWrite => page::fill(
+        AccessKind::PlainRead | AccessKind::PlainWrite => page::fill(
             page,
             at,
             b"answer 14: failed: race on plain cell #: ",
@@ -91,48 +92,48 @@ fn cell_at(table: &[u8], thread: u64, row: u64) -> u64
     ensures { λ r. ⌜ r ≡ cellAt (now (table .entry)) thread row ⌝ }
 {
     let Decoded::Row(op) = steps::row_of(table, (thread % 256) as u8, (row % 256) as u8) else {
-        return 255;
+        return NO_CELL;
     };
     last_access::cell_of(op)
 }
 
 // The access that met the race.
-fn met(kind: u64) -> Kind
-    ensures { λ r. ⌜ r ≡ raceOf kind .met ⌝ }
+fn met(kind: u64) -> AccessKind
+    ensures { λ r. ⌜ r ≡ raceSaid kind .met ⌝ }
 {
     match kind {
-        1 => Kind::Load,
-        2 | 3 => Kind::UnsyncLoad,
-        4 | 5 => Kind::Store,
-        10 => Kind::PlainRead,
-        11 | 12 => Kind::PlainWrite,
-        _ => Kind::Exclusive,
+        1 => AccessKind::Load,
+        2 | 3 => AccessKind::UnsyncLoad,
+        4 | 5 => AccessKind::Store,
+        10 => AccessKind::PlainRead,
+        11 | 12 => AccessKind::PlainWrite,
+        _ => AccessKind::Exclusive,
     }
 }
 
 // The access before it that it races with.
-fn against(kind: u64) -> Kind
-    ensures { λ r. ⌜ r ≡ raceOf kind .before ⌝ }
+fn against(kind: u64) -> AccessKind
+    ensures { λ r. ⌜ r ≡ raceSaid kind .before ⌝ }
 {
     match kind {
-        6 => Kind::Load,
-        5 | 7 => Kind::UnsyncLoad,
-        3 | 8 => Kind::Store,
-        11 => Kind::PlainRead,
-        10 | 12 => Kind::PlainWrite,
-        _ => Kind::Exclusive,
+        6 => AccessKind::Load,
+        5 | 7 => AccessKind::UnsyncLoad,
+        3 | 8 => AccessKind::Store,
+        11 => AccessKind::PlainRead,
+        10 | 12 => AccessKind::PlainWrite,
+        _ => AccessKind::Exclusive,
     }
 }
 
-fn put_kind(page: &mut Page, at: usize, kind: Kind) -> usize
+fn put_kind(page: &mut Page, at: usize, kind: AccessKind) -> usize
     ensures { λ r. ⌜ ended (now (page .exit)) r ≡ putText (ended (now (page .entry)) at) (bytesOf (accessName kind)) ⌝ }
 {
     match kind {
-        Kind::Load => page::put(page, at, b"the load"),
-        Kind::UnsyncLoad => page::put(page, at, b"the unsynchronised load"),
-        Kind::Store => page::put(page, at, b"the store"),
-        Kind::Exclusive => page::put(page, at, b"the exclusive change"),
-        Kind::PlainRead => page::put(page, at, b"the plain read"),
-        Kind::PlainWrite => page::put(page, at, b"the plain write"),
+        AccessKind::Load => page::put(page, at, b"the load"),
+        AccessKind::UnsyncLoad => page::put(page, at, b"the unsynchronised load"),
+        AccessKind::Store => page::put(page, at, b"the store"),
+        AccessKind::Exclusive => page::put(page, at, b"the exclusive change"),
+        AccessKind::PlainRead => page::put(page, at, b"the plain read"),
+        AccessKind::PlainWrite => page::put(page, at, b"the plain write"),
     }
 }

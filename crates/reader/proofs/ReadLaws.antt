@@ -12,7 +12,7 @@ use lib.ListN.{length, drop, replicate}
 use Rattle.rules.specs.Condition.{conditionBytes}
 use Rattle.rules.specs.Text as rules
 use Rattle.rules.specs.Text.{TextRead, refusedAt, accepted, readText, readInto, filled, tableBytes, ReadInto}
-use Rattle.ahead.specs.Counts.{Placed}
+use Rattle.ahead.specs.Counts.{PlacedAt}
 use Rattle.ahead.specs.declared.Place.{Place}
 use Rattle.filling.specs.Tables.{Cleared, Blank}
 use Rattle.reader.specs.Lines.{Answers, Answered, Took, readOf}
@@ -64,7 +64,7 @@ module _ (text table condition : List ℕ) where
       pub said-refused : (t c : List ℕ) (r : Lines) (at : ℕ) → Answers text t c r (readText text) → r ≡ lines.Refused at → readText text ≡ refusedAt (drop at text)
       said-refused t c r at a e = subst (λ (x : Lines). Answered text t c x (readText text)) e (a .is)
 
-      pub read-refused : (at : ℕ) (p : Place) → Placed text (drop at text) p → readText text ≡ refusedAt (drop at text)
+      pub read-refused : (at : ℕ) (p : Place) → PlacedAt text (drop at text) p → readText text ≡ refusedAt (drop at text)
           → (before after was is : List ℕ) → Cleared before after → Cleared was is → length before ≡ length table → length was ≡ length condition
           → readOf (Refused (p .line) (p .column)) after is ≡ readInto text table condition
       read-refused at p placed e before after was is t c n k =

@@ -12,7 +12,7 @@ use lib.Seq.{paste, length-take-le}
 use Rattle.rules.specs.Table.{maxRows, total}
 use Rattle.rules.specs.Condition.{conditionBytes}
 use Rattle.rules.specs.Text as rules
-use Rattle.rules.specs.Text.{Made, nothingMade, tableOf, filled, TextRead, refusedAt, accepted, linesFrom, linesIn, lineOf, readText, threadsAhead, tableBytes}
+use Rattle.rules.specs.Text.{Draft, nothingMade, tableOf, filled, TextRead, refusedAt, accepted, linesFrom, linesIn, lineOf, readText, threadsAhead, tableBytes}
 use Rattle.token.specs.Places.{part}
 use Rattle.claims.specs.Units.{Concludes, concludedOf}
 use Rattle.claims.specs.declared.Conclusion.{Conclusion}
@@ -26,7 +26,7 @@ use Rattle.filling.proofs.HeldLaws.{so-held, filled-on, length-filled, length-t
 
 -- on the way, with so many lines that may still come
 pub record Going (text table : List ℕ) (lines all n rows from left : ℕ) (whole : TextRead) : Type 0 where
-  pub made : Made
+  pub made : Draft
   pub held : Held table n made
   pub same : linesFrom left lines all rows made (drop from text) ≡ whole
 
@@ -66,11 +66,11 @@ linesBy n lines all l =
       | rules.concludes made rest ↦ rules.concluded lines made rest
     ]
 
-lines-next : (n lines all rows : ℕ) (m : Made) (bs : List ℕ) → linesFrom (suc n) lines all rows m bs ≡ linesBy n lines all (lineOf lines all rows m bs)
+lines-next : (n lines all rows : ℕ) (m : Draft) (bs : List ℕ) → linesFrom (suc n) lines all rows m bs ≡ linesBy n lines all (lineOf lines all rows m bs)
 unfolding linesFrom
 lines-next n lines all rows m bs = refl
 
-lines-zero : (lines all rows : ℕ) (m : Made) (bs : List ℕ) → linesFrom 0 lines all rows m bs ≡ refusedAt bs
+lines-zero : (lines all rows : ℕ) (m : Draft) (bs : List ℕ) → linesFrom 0 lines all rows m bs ≡ refusedAt bs
 unfolding linesFrom
 lines-zero lines all rows m bs = refl
 
@@ -113,7 +113,7 @@ module _ (text entry : List ℕ) (lines all n rows from left : ℕ) (whole : Tex
           conditionLong = refl;
         }
 
-    pub step-made : (at : ℕ) → r ≡ Goes at → (m : Made) × ((whole ≡ rules.concluded lines m (drop at text)) × Held exit n m)
+    pub step-made : (at : ℕ) → r ≡ Goes at → (m : Draft) × ((whole ≡ rules.concluded lines m (drop at text)) × Held exit n m)
     step-made at e = let x = lined (Goes at) e in (x .0, (whole-by _ (x .1 .0), x .1 .1))
 
 -- The condition
@@ -121,7 +121,7 @@ module _ (text entry : List ℕ) (lines all n rows from left : ℕ) (whole : Tex
 pub piece-most : (bytes : List ℕ) (n : ℕ) (piece : List ℕ) → piece ≡ part 0 n bytes → length piece ≤ n
 piece-most bytes n piece p = omega (arith, ap length p, length-take (n - 0) (drop 0 bytes))
 
-module _ (text table : List ℕ) (at lines threads n : ℕ) (c : Conclusion) (closes : Concludes text at lines threads c) (m : Made) (held : Held table n m) (t : m .threads ≡ threads) where
+module _ (text table : List ℕ) (at lines threads n : ℕ) (c : Conclusion) (closes : Concludes text at lines threads c) (m : Draft) (held : Held table n m) (t : m .threads ≡ threads) where
   pub closes-refused : c .taken ≡ false → rules.concluded lines m (drop at text) ≡ refusedAt (drop (c .at) text)
   closes-refused e =
       sym (closes .is m t) ∙ ap (λ (b : Bool). cond b (accepted (tableOf m) (take (c .length) (c .bytes))) (refusedAt (drop (c .at) text))) e
@@ -152,6 +152,6 @@ module _ (text table : List ℕ) (at lines threads n : ℕ) (c : Conclusion) (cl
         conditionLong = sym long-taken;
       }
 
-pub answered-by : (text table condition : List ℕ) (n : ℕ) (r : Lines) (read : Made → TextRead) → Closes text table condition n r read
-    → (m : Made) → Held table n m → (whole : TextRead) → read m ≡ whole → Answers text table condition r whole
+pub answered-by : (text table condition : List ℕ) (n : ℕ) (r : Lines) (read : Draft → TextRead) → Closes text table condition n r read
+    → (m : Draft) → Held table n m → (whole : TextRead) → read m ≡ whole → Answers text table condition r whole
 answered-by text table condition n r read closes m held whole e = record { is = subst (Answered text table condition r) e (closes .is m held) }

@@ -6,7 +6,7 @@ use mathlib.Core.List.{List}
 use mathlib.Core.Path.{_≡_}
 use lib.ListN.{length, drop}
 use Rattle.rules.specs.Text as rules
-use Rattle.rules.specs.Text.{Made}
+use Rattle.rules.specs.Text.{Draft}
 use Rattle.filling.specs.Tables.{Held}
 use Rattle.reader.specs.declared.Lines.{Lines}
 use Rattle.reader.specs.declared.Lines.the-variants as lines
@@ -31,8 +31,8 @@ pub record Answers (text table condition : List ℕ) (r : Lines) (read : rules.T
   pub is : Answered text table condition r read
 
 -- the same, from any table that the buffer holds
-pub record Closes (text table condition : List ℕ) (n : ℕ) (r : Lines) (read : Made → rules.TextRead) : Type 0 where
-  pub is : (m : Made) → Held table n m → Answered text table condition r (read m)
+pub record Closes (text table condition : List ℕ) (n : ℕ) (r : Lines) (read : Draft → rules.TextRead) : Type 0 where
+  pub is : (m : Draft) → Held table n m → Answered text table condition r (read m)
 
 abbrev pub answerOf : ReadText → rules.TextAnswer
 answerOf reads.NoRoom = rules.noRoom

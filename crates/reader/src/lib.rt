@@ -8,7 +8,7 @@ ghost use Rattle.filling.specs.Tables.{Holds, Blank};
 ghost use Rattle.reader.specs.Lines.{Closes, Answers, readOf};
 use condition::CONDITION_BYTES;
 use filling::Line;
-use table::limits::HEADER;
+use table::limits::HEADER_BYTES;
 pub use table::limits::TABLE_BYTES;
 
 // How a text was read: a buffer was too short; refused at a line and column, both from 1; or taken, with the lengths of its table and
@@ -58,10 +58,10 @@ fn lines_from(text: &[u8], table: &mut [u8], condition: &mut [u8]) -> Lines
     let all = ahead::threads_ahead(text, 0, lines);
     let mut from = 0;
     let mut rows = 0;
-    let mut length = HEADER;
+    let mut length = HEADER_BYTES;
     let mut left = lines;
     while 0 < left {
-        match filling::line_of(text, from, lines, all, rows, length, table) {
+        match filling::line_of(text, table, from, lines, all, rows, length) {
             Line::GoesOn(more, long, to) => {
                 rows = more;
                 length = long;
@@ -69,7 +69,7 @@ fn lines_from(text: &[u8], table: &mut [u8], condition: &mut [u8]) -> Lines
             }
             Line::Refused(at) => return Lines::Refused(at),
             Line::Ended => return Lines::Taken(length, 0),
-            Line::Concludes(at) => return concluded(text, at, lines, length, table, condition),
+            Line::Concludes(at) => return concluded(text, table, condition, at, lines, length),
         }
         left -= 1;
     }
@@ -79,11 +79,11 @@ fn lines_from(text: &[u8], table: &mut [u8], condition: &mut [u8]) -> Lines
 // The condition is read and judged, and its bytes are written.
 fn concluded(
     text: &[u8],
+    table: &[u8],
+    condition: &mut [u8],
     at: usize,
     lines: usize,
     length: usize,
-    table: &[u8],
-    condition: &mut [u8],
 ) -> Lines
     requires { ⌜ Holds (now table) length × Blank conditionBytes (now condition) ⌝ }
     ensures { λ r. ⌜ Closes (now (text .entry)) (now (table .entry)) (now (condition .exit)) length r (λ m. rules.concluded lines m (drop at (now (text .entry)))) ⌝ }

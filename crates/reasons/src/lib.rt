@@ -2,11 +2,13 @@
 // of the bad one, one after the other, and the first with which it is refused is the one that is wrong.
 ghost use mathlib.Core.Path.{_≡_};
 ghost use mathlib.Core.Bool.{cond};
-ghost use Rattle.decode.specs.Ops.{rowOf, roomOf};
+ghost use Rattle.decode.specs.Ops.{rowMeant, roomOf};
 ghost use Rattle.reasons.specs.Wrong.{blankOrder, blankTarget, firstFields, isFit, isOpcode, wrongIn, hasCell, hasPlain, isJump, hasRegister, isChange, mayObject, mayOrder, mayFailure, mayTarget, mayBe};
 pub use decode::Room;
 use decode::Row;
 use decode::is_row;
+use decode::kinds::COMPARE;
+use decode::kinds::DECREMENT;
 use decode::opcodes::CHECK;
 use decode::opcodes::FENCE;
 use decode::opcodes::JOIN;
@@ -56,7 +58,7 @@ pub enum May {
 
 // The field that is wrong first.
 pub fn wrong(row: Row, room: Room) -> Field
-    ensures { λ r. ⌜ r ≡ wrongIn (roomOf room) (rowOf row) ⌝ }
+    ensures { λ r. ⌜ r ≡ wrongIn (roomOf room) (rowMeant row) ⌝ }
 {
     if !is_opcode(row, room) {
         return Field::Opcode;
@@ -87,7 +89,7 @@ pub fn wrong(row: Row, room: Room) -> Field
 
 // Whether there is this opcode, be there plain cells or not: a row of it is taken where there is one to name.
 fn is_opcode(row: Row, room: Room) -> bool
-    ensures { λ r. ⌜ r ≡ isOpcode (roomOf room) (rowOf row) ⌝ }
+    ensures { λ r. ⌜ r ≡ isOpcode (roomOf room) (rowMeant row) ⌝ }
 {
     let one = Room {
         threads: room.threads,
@@ -101,14 +103,14 @@ fn is_opcode(row: Row, room: Room) -> bool
 
 // Whether the library takes a row with the first `n` fields of this one.
 fn is_fit(row: Row, room: Room, n: usize) -> bool
-    ensures { λ r. ⌜ r ≡ isFit (roomOf room) (rowOf row) n ⌝ }
+    ensures { λ r. ⌜ r ≡ isFit (roomOf room) (rowMeant row) n ⌝ }
 {
     is_row(first_fields(row, room.row, n), room)
 }
 
 // The row's opcode and its first `n` fields, on a row that is accepted, if there is one of this opcode. `own` is its number.
 fn first_fields(row: Row, own: usize, n: usize) -> Row
-    ensures { λ r. ⌜ rowOf r ≡ firstFields own (rowOf row) n ⌝ }
+    ensures { λ r. ⌜ rowMeant r ≡ firstFields own (rowMeant row) n ⌝ }
 {
     Row {
         opcode: row.opcode,
@@ -217,7 +219,11 @@ fn order_may(opcode: u8) -> May
 fn failure_may(opcode: u8, kind: u8) -> May
     ensures { λ r. ⌜ r ≡ mayFailure opcode kind ⌝ }
 {
-    let used = may_if((kind == 11) | (kind == 12), May::LoadOrder, May::ZeroByKind);
+    let used = may_if(
+        (kind == COMPARE) | (kind == DECREMENT),
+        May::LoadOrder,
+        May::ZeroByKind,
+    );
     may_if(opcode == RMW, used, May::ZeroByOpcode)
 }
 

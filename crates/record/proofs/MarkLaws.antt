@@ -13,10 +13,10 @@ use borrow.Author.Tests.{eq-eqb, ne-eqb}
 use lib.Dec.{eqb}
 use lib.ListN.{length, getD, set, List·getD-eq-default}
 use lib.Seq.{set-getD, set-out}
-use Rattle.rules.specs.Path.{explored, marked, skip, disabled, visited}
+use Rattle.rules.specs.Path.{skipToPending, marked, skip, disabled, visited}
 use Rattle.rules.proofs.MarkLaws.{isSkip, skips, made-same, made-set, made-all}
 use Rattle.record.specs.Fields.{fieldOf, withField, statesAt, withStatesAt}
-use Rattle.record.specs.Schedules.{Explores, ExploresAll, Marks}
+use Rattle.record.specs.Schedules.{Explores, ExploresAll, RecordMarked}
 use Rattle.record.proofs.StatesLaws.{length-statesAt, state-at, state-put, states-same, states-now, states-again}
 
 -- Lists of states
@@ -30,7 +30,7 @@ getD-any (x ∷ l) (suc n) d e h = getD-any l n d e (omega arith)
 unfoldable pub exploredTo : ℕ → List ℕ → List ℕ
 exploredTo zero l = l
 exploredTo (suc n) [] = []
-exploredTo (suc n) (x ∷ l) = explored x ∷ exploredTo n l
+exploredTo (suc n) (x ∷ l) = skipToPending x ∷ exploredTo n l
 
 length-to : (n : ℕ) (l : List ℕ) → length (exploredTo n l) ≡ length l
 unfolding exploredTo
@@ -44,19 +44,19 @@ to-next zero l = refl
 to-next (suc n) [] = refl
 to-next (suc n) (x ∷ l) = to-next n l
 
-to-on : (n : ℕ) (l : List ℕ) → set (exploredTo n l) n (explored (getD l n visited)) ≡ exploredTo (suc n) l
+to-on : (n : ℕ) (l : List ℕ) → set (exploredTo n l) n (skipToPending (getD l n visited)) ≡ exploredTo (suc n) l
 unfolding exploredTo
 to-on zero [] = refl
 to-on zero (x ∷ l) = refl
 to-on (suc n) [] = refl
-to-on (suc n) (x ∷ l) = ap (λ (y : List ℕ). explored x ∷ y) (to-on n l)
+to-on (suc n) (x ∷ l) = ap (λ (y : List ℕ). skipToPending x ∷ y) (to-on n l)
 
-to-all : (n : ℕ) (l : List ℕ) → length l ≤ n → exploredTo n l ≡ map explored l
+to-all : (n : ℕ) (l : List ℕ) → length l ≤ n → exploredTo n l ≡ map skipToPending l
 unfolding exploredTo
 to-all zero [] h = refl
 to-all zero (x ∷ l) h = absurd (omega arith)
 to-all (suc n) [] h = refl
-to-all (suc n) (x ∷ l) h = ap (λ (y : List ℕ). explored x ∷ y) (to-all n l (omega arith))
+to-all (suc n) (x ∷ l) h = ap (λ (y : List ℕ). skipToPending x ∷ y) (to-all n l (omega arith))
 
 -- of the first n, how many are Skip
 unfoldable pub skipsTo : ℕ → List ℕ → ℕ
@@ -105,20 +105,20 @@ module _ (bytes : List ℕ) (k : ℕ) (fits : 16 * k + 16 ≤ length bytes) wher
           puts = rw z (sym (states-same bytes k fits) ∙ ap (withStatesAt bytes k) (sym (set-getD own t visited)));
         }
 
-    pub marks-all : f ≡ 0 → (exit : List ℕ) (r : ℕ) → ExploresAll bytes exit k r → Marks bytes exit k t r
+    pub marks-all : f ≡ 0 → (exit : List ℕ) (r : ℕ) → ExploresAll bytes exit k r → RecordMarked bytes exit k t r
     unfolding marked
     marks-all q exit r h =
         let z : eqb (getD own t visited) disabled ≡ true = eq-eqb (getD own t visited) disabled (sym state-is ∙ q) in
         record { few = h .few; puts = rw z (h .puts); opens = rw z (h .opens) }
 
-    pub marks-one : f ≢ 0 → (exit : List ℕ) (r : ℕ) → Explores bytes exit k t r → Marks bytes exit k t r
+    pub marks-one : f ≢ 0 → (exit : List ℕ) (r : ℕ) → Explores bytes exit k t r → RecordMarked bytes exit k t r
     unfolding marked
     marks-one q exit r h =
         let z : eqb (getD own t visited) disabled ≡ false = ne-eqb (getD own t visited) disabled (λ w. q (state-is ∙ w)) in
         record { few = omega (arith, h .few); puts = rw z (h .puts); opens = rw z (h .opens) }
 
   -- a thread that is none
-  pub marks-none : (t : ℕ) → 5 ≤ t → Marks bytes bytes k t 0
+  pub marks-none : (t : ℕ) → 5 ≤ t → RecordMarked bytes bytes k t 0
   unfolding marked
   marks-none t b =
       let z : getD own t visited ≡ visited = List·getD-eq-default own visited {n = t} (omega (arith, five)) in
@@ -152,8 +152,8 @@ module _ (bytes : List ℕ) (k : ℕ) (fits : 16 * k + 16 ≤ length bytes) wher
     pub all-on : q ≡ withStatesAt bytes k (exploredTo (n + 1) own)
     all-on =
         h .puts
-        ∙ ap (λ (x : ℕ). withStatesAt p k (set (statesAt p k) n (explored x))) state-now
-        ∙ ap (λ (x : List ℕ). withStatesAt p k (set x n (explored (getD own n visited)))) own-now
+        ∙ ap (λ (x : ℕ). withStatesAt p k (set (statesAt p k) n (skipToPending x))) state-now
+        ∙ ap (λ (x : List ℕ). withStatesAt p k (set x n (skipToPending (getD own n visited)))) own-now
         ∙ ap (withStatesAt p k) (to-on n own)
         ∙ ap (λ (x : List ℕ). withStatesAt x k (exploredTo (suc n) own)) e
         ∙ states-again bytes k fits (exploredTo n own) five-to (exploredTo (suc n) own)

@@ -2,8 +2,8 @@
 use Prim.Native.Nat.{ℕ, _<_}
 use mathlib.Core.Path.{_≡_}
 use Rattle.record.specs.Places.{foundBelow}
-use Rattle.record.specs.declared.schedule.Found.{Found}
-use Rattle.record.specs.declared.schedule.Found.the-variants.{At}
+use Rattle.record.specs.declared.schedule.ScheduleAt.{ScheduleAt}
+use Rattle.record.specs.declared.schedule.ScheduleAt.the-variants.{At}
 
-pub place-below : {n : ℕ} {f : Found} {p : ℕ} → f ≡ At p → foundBelow n f → p < n
+pub place-below : {n : ℕ} {f : ScheduleAt} {p : ℕ} → f ≡ At p → foundBelow n f → p < n
 place-below e h = rw e at h

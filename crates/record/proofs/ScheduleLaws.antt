@@ -14,13 +14,13 @@ use borrow.Author.Tests.{lt-ltb, le-ltb, eq-eqb, ne-eqb}
 use lib.Dec.{ltb, eqb}
 use lib.ListN.{length, getD, replicate}
 use lib.Seq.{getD-append-add}
-use Rattle.rules.specs.Vector.{Whom, nobody, thread, next}
+use Rattle.rules.specs.Vector.{Whom, nobody, thread, oneUp}
 use Rattle.rules.specs.Path.{Schedule, schedule, encoded, flag, firstIn, activeIn, active, activeOf, orNone, preemptionsWith}
 use Rattle.record.specs.Fields.{fieldOf, statesAt}
 use Rattle.record.specs.Places.{First, orFive}
 use Rattle.record.specs.Schedules.{byteOf, positionAt, prevIn}
 use Rattle.record.specs.Stands.{Stands}
-use Rattle.record.specs.declared.schedule.Found.the-variants.{At, Nowhere}
+use Rattle.record.specs.declared.schedule.ScheduleAt.the-variants.{At, Nowhere}
 use Rattle.record.proofs.StandsLaws.{stands-field, stands-states, five-states}
 
 -- The threads of five
@@ -29,7 +29,7 @@ abbrev pub fewer : ℕ → Whom → Type 0
 fewer n nobody = Unit
 fewer n (thread t) = t < n
 
-fewer-on : (b : Bool) (n : ℕ) (w : Whom) → fewer n w → fewer (suc n) (cond b (thread 0) (next w))
+fewer-on : (b : Bool) (n : ℕ) (w : Whom) → fewer n w → fewer (suc n) (cond b (thread 0) (oneUp w))
 fewer-on true n w h = omega arith
 fewer-on false n nobody h = tt
 fewer-on false n (thread t) h = omega arith

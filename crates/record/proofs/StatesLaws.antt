@@ -15,7 +15,7 @@ use native.Mathlib.Numerals.{add-one}
 use borrow.Author.Tests.{eq-eqb, ne-eqb}
 use lib.ListN.{length, getD, set, take, drop, replicate, length-append, length-take, length-drop, drop-of-length-le}
 use lib.Seq.{take-at, drop-at, drop-cons, getD-take, getD-drop, set-append-left, length-take-le}
-use Rattle.rules.specs.Vector.{Whom, nobody, thread, next}
+use Rattle.rules.specs.Vector.{Whom, nobody, thread, oneUp}
 use Rattle.rules.specs.Path.{Schedule, schedule, encoded, withStates, firstIn, flag, pendings, isPending}
 use Rattle.rules.specs.Records.{recordAt, withRecord}
 use Rattle.rules.proofs.RecordLaws.{length-recordAt, record-same, length-withRecord, record-now, record-again, byte-at, byte-put, set-append-add, three}
@@ -128,7 +128,7 @@ abbrev from : ℕ → Whom → ℕ
 from i nobody = 5
 from i (thread t) = i + t
 
-from-next : (i : ℕ) (w : Whom) → from (suc i) w ≡ from i (next w)
+from-next : (i : ℕ) (w : Whom) → from (suc i) w ≡ from i (oneUp w)
 from-next i nobody = refl
 from-next i (thread t) = omega arith
 

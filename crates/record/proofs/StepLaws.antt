@@ -14,7 +14,7 @@ use borrow.Author.Tests.{eqb-true, eq-eqb, ne-eqb, lt-ltb, le-ltb}
 use lib.Dec.{eqb}
 use lib.ListN.{length, getD, set, length-set}
 use lib.Seq.{set-out}
-use Rattle.rules.specs.Vector.{Whom, nobody, thread, next}
+use Rattle.rules.specs.Vector.{Whom, nobody, thread, oneUp}
 use Rattle.rules.specs.Path.{firstIn, activeIn, toVisited, toActive, left, turned, pendings, isPending, active, pending, visited}
 use Rattle.record.specs.Answers.{Counts}
 use Rattle.record.specs.Fields.{fieldOf, withField, statesAt, withStatesAt}
@@ -64,7 +64,7 @@ abbrev In : ℕ → List ℕ → Whom → Type 0
 In x s nobody = Unit
 In x s (thread t) = getD s t 0 ≡ x
 
-in-next : (x y : ℕ) (s : List ℕ) (w : Whom) → In x s w → In x (y ∷ s) (next w)
+in-next : (x y : ℕ) (s : List ℕ) (w : Whom) → In x s w → In x (y ∷ s) (oneUp w)
 in-next x y s nobody h = tt
 in-next x y s (thread t) h = rw add-one h
 
@@ -92,7 +92,7 @@ abbrev pub Some : List ℕ → Whom → Type 0
 Some s nobody = pendings s ≡ 0
 Some s (thread t) = (0 < pendings s) × (t < length s)
 
-some-next : (y : ℕ) (s : List ℕ) (w : Whom) → eqb y pending ≡ false → Some s w → Some (y ∷ s) (next w)
+some-next : (y : ℕ) (s : List ℕ) (w : Whom) → eqb y pending ≡ false → Some s w → Some (y ∷ s) (oneUp w)
 unfolding pendings
 some-next y s nobody e h = rw (e, h)
 some-next y s (thread t) e h = rw e (omega (arith, h .0), omega (arith, h .1))

@@ -21,8 +21,8 @@ use Rattle.rules.proofs.RecordLaws.{put-on, bytes-put}
 use Rattle.record.specs.Fields.{withField, statesAt, withStatesAt, withStatesIn}
 use Rattle.record.specs.Places.{First, orFive}
 use Rattle.record.specs.Schedules.{byteOf, initialAt}
-use Rattle.record.specs.declared.schedule.Found.{Found}
-use Rattle.record.specs.declared.schedule.Found.the-variants.{At, Nowhere}
+use Rattle.record.specs.declared.schedule.ScheduleAt.{ScheduleAt}
+use Rattle.record.specs.declared.schedule.ScheduleAt.the-variants.{At, Nowhere}
 use Rattle.record.proofs.StatesLaws.{length-statesAt, state-put, states-same}
 use Rattle.record.proofs.ScheduleLaws.{fewer, first-of-five, five-byte, five-alike}
 
@@ -117,10 +117,10 @@ module _ (bytes : List ℕ) (k : ℕ) (fits : 16 * k + 16 ≤ length bytes) wher
     own-byte : byteOf a ≡ orNone (activeIn own)
     own-byte = ap byteOf (f .is) ∙ five-byte (activeIn own) (few active)
 
-    pub initial-first : (prev : Found) (r : ℕ) → prev ≡ Nowhere → r ≡ byteOf a → r ≡ initialAt bytes k prev
+    pub initial-first : (prev : ScheduleAt) (r : ℕ) → prev ≡ Nowhere → r ≡ byteOf a → r ≡ initialAt bytes k prev
     initial-first prev r e g = rw e (g ∙ own-byte)
 
-    module _ (prev : Found) (p b : ℕ) (room : 16 * p + 16 ≤ length bytes) (e : prev ≡ At p) (g : First (statesAt bytes p) active b) where
+    module _ (prev : ScheduleAt) (p b : ℕ) (room : 16 * p + 16 ≤ length bytes) (e : prev ≡ At p) (g : First (statesAt bytes p) active b) where
       alike : eqb a b ≡ eqb (orNone (activeIn own)) (orNone (activeIn (statesAt bytes p)))
       alike =
           ap (λ (x : ℕ). eqb x b) (f .is)

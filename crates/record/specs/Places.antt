@@ -4,11 +4,11 @@ use mathlib.Core.Path.{_≡_}
 use mathlib.Core.List.{List}
 use Rattle.rules.specs.Vector.{Whom, nobody, thread}
 use Rattle.rules.specs.Path.{firstIn}
-use Rattle.record.specs.declared.schedule.Found.{Found}
-use Rattle.record.specs.declared.schedule.Found.the-variants.{At, Nowhere}
+use Rattle.record.specs.declared.schedule.ScheduleAt.{ScheduleAt}
+use Rattle.record.specs.declared.schedule.ScheduleAt.the-variants.{At, Nowhere}
 
 -- it stands below a position
-abbrev pub foundBelow : ℕ → Found → Type 0
+abbrev pub foundBelow : ℕ → ScheduleAt → Type 0
 foundBelow n (At p) = p < n
 foundBelow n Nowhere = Unit
 

@@ -1,7 +1,7 @@
 -- What the functions on a schedule's record promise, by the definition. Assumes nothing.
 --     byteOf, positionOf               a thread and a position, as the record has them
 --     prevIn, PrevOf, PreemptionsOf    what is read of it
---     exploredAt, Explores, ExploresAll, Marks     marks made in it, and how many choices that opened
+--     exploredAt, Explores, ExploresAll, RecordMarked     marks made in it, and how many choices that opened
 --     initialAt                        what a new one's initial active is
 use Prim.Native.Nat.{ℕ, _+_, _*_, _≤_}
 use mathlib.Core.List.{List, map}
@@ -14,15 +14,15 @@ use Rattle.rules.specs.Path.{Schedule, noThread, noPrev, activeIn, orNone, mark
 use Rattle.record.specs.Fields.{fieldOf, statesAt, withStatesAt}
 use Rattle.record.specs.Places.{foundBelow}
 use Rattle.record.specs.Stands.{Stands}
-use Rattle.record.specs.declared.schedule.Found.{Found}
-use Rattle.record.specs.declared.schedule.Found.the-variants.{At, Nowhere}
+use Rattle.record.specs.declared.schedule.ScheduleAt.{ScheduleAt}
+use Rattle.record.specs.declared.schedule.ScheduleAt.the-variants.{At, Nowhere}
 
 -- a thread's index as a record's byte
 abbrev pub byteOf : ℕ → ℕ
 byteOf t = cond (ltb t 5) t noThread
 
 -- a position as a record's prev
-abbrev pub positionOf : Found → ℕ
+abbrev pub positionOf : ScheduleAt → ℕ
 positionOf Nowhere = noPrev
 positionOf (At p) = p
 
@@ -31,12 +31,12 @@ abbrev pub positionAt : List ℕ → ℕ → ℕ
 positionAt path at = fieldOf path at 9 + 256 * fieldOf path at 10
 
 -- the schedule there, if it is one and stands below
-unfoldable pub prevIn : List ℕ → ℕ → Found
+unfoldable pub prevIn : List ℕ → ℕ → ScheduleAt
 prevIn path at =
     cond (ltb (positionAt path at) at && eqb (fieldOf path (positionAt path at) 0) 1) (At (positionAt path at)) Nowhere
 
 -- the schedule before the one at a position
-pub record PrevOf (path : List ℕ) (at : ℕ) (r : Found) : Type 0 where
+pub record PrevOf (path : List ℕ) (at : ℕ) (r : ScheduleAt) : Type 0 where
   pub below : foundBelow at r
   pub is : r ≡ prevIn path at
 
@@ -47,7 +47,7 @@ pub record PreemptionsOf (path : List ℕ) (at r : ℕ) : Type 0 where
 
 -- one thread explored
 abbrev pub exploredAt : List ℕ → ℕ → List ℕ
-exploredAt states t = set states t (rules.explored (getD states t rules.visited))
+exploredAt states t = set states t (rules.skipToPending (getD states t rules.visited))
 
 -- one thread of the record at a position explored
 pub record Explores (entry exit : List ℕ) (at t r : ℕ) : Type 0 where
@@ -58,17 +58,17 @@ pub record Explores (entry exit : List ℕ) (at t r : ℕ) : Type 0 where
 -- all of its threads
 pub record ExploresAll (entry exit : List ℕ) (at r : ℕ) : Type 0 where
   pub few : r ≤ 5
-  pub opens : r ≡ madePending (statesAt entry at) (map rules.explored (statesAt entry at))
-  pub puts : exit ≡ withStatesAt entry at (map rules.explored (statesAt entry at))
+  pub opens : r ≡ madePending (statesAt entry at) (map rules.skipToPending (statesAt entry at))
+  pub puts : exit ≡ withStatesAt entry at (map rules.skipToPending (statesAt entry at))
 
 -- a thread marked in the record at a position
-pub record Marks (entry exit : List ℕ) (at t r : ℕ) : Type 0 where
+pub record RecordMarked (entry exit : List ℕ) (at t r : ℕ) : Type 0 where
   pub few : r ≤ 5
   pub opens : r ≡ madePending (statesAt entry at) (marked (statesAt entry at) t)
   pub puts : exit ≡ withStatesAt entry at (marked (statesAt entry at) t)
 
 -- the Active of the record at a position, unless the record before has another
-abbrev pub initialAt : List ℕ → ℕ → Found → ℕ
+abbrev pub initialAt : List ℕ → ℕ → ScheduleAt → ℕ
 initialAt path at Nowhere = orNone (activeIn (statesAt path at))
 initialAt path at (At p) =
     cond (eqb (orNone (activeIn (statesAt path at))) (orNone (activeIn (statesAt path p)))) (orNone (activeIn (statesAt path at))) noThread

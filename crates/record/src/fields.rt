@@ -47,13 +47,13 @@ pub const LEN: usize = 10;
 pub const SPUR: usize = 2;
 
 // The kind of a schedule.
-pub const SCHEDULE: u8 = 1;
+pub const KIND_SCHEDULE: u8 = 1;
 
 // The kind of a load.
-pub const LOAD: u8 = 2;
+pub const KIND_LOAD: u8 = 2;
 
 // The kind of a spurious branch.
-pub const SPURIOUS: u8 = 3;
+pub const KIND_SPURIOUS: u8 = 3;
 
 // An initial active thread that is none.
 pub const NOBODY: u8 = 255;

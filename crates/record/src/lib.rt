@@ -27,9 +27,9 @@ pub fn open_at(path: &[u8], at: usize) -> u64
     }
     let kind = fields::field(path, at, fields::KIND);
     match kind {
-        fields::SCHEDULE => schedule::pending(path, at),
-        fields::LOAD => load::open(path, at),
-        fields::SPURIOUS => spurious::open(path, at),
+        fields::KIND_SCHEDULE => schedule::pending(path, at),
+        fields::KIND_LOAD => load::open(path, at),
+        fields::KIND_SPURIOUS => spurious::open(path, at),
         _ => 0,
     }
 }
@@ -45,9 +45,9 @@ pub fn step_at(path: &mut [u8], at: usize) -> bool
     }
     let kind = fields::field(path, at, fields::KIND);
     match kind {
-        fields::SCHEDULE => schedule::step(path, at),
-        fields::LOAD => load::step(path, at),
-        fields::SPURIOUS => spurious::step(path, at),
+        fields::KIND_SCHEDULE => schedule::step(path, at),
+        fields::KIND_LOAD => load::step(path, at),
+        fields::KIND_SPURIOUS => spurious::step(path, at),
         _ => false,
     }
 }

@@ -7,7 +7,7 @@ ghost use Rattle.record.specs.Answers.{Counts};
 ghost use Rattle.record.specs.Fields.{withField, statesAt, withStatesAt};
 ghost use Rattle.record.specs.Steps.{Visits};
 ghost use Rattle.record.specs.Places.{foundBelow, First};
-ghost use Rattle.record.specs.Schedules.{byteOf, positionOf, initialAt, Explores, ExploresAll, Marks, PrevOf, PreemptionsOf};
+ghost use Rattle.record.specs.Schedules.{byteOf, positionOf, initialAt, Explores, ExploresAll, RecordMarked, PrevOf, PreemptionsOf};
 use crate::fields;
 use crate::fields::field;
 use crate::fields::put;
@@ -16,7 +16,7 @@ use layout::seed;
 use layout::wide8;
 
 // A schedule record of the path, by its position, or none.
-pub enum Found {
+pub enum ScheduleAt {
     At(usize),
     Nowhere,
 }
@@ -74,7 +74,7 @@ pub fn preemptions(path: &[u8], at: usize) -> usize
 // The schedule record before this one. One that does not lie below counts as none, so that a walk
 // always ends: NO_PREV lies below no record. One that is no schedule, which no push_thread has
 // written, counts as none too.
-pub fn prev(path: &[u8], at: usize) -> Found
+pub fn prev(path: &[u8], at: usize) -> ScheduleAt
     requires { ⌜ 16 * at + 16 ≤ length (now path) ⌝ }
     ensures { λ r. ⌜ PrevOf (now (path .entry)) at r ⌝ }
 {
@@ -82,16 +82,16 @@ pub fn prev(path: &[u8], at: usize) -> Found
     let high = wide8(field(path, at, fields::PREV_HIGH));
     let prev = low + 256 * high;
     if at <= prev {
-        return Found::Nowhere;
+        return ScheduleAt::Nowhere;
     }
-    if !fields::is_kind(path, prev, fields::SCHEDULE) {
-        return Found::Nowhere;
+    if !fields::is_kind(path, prev, fields::KIND_SCHEDULE) {
+        return ScheduleAt::Nowhere;
     }
-    Found::At(prev)
+    ScheduleAt::At(prev)
 }
 
 // Sets the position of the schedule record before this one, or NO_PREV where there is none.
-pub fn put_prev(path: &mut [u8], at: usize, prev: Found)
+pub fn put_prev(path: &mut [u8], at: usize, prev: ScheduleAt)
     requires { ⌜ 16 * at + 16 ≤ length (now path) ⌝ }
     ensures { λ _. ⌜ now (path .exit) ≡ withField (withField (now (path .entry)) at 9 (positionOf prev % 256)) at 10 (positionOf prev / 256 % 256) ⌝ }
 {
@@ -100,10 +100,10 @@ pub fn put_prev(path: &mut [u8], at: usize, prev: Found)
     put(path, at, fields::PREV_HIGH, (position / 256 % 256) as u8);
 }
 
-fn position_of(prev: Found) -> usize
+fn position_of(prev: ScheduleAt) -> usize
     ensures { λ r. ⌜ r ≡ positionOf prev ⌝ }
 {
-    let Found::At(p) = prev else {
+    let ScheduleAt::At(p) = prev else {
         return fields::NO_PREV;
     };
     p
@@ -137,7 +137,7 @@ pub fn toggle_yield(path: &mut [u8], at: usize)
 }
 
 // Sets the initial active thread.
-pub fn put_initial_active(path: &mut [u8], at: usize, prev: Found)
+pub fn put_initial_active(path: &mut [u8], at: usize, prev: ScheduleAt)
     requires { ⌜ (16 * at + 16 ≤ length (now path)) × foundBelow at prev ⌝ }
     ensures { λ _. ⌜ now (path .exit) ≡ withField (now (path .entry)) at 8 (initialAt (now (path .entry)) at prev) ⌝ }
 {
@@ -146,12 +146,12 @@ pub fn put_initial_active(path: &mut [u8], at: usize, prev: Found)
 }
 
 // The Active thread, unless the schedule before chose another.
-fn initial_active(path: &[u8], at: usize, prev: Found) -> u8
+fn initial_active(path: &[u8], at: usize, prev: ScheduleAt) -> u8
     requires { ⌜ (16 * at + 16 ≤ length (now path)) × foundBelow at prev ⌝ }
     ensures { λ r. ⌜ r ≡ initialAt (now (path .entry)) at prev ⌝ }
 {
     let active = active_thread_index(path, at);
-    let Found::At(p) = prev else {
+    let ScheduleAt::At(p) = prev else {
         return thread_byte(active);
     };
     if active != active_thread_index(path, p) {
@@ -165,7 +165,7 @@ fn initial_active(path: &[u8], at: usize, prev: Found) -> u8
 // five is no target.
 pub fn backtrack(path: &mut [u8], at: usize, thread: usize) -> u64
     requires { ⌜ 16 * at + 16 ≤ length (now path) ⌝ }
-    ensures { λ r. ⌜ Marks (now (path .entry)) (now (path .exit)) at thread r ⌝ }
+    ensures { λ r. ⌜ RecordMarked (now (path .entry)) (now (path .exit)) at thread r ⌝ }
 {
     if MAX_THREADS <= thread {
         return 0;

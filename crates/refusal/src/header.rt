@@ -12,25 +12,26 @@ use layout::wide8;
 use layout::wide16;
 use page::Page;
 use table::COUNTS;
-use table::FIRSTS;
+use table::LAST_COUNT;
+use table::LAST_FIRST;
 use table::limits::CELL_COUNT;
-use table::limits::HEADER;
+use table::limits::HEADER_BYTES;
 use table::limits::MAX_ROWS;
 use table::limits::PLAIN_COUNT;
-use table::limits::ROW;
-use table::limits::VALUE;
+use table::limits::ROW_BYTES;
+use table::limits::VALUE_BYTES;
 
 // Puts what is wrong first, in one line.
 pub fn put(page: &mut Page, at: usize, table: &[u8]) -> usize
     ensures { λ r. ⌜ ended (now (page .exit)) r ≡ putHeader (ended (now (page .entry)) at) (now (table .entry)) ⌝ }
 {
-    if table.len() < HEADER {
+    if table.len() < HEADER_BYTES {
         return page::fill(
             page,
             at,
             b"answer 5: refused: the table has # bytes, and its header alone has #\n",
             table.len() as u64,
-            HEADER as u64,
+            HEADER_BYTES as u64,
             0,
         );
     }
@@ -104,8 +105,8 @@ fn size(table: &[u8]) -> usize
 {
     let shape = table::shape(table);
     let values = wide8(table[CELL_COUNT]) + wide8(table[PLAIN_COUNT]);
-    let rows = wide16(shape[COUNTS + 4]) + wide16(shape[FIRSTS + 4]);
-    HEADER + VALUE * values + ROW * rows
+    let rows = wide16(shape[LAST_COUNT]) + wide16(shape[LAST_FIRST]);
+    HEADER_BYTES + VALUE_BYTES * values + ROW_BYTES * rows
 }
 
 // The first thread whose row count is wrong; where none is, the number past the last thread that there can be.

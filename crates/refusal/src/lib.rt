@@ -3,6 +3,7 @@
 ghost use mathlib.Core.Path.{_≡_};
 ghost use Rattle.page.specs.Pages.{ended};
 ghost use Rattle.refusal.specs.Refusals.{putRefusal};
+use event::NO_PLACE;
 use page::Page;
 use table::Judged;
 
@@ -20,7 +21,7 @@ pub fn put(
 ) -> usize
     ensures { λ r. ⌜ ended (now (page .exit)) r ≡ putRefusal (ended (now (page .entry)) at) (now (table .entry)) (now (condition .entry)) thread number ⌝ }
 {
-    if thread != 255 {
+    if thread != NO_PLACE {
         return bad_row::put(page, at, table, (thread % 256) as u8, (number % 256) as u8);
     }
     if let Judged::Accepted = table::judge(table) {

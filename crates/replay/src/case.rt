@@ -5,6 +5,7 @@ use crate::fields::NOT_GIVEN;
 use crate::fields::Starts;
 use decimal::Parsed;
 use path::Bound;
+use settings::MAX_BOUND;
 use settings::Settings;
 
 // The fields' places. From ANSWER on stand the report's 29 numbers.
@@ -43,7 +44,7 @@ pub const CONDITION: usize = 43;
 pub const MOST_TABLE: usize = 8192;
 
 // The number in each field that has one.
-pub type Numbers = [u64; 43];
+pub type Numbers = [u64; FIELDS];
 
 // Reads every field that is a number and looks at the others; answers the first field that is wrong, or 43.
 pub fn read_fields(line: &[u8], starts: &Starts, numbers: &mut Numbers) -> usize {
@@ -98,11 +99,11 @@ fn number_or_none(text: &[u8], k: usize) -> Parsed {
 // The largest number that field `k` may hold.
 fn most(k: usize) -> u64 {
     match k {
-        BOUND => 255,
+        BOUND => MAX_BOUND,
         EXPLORING => 1,
         PATH | TRACE => 1000000,
         LIST => 1000,
-        _ => 18446744073709551615,
+        _ => NOT_GIVEN,
     }
 }
 
@@ -120,7 +121,7 @@ pub fn settings(numbers: &Numbers) -> Settings {
 
 // No bound is a number above every bound.
 fn bound_of(number: u64) -> Bound {
-    if 255 < number {
+    if MAX_BOUND < number {
         return Bound::Unbounded;
     }
     Bound::AtMost((number % 256) as u8)

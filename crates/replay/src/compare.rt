@@ -7,14 +7,15 @@ use crate::case::Numbers;
 use crate::fields;
 use crate::fields::FIELDS;
 use crate::fields::NOT_GIVEN;
+use crate::fields::STARTS;
 use crate::fields::Starts;
 use layout::long8;
-use numbers::NUMBERS;
+use numbers::REPORT_NUMBERS;
 use numbers::of_report;
 use report::Report;
 
 // The numbers of a report.
-pub type Given = [u64; NUMBERS];
+pub type Given = [u64; REPORT_NUMBERS];
 
 // How a case comes out.
 pub enum Outcome {
@@ -45,12 +46,12 @@ pub enum Outcome {
 
 // Asks the case of a line again.
 pub fn replay_line(line: &[u8], path: &mut [u8], trace: &mut [u8]) -> Outcome {
-    let mut starts = [0usize; 45];
+    let mut starts = [0usize; STARTS];
     let count = fields::split(line, &mut starts);
     if count != FIELDS && count != FIELDS + 1 {
         return Outcome::Count(count);
     }
-    let mut numbers = [0u64; 43];
+    let mut numbers = [0u64; FIELDS];
     let wrong = case::read_fields(line, &starts, &mut numbers);
     if wrong != FIELDS {
         return Outcome::Field(wrong);
@@ -71,11 +72,11 @@ pub fn replay_line(line: &[u8], path: &mut [u8], trace: &mut [u8]) -> Outcome {
     run_case(
         line,
         &starts,
-        &numbers,
         &table,
-        size,
+        &numbers,
         &mut path[0..path_len],
         &mut trace[0..trace_len],
+        size,
     )
 }
 
@@ -97,11 +98,11 @@ fn first_bytes(bytes: &[u8; MOST_TABLE], n: usize) -> &[u8] {
 fn run_case(
     line: &[u8],
     starts: &Starts,
-    numbers: &Numbers,
     table: &[u8; MOST_TABLE],
-    size: usize,
+    numbers: &Numbers,
     path: &mut [u8],
     trace: &mut [u8],
+    size: usize,
 ) -> Outcome {
     let bytes: &[u8] = table;
     if bytes.len() < size {
@@ -141,9 +142,9 @@ fn explored(
     let settings = case::settings(numbers);
     let listed = numbers[case::LIST];
     if listed == NOT_GIVEN {
-        return explorer::explore(table, condition, settings, path, trace);
+        return explorer::explore(table, condition, path, trace, settings);
     }
-    into::explore_counted(table, condition, settings, path, trace, listed as usize)
+    into::explore_counted(table, condition, path, trace, settings, listed as usize)
 }
 
 // Holds what a run gave to what the list says.
@@ -156,7 +157,7 @@ fn judge(
     trace: &[u8],
 ) -> Outcome {
     let place = first_other(given, numbers);
-    if place < NUMBERS {
+    if place < REPORT_NUMBERS {
         return Outcome::Number {
             place,
             given: given[place],
@@ -190,10 +191,10 @@ fn byte_at(buffer: &[u8], at: usize) -> u64 {
     0
 }
 
-// The first of the numbers that is not the list's, or NUMBERS.
+// The first of the numbers that is not the list's, or REPORT_NUMBERS.
 fn first_other(given: &Given, numbers: &Numbers) -> usize {
     let mut i = 0;
-    while i < NUMBERS {
+    while i < REPORT_NUMBERS {
         if given[i] != numbers[case::ANSWER + i] {
             return i;
         }

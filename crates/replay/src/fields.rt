@@ -3,11 +3,15 @@ use decimal::Parsed;
 
 // A line with its answer has this many fields; a condition is one more, the last.
 pub const FIELDS: usize = 43;
+
+// The places that are kept of a line.
+pub const STARTS: usize = FIELDS + 2;
+
 // What stands for the `-` of a number that is not given.
 pub const NOT_GIVEN: u64 = 18446744073709551615;
 
 // Where each field begins, and behind the last one past the line's end.
-pub type Starts = [usize; 45];
+pub type Starts = [usize; STARTS];
 
 // Finds where the fields begin; answers how many there are, 45 standing for every count above 44.
 pub fn split(line: &[u8], starts: &mut Starts) -> usize {

@@ -30,7 +30,7 @@ pub fn replay(text: &mut [u8], path: &mut [u8], trace: &mut [u8]) -> Tally {
                 now = lines.tally;
                 kept = move_to_front(text, lines.end, to);
             }
-            More::Ended => return last_line(text, kept, path, trace, now),
+            More::Ended => return last_line(text, path, trace, kept, now),
             More::Failed => return now.unreadable(),
         }
         reads -= 1;
@@ -63,7 +63,7 @@ fn front(text: &[u8], n: usize) -> &[u8] {
 }
 
 // The line behind which the input ended, if there is one. If the buffer is full, it is the start of a longer one.
-fn last_line(text: &[u8], kept: usize, path: &mut [u8], trace: &mut [u8], now: Tally) -> Tally {
+fn last_line(text: &[u8], path: &mut [u8], trace: &mut [u8], kept: usize, now: Tally) -> Tally {
     if text.len() <= kept {
         return now.too_long();
     }
@@ -104,7 +104,7 @@ fn line(text: &[u8], path: &mut [u8], trace: &mut [u8], before: Tally) -> Tally 
         return now;
     }
     let outcome = compare::replay_line(text, path, trace);
-    now.with(outcome, text)
+    now.with(text, outcome)
 }
 
 // Moves the bytes from `from` up to `to` to the front; answers how many they are.

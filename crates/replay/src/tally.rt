@@ -3,6 +3,8 @@ use crate::compare::Outcome;
 use crate::fields;
 use libc::STDERR_FILENO;
 use libc::STDOUT_FILENO;
+use numbers::BEFORE_SUMMARIES;
+use numbers::SUMMARY;
 
 // The most cases whose first difference is shown.
 const SHOWN: u64 = 20;
@@ -39,7 +41,7 @@ impl Tally {
     }
 
     // Counts a case, and says what differs first if it does not agree.
-    pub fn with(mut self, outcome: Outcome, line: &[u8]) -> Self {
+    pub fn with(mut self, line: &[u8], outcome: Outcome) -> Self {
         match outcome {
             Outcome::Count(count) => {
                 say_line(self.lines);
@@ -59,7 +61,7 @@ impl Tally {
             }
             _ => {
                 if self.differ < SHOWN {
-                    show(outcome, line);
+                    show(line, outcome);
                 }
                 self.differ = one_more(self.differ);
             }
@@ -146,7 +148,7 @@ fn say_field(field: usize) {
 }
 
 // One line for a case that does not agree: its name, and what differs first.
-fn show(outcome: Outcome, line: &[u8]) {
+fn show(line: &[u8], outcome: Outcome) {
     io::write_all(STDOUT_FILENO, name(line));
     io::write_all(STDOUT_FILENO, b": ");
     match outcome {
@@ -201,12 +203,12 @@ fn show_number(place: usize) -> bool {
 
 // The name of a number of a thread's summary.
 fn show_summary(place: usize) -> bool {
-    if place < 9 {
+    if place < BEFORE_SUMMARIES {
         return false;
     }
     io::write_all(STDOUT_FILENO, b"thread ");
-    io::print_decimal(STDOUT_FILENO, ((place - 9) / 4) as u64);
-    match (place - 9) % 4 {
+    io::print_decimal(STDOUT_FILENO, ((place - BEFORE_SUMMARIES) / SUMMARY) as u64);
+    match (place - BEFORE_SUMMARIES) % SUMMARY {
         0 => io::write_all(STDOUT_FILENO, b"'s state"),
         1 => io::write_all(STDOUT_FILENO, b"'s rows begun"),
         2 => io::write_all(STDOUT_FILENO, b"'s yields"),

@@ -21,9 +21,9 @@ use Rattle.event.specs.Moves.{faultOf}
 use Rattle.report.proofs.Answer as Answer
 use Rattle.report.specs.declared.Answer.{Answer}
 use Rattle.report.specs.declared.Answer.the-variants as answer
-use Rattle.report.specs.Answers.{siteOf, kindOf, otherOf, threadOf, rowOf}
+use Rattle.report.specs.Answers.{siteOf, kindOf, otherOf, threadAtFault, rowAtFault}
 
-pub no-place : (a : Answer) → OneOf (0 ∷ 1 ∷ 2 ∷ 3 ∷ 4 ∷ 7 ∷ []) (tagOf Answer.the-type a) → (255 ≡ threadOf a) × (255 ≡ rowOf a)
+pub no-place : (a : Answer) → OneOf (0 ∷ 1 ∷ 2 ∷ 3 ∷ 4 ∷ 7 ∷ []) (tagOf Answer.the-type a) → (255 ≡ threadAtFault a) × (255 ≡ rowAtFault a)
 no-place answer.Exhausted k = (refl, refl)
 no-place answer.Spent k = (refl, refl)
 no-place answer.BadSettings k = (refl, refl)
@@ -62,13 +62,13 @@ module _ (a : Answer) (f : Fault) (s : Site) (e : a ≡ answer.Stopped f s) wher
   raced d = rw (e, d) (refl, refl)
 
   module _ (b : Bool) (n : b ≡ leb 11 (faultNumber (faultOf f))) where
-    pub placed : b ≡ true → (s .thread ≡ threadOf a) × (s .row ≡ rowOf a)
+    pub placed : b ≡ true → (s .thread ≡ threadAtFault a) × (s .row ≡ rowAtFault a)
     unfolding verdictSite
     placed t =
         let h : true ≡ leb 11 (faultNumber (faultOf f)) = sym t ∙ n in
         rw e (ap (λ (v : Bool). (cond v (siteOf s) noSite) .thread) h, ap (λ (v : Bool). (cond v (siteOf s) noSite) .row) h)
 
-    pub placeless : b ≡ false → (255 ≡ threadOf a) × (255 ≡ rowOf a)
+    pub placeless : b ≡ false → (255 ≡ threadAtFault a) × (255 ≡ rowAtFault a)
     unfolding verdictSite
     placeless t =
         let h : false ≡ leb 11 (faultNumber (faultOf f)) = sym t ∙ n in

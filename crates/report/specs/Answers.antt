@@ -1,6 +1,6 @@
 -- What each answer of a run stands for: document 01's number, race kind, other thread, thread and row, for every case; and the
 -- report. Assumes nothing.
---     numberOf, kindOf, otherOf, threadOf, rowOf     of an answer
+--     numberOf, kindOf, otherOf, threadAtFault, rowAtFault     of an answer
 --     summaryOf, reportOf                            the definition's summary and report
 --     refusal, ranReport                             the report of a refusal, and of a run that stopped
 --     answerFits, Fits                               an answer that says what a verdict of the definition says
@@ -62,25 +62,25 @@ otherOf answer.Unmet = verdictOther explorer.unmet
 
 -- "thread and row at fault (from 11 on the current thread and its row, the row count if it is ending; for 5 the first bad row, or
 -- 255, 255 if header or length is bad ..; 255, 255 for 0 to 4 and 10)"; 18 has "the condition's place (thread and row 255)"
-abbrev pub threadOf : Answer → ℕ
-threadOf answer.Exhausted = 255
-threadOf answer.Spent = 255
-threadOf answer.BadSettings = 255
-threadOf answer.BadPath = 255
-threadOf answer.BadTrace = 255
-threadOf (answer.BadTable t k) = t
-threadOf (answer.Stopped f s) = verdictSite (explorer.stopped (faultOf f) (siteOf s)) .thread
-threadOf answer.Unmet = 255
+abbrev pub threadAtFault : Answer → ℕ
+threadAtFault answer.Exhausted = 255
+threadAtFault answer.Spent = 255
+threadAtFault answer.BadSettings = 255
+threadAtFault answer.BadPath = 255
+threadAtFault answer.BadTrace = 255
+threadAtFault (answer.BadTable t k) = t
+threadAtFault (answer.Stopped f s) = verdictSite (explorer.stopped (faultOf f) (siteOf s)) .thread
+threadAtFault answer.Unmet = 255
 
-abbrev pub rowOf : Answer → ℕ
-rowOf answer.Exhausted = 255
-rowOf answer.Spent = 255
-rowOf answer.BadSettings = 255
-rowOf answer.BadPath = 255
-rowOf answer.BadTrace = 255
-rowOf (answer.BadTable t k) = k
-rowOf (answer.Stopped f s) = verdictSite (explorer.stopped (faultOf f) (siteOf s)) .row
-rowOf answer.Unmet = 255
+abbrev pub rowAtFault : Answer → ℕ
+rowAtFault answer.Exhausted = 255
+rowAtFault answer.Spent = 255
+rowAtFault answer.BadSettings = 255
+rowAtFault answer.BadPath = 255
+rowAtFault answer.BadTrace = 255
+rowAtFault (answer.BadTable t k) = k
+rowAtFault (answer.Stopped f s) = verdictSite (explorer.stopped (faultOf f) (siteOf s)) .row
+rowAtFault answer.Unmet = 255
 
 abbrev pub summaryOf : ThreadRecord → Summary
 summaryOf r = record { state = r .state; rows = r .rows; yields = r .yields; version = r .version }
@@ -95,8 +95,8 @@ reportOf r = record {
   opened = r .opened;
   stillOpen = r .open;
   rows = r .rows;
-  thread = threadOf (r .answer);
-  row = rowOf (r .answer);
+  thread = threadAtFault (r .answer);
+  row = rowAtFault (r .answer);
   kind = kindOf (r .answer);
   other = otherOf (r .answer);
   threads = summariesOf (r .threads);
@@ -110,8 +110,8 @@ refusal a = record {
   opened = 0;
   stillOpen = 0;
   rows = 0;
-  thread = threadOf a;
-  row = rowOf a;
+  thread = threadAtFault a;
+  row = rowAtFault a;
   kind = kindOf a;
   other = otherOf a;
   threads = replicate 5 explored.noSummary;
@@ -125,8 +125,8 @@ ranReport a executions opened stillOpen st = record {
   opened = opened;
   stillOpen = stillOpen;
   rows = number (st .numbers) begun;
-  thread = threadOf a;
-  row = rowOf a;
+  thread = threadAtFault a;
+  row = rowAtFault a;
   kind = kindOf a;
   other = otherOf a;
   threads = map (summary st) everyThread;
@@ -137,8 +137,8 @@ pub record Fits (a : Answer) (v : Verdict) : Type 0 where
   pub number : numberOf a ≡ verdictNumber v
   pub kind : kindOf a ≡ verdictKind v
   pub other : otherOf a ≡ verdictOther v
-  pub thread : threadOf a ≡ verdictSite v .thread
-  pub row : rowOf a ≡ verdictSite v .row
+  pub thread : threadAtFault a ≡ verdictSite v .thread
+  pub row : rowAtFault a ≡ verdictSite v .row
 
 -- and such an answer by its case, for a run: a refusal is none of its verdicts
 abbrev pub answerFits : Answer → Verdict → Type 0

@@ -9,8 +9,12 @@ ghost use mathlib.Core.List.{map};
 ghost use lib.Dec.{leb};
 ghost use Rattle.layout.specs.Tables.{state};
 ghost use Rattle.event.specs.Moves.{faultOf};
-ghost use Rattle.report.specs.Answers.{numberOf, kindOf, otherOf, threadOf, rowOf, summaryOf, summariesOf, reportOf, refusal, ranReport};
+ghost use Rattle.report.specs.Answers.{numberOf, kindOf, otherOf, threadAtFault, rowAtFault, summaryOf, summariesOf, reportOf, refusal, ranReport};
+
+pub mod answers;
+
 use event::Fault;
+use event::NO_PLACE;
 use event::Site;
 use layout::Clocks;
 use layout::MAX_THREADS;
@@ -42,7 +46,7 @@ pub struct ThreadRecord {
     pub version: u16,
 }
 
-// The answer says thread and row at fault too, and the race (`thread_of`, `row_of`, `race_kind`, `other_thread`).
+// The answer says thread and row at fault too, and the race (`thread_at_fault`, `row_at_fault`, `race_kind`, `other_thread`).
 pub struct Report {
     pub answer: Answer,
     // Executions begun, choices opened in the whole history, choices open in the path left, rows begun.
@@ -135,14 +139,14 @@ pub fn number(answer: Answer) -> u64
     ensures { λ r. ⌜ r ≡ numberOf answer ⌝ }
 {
     match answer {
-        Answer::Exhausted => 0,
-        Answer::Spent => 1,
-        Answer::BadSettings => 2,
-        Answer::BadPath => 3,
-        Answer::BadTrace => 4,
-        Answer::BadTable { .. } => 5,
+        Answer::Exhausted => answers::EXHAUSTED,
+        Answer::Spent => answers::SPENT,
+        Answer::BadSettings => answers::BAD_SETTINGS,
+        Answer::BadPath => answers::BAD_PATH,
+        Answer::BadTrace => answers::BAD_TRACE,
+        Answer::BadTable { .. } => answers::BAD_TABLE,
         Answer::Stopped { fault, .. } => fault_number(fault),
-        Answer::Unmet => 18,
+        Answer::Unmet => answers::UNMET,
     }
 }
 
@@ -151,16 +155,23 @@ pub fn fault_number(fault: Fault) -> u64
     ensures { λ r. ⌜ r ≡ faultNumber (faultOf fault) ⌝ }
 {
     match fault {
-        Fault::Deadlock => 10,
-        Fault::Full => 11,
-        Fault::Rows => 12,
-        Fault::Equal => 13,
-        Fault::Race { .. } => 14,
-        Fault::Check => 15,
-        Fault::Flags => 16,
-        Fault::Preempted => 17,
-        Fault::Impossible => 20,
+        Fault::Deadlock => answers::DEADLOCK,
+        Fault::Full => answers::FULL,
+        Fault::Rows => answers::ROWS,
+        Fault::Equal => answers::EQUAL,
+        Fault::Race { .. } => answers::RACE,
+        Fault::Check => answers::CHECK,
+        Fault::Flags => answers::FLAGS,
+        Fault::Preempted => answers::PREEMPTED,
+        Fault::Impossible => answers::IMPOSSIBLE,
     }
+}
+
+// Whether the answer of this number is a refusal: nothing was run.
+pub fn is_refusal(number: u64) -> bool
+    ensures { λ r. ⌜ r ≡ rules.isRefusal number ⌝ }
+{
+    (answers::BAD_SETTINGS <= number) & (number <= answers::BAD_TABLE)
 }
 
 // The race kind, or 0.
@@ -181,17 +192,17 @@ pub fn other_thread(answer: Answer) -> u64
     ensures { λ r. ⌜ r ≡ otherOf answer ⌝ }
 {
     let Answer::Stopped { fault, .. } = answer else {
-        return 255;
+        return NO_PLACE;
     };
     let Fault::Race { other, .. } = fault else {
-        return 255;
+        return NO_PLACE;
     };
     other as u64
 }
 
 // The thread at fault or of the first bad row, or 255.
-pub fn thread_of(answer: Answer) -> u64
-    ensures { λ r. ⌜ r ≡ threadOf answer ⌝ }
+pub fn thread_at_fault(answer: Answer) -> u64
+    ensures { λ r. ⌜ r ≡ threadAtFault answer ⌝ }
 {
     match answer {
         Answer::BadTable { thread, .. } => thread as u64,
@@ -199,16 +210,16 @@ pub fn thread_of(answer: Answer) -> u64
             if names_place(fault) {
                 site.thread as u64
             } else {
-                255
+                NO_PLACE
             }
         }
-        _ => 255,
+        _ => NO_PLACE,
     }
 }
 
 // The row at fault or the first bad row, or 255.
-pub fn row_of(answer: Answer) -> u64
-    ensures { λ r. ⌜ r ≡ rowOf answer ⌝ }
+pub fn row_at_fault(answer: Answer) -> u64
+    ensures { λ r. ⌜ r ≡ rowAtFault answer ⌝ }
 {
     match answer {
         Answer::BadTable { row, .. } => row as u64,
@@ -216,10 +227,10 @@ pub fn row_of(answer: Answer) -> u64
             if names_place(fault) {
                 site.row as u64
             } else {
-                255
+                NO_PLACE
             }
         }
-        _ => 255,
+        _ => NO_PLACE,
     }
 }
 
@@ -227,5 +238,5 @@ pub fn row_of(answer: Answer) -> u64
 fn names_place(fault: Fault) -> bool
     ensures { λ r. ⌜ r ≡ leb 11 (faultNumber (faultOf fault)) ⌝ }
 {
-    11 <= fault_number(fault)
+    answers::FULL <= fault_number(fault)
 }

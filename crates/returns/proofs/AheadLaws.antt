@@ -11,21 +11,21 @@ use lib.Dec.{eqb·suc-zero}
 use lib.ListN.{length, getD, length-append}
 use Rattle.rules.specs.Vector.{equal}
 use Rattle.rules.specs.Table.{valuesOf, countsOf, firstRows, rowAt}
-use Rattle.rules.specs.Token.{bytesOf, lineFeed, run, tokenLength, lineLength, endsLine, isEmpty, skip}
+use Rattle.rules.specs.Token.{bytesOf, lineFeed, runLength, tokenLength, lineLength, endsLine, isEmpty, pastBlanks}
 use Rattle.rules.specs.Text.{says, rowsAhead, threadsAhead}
 use Rattle.rules.specs.Writer.{rowShown, rowsShown, threadsShown}
 use Rattle.returns.proofs.RowLine.{PlainLine}
 
 -- Where the threads end: at the text's end, or at `finally`
 abbrev pub Ending : List ℕ → Type 0
-Ending rest = (isEmpty (skip rest) || says "finally" rest) ≡ true
+Ending rest = (isEmpty (pastBlanks rest) || says "finally" rest) ≡ true
 
 -- and a thread's rows: there, or at the next thread
 abbrev pub Stops : List ℕ → Type 0
-Stops rest = (isEmpty (skip rest) || says "thread" rest || says "finally" rest) ≡ true
+Stops rest = (isEmpty (pastBlanks rest) || says "thread" rest || says "finally" rest) ≡ true
 
 pub ending-stops : (rest : List ℕ) → Ending rest → Stops rest
-ending-stops rest e = by (isEmpty (skip rest)) (says "thread" rest) (says "finally" rest) e
+ending-stops rest e = by (isEmpty (pastBlanks rest)) (says "thread" rest) (says "finally" rest) e
   where
     by : (x y z : Bool) → (x || z) ≡ true → (x || y || z) ≡ true
     by true y z h = refl
@@ -33,7 +33,7 @@ ending-stops rest e = by (isEmpty (skip rest)) (says "thread" rest) (says "final
     by false false z h = h
 
 pub thread-stops : (rest : List ℕ) → Stops (bytesOf "thread" ++ (lineFeed ∷ rest))
-unfolding bytesOf run tokenLength endsLine equal
+unfolding bytesOf runLength tokenLength endsLine equal
 thread-stops rest = rw or-true refl
 
 -- A thread's rows
@@ -46,7 +46,7 @@ rows-stop (suc n) rest h = rw (rowsAhead, h) refl
 ahead-row : (n : ℕ) (line rest : List ℕ) → PlainLine line → rowsAhead (suc n) (line ++ rest) ≡ suc (rowsAhead n rest)
 unfolding rowsAhead
 ahead-row n line rest p =
-    let e : (isEmpty (skip (line ++ rest)) || says "thread" (line ++ rest) || says "finally" (line ++ rest)) ≡ false =
+    let e : (isEmpty (pastBlanks (line ++ rest)) || says "thread" (line ++ rest) || says "finally" (line ++ rest)) ≡ false =
     rw (p .some rest, p .noThread rest, p .noFinally rest) refl in
     rw (rowsAhead, e, p .full rest, p .next rest) (omega arith)
 
@@ -86,11 +86,11 @@ threads-stop (suc n) rest h = rw (threadsAhead, h) refl
 pub past-line : (n : ℕ) (line rest : List ℕ) → PlainLine line → threadsAhead (suc n) (line ++ rest) ≡ threadsAhead n rest
 unfolding threadsAhead
 past-line n line rest p =
-    let e : (isEmpty (skip (line ++ rest)) || says "finally" (line ++ rest)) ≡ false = rw (p .some rest, p .noFinally rest) refl in
+    let e : (isEmpty (pastBlanks (line ++ rest)) || says "finally" (line ++ rest)) ≡ false = rw (p .some rest, p .noFinally rest) refl in
     rw (threadsAhead, e, p .noThread rest, p .next rest) (omega arith)
 
 past-thread : (n : ℕ) (rest : List ℕ) → threadsAhead (suc n) (bytesOf "thread" ++ (lineFeed ∷ rest)) ≡ suc (threadsAhead n rest)
-unfolding threadsAhead bytesOf run tokenLength endsLine lineLength equal
+unfolding threadsAhead bytesOf runLength tokenLength endsLine lineLength equal
 past-thread n rest = rw (threadsAhead, eqb·suc-zero) (omega arith)
 
 past-rows : (t : List ℕ) (q i n : ℕ) (rest : List ℕ) (k : ℕ) → PlainRows t q i → ((m : ℕ) → length rest < m → threadsAhead m rest ≡ k) →

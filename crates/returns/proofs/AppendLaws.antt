@@ -11,7 +11,7 @@ use lib.ListN.{length, getD, List·getD-append}
 use lib.Seq.{getD-append-add}
 use Rattle.rules.specs.Event.{little}
 use Rattle.rules.specs.Table.{Row, rowFrom, u16At, u32At, u64At}
-use Rattle.rules.specs.Form.{rowBytes}
+use Rattle.rules.specs.Form.{fieldsAsBytes}
 use Rattle.rules.specs.Writer.{fieldsOf}
 use Rattle.returns.proofs.RowRead.{rowWith, fields-back, limitAt}
 
@@ -73,20 +73,20 @@ row-behind b x n j e =
 byte-small : (v : ℕ) → v < 256 → v % 256 ≡ v
 byte-small v h = omega arith
 
-target-there : (r : Row) → r .target < 65536 → u16At (rowBytes (fieldsOf r)) 6 ≡ r .target
-unfolding u16At rowBytes little
+target-there : (r : Row) → r .target < 65536 → u16At (fieldsAsBytes (fieldsOf r)) 6 ≡ r .target
+unfolding u16At fieldsAsBytes little
 target-there r h = omega arith
 
-a-there : (r : Row) → r .a < 2 ^ 64 → u64At (rowBytes (fieldsOf r)) 8 ≡ r .a
-unfolding u64At u32At u16At rowBytes little
+a-there : (r : Row) → r .a < 2 ^ 64 → u64At (fieldsAsBytes (fieldsOf r)) 8 ≡ r .a
+unfolding u64At u32At u16At fieldsAsBytes little
 a-there r h = omega arith
 
-b-there : (r : Row) → r .b < 2 ^ 64 → u64At (rowBytes (fieldsOf r)) 16 ≡ r .b
-unfolding u64At u32At u16At rowBytes little
+b-there : (r : Row) → r .b < 2 ^ 64 → u64At (fieldsAsBytes (fieldsOf r)) 16 ≡ r .b
+unfolding u64At u32At u16At fieldsAsBytes little
 b-there r h = omega arith
 
-row-there : (r : Row) → ((i : ℕ) → i < 9 → getD (fieldsOf r) i 0 < limitAt i) → rowFrom (rowBytes (fieldsOf r)) 0 ≡ r
-unfolding rowFrom rowBytes
+row-there : (r : Row) → ((i : ℕ) → i < 9 → getD (fieldsOf r) i 0 < limitAt i) → rowFrom (fieldsAsBytes (fieldsOf r)) 0 ≡ r
+unfolding rowFrom fieldsAsBytes
 row-there r h = λ i. record {
   opcode = byte-small (r .opcode) (h 0 (omega arith)) i;
   object = byte-small (r .object) (h 1 (omega arith)) i;
@@ -99,18 +99,18 @@ row-there r h = λ i. record {
   b = b-there r (h 8 (omega arith)) i;
 }
 
-pub row-new : (b fields : List ℕ) (n : ℕ) → length b ≡ n → length fields ≡ 9 → ((i : ℕ) → i < 9 → getD fields i 0 < limitAt i) → rowFrom (b ++ rowBytes fields) n ≡ rowWith fields
+pub row-new : (b fields : List ℕ) (n : ℕ) → length b ≡ n → length fields ≡ 9 → ((i : ℕ) → i < 9 → getD fields i 0 < limitAt i) → rowFrom (b ++ fieldsAsBytes fields) n ≡ rowWith fields
 row-new b fields n e l h =
     let z : n ≡ n + 0 = omega arith in
     let f = fields-back fields l in
-    ap (rowFrom (b ++ rowBytes fields)) z
-    ∙ row-behind b (rowBytes fields) n 0 e
-    ∙ ap (λ (x : List ℕ). rowFrom (rowBytes x) 0) (sym f)
+    ap (rowFrom (b ++ fieldsAsBytes fields)) z
+    ∙ row-behind b (fieldsAsBytes fields) n 0 e
+    ∙ ap (λ (x : List ℕ). rowFrom (fieldsAsBytes x) 0) (sym f)
     ∙ row-there (rowWith fields) (λ i k. subst (λ (x : List ℕ). getD x i 0 < limitAt i) (sym f) (h i k))
 
-row-long : (r : Row) → length (rowBytes (fieldsOf r)) ≡ 24
-unfolding rowBytes little
+row-long : (r : Row) → length (fieldsAsBytes (fieldsOf r)) ≡ 24
+unfolding fieldsAsBytes little
 row-long r = refl
 
-pub row-bytes-long : (fields : List ℕ) → length fields ≡ 9 → length (rowBytes fields) ≡ 24
-row-bytes-long fields l = ap (λ (x : List ℕ). length (rowBytes x)) (sym (fields-back fields l)) ∙ row-long (rowWith fields)
+pub row-bytes-long : (fields : List ℕ) → length fields ≡ 9 → length (fieldsAsBytes fields) ≡ 24
+row-bytes-long fields l = ap (λ (x : List ℕ). length (fieldsAsBytes x)) (sym (fields-back fields l)) ∙ row-long (rowWith fields)

@@ -13,7 +13,7 @@ use lib.Seq.{drop-cons, drop-drop, take-add}
 use Rattle.rules.specs.Event.{little}
 use Rattle.rules.specs.ConditionTree.{AllBytes}
 use Rattle.rules.specs.Table.{u16At, u32At, u64At, rowFrom}
-use Rattle.rules.specs.Form.{rowBytes}
+use Rattle.rules.specs.Form.{fieldsAsBytes}
 use Rattle.rules.specs.Writer.{fieldsOf}
 
 pub byte-below : (t : List ℕ) → AllBytes t → (i : ℕ) → getD t i 0 < 256
@@ -34,8 +34,8 @@ modulo-bytes : (vs : List ℕ) → AllBytes (map (λ (v : ℕ). v % 256) vs)
 modulo-bytes [] = tt
 modulo-bytes (v ∷ vs) = (omega arith, modulo-bytes vs)
 
-pub row-is-bytes : (fields : List ℕ) → AllBytes (rowBytes fields)
-unfolding rowBytes
+pub row-is-bytes : (fields : List ℕ) → AllBytes (fieldsAsBytes fields)
+unfolding fieldsAsBytes
 row-is-bytes fields =
     bytes-append (map (λ (v : ℕ). v % 256) (take 6 fields)) _ (modulo-bytes (take 6 fields))
     (bytes-append (little 2 (getD fields 6 0)) _ (little-bytes 2 (getD fields 6 0))
@@ -106,8 +106,8 @@ module _ (t : List ℕ) (bytes : AllBytes t) where
       ((λ i. getD t at 0 ∷ getD t (at + 1) 0 ∷ same (at + 2) (at + 1 + 1) (omega arith) i ∷ same (at + 3) (at + 1 + 1 + 1) (omega arith) i ∷ same (at + 4) (at + 1 + 1 + 1 + 1) (omega arith) i ∷ same (at + 5) (at + 1 + 1 + 1 + 1 + 1) (omega arith) i ∷ [])
       ∙ sym (take-from 6 at h))
 
-  pub row-bytes : (at : ℕ) → at + 24 ≤ length t → rowBytes (fieldsOf (rowFrom t at)) ≡ take 24 (drop at t)
-  unfolding rowBytes rowFrom
+  pub row-bytes : (at : ℕ) → at + 24 ≤ length t → fieldsAsBytes (fieldsOf (rowFrom t at)) ≡ take 24 (drop at t)
+  unfolding fieldsAsBytes rowFrom
   row-bytes at h =
       let e : at + 6 + 2 ≡ at + 8 = omega arith in
       let f : at + 8 + 8 ≡ at + 16 = omega arith in

@@ -16,8 +16,8 @@ use Rattle.rules.specs.Vector.{equal}
 use Rattle.rules.specs.ConditionTree.{AllBytes}
 use Rattle.rules.specs.Event.{little}
 use Rattle.rules.specs.Table.{maxThreads, maxCells, maxPlains, maxValues, cellsOf, plainsOf, valuesOf, u64At, startValue}
-use Rattle.rules.specs.Token.{bytesOf, space, lineFeed, run, tokenLength, lineLength, endsLine, skip, token, pastToken, found, numberIn}
-use Rattle.rules.specs.Text.{Made, withCell, withPlain, goesOn, valuesLine}
+use Rattle.rules.specs.Token.{bytesOf, space, lineFeed, runLength, tokenLength, lineLength, endsLine, pastBlanks, token, pastToken, found, numberIn}
+use Rattle.rules.specs.Text.{Draft, withCell, withPlain, goesOn, valuesLine}
 use Rattle.rules.specs.Writer.{shown, valuesShown, plainsShown}
 use Rattle.returns.proofs.TokenLaws.{all-append, Parted, Stands, isWord, word-stands, stands-skip, stands-token, stands-past, noFeed, word-no-feed}
 use Rattle.returns.proofs.NumberLaws.{number-back, shown-word}
@@ -25,17 +25,17 @@ use Rattle.returns.proofs.ByteLaws.{parts, little-at, u64-below}
 use Rattle.returns.proofs.RowLine.{PlainLine, Other, plain-line}
 use Rattle.returns.proofs.TableLaws.{Fine}
 
-module _ (more : Made → ℕ → Made) (many : Made → ℕ) where
+module _ (more : Draft → ℕ → Draft) (many : Draft → ℕ) where
   -- one value, and the line's end
-  value-step : (n : ℕ) (m : Made) (w behind : List ℕ) (v : ℕ) → Stands w behind → numberIn w ≡ found v →
+  value-step : (n : ℕ) (m : Draft) (w behind : List ℕ) (v : ℕ) → Stands w behind → numberIn w ≡ found v →
       valuesLine more many (suc n) m (space ∷ (w ++ behind)) ≡ valuesLine more many n (more m v) behind
-  unfolding valuesLine run
+  unfolding valuesLine runLength
   value-step n m w behind v s e =
-      let f : numberIn (token (skip (space ∷ (w ++ behind)))) ≡ found v = ap (λ (l : List ℕ). numberIn (token l)) (stands-skip s) ∙ ap numberIn (stands-token s) ∙ e in
+      let f : numberIn (token (pastBlanks (space ∷ (w ++ behind)))) ≡ found v = ap (λ (l : List ℕ). numberIn (token l)) (stands-skip s) ∙ ap numberIn (stands-token s) ∙ e in
       rw (valuesLine, f) (ap (λ (l : List ℕ). valuesLine more many n (more m v) l) (ap pastToken (stands-skip s) ∙ stands-past s))
 
-  values-end : (n : ℕ) (m : Made) (rest : List ℕ) → 1 ≤ many m → valuesLine more many n m (lineFeed ∷ rest) ≡ goesOn 0 m rest
-  unfolding valuesLine run endsLine lineLength tokenLength numberIn
+  values-end : (n : ℕ) (m : Draft) (rest : List ℕ) → 1 ≤ many m → valuesLine more many n m (lineFeed ∷ rest) ≡ goesOn 0 m rest
+  unfolding valuesLine runLength endsLine lineLength tokenLength numberIn
   values-end zero m rest h = refl
   values-end (suc n) m rest h = rw (le-leb 1 (many m) h) refl
 
@@ -67,7 +67,7 @@ values-line w t q i h o =
       behind = valuesShown t q i;
       stands = stands;
       other = o;
-      skips = λ rest. ap skip (values-text w t q i rest) ∙ stands-skip (stands rest);
+      skips = λ rest. ap pastBlanks (values-text w t q i rest) ∙ stands-skip (stands rest);
       oneLine = all-append (λ (b : ℕ). not (eqb b lineFeed)) w (valuesShown t q i) (word-no-feed w h) (values-no-feed t q i);
       long = omega (arith, length-append w (valuesShown t q i ++ (lineFeed ∷ [])), length-append (valuesShown t q i) (lineFeed ∷ []));
     })
@@ -117,7 +117,7 @@ module _ (t : List ℕ) (bytes : AllBytes t) (fine : Fine t) where
   value-below i h = subst (λ (v : ℕ). v < 2 ^ 64) (sym (value-is i h)) (u64-below t bytes (8 + 8 * i))
 
   -- a line of values from the first up to the last, where `so i` has been made of the values before number i
-  module _ (more : Made → ℕ → Made) (many : Made → ℕ) (so : ℕ → Made) (first last : ℕ) (within : last ≤ valuesOf t)
+  module _ (more : Draft → ℕ → Draft) (many : Draft → ℕ) (so : ℕ → Draft) (first last : ℕ) (within : last ≤ valuesOf t)
       (next : (i : ℕ) → first ≤ i → i < last → more (so i) (startValue t i) ≡ so (i + 1)) (some : 1 ≤ many (so last)) where
     values-read : (q i n : ℕ) (rest : List ℕ) → first ≤ i → i + q ≡ last → q ≤ n →
         valuesLine more many n (so i) (valuesShown t q i ++ (lineFeed ∷ rest)) ≡ goesOn 0 (so last) rest
@@ -131,29 +131,29 @@ module _ (t : List ℕ) (bytes : AllBytes t) (fine : Fine t) where
         let behind = valuesShown t q (i + 1) ++ (lineFeed ∷ rest) in
         ap (λ (x : List ℕ). valuesLine more many (suc n) (so i) (space ∷ x)) (append-assoc (shown v) (valuesShown t q (i + 1)) (lineFeed ∷ rest))
         ∙ value-step more many n (so i) (shown v) behind v (word-stands (shown v) behind (shown-word v) (values-parted t q (i + 1) rest)) (number-back v (value-below i (omega arith)))
-        ∙ ap (λ (m : Made). valuesLine more many n m behind) (next i k (omega arith))
+        ∙ ap (λ (m : Draft). valuesLine more many n m behind) (next i k (omega arith))
         ∙ values-read q (i + 1) n rest (omega arith) (omega arith) (omega arith)
 
-  abbrev pub cellsMade : ℕ → Made
+  abbrev pub cellsMade : ℕ → Draft
   cellsMade i = record { cells = i; plains = 0; threads = 0; counts = replicate maxThreads 0; body = upTo i }
 
   pub cells-read : (rest : List ℕ) →
-      valuesLine withCell (λ (m : Made). m .cells) maxCells (cellsMade 0) (valuesShown t (cellsOf t) 0 ++ (lineFeed ∷ rest)) ≡ goesOn 0 (cellsMade (cellsOf t)) rest
+      valuesLine withCell (λ (m : Draft). m .cells) maxCells (cellsMade 0) (valuesShown t (cellsOf t) 0 ++ (lineFeed ∷ rest)) ≡ goesOn 0 (cellsMade (cellsOf t)) rest
   cells-read rest =
       let few = fine .header .cells-few in
-      values-read withCell (λ (m : Made). m .cells) cellsMade 0 (cellsOf t) (omega arith)
+      values-read withCell (λ (m : Draft). m .cells) cellsMade 0 (cellsOf t) (omega arith)
       (λ i l h. let body = one-more i (omega arith) in λ k. record { cells = i + 1; plains = 0; threads = 0; counts = replicate maxThreads 0; body = body k })
       (fine .header .cells-some) (cellsOf t) 0 maxCells rest (omega arith) (omega arith) (omega arith)
 
-  abbrev pub plainsMade : ℕ → Made
+  abbrev pub plainsMade : ℕ → Draft
   plainsMade i = record { cells = cellsOf t; plains = i - cellsOf t; threads = 0; counts = replicate maxThreads 0; body = upTo i }
 
   pub plains-read : 1 ≤ plainsOf t → (rest : List ℕ) →
-      valuesLine withPlain (λ (m : Made). m .plains) maxPlains (plainsMade (cellsOf t)) (valuesShown t (plainsOf t) (cellsOf t) ++ (lineFeed ∷ rest))
+      valuesLine withPlain (λ (m : Draft). m .plains) maxPlains (plainsMade (cellsOf t)) (valuesShown t (plainsOf t) (cellsOf t) ++ (lineFeed ∷ rest))
       ≡ goesOn 0 (plainsMade (valuesOf t)) rest
   plains-read some rest =
       let few = fine .header .plains-few in
-      values-read withPlain (λ (m : Made). m .plains) plainsMade (cellsOf t) (valuesOf t) (omega arith)
+      values-read withPlain (λ (m : Draft). m .plains) plainsMade (cellsOf t) (valuesOf t) (omega arith)
       (λ i l h.
       let body = one-more i h in
       let one : i - cellsOf t + 1 ≡ i + 1 - cellsOf t = omega arith in

@@ -12,7 +12,7 @@ use lib.Dec.{ltb, leb, eqb}
 use lib.ListN.{getD}
 use borrow.Author.Tests.{eqb-true, ltb-true, leb-true, lt-ltb, le-leb}
 use Rattle.rules.specs.Table.{Room, isRegister, anyOrder, isLoadOrder, isStoreOrder, isFenceOrder}
-use Rattle.rules.specs.Token.{found, onlyIf, only, numberIn, plainIn}
+use Rattle.rules.specs.Token.{found, foundIf, only, numberIn, plainIn}
 use Rattle.rules.specs.Form.{orderIn, fieldOf, letterIn}
 use Rattle.rules.specs.Writer.{shown, orderShown, letterShown}
 use Rattle.rules.proofs.MeasureRows.{both-left}
@@ -75,13 +75,13 @@ fence-any o e = both-left (anyOrder o) _ e
 -- As it is written, and read back
 
 number-only : (p : ℕ → Bool) (v : ℕ) → p v ≡ true → v < 2 ^ 64 → only p (numberIn (shown v)) ≡ found v
-number-only p v e h = ap (only p) (number-back v h) ∙ ap (λ (x : Bool). onlyIf x v) e
+number-only p v e h = ap (only p) (number-back v h) ∙ ap (λ (x : Bool). foundIf x v) e
 
 plain-only : (p : ℕ → Bool) (v : ℕ) → p v ≡ true → v < 4 → only p (plainIn (112 ∷ shown v)) ≡ found v
-plain-only p v e h = ap (only p) (plain-back v h) ∙ ap (λ (x : Bool). onlyIf x v) e
+plain-only p v e h = ap (only p) (plain-back v h) ∙ ap (λ (x : Bool). foundIf x v) e
 
 order-only : (p : ℕ → Bool) (o : ℕ) → p o ≡ true → anyOrder o ≡ true → only p (orderIn (orderShown o)) ≡ found o
-order-only p o e h = ap (only p) (order-back o (any-below o h) .0) ∙ ap (λ (x : Bool). onlyIf x o) e
+order-only p o e h = ap (only p) (order-back o (any-below o h) .0) ∙ ap (λ (x : Bool). foundIf x o) e
 
 module _ (room : Room) (fields : List ℕ) where
   abbrev Back : ℕ → Type 0

@@ -14,7 +14,7 @@ use borrow.Author.Tests.{eqb-true, eqb-false, eq-eqb, ltb-true, not-true}
 use Rattle.rules.specs.Vector.{equal}
 use Rattle.rules.specs.ConditionTree.{FineAll}
 use Rattle.rules.specs.Table.{Room}
-use Rattle.rules.specs.Token.{run, endsLine, skip, token, pastToken, nextLine, Found, nothing, found, onlyIf}
+use Rattle.rules.specs.Token.{runLength, endsLine, pastBlanks, token, pastToken, nextLine, Found, nothing, found, foundIf}
 use Rattle.rules.specs.Form.{fieldOf, letterIn, isField, valueOf, withField, stuck, fits, follow}
 use Rattle.rules.proofs.MeasureRows.{both-left, both-right}
 use Rattle.returns.proofs.TokenLaws.{also, either, isWord, word-stands}
@@ -39,11 +39,11 @@ module _ (room : Room) where
     pub next : rest ≡ nextLine bs
 
   one-more : (p : List ℕ) (ps : List (List ℕ)) (fields bs result rest : List ℕ) (w : List ℕ) (v : ℕ) → valueOf room p w ≡ found v →
-      Fits ps (withField fields p v) (pastToken (skip bs)) result rest → Fits (p ∷ ps) fields bs result rest
+      Fits ps (withField fields p v) (pastToken (pastBlanks bs)) result rest → Fits (p ∷ ps) fields bs result rest
   unfolding valueOf
-  one-more p ps fields bs result rest w v e f = record { filled = by (isField p) refl e (f .filled); next = f .next ∙ next-past (skip bs) ∙ next-skip bs }
+  one-more p ps fields bs result rest w v e f = record { filled = by (isField p) refl e (f .filled); next = f .next ∙ next-past (pastBlanks bs) ∙ next-skip bs }
     where
-      by : (x : Bool) → isField p ≡ x → cond x (letterIn room (getD p 0 0) w) (onlyIf (equal p w) 0) ≡ found v →
+      by : (x : Bool) → isField p ≡ x → cond x (letterIn room (getD p 0 0) w) (foundIf (equal p w) 0) ≡ found v →
           Filled room (lettersOn ps) (cond x (set fields (fieldOf (getD p 0 0)) v) fields) result → Filled room (cond x (getD p 0 0 ∷ lettersOn ps) (lettersOn ps)) fields result
       by true g h k =
           let letter = both-right (eqb (length p) 1) (isLetterOf (getD p 0 0)) g in
@@ -62,27 +62,27 @@ module _ (room : Room) where
 
   pub follow-filled : (ps : List (List ℕ)) (n : ℕ) (fields bs result rest : List ℕ) → FineAll (λ (p : List ℕ). isWord p ≡ true) ps →
       follow n room (spaced ps) fields bs ≡ fits result rest → Fits ps fields bs result rest
-  unfolding follow run
-  follow-filled ps zero fields bs result rest h e = stuck-fits (skip bs) result rest e
-  follow-filled [] (suc n) fields bs result rest h e = by (endsLine (skip bs)) e
+  unfolding follow runLength
+  follow-filled ps zero fields bs result rest h e = stuck-fits (pastBlanks bs) result rest e
+  follow-filled [] (suc n) fields bs result rest h e = by (endsLine (pastBlanks bs)) e
     where
-      by : (x : Bool) → cond x (fits fields (nextLine (skip bs))) (stuck (skip bs)) ≡ fits result rest → Fits [] fields bs result rest
-      by false g = stuck-fits (skip bs) result rest g
+      by : (x : Bool) → cond x (fits fields (nextLine (pastBlanks bs))) (stuck (pastBlanks bs)) ≡ fits result rest → Fits [] fields bs result rest
+      by false g = stuck-fits (pastBlanks bs) result rest g
       by true g =
           let a : fields ≡ result = cc in
-          let b : nextLine (skip bs) ≡ rest = cc in
+          let b : nextLine (pastBlanks bs) ≡ rest = cc in
           record { filled = subst (Filled room [] fields) a (done fields); next = sym b ∙ next-skip bs }
   follow-filled (p ∷ ps) (suc n) fields bs result rest h e =
-      by (valueOf room p (token (skip bs))) refl (sym (follow-word room n p (spaced ps) fields bs (word-stands p (spaced ps) (h .0) (parted-words ps))) ∙ e)
-      (λ v f. follow-filled ps n (withField fields p v) (pastToken (skip bs)) result rest (h .1) f)
+      by (valueOf room p (token (pastBlanks bs))) refl (sym (follow-word room n p (spaced ps) fields bs (word-stands p (spaced ps) (h .0) (parted-words ps))) ∙ e)
+      (λ v f. follow-filled ps n (withField fields p v) (pastToken (pastBlanks bs)) result rest (h .1) f)
     where
-      by : (x : Found) → valueOf room p (token (skip bs)) ≡ x → against n room fields p (token (skip bs)) (spaced ps) (pastToken (skip bs)) (skip bs) ≡ fits result rest →
-          ((v : ℕ) → follow n room (spaced ps) (withField fields p v) (pastToken (skip bs)) ≡ fits result rest → Fits ps (withField fields p v) (pastToken (skip bs)) result rest) →
+      by : (x : Found) → valueOf room p (token (pastBlanks bs)) ≡ x → against n room fields p (token (pastBlanks bs)) (spaced ps) (pastToken (pastBlanks bs)) (pastBlanks bs) ≡ fits result rest →
+          ((v : ℕ) → follow n room (spaced ps) (withField fields p v) (pastToken (pastBlanks bs)) ≡ fits result rest → Fits ps (withField fields p v) (pastToken (pastBlanks bs)) result rest) →
           Fits (p ∷ ps) fields bs result rest
-      by nothing f g later = stuck-fits (skip bs) result rest (sym (against-none n fields p (token (skip bs)) (spaced ps) (pastToken (skip bs)) (skip bs) f) ∙ g)
+      by nothing f g later = stuck-fits (pastBlanks bs) result rest (sym (against-none n fields p (token (pastBlanks bs)) (spaced ps) (pastToken (pastBlanks bs)) (pastBlanks bs) f) ∙ g)
       by (found v) f g later =
-          one-more p ps fields bs result rest (token (skip bs)) v f
-          (later v (sym (against-found n fields p (token (skip bs)) (spaced ps) (pastToken (skip bs)) (skip bs) v f) ∙ g))
+          one-more p ps fields bs result rest (token (pastBlanks bs)) v f
+          (later v (sym (against-found n fields p (token (pastBlanks bs)) (spaced ps) (pastToken (pastBlanks bs)) (pastBlanks bs) v f) ∙ g))
 
 -- Fields that were given
 

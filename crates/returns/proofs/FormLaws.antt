@@ -13,7 +13,7 @@ use borrow.Author.Tests.{ltb-true}
 use Rattle.rules.specs.Vector.{equal}
 use Rattle.rules.specs.ConditionTree.{FineAll}
 use Rattle.rules.specs.Table.{Room}
-use Rattle.rules.specs.Token.{bytesOf, space, lineFeed, run, skip, tokenLength, endsLine, digitsBehind, numberIn, registerIn, placeIn}
+use Rattle.rules.specs.Token.{bytesOf, space, lineFeed, runLength, pastBlanks, tokenLength, endsLine, digitsBehind, numberIn, registerIn, placeIn}
 use Rattle.rules.specs.Form.{Form, forms, fieldOf, letterIn, isField, valueOf, mostWords, blankFields, further, Followed, stuck, fits, follow, tried, rowIn}
 use Rattle.rules.specs.Writer.{formIn}
 use Rattle.rules.proofs.VectorLaws.{equal-true}
@@ -34,7 +34,7 @@ formFine f =
     && (allPieces isWord (piecesOf f) && (allPieces (λ (p : List ℕ). isField p || isPlain p) (piecesOf f) && ltb (length (piecesOf f)) mostWords))
 
 forms-fine : everyForm formFine forms ≡ true
-unfolding forms bytesOf formFine piecesIn run tokenLength endsLine isWord equal fieldOf
+unfolding forms bytesOf formFine piecesIn runLength tokenLength endsLine isWord equal fieldOf
 forms-fine = refl
 
 -- each list of pieces is apart from every later one
@@ -48,7 +48,7 @@ module _ (room : Room) where
   ordered (ps ∷ more) = every (apart room ps) more && ordered more
 
   forms-ordered : ordered (map piecesOf forms) ≡ true
-  unfolding forms bytesOf ordered apart excludes piecesIn run tokenLength endsLine isWord equal fieldOf valueOf letterIn numberIn digitsBehind registerIn placeIn
+  unfolding forms bytesOf ordered apart excludes piecesIn runLength tokenLength endsLine isWord equal fieldOf valueOf letterIn numberIn digitsBehind registerIn placeIn
   forms-ordered = refl
 
 -- A form's words as pieces
@@ -112,14 +112,14 @@ tried-at room f fs best bs fields rest e = rw (tried, e) refl
 
 module _ (room : Room) where
   blank-first : (words fields bs : List ℕ) → follow mostWords room words fields bs ≡ follow mostWords room (space ∷ words) fields bs
-  unfolding follow run
+  unfolding follow runLength
   blank-first words fields bs = refl
 
   pub words-spaced : (f : Form) → Pieces f → (fields bs : List ℕ) → follow mostWords room (f .words) fields bs ≡ follow mostWords room (spaced (piecesOf f)) fields bs
   words-spaced f p fields bs = blank-first (f .words) fields bs ∙ ap (λ (x : List ℕ). follow mostWords room x fields bs) (p .words)
 
   blank-on : (words fields bs : List ℕ) → follow mostWords room words fields (space ∷ bs) ≡ follow mostWords room words fields bs
-  unfolding follow run
+  unfolding follow runLength
   blank-on words fields bs = refl
 
   pub words-pieces : (f : Form) → Pieces f → (fields bs : List ℕ) →
@@ -160,4 +160,4 @@ module _ (room : Room) (o k : ℕ) (from rest bs : List ℕ) where
 
 pub row-found : (room : Room) (o k : ℕ) (from rest bs : List ℕ) → Reads room from rest bs (formIn o k forms) → rowIn room bs ≡ fits from rest
 unfolding rowIn
-row-found room o k from rest bs r = tried-finds room o k from rest bs forms (skip bs) forms-fine (forms-ordered room) r
+row-found room o k from rest bs r = tried-finds room o k from rest bs forms (pastBlanks bs) forms-fine (forms-ordered room) r

@@ -13,8 +13,8 @@ use lib.ListN.{length, getD, take, replicate, length-append, length-set}
 use lib.Seq.{getD-set-same, getD-set-other, take-set-le}
 use Rattle.rules.specs.Event.{little}
 use Rattle.rules.specs.Table.{maxRows, total, isFine, rowDecoded, rowFrom, Row}
-use Rattle.rules.specs.Form.{rowBytes}
-use Rattle.rules.specs.Text.{Made, nothingMade, withCell, withPlain, withThread, withRow, rowsSoFar}
+use Rattle.rules.specs.Form.{fieldsAsBytes}
+use Rattle.rules.specs.Text.{Draft, nothingMade, withCell, withPlain, withThread, withRow, rowsSoFar}
 use Rattle.rules.proofs.LittleLaws.{little-long}
 use Rattle.returns.proofs.ByteLaws.{bytes-append, little-bytes, row-is-bytes}
 use Rattle.returns.proofs.CountLaws.{total-next, total-take, total-past, total-set}
@@ -25,7 +25,7 @@ use Rattle.returns.proofs.MadeLaws.{RowFits, Kept}
 
 -- One row more
 
-module _ (allThreads rows : ℕ) (m : Made) (h : Kept allThreads rows m) (some : 1 ≤ m .threads) (few : rowsSoFar m < maxRows)
+module _ (allThreads rows : ℕ) (m : Draft) (h : Kept allThreads rows m) (some : 1 ≤ m .threads) (few : rowsSoFar m < maxRows)
     (bs fields rest : List ℕ) (r : RowRead (roomFor allThreads rows (rowsSoFar m) m) bs fields rest) where
   -- the last thread
   last : ℕ
@@ -55,7 +55,7 @@ module _ (allThreads rows : ℕ) (m : Made) (h : Kept allThreads rows m) (some :
 
   body-long : length body ≡ length (m .body) + 24
   unfolding body
-  body-long = length-append (m .body) (rowBytes fields) ∙ ap (λ (n : ℕ). length (m .body) + n) (row-bytes-long fields (r .long))
+  body-long = length-append (m .body) (fieldsAsBytes fields) ∙ ap (λ (n : ℕ). length (m .body) + n) (row-bytes-long fields (r .long))
 
   -- the rows of the threads up to the last are all
   total-last : total (m .counts) ≡ total (take last (m .counts)) + rowsSoFar m
@@ -70,9 +70,9 @@ module _ (allThreads rows : ℕ) (m : Made) (h : Kept allThreads rows m) (some :
   left e k i l n f a b =
       let within = total-take (m .counts) (suc k) in
       let next = total-next (m .counts) k in
-      ap (λ (x : ℕ). isFine (rowDecoded (roomFor allThreads e i m) (rowFrom (m .body ++ rowBytes fields) (8 * (m .cells + m .plains) + 24 * (x + i))))) (before-same k l)
+      ap (λ (x : ℕ). isFine (rowDecoded (roomFor allThreads e i m) (rowFrom (m .body ++ fieldsAsBytes fields) (8 * (m .cells + m .plains) + 24 * (x + i))))) (before-same k l)
       ∙ ap (λ (x : Row). isFine (rowDecoded (roomFor allThreads e i m) x))
-      (row-kept (m .body) (rowBytes fields) (8 * (m .cells + m .plains) + 24 * (total (take k (m .counts)) + i)) (omega (arith, h .size)))
+      (row-kept (m .body) (fieldsAsBytes fields) (8 * (m .cells + m .plains) + 24 * (total (take k (m .counts)) + i)) (omega (arith, h .size)))
       ∙ f a b
 
   -- and the new one stands behind them
@@ -109,7 +109,7 @@ module _ (allThreads rows : ℕ) (m : Made) (h : Kept allThreads rows m) (some :
       | no d ↦ omega (arith, counts-other k d, h .few k)
     ];
     size = body-long ∙ (omega (arith, h .size, total-set (m .counts) (m .threads - 1) (rowsSoFar m + 1) last-there));
-    bytes = bytes-append (m .body) (rowBytes fields) (h .bytes) (row-is-bytes fields);
+    bytes = bytes-append (m .body) (fieldsAsBytes fields) (h .bytes) (row-is-bytes fields);
     earlier = λ k l i n.
         let same = counts-other k (omega arith) in
         subst (λ (x : ℕ). RowFits allThreads x m counts body k i) (sym same) (left (getD (m .counts) k 0) k i (omega arith) (omega arith) (h .earlier k l i (omega arith)));
@@ -118,7 +118,7 @@ module _ (allThreads rows : ℕ) (m : Made) (h : Kept allThreads rows m) (some :
 
 -- One thread more
 
-pub kept-thread : (allThreads rows more : ℕ) (m : Made) → Kept allThreads rows m → 1 ≤ m .cells → m .threads < 5 → (1 ≤ m .threads → rows ≡ rowsSoFar m) → Kept allThreads more (withThread m)
+pub kept-thread : (allThreads rows more : ℕ) (m : Draft) → Kept allThreads rows m → 1 ≤ m .cells → m .threads < 5 → (1 ≤ m .threads → rows ≡ rowsSoFar m) → Kept allThreads more (withThread m)
 kept-thread allThreads rows more m h some few full = record {
   five = h .five;
   cells-few = h .cells-few;
@@ -141,7 +141,7 @@ kept-thread allThreads rows more m h some few full = record {
 -- Cells, before any thread
 
 -- one value more, of a cell or of a plain cell
-kept-value : (allThreads rows v cells plains : ℕ) (m : Made) → Kept allThreads rows m → m .threads ≡ 0 → cells ≤ 4 → plains ≤ 4 → cells + plains ≡ m .cells + m .plains + 1 →
+kept-value : (allThreads rows v cells plains : ℕ) (m : Draft) → Kept allThreads rows m → m .threads ≡ 0 → cells ≤ 4 → plains ≤ 4 → cells + plains ≡ m .cells + m .plains + 1 →
     Kept allThreads rows (record { cells = cells; plains = plains; threads = m .threads; counts = m .counts; body = m .body ++ little 8 v })
 kept-value allThreads rows v cells plains m h none few fewer one = record {
   five = h .five;
@@ -157,14 +157,14 @@ kept-value allThreads rows v cells plains m h none few fewer one = record {
   current = λ k e i n. absurd (omega arith);
 }
 
-pub kept-cell : (allThreads rows v : ℕ) (m : Made) → Kept allThreads rows m → m .threads ≡ 0 → m .cells < 4 → Kept allThreads rows (withCell m v)
+pub kept-cell : (allThreads rows v : ℕ) (m : Draft) → Kept allThreads rows m → m .threads ≡ 0 → m .cells < 4 → Kept allThreads rows (withCell m v)
 kept-cell allThreads rows v m h none few = kept-value allThreads rows v (m .cells + 1) (m .plains) m h none (omega arith) (h .plains-few) (omega arith)
 
-pub kept-plain : (allThreads rows v : ℕ) (m : Made) → Kept allThreads rows m → m .threads ≡ 0 → m .plains < 4 → Kept allThreads rows (withPlain m v)
+pub kept-plain : (allThreads rows v : ℕ) (m : Draft) → Kept allThreads rows m → m .threads ≡ 0 → m .plains < 4 → Kept allThreads rows (withPlain m v)
 kept-plain allThreads rows v m h none few = kept-value allThreads rows v (m .cells) (m .plains + 1) m h none (h .cells-few) (omega arith) (omega arith)
 
 -- how many rows there are to be matters only in a thread
-pub kept-any : (allThreads rows more : ℕ) (m : Made) → Kept allThreads rows m → m .threads ≡ 0 → Kept allThreads more m
+pub kept-any : (allThreads rows more : ℕ) (m : Draft) → Kept allThreads rows m → m .threads ≡ 0 → Kept allThreads more m
 kept-any allThreads rows more m h none = record {
   five = h .five;
   cells-few = h .cells-few;

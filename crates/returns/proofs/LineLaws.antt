@@ -11,31 +11,31 @@ use lib.ListN.{getD}
 use borrow.Author.Tests.{le-leb, lt-ltb, ne-eqb}
 use Rattle.rules.specs.Vector.{equal}
 use Rattle.rules.specs.Table.{Room, maxRows, maxCells, maxPlains, maxThreads}
-use Rattle.rules.specs.Token.{bytesOf, lineFeed, isLetter, run, tokenLength, lineLength, endsLine}
-use Rattle.rules.specs.Text.{Made, withCell, withPlain, withRow, withThread, rowsSoFar, tableOf, rowsAhead, goesOn, ended, concludes, valuesLine, rowLine, lineOf, accepted, concluded, linesFrom}
+use Rattle.rules.specs.Token.{bytesOf, lineFeed, isLetter, runLength, tokenLength, lineLength, endsLine}
+use Rattle.rules.specs.Text.{Draft, withCell, withPlain, withRow, withThread, rowsSoFar, tableOf, rowsAhead, goesOn, ended, concludes, valuesLine, rowLine, lineOf, accepted, concluded, linesFrom}
 use Rattle.returns.proofs.TokenLaws.{run-all, Stands, letters, stands-some}
 use Rattle.returns.proofs.RowLine.{RowLine}
 
-module _ (n lines allThreads rows : ℕ) (m : Made) (bs : List ℕ) where
-  pub on-goes : (more : ℕ) (made : Made) (rest : List ℕ) → lineOf lines allThreads rows m bs ≡ goesOn more made rest →
+module _ (n lines allThreads rows : ℕ) (m : Draft) (bs : List ℕ) where
+  pub on-goes : (more : ℕ) (made : Draft) (rest : List ℕ) → lineOf lines allThreads rows m bs ≡ goesOn more made rest →
       linesFrom (suc n) lines allThreads rows m bs ≡ linesFrom n lines allThreads more made rest
   unfolding linesFrom
   on-goes more made rest e = rw (linesFrom, e) refl
 
-  pub on-ends : (made : Made) → lineOf lines allThreads rows m bs ≡ ended made → linesFrom (suc n) lines allThreads rows m bs ≡ accepted (tableOf made) []
+  pub on-ends : (made : Draft) → lineOf lines allThreads rows m bs ≡ ended made → linesFrom (suc n) lines allThreads rows m bs ≡ accepted (tableOf made) []
   unfolding linesFrom
   on-ends made e = rw (linesFrom, e) refl
 
-  pub on-concludes : (made : Made) (rest : List ℕ) → lineOf lines allThreads rows m bs ≡ concludes made rest →
+  pub on-concludes : (made : Draft) (rest : List ℕ) → lineOf lines allThreads rows m bs ≡ concludes made rest →
       linesFrom (suc n) lines allThreads rows m bs ≡ concluded lines made rest
   unfolding linesFrom
   on-concludes made rest e = rw (linesFrom, e) refl
 
 -- the room of a row of this number, in a thread of so many rows
-abbrev pub roomFor : ℕ → ℕ → ℕ → Made → Room
+abbrev pub roomFor : ℕ → ℕ → ℕ → Draft → Room
 roomFor allThreads rows row m = record { threads = allThreads; cells = m .cells; plains = m .plains; rows = rows; row = row }
 
-module _ (lines allThreads rows : ℕ) (m : Made) where
+module _ (lines allThreads rows : ℕ) (m : Draft) where
   some-cells : 1 ≤ m .cells → eqb (m .cells) 0 ≡ false
   some-cells h = ne-eqb (m .cells) 0 (λ e. omega arith)
 
@@ -57,7 +57,7 @@ module _ (lines allThreads rows : ℕ) (m : Made) where
 
   pub thread-step : (rest : List ℕ) (count : ℕ) → 1 ≤ m .cells → m .threads < maxThreads → rowsAhead lines rest ≡ count →
       lineOf lines allThreads rows m (bytesOf "thread" ++ (lineFeed ∷ rest)) ≡ goesOn count (withThread m) rest
-  unfolding lineOf run endsLine lineLength bytesOf tokenLength equal
+  unfolding lineOf runLength endsLine lineLength bytesOf tokenLength equal
   thread-step rest count c t e =
       rw (stands-some (thread-word rest), some-cells c, and-false (eqb (m .threads) 0 && eqb (m .plains) 0), lt-ltb (m .threads) maxThreads t) (ap (λ (n : ℕ). goesOn n (withThread m) rest) e)
 
@@ -66,7 +66,7 @@ module _ (lines allThreads rows : ℕ) (m : Made) where
   finally-word rest p = letters _ _ rest refl p
 
   pub finally-step : (rest : List ℕ) → isLetter (getD rest 0 0) ≡ false → 1 ≤ m .cells → 1 ≤ m .threads → lineOf lines allThreads rows m (bytesOf "finally" ++ rest) ≡ concludes m rest
-  unfolding lineOf run endsLine bytesOf tokenLength equal
+  unfolding lineOf runLength endsLine bytesOf tokenLength equal
   finally-step rest p c t = rw (run-all isLetter [] rest refl p, stands-some (finally-word rest p), some-cells c, some-threads t, le-leb 1 (m .threads) t) refl
 
   cells-word : (rest : List ℕ) → isLetter (getD rest 0 0) ≡ false → Stands (bytesOf "cells") rest
@@ -74,8 +74,8 @@ module _ (lines allThreads rows : ℕ) (m : Made) where
   cells-word rest p = letters _ _ rest refl p
 
   pub cells-step : (rest : List ℕ) → isLetter (getD rest 0 0) ≡ false → m .cells ≡ 0 →
-      lineOf lines allThreads rows m (bytesOf "cells" ++ rest) ≡ valuesLine withCell (λ (made : Made). made .cells) maxCells m rest
-  unfolding lineOf run endsLine bytesOf tokenLength equal
+      lineOf lines allThreads rows m (bytesOf "cells" ++ rest) ≡ valuesLine withCell (λ (made : Draft). made .cells) maxCells m rest
+  unfolding lineOf runLength endsLine bytesOf tokenLength equal
   cells-step rest p c = rw (run-all isLetter [] rest refl p, stands-some (cells-word rest p), c) refl
 
   plain-word : (rest : List ℕ) → isLetter (getD rest 0 0) ≡ false → Stands (bytesOf "plain") rest
@@ -83,10 +83,10 @@ module _ (lines allThreads rows : ℕ) (m : Made) where
   plain-word rest p = letters _ _ rest refl p
 
   pub plains-step : (rest : List ℕ) → isLetter (getD rest 0 0) ≡ false → 1 ≤ m .cells → m .threads ≡ 0 → m .plains ≡ 0 →
-      lineOf lines allThreads rows m (bytesOf "plain" ++ rest) ≡ valuesLine withPlain (λ (made : Made). made .plains) maxPlains m rest
-  unfolding lineOf run endsLine bytesOf tokenLength equal
+      lineOf lines allThreads rows m (bytesOf "plain" ++ rest) ≡ valuesLine withPlain (λ (made : Draft). made .plains) maxPlains m rest
+  unfolding lineOf runLength endsLine bytesOf tokenLength equal
   plains-step rest p c t z = rw (run-all isLetter [] rest refl p, stands-some (plain-word rest p), some-cells c, t, z) refl
 
   pub end-step : 1 ≤ m .threads → lineOf lines allThreads rows m [] ≡ ended m
-  unfolding lineOf run
+  unfolding lineOf runLength
   end-step t = rw (le-leb 1 (m .threads) t) refl

@@ -14,7 +14,7 @@ use lib.Seq.{take-at, getD-at}
 use borrow.Author.Tests.{le-leb, lt-ltb}
 use Rattle.rules.specs.Table.{maxValues, maxRows, allRows, plainsOf, countsOf, countsFine, total, sizeOf, judged, good, isFine, rowDecoded, rowFrom, rowAt, opAt, Room, roomOf, Row}
 use Rattle.rules.specs.ConditionTree.{AllBytes}
-use Rattle.rules.specs.Text.{Made, tableOf, rowsSoFar}
+use Rattle.rules.specs.Text.{Draft, tableOf, rowsSoFar}
 use Rattle.returns.proofs.ByteLaws.{bytes-append}
 use Rattle.returns.proofs.TableLaws.{Header, RowsFine, rows-from, table-fine}
 use Rattle.returns.proofs.CountLaws.{total-next, total-take, total-few, counts-made}
@@ -22,11 +22,11 @@ use Rattle.returns.proofs.LineLaws.{roomFor}
 use Rattle.returns.proofs.AppendLaws.{row-behind}
 
 -- row i of thread k in these bytes is fine, if there are not too many threads and rows
-abbrev pub RowFits : (allThreads rows : ℕ) (m : Made) (counts body : List ℕ) → (k i : ℕ) → Type 0
+abbrev pub RowFits : (allThreads rows : ℕ) (m : Draft) (counts body : List ℕ) → (k i : ℕ) → Type 0
 RowFits allThreads rows m counts body k i =
     allThreads ≤ 5 → rows ≤ maxRows → isFine (rowDecoded (roomFor allThreads rows i m) (rowFrom body (8 * (m .cells + m .plains) + 24 * (total (take k counts) + i)))) ≡ true
 
-pub record Kept (allThreads rows : ℕ) (m : Made) : Type 0 where
+pub record Kept (allThreads rows : ℕ) (m : Draft) : Type 0 where
   pub five : length (m .counts) ≡ 5
   pub cells-few : m .cells ≤ 4
   pub plains-few : m .plains ≤ 4
@@ -44,11 +44,11 @@ few-bytes : (cs : List ℕ) → ((k : ℕ) → getD cs k 0 ≤ maxRows) → AllB
 few-bytes [] h = tt
 few-bytes (c ∷ cs) h = (omega (arith, h 0), few-bytes cs (λ k. h (suc k)))
 
-pub kept-bytes : (allThreads rows : ℕ) (m : Made) → Kept allThreads rows m → AllBytes (tableOf m)
+pub kept-bytes : (allThreads rows : ℕ) (m : Draft) → Kept allThreads rows m → AllBytes (tableOf m)
 kept-bytes allThreads rows m h =
     (omega (arith, h .threads-few), (omega (arith, h .cells-few), bytes-append (m .counts) (m .plains ∷ m .body) (few-bytes (m .counts) (h .few)) (omega (arith, h .plains-few), h .bytes)))
 
-module _ (allThreads rows : ℕ) (m : Made) (h : Kept allThreads rows m) (some : 1 ≤ m .threads) (every : allThreads ≡ m .threads) (full : rows ≡ rowsSoFar m) where
+module _ (allThreads rows : ℕ) (m : Draft) (h : Kept allThreads rows m) (some : 1 ≤ m .threads) (every : allThreads ≡ m .threads) (full : rows ≡ rowsSoFar m) where
   t : List ℕ
   t = tableOf m
 

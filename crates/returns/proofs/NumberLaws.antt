@@ -11,7 +11,7 @@ use native.Mathlib.Omega.{arith}
 use lib.Dec.{ltb, leb, eqb, eqb·suc-zero}
 use lib.ListN.{length, getD}
 use borrow.Author.Tests.{le-leb, lt-ltb, ltb-true, ltb-false, leb-true, eq-eqb, ne-eqb}
-use Rattle.rules.specs.Token.{bytesOf, placeIn, isBetween, isDigit, isLetter, isEmpty, Found, nothing, found, onlyIf, only, numberIn, digitsBehind, fourth, registerIn, plainIn}
+use Rattle.rules.specs.Token.{bytesOf, placeIn, isBetween, isDigit, isLetter, isEmpty, Found, nothing, found, foundIf, only, numberIn, digitsBehind, fourth, registerIn, plainIn}
 use Rattle.rules.specs.Vector.{equal}
 use Rattle.rules.specs.Form as Form
 use Rattle.rules.specs.Form.{orderIn}
@@ -163,11 +163,11 @@ pub only-found : (p : ℕ → Bool) (f : Found) (v : ℕ) → only p f ≡ found
 only-found p nothing v e = none-found v e
 only-found p (found w) v e = by (p w) refl e
   where
-    by : (x : Bool) → p w ≡ x → onlyIf x w ≡ found v → (p v ≡ true) × (found w ≡ found v)
+    by : (x : Bool) → p w ≡ x → foundIf x w ≡ found v → (p v ≡ true) × (found w ≡ found v)
     by false g h = none-found v h
     by true g h = let k : w ≡ v = cc in (subst (λ (y : ℕ). p y ≡ true) k g, h)
 
-pub onlyIf-found : (x : Bool) (w v : ℕ) → onlyIf x w ≡ found v → (x ≡ true) × (w ≡ v)
+pub onlyIf-found : (x : Bool) (w v : ℕ) → foundIf x w ≡ found v → (x ≡ true) × (w ≡ v)
 onlyIf-found true w v e = (refl, cc)
 onlyIf-found false w v e = none-found v e
 

@@ -15,7 +15,7 @@ use borrow.Author.Tests.{eqb-true, not-true}
 use Rattle.rules.specs.Vector.{equal}
 use Rattle.rules.specs.ConditionTree.{FineAll}
 use Rattle.rules.specs.Table.{Room}
-use Rattle.rules.specs.Token.{space, lineFeed, run, lineLength, tokenLength, endsLine, isEmpty, skip, token, pastToken, nextLine, Found, nothing, found}
+use Rattle.rules.specs.Token.{space, lineFeed, runLength, lineLength, tokenLength, endsLine, isEmpty, pastBlanks, token, pastToken, nextLine, Found, nothing, found}
 use Rattle.rules.specs.Form.{fieldOf, letterIn, isField, valueOf, withField, Followed, stuck, fits, follow}
 use Rattle.rules.specs.Writer.{letterShown, formShown, shown}
 use Rattle.rules.proofs.VectorLaws.{equal-true}
@@ -31,7 +31,7 @@ spaced (p ∷ ps) = space ∷ (p ++ spaced ps)
 
 unfoldable pub piecesIn : ℕ → List ℕ → List (List ℕ)
 piecesIn zero bs = []
-piecesIn (suc n) bs = elim (isEmpty (skip bs)) [ true ↦ [] | false ↦ token (skip bs) ∷ piecesIn n (pastToken (skip bs)) ]
+piecesIn (suc n) bs = elim (isEmpty (pastBlanks bs)) [ true ↦ [] | false ↦ token (pastBlanks bs) ∷ piecesIn n (pastToken (pastBlanks bs)) ]
 
 -- As they are written
 
@@ -104,23 +104,23 @@ unfolding turn
 turn-so n room fields words bs e = rw (turn, e) refl
 
 module _ (room : Room) where
-  follow-turn : (n : ℕ) (words fields bs : List ℕ) → follow (suc n) room words fields bs ≡ turn n room fields (skip words) (skip bs)
+  follow-turn : (n : ℕ) (words fields bs : List ℕ) → follow (suc n) room words fields bs ≡ turn n room fields (pastBlanks words) (pastBlanks bs)
   unfolding follow turn against
   follow-turn n words fields bs = refl
 
   -- a form's next piece against the next token
   pub follow-word : (n : ℕ) (p more fields bs : List ℕ) → Stands p more →
-      follow (suc n) room (space ∷ (p ++ more)) fields bs ≡ against n room fields p (token (skip bs)) more (pastToken (skip bs)) (skip bs)
-  unfolding run
+      follow (suc n) room (space ∷ (p ++ more)) fields bs ≡ against n room fields p (token (pastBlanks bs)) more (pastToken (pastBlanks bs)) (pastBlanks bs)
+  unfolding runLength
   follow-word n p more fields bs s =
       follow-turn n (space ∷ (p ++ more)) fields bs
-      ∙ (λ i. turn n room fields (stands-skip s i) (skip bs))
-      ∙ turn-so n room fields (p ++ more) (skip bs) (stands-some s)
-      ∙ λ i. against n room fields (stands-token s i) (token (skip bs)) (stands-past s i) (pastToken (skip bs)) (skip bs)
+      ∙ (λ i. turn n room fields (stands-skip s i) (pastBlanks bs))
+      ∙ turn-so n room fields (p ++ more) (pastBlanks bs) (stands-some s)
+      ∙ λ i. against n room fields (stands-token s i) (token (pastBlanks bs)) (stands-past s i) (pastToken (pastBlanks bs)) (pastBlanks bs)
 
   follow-step : (n : ℕ) (p more fields w behind : List ℕ) → Stands p more → Stands w behind →
       follow (suc n) room (space ∷ (p ++ more)) fields (space ∷ (w ++ behind)) ≡ against n room fields p w more behind (w ++ behind)
-  unfolding run
+  unfolding runLength
   follow-step n p more fields w behind s t =
       follow-word n p more fields (space ∷ (w ++ behind)) s
       ∙ ap (λ (x : List ℕ). against n room fields p (token x) more (pastToken x) x) (stands-skip t)
@@ -153,7 +153,7 @@ parted-row (p ∷ ps) rest = (refl, refl)
 module _ (room : Room) where
   pub follow-own : (from : List ℕ) (ps : List (List ℕ)) (n : ℕ) (fields rest : List ℕ) → FineAll (PieceBack room from) ps → length ps < n →
       follow n room (spaced ps) fields (spaced (map (pieceShown from) ps) ++ (lineFeed ∷ rest)) ≡ fits (fieldsSet ps from fields) rest
-  unfolding follow run endsLine lineLength against
+  unfolding follow runLength endsLine lineLength against
   follow-own from ps zero fields rest h l = absurd (omega arith)
   follow-own from [] (suc n) fields rest h l = refl
   follow-own from (p ∷ ps) (suc n) fields rest h l =
@@ -225,12 +225,12 @@ module _ (room : Room) where
 
   -- a word where the form has ended, and none where it has not
   word-left : (n : ℕ) (fields w behind : List ℕ) → Stands w behind → IsStuck (follow (suc n) room [] fields (space ∷ (w ++ behind)))
-  unfolding follow run
+  unfolding follow runLength
   word-left n fields w behind s = rw (stands-skip s, stands-on s) tt
 
   line-short : (n : ℕ) (fields p more rest : List ℕ) → Stands p more → valueOf room p [] ≡ nothing →
       follow (suc n) room (space ∷ (p ++ more)) fields (lineFeed ∷ rest) ≡ stuck (lineFeed ∷ rest)
-  unfolding run tokenLength endsLine against
+  unfolding runLength tokenLength endsLine against
   line-short n fields p more rest s e =
       follow-word room n p more fields (lineFeed ∷ rest) s ∙ rw (against, e) refl
 

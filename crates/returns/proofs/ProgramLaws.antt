@@ -11,9 +11,9 @@ use native.Mathlib.Numerals.{add-one}
 use lib.ListN.{length, getD, set, take, drop, length-append, length-take, length-drop}
 use Rattle.rules.specs.ConditionTree.{AllBytes}
 use Rattle.rules.specs.Table.{maxRows, threadsOf, cellsOf, plainsOf, valuesOf, countsOf, sizeOf, total, firstRows, Room, roomOf, Row, rowAt}
-use Rattle.rules.specs.Form.{rowBytes}
+use Rattle.rules.specs.Form.{fieldsAsBytes}
 use Rattle.rules.specs.Token.{bytesOf, lineFeed}
-use Rattle.rules.specs.Text.{Made, withRow, withThread, TextRead, linesFrom}
+use Rattle.rules.specs.Text.{Draft, withRow, withThread, TextRead, linesFrom}
 use Rattle.rules.specs.Writer.{fieldsOf, rowShown, rowsShown, threadsShown}
 use Rattle.returns.proofs.RowBack.{Small, row-known}
 use Rattle.returns.proofs.ByteLaws.{parts, row-bytes}
@@ -31,7 +31,7 @@ module _ (t : List ℕ) (bytes : AllBytes t) (fine : Fine t) where
   abbrev before : ℕ → ℕ
   before k = total (take k counts)
 
-  abbrev pub made : ℕ → List ℕ → ℕ → Made
+  abbrev pub made : ℕ → List ℕ → ℕ → Draft
   made threads sofar rows = record { cells = cellsOf t; plains = plainsOf t; threads = threads; counts = sofar; body = take (8 * valuesOf t + 24 * rows) (drop 8 t) }
 
   pub counts-five : length (countsOf t) ≡ 5
@@ -68,11 +68,11 @@ module _ (t : List ℕ) (bytes : AllBytes t) (fine : Fine t) where
       let e : k + 1 - 1 ≡ k = omega arith in
       let f : 8 + n ≡ sizeOf (valuesOf t) (before k + j) = omega arith in
       let g : n + 24 ≡ 8 * valuesOf t + 24 * (before k + j + 1) = omega arith in
-      let rowed : rowBytes (fieldsOf (rowAt t (valuesOf t) (before k + j))) ≡ take 24 (drop (8 + n) t) =
-      ap (λ (x : Row). rowBytes (fieldsOf x)) (r .is) ∙ row-bytes t bytes (sizeOf (valuesOf t) (before k + j)) (r .within) ∙ ap (λ (x : ℕ). take 24 (drop x t)) (sym f) in
+      let rowed : fieldsAsBytes (fieldsOf (rowAt t (valuesOf t) (before k + j))) ≡ take 24 (drop (8 + n) t) =
+      ap (λ (x : Row). fieldsAsBytes (fieldsOf x)) (r .is) ∙ row-bytes t bytes (sizeOf (valuesOf t) (before k + j)) (r .within) ∙ ap (λ (x : ℕ). take 24 (drop x t)) (sym f) in
       let more : set (soFar counts k j) (k + 1 - 1) (getD (soFar counts k j) (k + 1 - 1) 0 + 1) ≡ soFar counts k (j + 1) =
       rw (so-far k j h, e) (so-more counts k j (j + 1)) in
-      let body : take n (drop 8 t) ++ rowBytes (fieldsOf (rowAt t (valuesOf t) (before k + j))) ≡ take (8 * valuesOf t + 24 * (before k + j + 1)) (drop 8 t) =
+      let body : take n (drop 8 t) ++ fieldsAsBytes (fieldsOf (rowAt t (valuesOf t) (before k + j))) ≡ take (8 * valuesOf t + 24 * (before k + j + 1)) (drop 8 t) =
       ap (λ (x : List ℕ). take n (drop 8 t) ++ x) rowed ∙ sym (parts t bytes n 24 8) ∙ ap (λ (x : ℕ). take x (drop 8 t)) g in
       λ i. record { cells = cellsOf t; plains = plainsOf t; threads = k + 1; counts = more i; body = body i }
 
@@ -89,7 +89,7 @@ module _ (t : List ℕ) (bytes : AllBytes t) (fine : Fine t) where
       on-goes n lines (threadsOf t) (getD counts k 0) m (rowShown row ++ rest) (getD counts k 0) (withRow m (fieldsOf row)) rest
       (row-step lines (threadsOf t) (getD counts k 0) m (fieldsOf row) (rowShown row) rest
       (subst (λ (x : ℕ). RowLine (roomIn k x) (fieldsOf row) (rowShown row)) (sym (so-far k j h)) (line-at k j h l)) (fine .header .cells-some) (omega arith) (few-rows k j h l))
-      ∙ ap (λ (x : Made). linesFrom n lines (threadsOf t) (getD counts k 0) x rest) (row-made k j h l)
+      ∙ ap (λ (x : Draft). linesFrom n lines (threadsOf t) (getD counts k 0) x rest) (row-made k j h l)
 
   module _ (lines : ℕ) (answer : TextRead) (rest : List ℕ) where
     -- a thread's last q rows, behind which the lines go on to the answer
@@ -155,7 +155,7 @@ module _ (t : List ℕ) (bytes : AllBytes t) (fine : Fine t) where
     threads-read zero k n rows e few l =
         let f : k ≡ threadsOf t = omega arith in
         ap (λ (x : ℕ). linesFrom n lines (threadsOf t) rows (made x (soFar counts x 0) (before x)) rest) f
-        ∙ ap (λ (x : Made). linesFrom n lines (threadsOf t) rows x rest) made-all
+        ∙ ap (λ (x : Draft). linesFrom n lines (threadsOf t) rows x rest) made-all
         ∙ finish n rows few l
     threads-read (suc q) k zero rows e few l = absurd (omega arith)
     threads-read (suc q) k (suc n) rows e few l =
@@ -169,5 +169,5 @@ module _ (t : List ℕ) (bytes : AllBytes t) (fine : Fine t) where
         ∙ thread-on q k n rows (omega arith) few left
         ∙ (λ i. linesFrom n lines (threadsOf t) (getD counts k 0) (made (k + 1) (soFar counts k 0) (z i)) (rowsShown t (getD counts k 0) (f i) ++ more))
         ∙ rows-read lines answer more k 0 (getD counts k 0) n (omega arith) (omega arith)
-        (λ m g p. ap (λ (x : Made). linesFrom m lines (threadsOf t) (getD counts k 0) x more) (made-next k) ∙ threads-read q (k + 1) m (getD counts k 0) (omega arith) (omega arith) p)
+        (λ m g p. ap (λ (x : Draft). linesFrom m lines (threadsOf t) (getD counts k 0) x more) (made-next k) ∙ threads-read q (k + 1) m (getD counts k 0) (omega arith) (omega arith) p)
         (subst (λ (x : ℕ). length (rowsShown t (getD counts k 0) x ++ more) < n) f left)

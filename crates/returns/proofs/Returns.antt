@@ -18,8 +18,8 @@ use Rattle.rules.specs.Vector.{equal}
 use Rattle.rules.specs.Table.{maxPlains, threadsOf, cellsOf, plainsOf, valuesOf, countsOf, total}
 use Rattle.rules.specs.Condition.{Read, bad, read, conditionAt, claimAt, ends, isCondition, groupsDeep, conditionBytes}
 use Rattle.rules.specs.ConditionTree.{AllBytes}
-use Rattle.rules.specs.Token.{bytesOf, lineFeed, run, tokenLength, endsLine, isEmpty, isLetter}
-use Rattle.rules.specs.Text.{Made, withPlain, tableOf, says, nothingMade, threadsAhead, claimed, claimedTo, Claimed, concluded, TextRead, refusedAt, accepted, lineOf, goesOn, valuesLine, linesFrom, readText}
+use Rattle.rules.specs.Token.{bytesOf, lineFeed, runLength, tokenLength, endsLine, isEmpty, isLetter}
+use Rattle.rules.specs.Text.{Draft, withPlain, tableOf, says, nothingMade, threadsAhead, claimed, claimedTo, Claimed, concluded, TextRead, refusedAt, accepted, lineOf, goesOn, valuesLine, linesFrom, readText}
 use Rattle.rules.specs.Writer.{unitsShown, conditionShown, threadsShown, valuesShown, plainsShown, writtenText}
 use Rattle.rules.proofs.MeasureRows.{both-left, both-right}
 use Rattle.rules.proofs.ConditionLaws.{grammar}
@@ -43,7 +43,7 @@ accepted-units threads bs few k e =
     ]
 
 -- what is judged of what was read of a condition
-unfoldable pub judgedAs : (lines : ℕ) (m : Made) (bs : List ℕ) → Claimed lines → TextRead
+unfoldable pub judgedAs : (lines : ℕ) (m : Draft) (bs : List ℕ) → Claimed lines → TextRead
 judgedAs lines m bs c =
     elim (conditionAt (m .threads) (λ t r. 0) groupsDeep (c .made)) [
       | bad rest ↦ refusedAt (claimed lines lines (length (c .made) - length rest) [] bs .rest)
@@ -54,11 +54,11 @@ judgedAs lines m bs c =
           ]
     ]
 
-pub conclude-so : (lines : ℕ) (m : Made) (bs : List ℕ) → concluded lines m bs ≡ judgedAs lines m bs (claimed lines lines (conditionBytes + 1) [] bs)
+pub conclude-so : (lines : ℕ) (m : Draft) (bs : List ℕ) → concluded lines m bs ≡ judgedAs lines m bs (claimed lines lines (conditionBytes + 1) [] bs)
 unfolding judgedAs
 conclude-so lines m bs = refl
 
-judged-whole : (lines : ℕ) (m : Made) (bs c : List ℕ) → 1 ≤ length c → ends (claimAt (m .threads) (λ t r. 0) c) ≡ true →
+judged-whole : (lines : ℕ) (m : Draft) (bs c : List ℕ) → 1 ≤ length c → ends (claimAt (m .threads) (λ t r. 0) c) ≡ true →
     judgedAs lines m bs (claimedTo lines c [] true) ≡ accepted (tableOf m) c
 unfolding judgedAs
 judged-whole lines m bs [] l e = absurd (omega arith)
@@ -69,7 +69,7 @@ judged-whole lines m bs (b ∷ c) l e = by (conditionAt (m .threads) (λ t r. 0)
     by (bad rest) f g = absurd (true≢false (sym g))
     by (read v rest) f g = rw (judgedAs, f, g) refl
 
-condition-back : (l : ℕ) (m : Made) (b : ℕ) (bs : List ℕ) → m .threads ≤ 5 → AllBytes (b ∷ bs) → isCondition (m .threads) (b ∷ bs) ≡ true →
+condition-back : (l : ℕ) (m : Draft) (b : ℕ) (bs : List ℕ) → m .threads ≤ 5 → AllBytes (b ∷ bs) → isCondition (m .threads) (b ∷ bs) ≡ true →
     length (unitsShown (length (b ∷ bs)) false (b ∷ bs) ++ (lineFeed ∷ [])) ≤ suc l →
     concluded (suc l) m (unitsShown (length (b ∷ bs)) false (b ∷ bs) ++ (lineFeed ∷ [])) ≡ accepted (tableOf m) (b ∷ bs)
 unfolding isCondition
@@ -82,11 +82,11 @@ condition-back l m b bs few k e h =
 
 -- where the threads end
 finally-said : (rest : List ℕ) → isLetter (getD rest 0 0) ≡ false → says "finally" (bytesOf "finally" ++ rest) ≡ true
-unfolding run endsLine bytesOf tokenLength equal
+unfolding runLength endsLine bytesOf tokenLength equal
 finally-said rest p = rw (run-all isLetter [] rest refl p) refl
 
 ending-so : (c : List ℕ) → Units c → Ending (conditionShown c)
-unfolding conditionShown run
+unfolding conditionShown runLength
 ending-so [] u = refl
 ending-so (b ∷ bs) u = rw (finally-said (unitsShown (length (b ∷ bs)) false (b ∷ bs) ++ (lineFeed ∷ [])) (parted-units (b ∷ bs) u (length (b ∷ bs)) []), or-true) refl
 
@@ -94,7 +94,7 @@ ending-so (b ∷ bs) u = rw (finally-said (unitsShown (length (b ∷ bs)) false 
 
 module _ (t : List ℕ) (bytes : AllBytes t) (fine : Fine t) where
   -- what has been read when all threads have
-  abbrev whole : Made
+  abbrev whole : Draft
   whole = made t bytes fine (threadsOf t) (countsOf t) (total (countsOf t))
 
   table-back : tableOf whole ≡ t
@@ -150,7 +150,7 @@ module _ (t : List ℕ) (bytes : AllBytes t) (fine : Fine t) where
         let z = a .0 in
         let all : cellsOf t ≡ valuesOf t = omega arith in
         ap (linesFrom (suc n) lines (threadsOf t) 0 cells) e
-        ∙ ap (λ (m : Made). linesFrom (suc n) lines (threadsOf t) 0 m rest) (none-yet t bytes fine ∙ ap (plainsMade t bytes fine) all)
+        ∙ ap (λ (m : Draft). linesFrom (suc n) lines (threadsOf t) 0 m rest) (none-yet t bytes fine ∙ ap (plainsMade t bytes fine) all)
         ∙ then (suc n) (omega arith) (omega (arith, ap length e))
     | inr a ↦
         let e = ap (λ (x : List ℕ). x ++ rest) (a .1) in
@@ -159,12 +159,12 @@ module _ (t : List ℕ) (bytes : AllBytes t) (fine : Fine t) where
         ap (linesFrom (suc n) lines (threadsOf t) 0 cells) (e ∙ values-text (bytesOf "plain") t (plainsOf t) (cellsOf t) rest)
         ∙ on-goes n lines (threadsOf t) 0 cells (bytesOf "plain" ++ behind) 0 (plainsMade t bytes fine (valuesOf t)) rest
         (plains-step lines (threadsOf t) 0 cells behind (values-parted t (plainsOf t) (cellsOf t) rest .0) (fine .header .cells-some) refl refl
-        ∙ ap (λ (m : Made). valuesLine withPlain (λ (x : Made). x .plains) maxPlains m behind) (none-yet t bytes fine)
+        ∙ ap (λ (m : Draft). valuesLine withPlain (λ (x : Draft). x .plains) maxPlains m behind) (none-yet t bytes fine)
         ∙ plains-read t bytes fine (a .0) rest)
         ∙ then n (omega arith) (omega (arith, ap length e, length-append (plainsText t) rest))
   ]
     where
-      cells : Made
+      cells : Draft
       cells = cellsMade t bytes fine (cellsOf t)
 
   -- The whole text
@@ -214,7 +214,7 @@ module _ (t : List ℕ) (bytes : AllBytes t) (fine : Fine t) where
       ∙ on-goes l (suc l) (threadsOf t) 0 nothingMade text 0 (cellsMade t bytes fine (cellsOf t)) behind (first-line c (suc l) (threadsOf t))
       ∙ plains-on (suc l) l (accepted t c) (others c)
       (λ m a b.
-      ap (λ (x : Made). linesFrom m (suc l) (threadsOf t) 0 x (others c)) values-made
+      ap (λ (x : Draft). linesFrom m (suc l) (threadsOf t) 0 x (others c)) values-made
       ∙ threads-read t bytes fine (suc l) (accepted t c) (conditionShown c) (ending-so c u)
       (λ n rows h i. finish l c u k e n rows h i) (threadsOf t) 0 m 0 (omega arith) (omega arith) b)
       left

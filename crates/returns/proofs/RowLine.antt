@@ -14,7 +14,7 @@ use borrow.Author.Tests.{not-true}
 use Rattle.rules.specs.Vector.{equal}
 use Rattle.rules.specs.ConditionTree.{FineAll, AllBytes}
 use Rattle.rules.specs.Table.{Room, Row, rowFrom}
-use Rattle.rules.specs.Token.{bytesOf, space, lineFeed, run, tokenLength, isEmpty, endsLine, skip, token, nextLine}
+use Rattle.rules.specs.Token.{bytesOf, space, lineFeed, runLength, tokenLength, isEmpty, endsLine, pastBlanks, token, nextLine}
 use Rattle.rules.specs.Form.{Form, forms, fieldOf, isField, fits, rowIn}
 use Rattle.rules.specs.Text.{says}
 use Rattle.rules.specs.Writer.{letterShown, fieldsOf, rowShown}
@@ -43,11 +43,11 @@ small-row t h at (suc (suc (suc (suc (suc (suc (suc (suc (suc i))))))))) = omega
 
 -- a line that says something, but neither "thread" nor `finally`
 pub record PlainLine (line : List ℕ) : Type 0 where
-  pub some : (rest : List ℕ) → isEmpty (skip (line ++ rest)) ≡ false
-  pub full : (rest : List ℕ) → endsLine (skip (line ++ rest)) ≡ false
+  pub some : (rest : List ℕ) → isEmpty (pastBlanks (line ++ rest)) ≡ false
+  pub full : (rest : List ℕ) → endsLine (pastBlanks (line ++ rest)) ≡ false
   pub noThread : (rest : List ℕ) → says "thread" (line ++ rest) ≡ false
   pub noFinally : (rest : List ℕ) → says "finally" (line ++ rest) ≡ false
-  pub next : (rest : List ℕ) → nextLine (skip (line ++ rest)) ≡ rest
+  pub next : (rest : List ℕ) → nextLine (pastBlanks (line ++ rest)) ≡ rest
   pub long : 1 ≤ length line
 
 pub record RowLine (room : Room) (fields line : List ℕ) : Type 0 where
@@ -63,7 +63,7 @@ pub record Begins (line : List ℕ) : Type 0 where
   pub behind : List ℕ
   pub stands : (rest : List ℕ) → Stands word (behind ++ (lineFeed ∷ rest))
   pub other : Other word
-  pub skips : (rest : List ℕ) → skip (line ++ rest) ≡ word ++ (behind ++ (lineFeed ∷ rest))
+  pub skips : (rest : List ℕ) → pastBlanks (line ++ rest) ≡ word ++ (behind ++ (lineFeed ∷ rest))
   pub oneLine : noFeed (word ++ behind) ≡ true
   pub long : 1 ≤ length line
 
@@ -85,7 +85,7 @@ starts [] = false
 starts (p ∷ ps) = equal p (82 ∷ []) || (not (isField p) && (not (equal p (bytesOf "thread")) && not (equal p (bytesOf "finally"))))
 
 forms-start : everyForm (λ (f : Form). starts (piecesOf f)) forms ≡ true
-unfolding starts forms bytesOf piecesIn run tokenLength endsLine equal fieldOf
+unfolding starts forms bytesOf piecesIn runLength tokenLength endsLine equal fieldOf
 forms-start = refl
 
 register-other : (p fields : List ℕ) → p ≡ 82 ∷ [] → Other (pieceShown fields p)
@@ -115,7 +115,7 @@ unfolding rowShown
 row-long r = omega arith
 
 begins : (room : Room) (r : Row) → Known room r → Begins (rowShown r)
-unfolding run starts
+unfolding runLength starts
 begins room r k = by (piecesOf (formFor r)) (form-has (λ (f : Form). starts (piecesOf f)) (r .opcode) (r .kind) forms forms-start (k .real)) (k .back) (λ rest. row-text r rest (k .pieces))
   where
     fields : List ℕ
@@ -133,7 +133,7 @@ begins room r k = by (piecesOf (formFor r)) (form-has (λ (f : Form). starts (pi
           behind = behind;
           stands = stands;
           other = starts-other p ps fields s;
-          skips = λ rest. ap skip (e rest ∙ ap (λ (l : List ℕ). space ∷ space ∷ l) (append-assoc w behind (lineFeed ∷ rest))) ∙ stands-skip (stands rest);
+          skips = λ rest. ap pastBlanks (e rest ∙ ap (λ (l : List ℕ). space ∷ space ∷ l) (append-assoc w behind (lineFeed ∷ rest))) ∙ stands-skip (stands rest);
           oneLine = spaced-no-feed room fields (p ∷ ps) h;
           long = row-long r;
         }

@@ -13,7 +13,7 @@ use lib.Seq.{ext-getD}
 use borrow.Author.Tests.{eqb-true, ltb-true, leb-true, lt-ltb, not-true}
 use Rattle.rules.specs.Vector.{equal}
 use Rattle.rules.specs.Table.{maxRows, Room, Row, isFine, rowDecoded}
-use Rattle.rules.specs.Token.{bytesOf, run, tokenLength, endsLine, skip, nextLine}
+use Rattle.rules.specs.Token.{bytesOf, runLength, tokenLength, endsLine, pastBlanks, nextLine}
 use Rattle.rules.specs.Form.{Form, forms, fieldOf, blankFields, mostWords, Followed, stuck, fits, follow, tried, further, rowIn}
 use Rattle.rules.specs.Writer.{formIn, fieldsOf}
 use Rattle.rules.proofs.VectorLaws.{equal-true}
@@ -111,7 +111,7 @@ sound f =
     && (eqb (formIn (f .opcode) (f .kind) forms .opcode) (f .opcode) && (eqb (formIn (f .opcode) (f .kind) forms .kind) (f .kind) && equal (formIn (f .opcode) (f .kind) forms .words) (f .words)))))))
 
 forms-sound : everyForm sound forms ≡ true
-unfolding sound forms bytesOf formIn piecesIn run tokenLength endsLine equal fieldOf distinct names
+unfolding sound forms bytesOf formIn piecesIn runLength tokenLength endsLine equal fieldOf distinct names
 forms-sound = refl
 
 record Sound (f : Form) : Type 0 where
@@ -189,7 +189,7 @@ module _ (room : Room) (f : Form) (s : Sound f) (p : Pieces f) (fields : List �
 pub row-read : (room : Room) (bs fields rest : List ℕ) → rowIn room bs ≡ fits fields rest → RowRead room bs fields rest
 unfolding rowIn
 row-read room bs fields rest e =
-    let t = tried-from room forms (skip bs) bs fields rest e in
+    let t = tried-from room forms (pastBlanks bs) bs fields rest e in
     let f = t .0 in
     let p = forms-pieces f (t .1) in
     let s = sound-so f (t .1 sound forms-sound) in

@@ -16,7 +16,7 @@ use Rattle.rules.specs.Condition.{Read, bad, read, conditionAt, claimAt, ends, 
 use Rattle.rules.specs.ConditionTree.{AllBytes}
 use Rattle.rules.specs.Token.{isEmpty, content}
 use Rattle.rules.specs.Text as Text
-use Rattle.rules.specs.Text.{Made, tableOf, nothingMade, threadsAhead, Claimed, claimed, claimedTo, unitAt, concluded, Line, goesOn, refusedLine, ended, concludes, refusedAt, accepted, lineOf, linesFrom, readText}
+use Rattle.rules.specs.Text.{Draft, tableOf, nothingMade, threadsAhead, Claimed, claimed, claimedTo, unitAt, concluded, Line, goesOn, refusedLine, ended, concludes, refusedAt, accepted, lineOf, linesFrom, readText}
 use Rattle.rules.proofs.MeasureRows.{both-left, both-right}
 use Rattle.returns.specs.Returns.{Returned, Sound, Bytes, Again}
 use Rattle.returns.proofs.TokenLaws.{also}
@@ -92,7 +92,7 @@ accepts-same t c table condition e h =
     let b : c ≡ condition = cc in
     subst (λ (x : List ℕ). Accepts x condition) a (subst (Accepts t) b h)
 
-condition-sound : (lines : ℕ) (m : Made) (bs : List ℕ) (c : Claimed lines) (table condition : List ℕ) → Table m → Few lines c →
+condition-sound : (lines : ℕ) (m : Draft) (bs : List ℕ) (c : Claimed lines) (table condition : List ℕ) → Table m → Few lines c →
     judgedAs lines m bs c ≡ accepted table condition → Accepts table condition
 unfolding judgedAs isCondition
 condition-sound lines m bs c table condition g few e = atRead (conditionAt (m .threads) (λ t r. 0) groupsDeep (c .made)) refl e
@@ -128,7 +128,7 @@ none-fine : (threads : ℕ) → isCondition threads [] ≡ true
 unfolding isCondition
 none-fine threads = refl
 
-lines-sound : (l allThreads : ℕ) (table condition : List ℕ) (n rows : ℕ) (m : Made) (bs : List ℕ) → Kept allThreads rows m → Ahead l allThreads rows m bs →
+lines-sound : (l allThreads : ℕ) (table condition : List ℕ) (n rows : ℕ) (m : Draft) (bs : List ℕ) → Kept allThreads rows m → Ahead l allThreads rows m bs →
     linesFrom n (suc l) allThreads rows m bs ≡ accepted table condition → Accepts table condition
 unfolding linesFrom
 lines-sound l allThreads table condition zero rows m bs h a e = refused-accepted bs table condition e
@@ -142,7 +142,7 @@ lines-sound l allThreads table condition (suc n) rows m bs h a e =
           | ended made ↦ accepted (tableOf made) []
           | concludes made rest ↦ concluded (suc l) made rest
         ] ≡ accepted table condition →
-        ((more : ℕ) (made : Made) (rest : List ℕ) → Kept allThreads more made → Ahead l allThreads more made rest →
+        ((more : ℕ) (made : Draft) (rest : List ℕ) → Kept allThreads more made → Ahead l allThreads more made rest →
         linesFrom n (suc l) allThreads more made rest ≡ accepted table condition → Accepts table condition) →
         Accepts table condition
     by (goesOn more made rest) k f later = later more made rest (k .0) (k .1) f

@@ -14,9 +14,9 @@ use borrow.Author.Tests.{eqb-true, eqb-false, leb-true, leb-false, ltb-true}
 use Rattle.rules.specs.Vector.{equal}
 use Rattle.rules.specs.Table.{maxRows, judged, good}
 use Rattle.rules.specs.ConditionTree.{AllBytes}
-use Rattle.rules.specs.Token.{bytesOf, tokenLength, isEmpty, skip, token, pastToken, nextLine, Found, nothing, found, numberIn}
+use Rattle.rules.specs.Token.{bytesOf, tokenLength, isEmpty, pastBlanks, token, pastToken, nextLine, Found, nothing, found, numberIn}
 use Rattle.rules.specs.Form.{Followed, stuck, fits, rowIn}
-use Rattle.rules.specs.Text.{Made, withCell, withPlain, rowsSoFar, tableOf, says, isBare, rowsAhead, threadsAhead, Line, goesOn, refusedLine, ended, concludes, bareThen, valuesLine, firstLine, isPlainLine, plainLine, rowLine, aRow, aThread, theCondition, theEnd, lineOf}
+use Rattle.rules.specs.Text.{Draft, withCell, withPlain, rowsSoFar, tableOf, says, isBare, rowsAhead, threadsAhead, Line, goesOn, refusedLine, ended, concludes, bareThen, valuesLine, firstLine, isPlainLine, plainLine, rowLine, aRow, aThread, theCondition, theEnd, lineOf}
 use Rattle.rules.proofs.VectorLaws.{equal-true}
 use Rattle.rules.proofs.MeasureRows.{pick, both-left, both-right}
 use Rattle.returns.proofs.RowLine.{Other}
@@ -29,7 +29,7 @@ use Rattle.returns.proofs.KeptLaws.{kept-cell, kept-plain, kept-any, ke
 
 -- The first word of a line
 
-bare-token : (bs : List ℕ) → isBare bs ≡ true → token (skip bs) ≡ []
+bare-token : (bs : List ℕ) → isBare bs ≡ true → token (pastBlanks bs) ≡ []
 unfolding tokenLength
 bare-token bs e = rw e refl
 
@@ -38,8 +38,8 @@ unfolding bytesOf equal
 bare-silent bs e = rw (bare-token bs e) (refl, refl)
 
 -- one that says another word than these
-word-silent : (w bs : List ℕ) → Other w → equal (token (skip bs)) w ≡ true → (says "thread" bs ≡ false) × (says "finally" bs ≡ false)
-word-silent w bs o e = rw (equal-true (token (skip bs)) w e) o
+word-silent : (w bs : List ℕ) → Other w → equal (token (pastBlanks bs)) w ≡ true → (says "thread" bs ≡ false) × (says "finally" bs ≡ false)
+word-silent w bs o e = rw (equal-true (token (pastBlanks bs)) w e) o
 
 cells-silent : (bs : List ℕ) → says "cells" bs ≡ true → (says "thread" bs ≡ false) × (says "finally" bs ≡ false)
 unfolding bytesOf equal
@@ -59,49 +59,49 @@ module _ (allThreads : ℕ) where
   OfValues bs (ended m) = ⊥
   OfValues bs (concludes m rest) = ⊥
 
-  bare-values : (m : Made) (bs : List ℕ) → Kept allThreads 0 m → m .threads ≡ 0 → OfValues bs (bareThen 0 m bs)
+  bare-values : (m : Draft) (bs : List ℕ) → Kept allThreads 0 m → m .threads ≡ 0 → OfValues bs (bareThen 0 m bs)
   bare-values m bs h z = pick (OfValues bs) (isBare bs) (λ e. (h, z, next-skip bs)) (λ e. tt)
 
-  behind-value : (bs : List ℕ) (line : Line) → OfValues (pastToken (skip bs)) line → OfValues bs line
-  behind-value bs (goesOn more m rest) h = (h .0, h .1, h .2 ∙ next-past (skip bs) ∙ next-skip bs)
+  behind-value : (bs : List ℕ) (line : Line) → OfValues (pastToken (pastBlanks bs)) line → OfValues bs line
+  behind-value bs (goesOn more m rest) h = (h .0, h .1, h .2 ∙ next-past (pastBlanks bs) ∙ next-skip bs)
   behind-value bs (refusedLine rest) h = tt
   behind-value bs (ended m) h = h
   behind-value bs (concludes m rest) h = h
 
   -- what one value more keeps
-  record Grows (more : Made → ℕ → Made) (many : Made → ℕ) : Type 0 where
-    kept : (v : ℕ) (m : Made) → Kept allThreads 0 m → m .threads ≡ 0 → many m < 4 → Kept allThreads 0 (more m v)
-    threads : (v : ℕ) (m : Made) → more m v .threads ≡ m .threads
-    counted : (v : ℕ) (m : Made) → many (more m v) ≡ many m + 1
+  record Grows (more : Draft → ℕ → Draft) (many : Draft → ℕ) : Type 0 where
+    kept : (v : ℕ) (m : Draft) → Kept allThreads 0 m → m .threads ≡ 0 → many m < 4 → Kept allThreads 0 (more m v)
+    threads : (v : ℕ) (m : Draft) → more m v .threads ≡ m .threads
+    counted : (v : ℕ) (m : Draft) → many (more m v) ≡ many m + 1
 
-  cells-grow : Grows withCell (λ (m : Made). m .cells)
+  cells-grow : Grows withCell (λ (m : Draft). m .cells)
   cells-grow = record { kept = λ v m h z l. kept-cell allThreads 0 v m h z l; threads = λ v m. refl; counted = λ v m. refl }
 
-  plains-grow : Grows withPlain (λ (m : Made). m .plains)
+  plains-grow : Grows withPlain (λ (m : Draft). m .plains)
   plains-grow = record { kept = λ v m h z l. kept-plain allThreads 0 v m h z l; threads = λ v m. refl; counted = λ v m. refl }
 
-  module _ (more : Made → ℕ → Made) (many : Made → ℕ) (grows : Grows more many) where
-    values-after : (n : ℕ) (m : Made) (bs : List ℕ) → Kept allThreads 0 m → m .threads ≡ 0 → many m + n ≤ 4 → OfValues bs (valuesLine more many n m bs)
+  module _ (more : Draft → ℕ → Draft) (many : Draft → ℕ) (grows : Grows more many) where
+    values-after : (n : ℕ) (m : Draft) (bs : List ℕ) → Kept allThreads 0 m → m .threads ≡ 0 → many m + n ≤ 4 → OfValues bs (valuesLine more many n m bs)
     unfolding valuesLine
     values-after zero m bs h z l = bare-values m bs h z
     values-after (suc n) m bs h z l =
-        by (numberIn (token (skip bs)))
-        (λ v. behind-value bs (valuesLine more many n (more m v) (pastToken (skip bs)))
-        (values-after n (more m v) (pastToken (skip bs)) (grows .kept v m h z (omega arith)) (grows .threads v m ∙ z) (omega (arith, grows .counted v m))))
+        by (numberIn (token (pastBlanks bs)))
+        (λ v. behind-value bs (valuesLine more many n (more m v) (pastToken (pastBlanks bs)))
+        (values-after n (more m v) (pastToken (pastBlanks bs)) (grows .kept v m h z (omega arith)) (grows .threads v m ∙ z) (omega (arith, grows .counted v m))))
       where
-        by : (f : Found) → ((v : ℕ) → OfValues bs (valuesLine more many n (more m v) (pastToken (skip bs)))) →
-            OfValues bs (elim f [ found v ↦ valuesLine more many n (more m v) (pastToken (skip bs)) | nothing ↦ cond (leb 1 (many m)) (bareThen 0 m bs) (refusedLine (skip bs)) ])
+        by : (f : Found) → ((v : ℕ) → OfValues bs (valuesLine more many n (more m v) (pastToken (pastBlanks bs)))) →
+            OfValues bs (elim f [ found v ↦ valuesLine more many n (more m v) (pastToken (pastBlanks bs)) | nothing ↦ cond (leb 1 (many m)) (bareThen 0 m bs) (refusedLine (pastBlanks bs)) ])
         by (found v) later = later v
         by nothing later = pick (OfValues bs) (leb 1 (many m)) (λ e. bare-values m bs h z) (λ e. tt)
 
 -- Lines
 
 -- what has been read is a table
-abbrev pub Table : Made → Type 0
+abbrev pub Table : Draft → Type 0
 Table m = (judged (tableOf m) ≡ good) × AllBytes (tableOf m)
 
 module _ (l allThreads : ℕ) where
-  pub record Ahead (rows : ℕ) (m : Made) (bs : List ℕ) : Type 0 where
+  pub record Ahead (rows : ℕ) (m : Draft) (bs : List ℕ) : Type 0 where
     pub short : length bs < suc l
     pub threads : allThreads ≡ m .threads + threadsAhead (suc l) bs
     pub rows-are : 1 ≤ m .threads → rows ≡ rowsSoFar m + rowsAhead (suc l) bs
@@ -112,21 +112,21 @@ module _ (l allThreads : ℕ) where
   After (ended m) = Table m
   After (concludes m rest) = Table m
 
-  module _ (rows : ℕ) (m : Made) (bs : List ℕ) (h : Kept allThreads rows m) (a : Ahead rows m bs) where
+  module _ (rows : ℕ) (m : Draft) (bs : List ℕ) (h : Kept allThreads rows m) (a : Ahead rows m bs) where
     -- where neither threads nor rows lie ahead
     finished : threadsEnd bs ≡ true → 1 ≤ m .threads → Table m
     finished e s =
         (kept-table allThreads rows m h s (a .threads ∙ (omega (arith, threads-stop (suc l) bs e))) (a .rows-are s ∙ (omega (arith, rows-stop (suc l) bs (ending-stops bs e)))), kept-bytes allThreads rows m h)
 
-    end-after : isEmpty (skip bs) ≡ true → After (theEnd m bs)
+    end-after : isEmpty (pastBlanks bs) ≡ true → After (theEnd m bs)
     end-after e = pick After (leb 1 (m .threads)) (λ s. finished (rw e refl) (leb-true 1 (m .threads) s)) (λ s. tt)
 
     finally-after : says "finally" bs ≡ true → After (theCondition m bs)
     finally-after e = pick After (leb 1 (m .threads)) (λ s. finished (rw (e, or-true) refl) (leb-true 1 (m .threads) s)) (λ s. tt)
 
-    module _ (full : isEmpty (skip bs) ≡ false) (unsaid : says "finally" bs ≡ false) where
+    module _ (full : isEmpty (pastBlanks bs) ≡ false) (unsaid : says "finally" bs ≡ false) where
       -- what follows this line
-      later-short : length (nextLine (skip bs)) < suc l
+      later-short : length (nextLine (pastBlanks bs)) < suc l
       later-short = omega (arith, line-shorter bs full, a .short)
 
       goes-on : threadsEnd bs ≡ false
@@ -135,7 +135,7 @@ module _ (l allThreads : ℕ) where
       rows-on : says "thread" bs ≡ false → rowsEnd bs ≡ false
       rows-on t = rw (full, t, unsaid) refl
 
-      bare-after : isBare bs ≡ true → After (goesOn rows m (nextLine (skip bs)))
+      bare-after : isBare bs ≡ true → After (goesOn rows m (nextLine (pastBlanks bs)))
       bare-after e =
           let t = bare-silent bs e .0 in (
             h,
@@ -147,9 +147,9 @@ module _ (l allThreads : ℕ) where
           )
 
       -- in a line of start values, there is no thread yet
-      values-go : says "thread" bs ≡ false → m .threads ≡ 0 → (line : Line) → OfValues allThreads (pastToken (skip bs)) line → After line
+      values-go : says "thread" bs ≡ false → m .threads ≡ 0 → (line : Line) → OfValues allThreads (pastToken (pastBlanks bs)) line → After line
       values-go t z (goesOn more made rest) k =
-          let same : rest ≡ nextLine (skip bs) = k .2 ∙ next-past (skip bs) in (
+          let same : rest ≡ nextLine (pastBlanks bs) = k .2 ∙ next-past (pastBlanks bs) in (
             k .0,
             record {
               short = subst (λ (x : List ℕ). length x < suc l) (sym same) later-short;
@@ -164,9 +164,9 @@ module _ (l allThreads : ℕ) where
       thread-after : 1 ≤ m .cells → says "thread" bs ≡ true → After (aThread (suc l) m bs)
       thread-after c t =
           pick After (ltb (m .threads) 5)
-          (λ f. pick After (isBare (pastToken (skip bs)))
+          (λ f. pick After (isBare (pastToken (pastBlanks bs)))
           (λ g. (
-            kept-thread allThreads rows (rowsAhead (suc l) (nextLine (skip bs))) m h c (ltb-true (m .threads) 5 f) whole,
+            kept-thread allThreads rows (rowsAhead (suc l) (nextLine (pastBlanks bs))) m h c (ltb-true (m .threads) 5 f) whole,
             record {
               short = subst (λ (x : List ℕ). length x < suc l) (sym same) later-short;
               threads = a .threads ∙ (omega (arith, ap (threadsAhead (suc l)) same, threads-line l bs (a .short) goes-on, ap (λ (x : Bool). cond {A = ℕ} x 1 0) t));
@@ -176,8 +176,8 @@ module _ (l allThreads : ℕ) where
           (λ g. tt))
           (λ f. tt)
         where
-          same : nextLine (skip (pastToken (skip bs))) ≡ nextLine (skip bs)
-          same = next-skip (pastToken (skip bs)) ∙ next-past (skip bs)
+          same : nextLine (pastBlanks (pastToken (pastBlanks bs))) ≡ nextLine (pastBlanks bs)
+          same = next-skip (pastToken (pastBlanks bs)) ∙ next-past (pastBlanks bs)
 
           stops : rowsEnd bs ≡ true
           stops = rw (full, t) refl
@@ -192,7 +192,7 @@ module _ (l allThreads : ℕ) where
       row-after s f b t (stuck rest) e = tt
       row-after s f b t (fits fields rest) e =
           let read = row-read (roomFor allThreads rows (rowsSoFar m) m) bs fields rest e in
-          let same : rest ≡ nextLine (skip bs) = read .next ∙ sym (next-skip bs) in
+          let same : rest ≡ nextLine (pastBlanks bs) = read .next ∙ sym (next-skip bs) in
           let one : getD (set (m .counts) (m .threads - 1) (rowsSoFar m + 1)) (m .threads - 1) 0 ≡ rowsSoFar m + 1 = getD-set-same (m .counts) (m .threads - 1) (rowsSoFar m + 1) 0 (omega (arith, h .five, h .threads-few)) in (
             kept-row allThreads rows m h s f bs fields rest read,
             record {
@@ -203,16 +203,16 @@ module _ (l allThreads : ℕ) where
           )
 
     -- a line of start values, where there is none yet
-    some-values : (more : Made → ℕ → Made) (many : Made → ℕ) → Grows allThreads more many → isEmpty (skip bs) ≡ false → (says "thread" bs ≡ false) × (says "finally" bs ≡ false) →
-        m .threads ≡ 0 → many m ≡ 0 → After (valuesLine more many 4 m (pastToken (skip bs)))
+    some-values : (more : Draft → ℕ → Draft) (many : Draft → ℕ) → Grows allThreads more many → isEmpty (pastBlanks bs) ≡ false → (says "thread" bs ≡ false) × (says "finally" bs ≡ false) →
+        m .threads ≡ 0 → many m ≡ 0 → After (valuesLine more many 4 m (pastToken (pastBlanks bs)))
     some-values more many grows full silent none z =
-        values-go full (silent .1) (silent .0) none (valuesLine more many 4 m (pastToken (skip bs)))
-        (values-after allThreads more many grows 4 m (pastToken (skip bs)) (kept-any allThreads rows 0 m h none) none (omega arith))
+        values-go full (silent .1) (silent .0) none (valuesLine more many 4 m (pastToken (pastBlanks bs)))
+        (values-after allThreads more many grows 4 m (pastToken (pastBlanks bs)) (kept-any allThreads rows 0 m h none) none (omega arith))
 
-    first-after : isEmpty (skip bs) ≡ false → m .cells ≡ 0 → After (firstLine m bs)
+    first-after : isEmpty (pastBlanks bs) ≡ false → m .cells ≡ 0 → After (firstLine m bs)
     first-after full z =
         pick After (says "cells" bs)
-        (λ s. some-values withCell (λ (x : Made). x .cells) (cells-grow allThreads) full (cells-silent bs s) none z)
+        (λ s. some-values withCell (λ (x : Draft). x .cells) (cells-grow allThreads) full (cells-silent bs s) none z)
         (λ s. tt)
       where
         none : m .threads ≡ 0
@@ -222,15 +222,15 @@ module _ (l allThreads : ℕ) where
             by true e = absurd (omega (arith, h .some (leb-true 1 (m .threads) e)))
             by false e = omega (arith, leb-false 1 (m .threads) e)
 
-    plain-after : isEmpty (skip bs) ≡ false → isPlainLine m bs ≡ true → After (plainLine m bs)
+    plain-after : isEmpty (pastBlanks bs) ≡ false → isPlainLine m bs ≡ true → After (plainLine m bs)
     plain-after full e =
         let z = both-left (eqb (m .threads) 0 && eqb (m .plains) 0) (says "plain" bs) e in
-        some-values withPlain (λ (x : Made). x .plains) (plains-grow allThreads) full
+        some-values withPlain (λ (x : Draft). x .plains) (plains-grow allThreads) full
         (plain-silent bs (both-right (eqb (m .threads) 0 && eqb (m .plains) 0) (says "plain" bs) e))
         (eqb-true (m .threads) 0 (both-left (eqb (m .threads) 0) (eqb (m .plains) 0) z))
         (eqb-true (m .plains) 0 (both-right (eqb (m .threads) 0) (eqb (m .plains) 0) z))
 
-    one-row : isEmpty (skip bs) ≡ false → isBare bs ≡ false → says "thread" bs ≡ false → says "finally" bs ≡ false → After (aRow allThreads rows m bs)
+    one-row : isEmpty (pastBlanks bs) ≡ false → isBare bs ≡ false → says "thread" bs ≡ false → says "finally" bs ≡ false → After (aRow allThreads rows m bs)
     one-row full b t f =
         pick After (leb 1 (m .threads) && ltb (rowsSoFar m) maxRows)
         (λ s.
@@ -244,12 +244,12 @@ module _ (l allThreads : ℕ) where
     -- a line that says "thread" does not say `finally`
     thread-silent : says "thread" bs ≡ true → says "finally" bs ≡ false
     unfolding bytesOf equal
-    thread-silent e = rw (equal-true (token (skip bs)) (bytesOf "thread") e) refl
+    thread-silent e = rw (equal-true (token (pastBlanks bs)) (bytesOf "thread") e) refl
 
     pub line-after : After (lineOf (suc l) allThreads rows m bs)
     unfolding lineOf
     line-after =
-        pick After (isEmpty (skip bs)) end-after
+        pick After (isEmpty (pastBlanks bs)) end-after
         (λ full. pick After (isBare bs) (λ b. bare-after full (bare-silent bs b .1) b)
         (λ b. pick After (eqb (m .cells) 0) (λ c. first-after full (eqb-true (m .cells) 0 c))
         (λ c. pick After (isPlainLine m bs) (plain-after full)

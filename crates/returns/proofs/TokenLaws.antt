@@ -13,7 +13,7 @@ use lib.Dec.{leb, eqb, eqb·suc-zero}
 use lib.ListN.{length, getD, drop}
 use lib.Seq.{take-at, drop-at}
 use borrow.Author.Tests.{leb-true, eqb-true, ne-eqb, not-true}
-use Rattle.rules.specs.Token.{lineFeed, isBlank, isBetween, isLetter, isMark, run, skip, token, tokenLength, pastToken, endsLine, isEmpty, lineLength, nextLine}
+use Rattle.rules.specs.Token.{lineFeed, isBlank, isBetween, isLetter, isMark, runLength, pastBlanks, token, tokenLength, pastToken, endsLine, isEmpty, lineLength, nextLine}
 use Rattle.rules.proofs.MeasureRows.{both-left, both-right}
 
 -- Tests
@@ -42,8 +42,8 @@ all-so p q f [] h = refl
 all-so p q f (b ∷ w) h = also (f b (both-left (p b) (all p w) h)) (all-so p q f w (both-right (p b) (all p w) h))
 
 -- how far they reach
-pub run-all : (p : ℕ → Bool) (w rest : List ℕ) → all p w ≡ true → p (getD rest 0 0) ≡ false → run p (w ++ rest) ≡ length w
-unfolding run
+pub run-all : (p : ℕ → Bool) (w rest : List ℕ) → all p w ≡ true → p (getD rest 0 0) ≡ false → runLength p (w ++ rest) ≡ length w
+unfolding runLength
 run-all p [] [] h e = refl
 run-all p [] (b ∷ rest) h e = rw e refl
 run-all p (b ∷ w) rest h e =
@@ -93,11 +93,11 @@ pub data Stands : List ℕ → List ℕ → Type 0 where
   marks : (b : ℕ) (bs rest : List ℕ) → all isMark (b ∷ bs) ≡ true → isMark (getD rest 0 0) ≡ false → Stands (b ∷ bs) rest
   other : (b : ℕ) (rest : List ℕ) → inWord b ≡ true → isLetter b ≡ false → isMark b ≡ false → Stands (b ∷ []) rest
 
-not-blank : (b : ℕ) (bs : List ℕ) → inWord b ≡ true → skip (b ∷ bs) ≡ b ∷ bs
-unfolding run inWord
+not-blank : (b : ℕ) (bs : List ℕ) → inWord b ≡ true → pastBlanks (b ∷ bs) ≡ b ∷ bs
+unfolding runLength inWord
 not-blank b bs h = by (isBlank b) h
   where
-    by : (x : Bool) → not (x || eqb b lineFeed || eqb b 35 || eqb b 13) ≡ true → drop (cond x (suc (run isBlank bs)) 0) (b ∷ bs) ≡ b ∷ bs
+    by : (x : Bool) → not (x || eqb b lineFeed || eqb b 35 || eqb b 13) ≡ true → drop (cond x (suc (runLength isBlank bs)) 0) (b ∷ bs) ≡ b ∷ bs
     by true e = absurd (true≢false (sym e))
     by false e = refl
 
@@ -121,7 +121,7 @@ stands-begins (letters b bs rest h e) = (b, bs, refl, letter-in b (both-left (is
 stands-begins (marks b bs rest h e) = (b, bs, refl, mark-in b (both-left (isMark b) (all isMark bs) h))
 stands-begins (other b rest h e f) = (b, [], refl, h)
 
-pub stands-skip : {w rest : List ℕ} → Stands w rest → skip (w ++ rest) ≡ w ++ rest
+pub stands-skip : {w rest : List ℕ} → Stands w rest → pastBlanks (w ++ rest) ≡ w ++ rest
 stands-skip {rest = rest} s =
     let k = stands-begins s in rw (k .2) (not-blank (k .0) (k .1 ++ rest) (k .3))
 

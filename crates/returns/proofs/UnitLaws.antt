@@ -17,8 +17,8 @@ use Rattle.rules.specs.Event.{little}
 use Rattle.rules.specs.Table.{u16At, u32At, u64At}
 use Rattle.rules.specs.Condition.{isSign, opens, closes, conditionBytes}
 use Rattle.rules.specs.ConditionTree as Tree
-use Rattle.rules.specs.ConditionTree.{Comparison, Joint, Deep, comparison, group, comparisonOf, jointOf, othersOf, FineAll, Fine}
-use Rattle.rules.specs.Token.{bytesOf, space, lineFeed, isLetter, isBetween, run, lineLength, endsLine, isEmpty, skip, token, pastToken, content, nothing, found, only, numberIn, placeIn}
+use Rattle.rules.specs.ConditionTree.{Comparison, Joint, Deep, comparison, group, leafBytes, jointOf, othersOf, FineAll, Fine}
+use Rattle.rules.specs.Token.{bytesOf, space, lineFeed, isLetter, isBetween, runLength, lineLength, endsLine, isEmpty, pastBlanks, token, pastToken, content, nothing, found, only, numberIn, placeIn}
 use Rattle.rules.specs.Text as Text
 use Rattle.rules.specs.Text.{marks, markIn, threadRegisterIn, unit, unitAt, claimed, claimedTo}
 use Rattle.rules.specs.Writer.{shown, blankBefore, unitsShown}
@@ -34,7 +34,7 @@ pub data Units : List ℕ → Type 0 where
   sign : (b : ℕ) (rest : List ℕ) → 7 ≤ b → b ≤ 10 → Units rest → Units (b ∷ rest)
 
 module _ (threads : ℕ) (few : threads ≤ 5) where
-  comparison-units : (c : Comparison) (rest : List ℕ) → Tree.FineComparison threads c → Units rest → Units (comparisonOf c ++ rest)
+  comparison-units : (c : Comparison) (rest : List ℕ) → Tree.FineComparison threads c → Units rest → Units (leafBytes c ++ rest)
   comparison-units c rest h u = compares (c .sign) (c .thread) (c .register) (c .number) rest (h .0) (omega (arith, h .1)) (h .2) (h .3) u
 
   joint-sign : (j : Joint) → (7 ≤ jointOf j) × (jointOf j ≤ 10)
@@ -49,47 +49,47 @@ module _ (threads : ℕ) (few : threads ≤ 5) where
       subst (λ (l : List ℕ). Units (jointOf j ∷ l)) (sym (append-assoc (f m) (othersOf f j ms) rest))
       (sign (jointOf j) (f m ++ (othersOf f j ms ++ rest)) (k .0) (k .1) (one m (othersOf f j ms ++ rest) (h .0) (others-units P f one j ms rest (h .1) u)))
 
-  pub tree-units : (d : ℕ) (c : Deep d) (rest : List ℕ) → Fine threads d c → Units rest → Units (Tree.bytesOf d c ++ rest)
-  unfolding Tree.bytesOf
+  pub tree-units : (d : ℕ) (c : Deep d) (rest : List ℕ) → Fine threads d c → Units rest → Units (Tree.treeBytes d c ++ rest)
+  unfolding Tree.treeBytes
   tree-units zero c rest h u = comparison-units c rest h u
   tree-units (suc d) (comparison c) rest h u = comparison-units c rest h u
   tree-units (suc d) (group g) rest h u =
-      let tail = othersOf (Tree.bytesOf d) (g .joint) (g .others) in
-      subst (λ (l : List ℕ). Units (opens ∷ l)) (sym (append-assoc (Tree.bytesOf d (g .first)) tail rest))
-      (sign opens (Tree.bytesOf d (g .first) ++ (tail ++ rest)) (omega arith) (omega arith)
+      let tail = othersOf (Tree.treeBytes d) (g .joint) (g .others) in
+      subst (λ (l : List ℕ). Units (opens ∷ l)) (sym (append-assoc (Tree.treeBytes d (g .first)) tail rest))
+      (sign opens (Tree.treeBytes d (g .first) ++ (tail ++ rest)) (omega arith) (omega arith)
       (tree-units d (g .first) (tail ++ rest) (h .0)
-      (others-units (Fine threads d) (Tree.bytesOf d) (λ m more k v. tree-units d m more k v) (g .joint) (g .others) rest (h .1) u)))
+      (others-units (Fine threads d) (Tree.treeBytes d) (λ m more k v. tree-units d m more k v) (g .joint) (g .others) rest (h .1) u)))
 
 -- Where the next token stands
 
-content-on : (n : ℕ) (bs : List ℕ) → endsLine (skip bs) ≡ false → content n bs ≡ skip bs
+content-on : (n : ℕ) (bs : List ℕ) → endsLine (pastBlanks bs) ≡ false → content n bs ≡ pastBlanks bs
 unfolding content
 content-on zero bs e = refl
 content-on (suc n) bs e =
-    let f : (isEmpty (skip bs) || not (endsLine (skip bs))) ≡ true = rw (e, or-true) refl in
+    let f : (isEmpty (pastBlanks bs) || not (endsLine (pastBlanks bs))) ≡ true = rw (e, or-true) refl in
     rw (content, f) refl
 
 content-word : (n : ℕ) (w rest : List ℕ) → Stands w rest → content n (space ∷ (w ++ rest)) ≡ w ++ rest
-unfolding run
+unfolding runLength
 content-word n w rest s = content-on n (space ∷ (w ++ rest)) (ap endsLine (stands-skip s) ∙ stands-on s) ∙ stands-skip s
 
 content-none : (n : ℕ) → content n [] ≡ []
-unfolding content run
+unfolding content runLength
 content-none zero = refl
 content-none (suc n) = refl
 
 content-end : (n : ℕ) → content (suc n) (lineFeed ∷ []) ≡ []
-unfolding content run endsLine lineLength
+unfolding content runLength endsLine lineLength
 content-end n = content-none n
 
 -- One unit
 
 -- a blank before a word, or none
-blank-skip : (opened : Bool) (b : ℕ) (bs : List ℕ) → skip (blankBefore opened b ++ bs) ≡ skip bs
-unfolding run
+blank-skip : (opened : Bool) (b : ℕ) (bs : List ℕ) → pastBlanks (blankBefore opened b ++ bs) ≡ pastBlanks bs
+unfolding runLength
 blank-skip opened b bs = by (opened || eqb b closes)
   where
-    by : (x : Bool) → skip (cond x [] (space ∷ []) ++ bs) ≡ skip bs
+    by : (x : Bool) → pastBlanks (cond x [] (space ∷ []) ++ bs) ≡ pastBlanks bs
     by true = refl
     by false = refl
 

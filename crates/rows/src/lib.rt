@@ -14,8 +14,8 @@ ghost use Rattle.rows.specs.Begins.{begunTo};
 ghost use Rattle.rows.specs.Pendings.{Pends};
 use decode::Decoded;
 use decode::Op;
-use event::Event;
 use event::Fault;
+use event::Moved;
 use event::NO_SLOT;
 use event::Question;
 use event::Site;
@@ -45,22 +45,22 @@ pub enum Pending {
 
 // Begins a row, if fewer than the limit have begun. Opcodes 0 to 3 set their operation and call the scheduling first; where the
 // event is that it moves, the row is to act at once.
-pub fn begin(numbers: &mut Numbers, thread: usize, limit: u16, op: Op) -> Event
+pub fn begin(numbers: &mut Numbers, thread: usize, limit: u16, op: Op) -> Moved
     requires { ⌜ (thread < 5) × inRange (opOf op) ⌝ }
     ensures { λ r. ⌜ ((clocks : rules.Clocks) (marks : rules.Marks) (values : rules.Values) (k opcode : ℕ) (m : Matched) → moveOf r thread k opcode m (state clocks marks values (now (numbers .exit))) ≡ begunTo limit (state clocks marks values (now (numbers .entry))) thread (opOf op)) ⌝ }
 {
     if limit <= numbers[ROWS_BEGUN] {
-        return Event::Stops(Fault::Rows);
+        return Moved::Stops(Fault::Rows);
     }
     numbers[ROWS_BEGUN] = vv::one_more(numbers[ROWS_BEGUN]);
     numbers[ROWS + thread] = vv::one_more(numbers[ROWS + thread]);
     numbers[PHASE + thread] = thread::TO_ACT;
     let Pending::On { action, cell } = pending_of(op) else {
-        return Event::Moves;
+        return Moved::Moves;
     };
     numbers[OPERATION + thread] = action;
     numbers[OBJECT + thread] = cell as u16;
-    Event::Asks {
+    Moved::Asks {
         question: Question::Thread,
         yielded: false,
     }
@@ -71,10 +71,10 @@ fn pending_of(op: Op) -> Pending
     ensures { λ r. ⌜ Pends r (machine.pendingOf (opOf op)) ⌝ }
 {
     match op {
-        Op::Load { cell, .. } => on(access::LOAD, cell),
-        Op::Store { cell, .. } => on(access::STORE, cell),
-        Op::StoreRegister { cell, .. } => on(access::STORE, cell),
-        Op::Rmw { cell, .. } => on(access::RMW, cell),
+        Op::Load { cell, .. } => on(access::A_LOAD, cell),
+        Op::Store { cell, .. } => on(access::A_STORE, cell),
+        Op::StoreRegister { cell, .. } => on(access::A_STORE, cell),
+        Op::Rmw { cell, .. } => on(access::A_RMW, cell),
         _ => Pending::Nothing,
     }
 }
@@ -86,12 +86,12 @@ fn on(action: u16, cell: usize) -> Pending
 }
 
 // A row that leaves neither slot nor value in the trace.
-pub fn done(numbers: &mut Numbers, site: Site) -> Event
+pub fn done(numbers: &mut Numbers, site: Site) -> Moved
     requires { ⌜ site .thread < 5 ⌝ }
     ensures { λ r. ⌜ ((clocks : rules.Clocks) (marks : rules.Marks) (values : rules.Values) (opcode : ℕ) (m : Matched) → moveOf r (site .thread) (site .row) opcode m (state clocks marks values (now (numbers .exit))) ≡ machine.done (state clocks marks values (now (numbers .entry))) (site .thread) (site .row) opcode) ⌝ }
 {
     thread::complete(numbers, site.thread, vv::one_more(site.row));
-    Event::Done {
+    Moved::Done {
         slot: NO_SLOT,
         mask: 0,
         value: 0,
@@ -105,7 +105,7 @@ pub fn fence_row(
     site: Site,
     cells: usize,
     order: u8,
-) -> Event
+) -> Moved
     requires { ⌜ (site .thread < 5) × (cells ≤ 4) ⌝ }
     ensures { λ r. ⌜ ((p : machine.Program) (values : rules.Values) (opcode : ℕ) (m : Matched) → cellsOf (p .table) ≡ cells → moveOf r (site .thread) (site .row) opcode m (state (now (clocks .exit)) (now (marks .entry)) values (now (numbers .exit))) ≡ machine.done (machine.fences p (state (now (clocks .entry)) (now (marks .entry)) values (now (numbers .entry))) (site .thread) order) (site .thread) (site .row) opcode) ⌝ }
 {
@@ -116,21 +116,21 @@ pub fn fence_row(
 }
 
 // The row is complete before its scheduling, which alone can fault.
-pub fn yield_row(clocks: &Clocks, numbers: &mut Numbers, site: Site) -> Event
+pub fn yield_row(clocks: &Clocks, numbers: &mut Numbers, site: Site) -> Moved
     requires { ⌜ site .thread < 5 ⌝ }
     ensures { λ r. ⌜ ((marks : rules.Marks) (values : rules.Values) (opcode : ℕ) (m : Matched) → moveOf r (site .thread) (site .row) opcode m (state (now (clocks .entry)) marks values (now (numbers .exit))) ≡ machine.schedules (machine.completed (machine.yieldDone (state (now (clocks .entry)) marks values (now (numbers .entry))) (site .thread)) (site .thread) (oneMore (site .row))) (machine.entry (site .thread) (site .row) opcode machine.noSlot 0 0)) ⌝ }
 {
     let thread = site.thread;
     thread::set_yield(clocks, numbers, thread);
     thread::complete(numbers, thread, vv::one_more(site.row));
-    Event::Asks {
+    Moved::Asks {
         question: Question::Thread,
         yielded: true,
     }
 }
 
 // Goes through if the target has ended, and takes its causality and schedule vector; else blocks within the row.
-pub fn join_row(clocks: &mut Clocks, numbers: &mut Numbers, site: Site, target: usize) -> Event
+pub fn join_row(clocks: &mut Clocks, numbers: &mut Numbers, site: Site, target: usize) -> Moved
     requires { ⌜ (site .thread < 5) × (target < 5) ⌝ }
     ensures { λ r. ⌜ ((marks : rules.Marks) (values : rules.Values) (opcode : ℕ) (m : Matched) → moveOf r (site .thread) (site .row) opcode m (state (now (clocks .exit)) marks values (now (numbers .exit))) ≡ machine.joins (state (now (clocks .entry)) marks values (now (numbers .entry))) (site .thread) (site .row) opcode target) ⌝ }
 {
@@ -142,14 +142,14 @@ pub fn join_row(clocks: &mut Clocks, numbers: &mut Numbers, site: Site, target: 
         return done(numbers, site);
     }
     thread::set_blocked(numbers, thread, target);
-    Event::Asks {
+    Moved::Asks {
         question: Question::Thread,
         yielded: false,
     }
 }
 
 // A jump that is taken goes to its target, another to the next row.
-pub fn jump_row(numbers: &mut Numbers, site: Site, taken: bool, target: u16) -> Event
+pub fn jump_row(numbers: &mut Numbers, site: Site, taken: bool, target: u16) -> Moved
     requires { ⌜ site .thread < 5 ⌝ }
     ensures { λ r. ⌜ ((clocks : rules.Clocks) (marks : rules.Marks) (values : rules.Values) (opcode : ℕ) (m : Matched) → moveOf r (site .thread) (site .row) opcode m (state clocks marks values (now (numbers .exit))) ≡ machine.jumps (state clocks marks values (now (numbers .entry))) (site .thread) (site .row) opcode taken target) ⌝ }
 {
@@ -157,26 +157,26 @@ pub fn jump_row(numbers: &mut Numbers, site: Site, taken: bool, target: u16) -> 
         return done(numbers, site);
     }
     thread::complete(numbers, site.thread, target);
-    Event::Done {
+    Moved::Done {
         slot: NO_SLOT,
         mask: 0,
         value: 0,
     }
 }
 
-pub fn check_row(numbers: &mut Numbers, site: Site, holds: bool) -> Event
+pub fn check_row(numbers: &mut Numbers, site: Site, holds: bool) -> Moved
     requires { ⌜ site .thread < 5 ⌝ }
     ensures { λ r. ⌜ ((clocks : rules.Clocks) (marks : rules.Marks) (values : rules.Values) (opcode : ℕ) (m : Matched) → moveOf r (site .thread) (site .row) opcode m (state clocks marks values (now (numbers .exit))) ≡ machine.checks (state clocks marks values (now (numbers .entry))) (site .thread) (site .row) opcode holds) ⌝ }
 {
     if !holds {
-        return Event::Stops(Fault::Check);
+        return Moved::Stops(Fault::Check);
     }
     done(numbers, site)
 }
 
 // `critical` stops exploring, `explore_state` explores again; each is wrong where it would change nothing. While skipping they
 // do nothing.
-pub fn explore_row(numbers: &mut Numbers, site: Site, on: bool) -> Event
+pub fn explore_row(numbers: &mut Numbers, site: Site, on: bool) -> Moved
     requires { ⌜ site .thread < 5 ⌝ }
     ensures { λ r. ⌜ ((clocks : rules.Clocks) (marks : rules.Marks) (values : rules.Values) (opcode : ℕ) (m : Matched) → moveOf r (site .thread) (site .row) opcode m (state clocks marks values (now (numbers .exit))) ≡ machine.explores (state clocks marks values (now (numbers .entry))) (site .thread) (site .row) opcode on) ⌝ }
 {
@@ -185,14 +185,14 @@ pub fn explore_row(numbers: &mut Numbers, site: Site, on: bool) -> Event
         return done(numbers, site);
     }
     if numbers[EXPLORING] == flag {
-        return Event::Stops(Fault::Flags);
+        return Moved::Stops(Fault::Flags);
     }
     numbers[EXPLORING] = flag;
     done(numbers, site)
 }
 
 // Explores no more in this execution.
-pub fn skip_branch(numbers: &mut Numbers, site: Site) -> Event
+pub fn skip_branch(numbers: &mut Numbers, site: Site) -> Moved
     requires { ⌜ site .thread < 5 ⌝ }
     ensures { λ r. ⌜ ((clocks : rules.Clocks) (marks : rules.Marks) (values : rules.Values) (opcode : ℕ) (m : Matched) → moveOf r (site .thread) (site .row) opcode m (state clocks marks values (now (numbers .exit))) ≡ machine.done (machine.skipped (state clocks marks values (now (numbers .entry)))) (site .thread) (site .row) opcode) ⌝ }
 {
@@ -208,21 +208,21 @@ pub fn take_bit(
     site: Site,
     row: Decoded,
     bit: bool,
-) -> Event
+) -> Moved
     requires { ⌜ (site .thread < 5) × opWithin row ⌝ }
     ensures { λ r. ⌜ ((clocks : rules.Clocks) (marks : rules.Marks) (m : Matched) → moveOf r (site .thread) (site .row) (opcodeIn (decodedOf row)) m (state clocks marks (now (values .exit)) (now (numbers .exit))) ≡ machine.bitTaken (state clocks marks (now (values .entry)) (now (numbers .entry))) (site .thread) (site .row) (cond bit 1 0) (decodedOf row)) ⌝ }
 {
     let thread = site.thread;
     let Decoded::Row(op) = row else {
-        return Event::Stops(Fault::Impossible);
+        return Moved::Stops(Fault::Impossible);
     };
     let Op::Spurious { register } = op else {
-        return Event::Stops(Fault::Impossible);
+        return Moved::Stops(Fault::Impossible);
     };
     let value = if bit { 1 } else { 0 };
     values[REGISTER + register_at(thread, register)] = value;
     thread::complete(numbers, thread, vv::one_more(site.row));
-    Event::Done {
+    Moved::Done {
         slot: NO_SLOT,
         mask: 0,
         value,

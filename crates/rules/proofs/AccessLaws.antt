@@ -7,7 +7,7 @@ use mathlib.Core.List.{List}
 use lib.Dec.{eqb}
 use Rattle.rules.specs.Change.{Change, Changed, success, failure}
 use Rattle.rules.specs.State.{State, Numbers, withNumber, cells, accessBranch, nonLoadBranch, withVector, lastAccess, lastNonLoad, scheduleOf}
-use Rattle.rules.specs.Cell.{storeDone, Access, raced, read, Race, noRace, raceOf, unlessRace, sighted, loadDone, byChange, succeeded, rmwDone, unsyncLoadDone, mutDone, withClocks}
+use Rattle.rules.specs.Cell.{storeDone, AccessResult, raced, read, Race, noRace, raceOf, unlessRace, sighted, loadDone, byChange, succeeded, rmwDone, unsyncLoadDone, mutDone, withClocks}
 use Rattle.rules.specs.Plain.{plainReadDone}
 use Rattle.rules.specs.Machine
 use Rattle.rules.specs.Machine.{noOperation}
@@ -15,11 +15,11 @@ use Rattle.rules.proofs.MeasureRows.{pick}
 
 module _ (Q : Numbers → Type 0) where
   -- where a race stops it, and where it has read
-  pub data Leaves : Access → Type 0 where
+  pub data Leaves : AccessResult → Type 0 where
     isRaced : {kind other : ℕ} {st : State} → Q (st .numbers) → Leaves (raced kind other st)
     isRead : {v : ℕ} {st : State} → Q (st .numbers) → Leaves (read v st)
 
-  unless-race : (r : Race) (st : State) (x : Access) → Q (st .numbers) → Leaves x → Leaves (unlessRace r st x)
+  unless-race : (r : Race) (st : State) (x : AccessResult) → Q (st .numbers) → Leaves x → Leaves (unlessRace r st x)
   unless-race noRace st x q h = h
   unless-race (raceOf kind other) st x q h = isRaced q
 

@@ -17,9 +17,9 @@ use Rattle.rules.specs.Event.{little}
 use Rattle.rules.specs.Change.{word}
 use Rattle.rules.specs.Table.{u16At, u32At, u64At, isRegister}
 use Rattle.rules.specs.Condition as Condition
-use Rattle.rules.specs.Condition.{Read, bad, read, next, behind, groupAt, comparisonAt, conditionAt, joinedBy, isSign}
+use Rattle.rules.specs.Condition.{Read, bad, read, nextByte, behind, groupAt, comparisonAt, conditionAt, joinedBy, isSign}
 use Rattle.rules.specs.ConditionTree as Tree
-use Rattle.rules.specs.ConditionTree.{Comparison, Joint, all, some, Group, Deep, comparison, group, comparisonOf, jointOf, othersOf, groupOf, bytesOf, hold, says, claims, FineComparison, FineAll, Fine, AllBytes, Grammar}
+use Rattle.rules.specs.ConditionTree.{Comparison, Joint, all, some, Group, Deep, comparison, group, leafBytes, jointOf, othersOf, groupOf, treeBytes, hold, comparisonHolds, claims, FineComparison, FineAll, Fine, AllBytes, Grammar}
 use Rattle.rules.proofs.MeasureRows.{both-left, both-right}
 
 -- Numbers
@@ -72,11 +72,11 @@ when-false b x y e = rw e refl
 
 module _ (threads : ℕ) (register : ℕ → ℕ → ℕ) where
   comparison-reads : (c : Comparison) → FineComparison threads c → (rest : List ℕ) →
-      comparisonAt threads register (comparisonOf c ++ rest) ≡ read (says register c) rest
+      comparisonAt threads register (leafBytes c ++ rest) ≡ read (comparisonHolds register c) rest
   unfolding comparisonAt little
   comparison-reads c h rest =
-      when-true _ (read (Condition.compared (c .sign) (register (c .thread) (c .register)) (u64At (comparisonOf c ++ rest) 3)) rest) (bad (comparisonOf c ++ rest))
-      (and-true (and-true (and-true (le-leb 11 (length (comparisonOf c ++ rest)) (omega arith)) (h .0)) (lt-ltb (c .thread) threads (h .1))) (lt-ltb (c .register) 4 (h .2)))
+      when-true _ (read (Condition.compared (c .sign) (register (c .thread) (c .register)) (u64At (leafBytes c ++ rest) 3)) rest) (bad (leafBytes c ++ rest))
+      (and-true (and-true (and-true (le-leb 11 (length (leafBytes c ++ rest)) (omega arith)) (h .0)) (lt-ltb (c .thread) threads (h .1))) (lt-ltb (c .register) 4 (h .2)))
       ∙ ap (λ (n : ℕ). read (Condition.compared (c .sign) (register (c .thread) (c .register)) n) rest) (number-read (c .sign) (c .thread) (c .register) (c .number) rest (h .3))
 
 -- Groups
@@ -163,17 +163,17 @@ sign-below b e = let f = simp and-eq-true-iff at e in omega (arith, leb-true)
 
 module _ (threads : ℕ) (register : ℕ → ℕ → ℕ) where
   reads-so : (d : ℕ) (c : Deep d) → Fine threads d c → (rest : List ℕ) →
-      conditionAt threads register d (bytesOf d c ++ rest) ≡ read (claims register d c) rest
-  unfolding conditionAt bytesOf claims
+      conditionAt threads register d (treeBytes d c ++ rest) ≡ read (claims register d c) rest
+  unfolding conditionAt treeBytes claims
   reads-so zero c h rest = comparison-reads threads register c h rest
   reads-so (suc d) (comparison c) h rest =
-      let bs = comparisonOf c ++ rest in
+      let bs = leafBytes c ++ rest in
       when-false (eqb (c .sign) Condition.opens) (groupAt (conditionAt threads register d) (drop 1 bs)) (comparisonAt threads register bs)
       (ne-eqb (c .sign) Condition.opens (λ e. omega (arith, sign-below (c .sign) (h .0))))
       ∙ comparison-reads threads register c h rest
   reads-so (suc d) (group g) h rest =
-      group-reads (conditionAt threads register d) (bytesOf d) (claims register d) g
-      (fine-all (Fine threads d) (Reads (conditionAt threads register d) (bytesOf d) (claims register d)) (λ m k r. reads-so d m k r) (g .first ∷ g .others) h) rest
+      group-reads (conditionAt threads register d) (treeBytes d) (claims register d) g
+      (fine-all (Fine threads d) (Reads (conditionAt threads register d) (treeBytes d) (claims register d)) (λ m k r. reads-so d m k r) (g .first ∷ g .others) h) rest
 
 -- What is read is a tree
 
@@ -194,7 +194,7 @@ unfolding isRead
 not-read e = let z : _≡_ {A = ℕ} 0 1 = ap isRead e in absurd (omega arith)
 
 -- bytes that do not begin with 0 begin with one
-begins : (bs : List ℕ) (b : ℕ) → next bs ≡ b → 1 ≤ b → bs ≡ b ∷ drop 1 bs
+begins : (bs : List ℕ) (b : ℕ) → nextByte bs ≡ b → 1 ≤ b → bs ≡ b ∷ drop 1 bs
 begins [] b e h = absurd (omega (arith, e))
 begins (c ∷ bs) b e h = ap (λ (x : ℕ). x ∷ bs) e
 
@@ -222,18 +222,18 @@ module _ (threads : ℕ) (register : ℕ → ℕ → ℕ) where
   record Compares (bs : List ℕ) (v : Bool) (rest : List ℕ) : Type 0 where
     it : Comparison
     fine : FineComparison threads it
-    is : bs ≡ comparisonOf it ++ rest
-    meant : v ≡ says register it
+    is : bs ≡ leafBytes it ++ rest
+    meant : v ≡ comparisonHolds register it
 
   compares : (bs : List ℕ) → AllBytes bs → (v : Bool) (rest : List ℕ) → comparisonAt threads register bs ≡ read v rest → Compares bs v rest
   unfolding comparisonAt
   compares bs k v rest e =
-      go (leb Condition.comparisonBytes (length bs) && isSign (next bs) && ltb (getD bs 1 0) threads && isRegister (getD bs 2 0)) refl e
+      go (leb Condition.comparisonBytes (length bs) && isSign (nextByte bs) && ltb (getD bs 1 0) threads && isRegister (getD bs 2 0)) refl e
     where
       it : List ℕ → Comparison
       it cs = record { sign = getD cs 0 0; thread = getD cs 1 0; register = getD cs 2 0; number = u64At cs 3 }
 
-      front : (cs : List ℕ) → AllBytes cs → 11 ≤ length cs → (cs ≡ comparisonOf (it cs) ++ drop 11 cs) × (u64At cs 3 < word)
+      front : (cs : List ℕ) → AllBytes cs → 11 ≤ length cs → (cs ≡ leafBytes (it cs) ++ drop 11 cs) × (u64At cs 3 < word)
       front [] h l = absurd (omega arith)
       front (s ∷ []) h l = absurd (omega arith)
       front (s ∷ t ∷ []) h l = absurd (omega arith)
@@ -249,8 +249,8 @@ module _ (threads : ℕ) (register : ℕ → ℕ → ℕ) where
           let eight = bytes-front (a ∷ b ∷ c ∷ d ∷ e ∷ f ∷ g ∷ i ∷ []) cs (h .1 .1 .1) in
           (ap (λ (x : List ℕ). s ∷ t ∷ r ∷ (x ++ cs)) (sym (number-made s t r a b c d e f g i cs eight)), number-below s t r a b c d e f g i cs eight)
 
-      go : (b : Bool) → (leb Condition.comparisonBytes (length bs) && isSign (next bs) && ltb (getD bs 1 0) threads && isRegister (getD bs 2 0)) ≡ b →
-          cond b (read (Condition.compared (next bs) (register (getD bs 1 0) (getD bs 2 0)) (u64At bs 3)) (drop Condition.comparisonBytes bs)) (bad bs) ≡ read v rest →
+      go : (b : Bool) → (leb Condition.comparisonBytes (length bs) && isSign (nextByte bs) && ltb (getD bs 1 0) threads && isRegister (getD bs 2 0)) ≡ b →
+          cond b (read (Condition.compared (nextByte bs) (register (getD bs 1 0) (getD bs 2 0)) (u64At bs 3)) (drop Condition.comparisonBytes bs)) (bad bs) ≡ read v rest →
           Compares bs v rest
       go false f g = not-read g
       go true f g =
@@ -260,7 +260,7 @@ module _ (threads : ℕ) (register : ℕ → ℕ → ℕ) where
           record {
             it = it bs;
             fine = (and-true (q .0 .0 .1 .0) (q .0 .0 .1 .1), ltb-true (getD bs 1 0) threads (q .0 .1), ltb-true (getD bs 2 0) 4 (q .1), h .1);
-            is = h .0 ∙ ap (λ (x : List ℕ). comparisonOf (it bs) ++ x) (s .1);
+            is = h .0 ∙ ap (λ (x : List ℕ). leafBytes (it bs) ++ x) (s .1);
             meant = sym (s .0);
           }
 
@@ -326,50 +326,50 @@ module _ {M : Type 0} (member : List ℕ → Read) (bytes : M → List ℕ) (mea
     unfolding behind
     others-come zero j a v bs k x rest e = not-read e
     others-come (suc n) j a v bs k x rest e =
-        atClose (λ i b w more h g. others-come n i b w more h x rest g) (eqb (next bs) Condition.closes) refl e
+        atClose (λ i b w more h g. others-come n i b w more h x rest g) (eqb (nextByte bs) Condition.closes) refl e
       where
         Further : Type 0
         Further = (i : ℕ) → (i ≡ 0) ⊎ (Condition.isJoint i ≡ true) → (w : Bool) (more : List ℕ) → AllBytes more →
             behind member n i w more ≡ read x rest → Others i w more x rest
 
-        atMember : Further → (r : Read) → member (drop 1 bs) ≡ r → Condition.mayJoin j (next bs) ≡ true →
-            elim r [ bad more ↦ bad more | read w more ↦ behind member n (next bs) (joinedBy (next bs) v w) more ] ≡ read x rest →
+        atMember : Further → (r : Read) → member (drop 1 bs) ≡ r → Condition.mayJoin j (nextByte bs) ≡ true →
+            elim r [ bad more ↦ bad more | read w more ↦ behind member n (nextByte bs) (joinedBy (nextByte bs) v w) more ] ≡ read x rest →
             Others j v bs x rest
         atMember further (bad more) f m g = not-read g
         atMember further (read w more) f m g =
-            let know = may-know j (next bs) m in
-            let one = joint-some (next bs) (know .0) in
+            let know = may-know j (nextByte bs) m in
+            let one = joint-some (nextByte bs) (know .0) in
             let it = comes (drop 1 bs) (bytes-past bs k) w more f in
-            andOne j (next bs) v bs w more x rest (begins bs (next bs) refl one) one (know .1) it
-            (further (next bs) (inr (know .0)) (joinedBy (next bs) v w) more
+            andOne j (nextByte bs) v bs w more x rest (begins bs (nextByte bs) refl one) one (know .1) it
+            (further (nextByte bs) (inr (know .0)) (joinedBy (nextByte bs) v w) more
             (bytes-behind (bytes (it .it)) more (subst AllBytes (it .is) (bytes-past bs k))) g)
 
-        atJoint : Further → (b : Bool) → Condition.mayJoin j (next bs) ≡ b →
+        atJoint : Further → (b : Bool) → Condition.mayJoin j (nextByte bs) ≡ b →
             elim b [
               | false ↦ bad bs
-              | true ↦ elim (member (drop 1 bs)) [ bad more ↦ bad more | read w more ↦ behind member n (next bs) (joinedBy (next bs) v w) more ]
+              | true ↦ elim (member (drop 1 bs)) [ bad more ↦ bad more | read w more ↦ behind member n (nextByte bs) (joinedBy (nextByte bs) v w) more ]
             ] ≡ read x rest →
             Others j v bs x rest
         atJoint further false f g = not-read g
         atJoint further true f g = atMember further (member (drop 1 bs)) refl f g
 
-        atClose : Further → (b : Bool) → eqb (next bs) Condition.closes ≡ b →
+        atClose : Further → (b : Bool) → eqb (nextByte bs) Condition.closes ≡ b →
             elim b [
               | true ↦ read v (drop 1 bs)
               | false ↦
-                  elim (Condition.mayJoin j (next bs)) [
+                  elim (Condition.mayJoin j (nextByte bs)) [
                     | false ↦ bad bs
-                    | true ↦ elim (member (drop 1 bs)) [ bad more ↦ bad more | read w more ↦ behind member n (next bs) (joinedBy (next bs) v w) more ]
+                    | true ↦ elim (member (drop 1 bs)) [ bad more ↦ bad more | read w more ↦ behind member n (nextByte bs) (joinedBy (nextByte bs) v w) more ]
                   ]
             ] ≡ read x rest →
             Others j v bs x rest
         atClose further true f g =
             let s = same-read g in
             closed j a v bs x rest
-            (begins bs Condition.closes (eqb-true (next bs) Condition.closes f) (omega arith) ∙ ap (λ (l : List ℕ). Condition.closes ∷ l) (s .1)) (sym (s .0))
-        atClose further false f g = atJoint further (Condition.mayJoin j (next bs)) refl g
+            (begins bs Condition.closes (eqb-true (nextByte bs) Condition.closes f) (omega arith) ∙ ap (λ (l : List ℕ). Condition.closes ∷ l) (s .1)) (sym (s .0))
+        atClose further false f g = atJoint further (Condition.mayJoin j (nextByte bs)) refl g
 
-    group-comes : (bs : List ℕ) → AllBytes bs → (x : Bool) (rest : List ℕ) → next bs ≡ Condition.opens → groupAt member (drop 1 bs) ≡ read x rest →
+    group-comes : (bs : List ℕ) → AllBytes bs → (x : Bool) (rest : List ℕ) → nextByte bs ≡ Condition.opens → groupAt member (drop 1 bs) ≡ read x rest →
         (g : Group M) × FineAll P (g .first ∷ g .others) × (bs ≡ groupOf bytes g ++ rest) × (x ≡ hold means (g .joint) (g .first ∷ g .others))
     group-comes bs k x rest o e = go (member (drop 1 bs)) refl e
       where
@@ -392,21 +392,21 @@ module _ {M : Type 0} (member : List ℕ → Read) (bytes : M → List ℕ) (mea
 
 module _ (threads : ℕ) (register : ℕ → ℕ → ℕ) where
   only-so : (d : ℕ) (bs : List ℕ) → AllBytes bs → (v : Bool) (rest : List ℕ) →
-      conditionAt threads register d bs ≡ read v rest → Tree.Tree threads register d bs v rest
-  unfolding conditionAt bytesOf claims
+      conditionAt threads register d bs ≡ read v rest → Tree.BeginsTree threads register d bs v rest
+  unfolding conditionAt treeBytes claims
   only-so zero bs k v rest e =
       let c = compares threads register bs k v rest e in record { tree = c .it; fine = c .fine; is = c .is; meant = c .meant }
-  only-so (suc d) bs k v rest e = go (λ cs l w more f. only-so d cs l w more f) (eqb (next bs) Condition.opens) refl e
+  only-so (suc d) bs k v rest e = go (λ cs l w more f. only-so d cs l w more f) (eqb (nextByte bs) Condition.opens) refl e
     where
-      go : ((cs : List ℕ) → AllBytes cs → (w : Bool) (more : List ℕ) → conditionAt threads register d cs ≡ read w more → Tree.Tree threads register d cs w more) →
-          (b : Bool) → eqb (next bs) Condition.opens ≡ b →
+      go : ((cs : List ℕ) → AllBytes cs → (w : Bool) (more : List ℕ) → conditionAt threads register d cs ≡ read w more → Tree.BeginsTree threads register d cs w more) →
+          (b : Bool) → eqb (nextByte bs) Condition.opens ≡ b →
           cond b (groupAt (conditionAt threads register d) (drop 1 bs)) (comparisonAt threads register bs) ≡ read v rest →
-          Tree.Tree threads register (suc d) bs v rest
+          Tree.BeginsTree threads register (suc d) bs v rest
       go inner true o f =
           let g =
-          group-comes (conditionAt threads register d) (bytesOf d) (claims register d) (Fine threads d)
+          group-comes (conditionAt threads register d) (treeBytes d) (claims register d) (Fine threads d)
           (λ cs l w more h. let t = inner cs l w more h in record { it = t .tree; fine = t .fine; is = t .is; meant = t .meant })
-          bs k v rest (eqb-true (next bs) Condition.opens o) f in
+          bs k v rest (eqb-true (nextByte bs) Condition.opens o) f in
           record { tree = group (g .0); fine = g .1; is = g .2; meant = g .3 }
       go inner false o f =
           let c = compares threads register bs k v rest f in
@@ -414,8 +414,8 @@ module _ (threads : ℕ) (register : ℕ → ℕ → ℕ) where
 
 -- A whole condition
 
-tree-some : (d : ℕ) (c : Deep d) → 1 ≤ length (bytesOf d c)
-unfolding bytesOf
+tree-some : (d : ℕ) (c : Deep d) → 1 ≤ length (treeBytes d c)
+unfolding treeBytes
 tree-some zero c = omega arith
 tree-some (suc d) (comparison c) = omega arith
 tree-some (suc d) (group g) = omega arith
@@ -426,10 +426,10 @@ claim-is threads register [] h = absurd (omega arith)
 claim-is threads register (b ∷ bs) h = refl
 
 claims-so : (threads : ℕ) (register : ℕ → ℕ → ℕ) (c : Deep Condition.groupsDeep) → Fine threads Condition.groupsDeep c →
-    Condition.claimAt threads register (bytesOf Condition.groupsDeep c) ≡ read (claims register Condition.groupsDeep c) []
+    Condition.claimAt threads register (treeBytes Condition.groupsDeep c) ≡ read (claims register Condition.groupsDeep c) []
 claims-so threads register c h =
-    claim-is threads register (bytesOf Condition.groupsDeep c) (tree-some Condition.groupsDeep c)
-    ∙ ap (conditionAt threads register Condition.groupsDeep) (sym (append-nil (bytesOf Condition.groupsDeep c)))
+    claim-is threads register (treeBytes Condition.groupsDeep c) (tree-some Condition.groupsDeep c)
+    ∙ ap (conditionAt threads register Condition.groupsDeep) (sym (append-nil (treeBytes Condition.groupsDeep c)))
     ∙ reads-so threads register Condition.groupsDeep c h []
 
 none-left : (rest : List ℕ) → eqb (length rest) 0 ≡ true → rest ≡ []
@@ -447,7 +447,7 @@ whole threads [] k e = inl refl
 whole threads (b ∷ bs) k e =
     let r = ended (conditionAt threads (λ t r. 0) Condition.groupsDeep (b ∷ bs)) e in
     let t = only-so threads (λ t r. 0) Condition.groupsDeep (b ∷ bs) k (r .0) [] (r .1) in
-    let z : b ∷ bs ≡ bytesOf Condition.groupsDeep (t .tree) = t .is ∙ append-nil (bytesOf Condition.groupsDeep (t .tree)) in
+    let z : b ∷ bs ≡ treeBytes Condition.groupsDeep (t .tree) = t .is ∙ append-nil (treeBytes Condition.groupsDeep (t .tree)) in
     inr (record {
       tree = t .tree;
       fine = t .fine;

@@ -11,7 +11,7 @@ use native.Mathlib.Omega.{arith}
 use borrow.Author.Tests.{eqb-true}
 use lib.Dec.{eqb}
 use lib.ListN.{getD, set}
-use Rattle.rules.specs.Path.{explored, marked, madePending, skip, pending, disabled, visited}
+use Rattle.rules.specs.Path.{skipToPending, marked, madePending, skip, pending, disabled, visited}
 
 abbrev pub isSkip : ℕ → ℕ
 isSkip s = cond (eqb s skip) 1 0
@@ -34,11 +34,11 @@ same-by x false e = rw e
 turns-same : (x : ℕ) → turns x x ≡ 0
 turns-same x = same-by x (eqb x skip) refl
 
-explored-by : (x : ℕ) (b : Bool) → eqb x skip ≡ b → turns x (explored x) ≡ isSkip x
+explored-by : (x : ℕ) (b : Bool) → eqb x skip ≡ b → turns x (skipToPending x) ≡ isSkip x
 explored-by x true e = rw e
 explored-by x false e = rw e
 
-turns-explored : (x : ℕ) → turns x (explored x) ≡ isSkip x
+turns-explored : (x : ℕ) → turns x (skipToPending x) ≡ isSkip x
 turns-explored x = explored-by x (eqb x skip) refl
 
 pub made-same : (l : List ℕ) → madePending l l ≡ 0
@@ -46,13 +46,13 @@ unfolding madePending
 made-same [] = refl
 made-same (x ∷ l) = omega (arith, turns-same x, made-same l)
 
-pub made-set : (l : List ℕ) (t : ℕ) → madePending l (set l t (explored (getD l t visited))) ≡ isSkip (getD l t visited)
+pub made-set : (l : List ℕ) (t : ℕ) → madePending l (set l t (skipToPending (getD l t visited))) ≡ isSkip (getD l t visited)
 unfolding madePending
 made-set [] t = refl
 made-set (x ∷ l) zero = omega (arith, turns-explored x, made-same l)
 made-set (x ∷ l) (suc t) = omega (arith, turns-same x, made-set l t)
 
-pub made-all : (l : List ℕ) → madePending l (map explored l) ≡ skips l
+pub made-all : (l : List ℕ) → madePending l (map skipToPending l) ≡ skips l
 unfolding madePending skips
 made-all [] = refl
 made-all (x ∷ l) = omega (arith, turns-explored x, made-all l)
@@ -64,4 +64,4 @@ either false l m n p q e f = f
 pub made-marked : (l : List ℕ) (t : ℕ) → madePending l (marked l t) ≡ openedAt l t
 unfolding marked openedAt
 made-marked l t =
-    either (eqb (getD l t visited) disabled) l (map explored l) (set l t (explored (getD l t visited))) (skips l) (isSkip (getD l t visited)) (made-all l) (made-set l t)
+    either (eqb (getD l t visited) disabled) l (map skipToPending l) (set l t (skipToPending (getD l t visited))) (skips l) (isSkip (getD l t visited)) (made-all l) (made-set l t)

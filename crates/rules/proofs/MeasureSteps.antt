@@ -16,10 +16,10 @@ use Rattle.rules.specs.Event as Event
 use Rattle.rules.specs.Event.{Entry, Question, whichThread, whichSlot, whichBit, moves, asks, stops, ends}
 use Rattle.rules.specs.State as State
 use Rattle.rules.specs.State.{State, number, withNumber, threads, cells, phase, begun, nextRow, yields, lastYield, operation, awaits, count, isSeqCst, exploring, skipping, storeAt}
-use Rattle.rules.specs.Cell.{version, storeDone, slotOf, Access, raced, read, Race, noRace, raceOf, loadDone, rmwDone, unsyncLoadDone, mutDone, storeRace, storeTracked, withClocks}
+use Rattle.rules.specs.Cell.{version, storeDone, slotOf, AccessResult, raced, read, Race, noRace, raceOf, loadDone, rmwDone, unsyncLoadDone, mutDone, storeRace, storeTracked, withClocks}
 use Rattle.rules.specs.Plain.{plainReadDone, plainWriteRace, plainWriteDone}
 use Rattle.rules.specs.Machine
-use Rattle.rules.specs.Machine.{Program, pendingOf, active, blocked, yielded, ended, toBegin, toAct, completed}
+use Rattle.rules.specs.Machine.{Program, pendingOf, current, blocked, yielded, ended, toBegin, toAct, completed}
 use Rattle.rules.specs.Measure.{ticksLeft, ticksLeftOf, measure, Whole, CanAct, Ready}
 use Rattle.rules.proofs.Measure.{Is, aside, toState, toPhase, seen, otherWork, has-part}
 use Rattle.rules.proofs.MeasureLoops.{acts-same}
@@ -29,7 +29,7 @@ use Rattle.rules.proofs.AccessLaws.{Leaves, isRead, load-leaves, rmw-le
 -- the active thread's row is to act
 pub record Acting (p : Program) (n : ℕ) (st : State) : Type 0 where
   pub ready : Ready st
-  pub acts : eqb (number (st .numbers) (phase (active st))) toBegin ≡ false
+  pub acts : eqb (number (st .numbers) (phase (current st))) toBegin ≡ false
   pub most : measure p st ≤ n
 
 -- what is known when the machine asks: a scheduling has lowered the measure, a row that reads a slot or takes a bit will
@@ -71,12 +71,12 @@ at-act can row e = (acts-same row can ∙ rw e refl, rw e refl)
 
 -- the active thread, where its row is to act
 module _ (p : Program) (n : ℕ) (st : State) (h : Acting p n st) where
-  pub acting-is : Is (active st) (number (st .numbers) (State.state (active st))) (number (st .numbers) (phase (active st)))
-      (number (st .numbers) begun) (otherWork (st .numbers) (active st)) (st .numbers)
-  acting-is = seen (st .numbers) (active st) (h .ready .below) (h .ready .whole) refl refl refl
+  pub acting-is : Is (current st) (number (st .numbers) (State.state (current st))) (number (st .numbers) (phase (current st)))
+      (number (st .numbers) begun) (otherWork (st .numbers) (current st)) (st .numbers)
+  acting-is = seen (st .numbers) (current st) (h .ready .below) (h .ready .whole) refl refl refl
 
-  pub acting-most : 3 * (p .operations - number (st .numbers) begun) + (otherWork (st .numbers) (active st) + 7) ≤ n
-  acting-most = omega (arith, h .most, measure-is p st acting-is, at-act (h .ready .runs) (number (st .numbers) (phase (active st))) (h .acts))
+  pub acting-most : 3 * (p .operations - number (st .numbers) begun) + (otherWork (st .numbers) (current st) + 7) ≤ n
+  acting-most = omega (arith, h .most, measure-is p st acting-is, at-act (h .ready .runs) (number (st .numbers) (phase (current st))) (h .acts))
 
 -- What a row that is to act does
 module _ (p : Program) (t s ph b m n : ℕ) (below : t < threads) (can : CanAct s) (acts : eqb ph toBegin ≡ false)
@@ -104,11 +104,11 @@ module _ (p : Program) (t s ph b m n : ℕ) (below : t < threads) (can : CanAct 
       let store = storeAt c (slotOf (number (st .numbers) (count c))) in
       aside below (aside below is (count c) _ (omega arith)) (isSeqCst store) _ (omega arith)
 
-  reads-lower : (x : Access) (k opcode r slot mask : ℕ) → Leaves (Is t s ph b m) x → Lower p n (Machine.reads x t k opcode r slot mask)
+  reads-lower : (x : AccessResult) (k opcode r slot mask : ℕ) → Leaves (Is t s ph b m) x → Lower p n (Machine.reads x t k opcode r slot mask)
   reads-lower (raced kind other st) k opcode r slot mask h = stopping
   reads-lower (read v st) k opcode r slot mask (isRead h) = finished (Machine.withRegister st t r v) (oneMore k) _ h
 
-  leaves-lower : (x : Access) (k opcode c r : ℕ) → Leaves (Is t s ph b m) x → Lower p n (Machine.leavesIn x t k opcode c r)
+  leaves-lower : (x : AccessResult) (k opcode c r : ℕ) → Leaves (Is t s ph b m) x → Lower p n (Machine.leavesIn x t k opcode c r)
   leaves-lower (raced kind other st) k opcode c r h = stopping
   leaves-lower (read v st) k opcode c r (isRead h) = finished (Machine.withRegister st t r v) (oneMore k) _ h
 

@@ -15,7 +15,7 @@ use Rattle.rules.specs.Event.{Event, runThread, readSlot, takeBit, moves
 use Rattle.rules.specs.State as State
 use Rattle.rules.specs.State.{State, Numbers, number, withNumber, threads, phase, begun, activeThread, rowsOf, operation, accessBranch, nonLoadBranch}
 use Rattle.rules.specs.Machine
-use Rattle.rules.specs.Machine.{Program, Pending, nothing, pends, pendingOf, active, activeRow, activeOp, rowOf, rowCount, runnable, yielded, ended, toBegin, toAct, noOperation}
+use Rattle.rules.specs.Machine.{Program, Pending, nothing, pends, pendingOf, current, activeRow, activeOp, rowOf, rowCount, runnable, yielded, ended, toBegin, toAct, noOperation}
 use Rattle.rules.specs.Measure.{measure, Whole, CanAct, Ready}
 use Rattle.rules.proofs.NumberLaws.{more-below}
 use Rattle.rules.proofs.Measure.{Is, aside, toState, toPhase, toBegun, toCell, seen, toActive, otherWork}
@@ -114,47 +114,47 @@ module _ (p : Program) (n : ℕ) where
   pub slot-lower : (st : State) (slot : ℕ) (offered : List ℕ) → Acting p n st → Lower p n (Machine.answered p st (readSlot slot offered))
   unfolding Machine.answered
   slot-lower st slot offered h =
-      read-lower p (active st) _ _ _ _ n (h .ready .below) (h .ready .runs) (h .acts) (acting-most p n st h) st (activeRow st)
-      slot (Machine.maskOf 0 offered) (activeOp p st) (row-on-cell p (active st) (activeRow st)) (acting-is p n st h)
+      read-lower p (current st) _ _ _ _ n (h .ready .below) (h .ready .runs) (h .acts) (acting-most p n st h) st (activeRow st)
+      slot (Machine.maskOf 0 offered) (activeOp p st) (row-on-cell p (current st) (activeRow st)) (acting-is p n st h)
 
   pub spurious-lower : (st : State) (bit : Bool) → Acting p n st → Lower p n (Machine.answered p st (takeBit bit))
   unfolding Machine.answered
   spurious-lower st bit h =
-      bit-lower p (active st) _ _ _ _ n (h .ready .below) (h .ready .runs) (h .acts) (acting-most p n st h) st (activeRow st)
+      bit-lower p (current st) _ _ _ _ n (h .ready .below) (h .ready .runs) (h .acts) (acting-most p n st h) st (activeRow st)
       (cond bit 1 0) (activeOp p st) (acting-is p n st h)
 
 -- What the active thread does next
 module _ (p : Program) (limited : p .operations ≤ largest) (st : State) (r : Ready st) where
-  begin-is : eqb (number (st .numbers) (phase (active st))) toBegin ≡ true →
-      Is (active st) (number (st .numbers) (State.state (active st))) toBegin (number (st .numbers) begun)
-      (otherWork (st .numbers) (active st)) (st .numbers)
-  begin-is e = seen (st .numbers) (active st) (r .below) (r .whole) refl refl (eqb-true _ _ e)
+  begin-is : eqb (number (st .numbers) (phase (current st))) toBegin ≡ true →
+      Is (current st) (number (st .numbers) (State.state (current st))) toBegin (number (st .numbers) begun)
+      (otherWork (st .numbers) (current st)) (st .numbers)
+  begin-is e = seen (st .numbers) (current st) (r .below) (r .whole) refl refl (eqb-true _ _ e)
 
-  begin-most : eqb (number (st .numbers) (phase (active st))) toBegin ≡ true →
-      3 * (p .operations - number (st .numbers) begun) + (otherWork (st .numbers) (active st) + 5) ≤ measure p st
+  begin-most : eqb (number (st .numbers) (phase (current st))) toBegin ≡ true →
+      3 * (p .operations - number (st .numbers) begun) + (otherWork (st .numbers) (current st) + 5) ≤ measure p st
   begin-most e = omega (arith, measure-is p st (begin-is e), at-begin (r .runs))
 
-  row-lower : (k : ℕ) (row : Decoded Op) → RowOnCell row → Lower p (measure p st) (Machine.ofRow p st (active st) k row)
+  row-lower : (k : ℕ) (row : Decoded Op) → RowOnCell row → Lower p (measure p st) (Machine.ofRow p st (current st) k row)
   unfolding RowOnCell
   row-lower k refused h = stopping
   row-lower k (decoded op) h =
-      pick (Lower p (measure p st)) (Machine.isToBegin st (active st))
-      (λ e. begins-lower p limited (active st) _ _ _ (measure p st) (r .below) (r .runs) (begin-most e) st k op h (begin-is e))
+      pick (Lower p (measure p st)) (Machine.isToBegin st (current st))
+      (λ e. begins-lower p limited (current st) _ _ _ (measure p st) (r .below) (r .runs) (begin-most e) st k op h (begin-is e))
       (λ e.
       let acting : Acting p (measure p st) st = record { ready = r; acts = e; most = omega arith } in
-      acts-lower p (active st) _ _ _ _ (measure p st) (r .below) (r .runs) e (acting-most p (measure p st) st acting) st k op h
+      acts-lower p (current st) _ _ _ _ (measure p st) (r .below) (r .runs) e (acting-most p (measure p st) st acting) st k op h
       (acting-is p (measure p st) st acting))
 
-  next-at : (k : ℕ) → Lower p (measure p st) (Machine.nextAt p st (active st) k)
+  next-at : (k : ℕ) → Lower p (measure p st) (Machine.nextAt p st (current st) k)
   unfolding Machine.nextAt
   next-at k =
-      pick (Lower p (measure p st)) (Machine.isToBegin st (active st) && leb (rowCount p (active st)) k)
+      pick (Lower p (measure p st)) (Machine.isToBegin st (current st) && leb (rowCount p (current st)) k)
       (λ e.
       let toEnd = both-left _ _ e in
-      ended-lower p limited (active st) _ _ _ (measure p st) (r .below) (r .runs) (begin-most toEnd) st (begin-is toEnd))
-      (λ e. row-lower k (rowOf p (active st) k) (row-on-cell p (active st) k))
+      ended-lower p limited (current st) _ _ _ (measure p st) (r .below) (r .runs) (begin-most toEnd) st (begin-is toEnd))
+      (λ e. row-lower k (rowOf p (current st) k) (row-on-cell p (current st) k))
 
   pub next-lower : Lower p (measure p st) (Machine.next p st .move)
   unfolding Machine.next
   next-lower =
-      pick (λ (x : Event State). Lower p (measure p st) (x .move)) (ltb (active st) threads) (λ e. next-at (activeRow st)) (λ e. stopping)
+      pick (λ (x : Event State). Lower p (measure p st) (x .move)) (ltb (current st) threads) (λ e. next-at (activeRow st)) (λ e. stopping)

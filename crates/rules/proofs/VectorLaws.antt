@@ -17,7 +17,7 @@ use lib.Dec.{ltb, leb, eqb}
 use lib.ListN.{length, getD, length-set}
 use lib.Seq.{getD-set-same, getD-set-other}
 use borrow.Author.Tests.{ltb-true, ltb-false, leb-true, eqb-true, lt-ltb, le-ltb, le-leb, eq-eqb, not-true}
-use Rattle.rules.specs.Vector.{atMost, equal, less, joined, raised, largest, ahead, next, Whom, nobody, thread}
+use Rattle.rules.specs.Vector.{atMost, equal, less, joined, raised, largest, ahead, oneUp, Whom, nobody, thread}
 
 -- both halves of a test
 both : (a b : Bool) → a && b ≡ true → (a ≡ true) × (b ≡ true)
@@ -166,7 +166,7 @@ joined-part (x ∷ xs) (y ∷ ys) (suc k) = joined-part xs ys k
 
 -- Ahead
 
-later : (w : Whom) → next w ≡ nobody → w ≡ nobody
+later : (w : Whom) → oneUp w ≡ nobody → w ≡ nobody
 later nobody e = refl
 later (thread t) e = let z : _≡_ {A = ℕ} 0 1 = cc in absurd (omega arith)
 
@@ -204,11 +204,11 @@ below-later x y xs ys k h p (suc j) l = p .below j (omega arith)
 lowest-later : (x y : ℕ) (xs ys : List ℕ) (k : ℕ) → y ≤ x → Lowest xs ys k → Lowest (x ∷ xs) (y ∷ ys) (k + 1)
 lowest-later x y xs ys k h p = record { greater = rw add-one (p .greater); below = below-later x y xs ys k h p }
 
-earlier : (w : Whom) (k : ℕ) → next w ≡ thread k → (m : ℕ) × (w ≡ thread m) × (k ≡ m + 1)
+earlier : (w : Whom) (k : ℕ) → oneUp w ≡ thread k → (m : ℕ) × (w ≡ thread m) × (k ≡ m + 1)
 earlier nobody k e = let z : _≡_ {A = ℕ} 0 1 = cc in absurd (omega arith)
 earlier (thread t) k e = (t, refl, cc)
 
-ahead-false : (x y : ℕ) (xs ys : List ℕ) → ltb x y ≡ false → ahead (x ∷ xs) (y ∷ ys) ≡ next (ahead xs ys)
+ahead-false : (x y : ℕ) (xs ys : List ℕ) → ltb x y ≡ false → ahead (x ∷ xs) (y ∷ ys) ≡ oneUp (ahead xs ys)
 unfolding ahead
 ahead-false x y xs ys f = rw f
 
@@ -233,7 +233,7 @@ ahead-is (x ∷ xs) (y ∷ ys) zero l p = rw (lt-ltb x y (p .greater))
 ahead-is (x ∷ xs) (y ∷ ys) (suc k) l p =
     let q : Lowest xs ys k = record { greater = p .greater; below = λ j b. p .below (suc j) (omega arith) } in
     let e : ahead xs ys ≡ thread k = ahead-is xs ys k (omega arith) q in
-    ahead-false x y xs ys (le-ltb x y (p .below zero (omega arith))) ∙ ap next e ∙ ap thread (add-one k)
+    ahead-false x y xs ys (le-ltb x y (p .below zero (omega arith))) ∙ ap oneUp e ∙ ap thread (add-one k)
 
 -- Raise
 

@@ -239,8 +239,8 @@ withStore clocks store hb so s =
     withVector (withVector (withVector clocks (happensBefore store) hb) (order store) so) (sync store) s
 
 -- the new store is seen by its own thread alone (atomic.rs: State::store)
-abbrev pub firstMarked : Clocks → List (List ℕ) → ℕ → ℕ → List (List ℕ)
-firstMarked clocks rows t slot = set rows slot (touched (unseens threads) t (version clocks t))
+abbrev pub seenByOwn : Clocks → List (List ℕ) → ℕ → ℕ → List (List ℕ)
+seenByOwn clocks rows t slot = set rows slot (touched (unseens threads) t (version clocks t))
 
 abbrev pub seqCstFlag : ℕ → ℕ
 seqCstFlag o = cond (eqb o seqCstOrder) 1 0
@@ -255,7 +255,7 @@ storeDone st t c from v o =
     record {
       clocks = withStore (st .clocks) store (vector (st .clocks) (causality t))
           (storeOrder (st .clocks) rows n t c) (storeSynced (st .clocks) t from o);
-      marks = withMarks (st .marks) c (firstMarked (st .clocks) rows t (slotOf n));
+      marks = withMarks (st .marks) c (seenByOwn (st .clocks) rows t (slotOf n));
       values = withValue (st .values) (ofStore store) v;
       numbers = withNumber (withNumber (st .numbers) (count c) (oneMore n)) (isSeqCst store) (seqCstFlag o);
     }
@@ -263,9 +263,9 @@ storeDone st t c from v o =
 -- Accesses
 
 -- what an access comes to: the value read, or the race that stopped it
-pub data Access : Type 0 where
-  raced : ℕ → ℕ → State → Access
-  read : ℕ → State → Access
+pub data AccessResult : Type 0 where
+  raced : ℕ → ℕ → State → AccessResult
+  read : ℕ → State → AccessResult
 
 abbrev pub withClocks : State → Clocks → State
 withClocks st clocks = record { clocks = clocks; marks = st .marks; values = st .values; numbers = st .numbers }
@@ -282,12 +282,12 @@ sighted st t c slot =
     let clocks = coherent (loadTracked (st .clocks) t c) (marksOf (st .marks) c) (st .numbers) t c slot in
     withBoth st clocks (touchDone clocks (st .marks) t c slot)
 
-abbrev pub unlessRace : Race → State → Access → Access
+abbrev pub unlessRace : Race → State → AccessResult → AccessResult
 unlessRace noRace st done = done
 unlessRace (raceOf kind other) st done = raced kind other st
 
 -- "Load order: ..; choose; race (14); coherence; touch; sync."
-unfoldable pub loadDone : State → ℕ → ℕ → ℕ → ℕ → Access
+unfoldable pub loadDone : State → ℕ → ℕ → ℕ → ℕ → AccessResult
 loadDone st t c slot o =
     let seenIt = sighted st t c slot in
     unlessRace (loadRace (st .clocks) t c) st
@@ -297,23 +297,23 @@ loadDone st t c slot o =
 -- RMW
 
 -- "failure syncs by the failure order only" (atomic.rs: State::rmw)
-abbrev pub failed : State → ℕ → ℕ → ℕ → ℕ → Access
+abbrev pub failed : State → ℕ → ℕ → ℕ → ℕ → AccessResult
 failed st t store v o = read v (withClocks st (loadSynced (st .clocks) t store o))
 
 -- "An RMW that succeeds checks the store race after touching, then syncs by success order, and copies that sync into the new
 -- store", where it takes the store synchronisation too [Q30]
-unfoldable pub succeeded : State → ℕ → ℕ → ℕ → ℕ → ℕ → ℕ → Access
+unfoldable pub succeeded : State → ℕ → ℕ → ℕ → ℕ → ℕ → ℕ → AccessResult
 succeeded st t c store v new o =
     let synced = withClocks st (loadSynced (storeTracked (st .clocks) t c) t store o) in
     unlessRace (storeRace (st .clocks) t c) st
     (read v (storeDone synced t c (vector (synced .clocks) (sync store)) new o))
 
-abbrev pub byChange : Changed → State → ℕ → ℕ → ℕ → ℕ → ℕ → ℕ → Access
+abbrev pub byChange : Changed → State → ℕ → ℕ → ℕ → ℕ → ℕ → ℕ → AccessResult
 byChange (success new) st t c store v o f = succeeded st t c store v new o
 byChange failure st t c store v o f = failed st t store v f
 
 -- RMW of a slot: a load's race, coherence and touch, then the change (atomic.rs: State::rmw)
-unfoldable pub rmwDone : State → ℕ → ℕ → ℕ → Change → ℕ → ℕ → Access
+unfoldable pub rmwDone : State → ℕ → ℕ → ℕ → Change → ℕ → ℕ → AccessResult
 rmwDone st t c slot change o f =
     let store = storeAt c slot in
     let v = value (st .values) (ofStore store) in
@@ -326,7 +326,7 @@ abbrev pub newestOf : Numbers → ℕ → ℕ
 newestOf numbers c = storeAt c (newest (number numbers (count c)))
 
 -- "5 unsynchronised load": order, sync and marks stay as they are [Q28]
-unfoldable pub unsyncLoadDone : State → ℕ → ℕ → Access
+unfoldable pub unsyncLoadDone : State → ℕ → ℕ → AccessResult
 unsyncLoadDone st t c =
     unlessRace (unsyncLoadRace (st .clocks) t c) st
     (read (value (st .values) (ofStore (newestOf (st .numbers) c))) (withClocks st (unsyncLoadTracked (st .clocks) t c)))
@@ -337,7 +337,7 @@ leaves (success new) v = new
 leaves failure v = v
 
 -- "6 exclusive change (`with_mut`)": only the newest store's value changes; a failing one still tracks [Q28]
-unfoldable pub mutDone : State → ℕ → ℕ → Change → Access
+unfoldable pub mutDone : State → ℕ → ℕ → Change → AccessResult
 mutDone st t c change =
     let store = newestOf (st .numbers) c in
     let v = value (st .values) (ofStore store) in

@@ -85,8 +85,8 @@ pub data Read : Type 0 where
   read : Bool → List ℕ → Read
 
 -- the byte that comes next, 0 at the end: that is none of a condition's
-abbrev pub next : List ℕ → ℕ
-next bs = getD bs 0 0
+abbrev pub nextByte : List ℕ → ℕ
+nextByte bs = getD bs 0 0
 
 -- a group has one kind of joint: 0 as long as it has none
 abbrev pub mayJoin : ℕ → ℕ → Bool
@@ -96,15 +96,15 @@ mayJoin joint b = isJoint b && (eqb joint 0 || eqb joint b)
 unfoldable pub behind : (List ℕ → Read) → ℕ → ℕ → Bool → List ℕ → Read
 behind member zero joint v bs = bad bs
 behind member (suc n) joint v bs =
-    elim (eqb (next bs) closes) [
+    elim (eqb (nextByte bs) closes) [
       | true ↦ read v (drop 1 bs)
       | false ↦
-          elim (mayJoin joint (next bs)) [
+          elim (mayJoin joint (nextByte bs)) [
             | false ↦ bad bs
             | true ↦
                 elim (member (drop 1 bs)) [
                   | bad rest ↦ bad rest
-                  | read w rest ↦ behind member n (next bs) (joinedBy (next bs) v w) rest
+                  | read w rest ↦ behind member n (nextByte bs) (joinedBy (nextByte bs) v w) rest
                 ]
           ]
     ]
@@ -118,14 +118,14 @@ module _ (threads : ℕ) (register : ℕ → ℕ → ℕ) where
   -- "a comparison of a thread's register with a number"
   unfoldable pub comparisonAt : List ℕ → Read
   comparisonAt bs =
-      cond (leb comparisonBytes (length bs) && isSign (next bs) && ltb (getD bs 1 0) threads && isRegister (getD bs 2 0))
-      (read (compared (next bs) (register (getD bs 1 0) (getD bs 2 0)) (u64At bs 3)) (drop comparisonBytes bs))
+      cond (leb comparisonBytes (length bs) && isSign (nextByte bs) && ltb (getD bs 1 0) threads && isRegister (getD bs 2 0))
+      (read (compared (nextByte bs) (register (getD bs 1 0) (getD bs 2 0)) (u64At bs 3)) (drop comparisonBytes bs))
       (bad bs)
 
   -- "and a group may hold groups": groups in each other, at most as many as this
   unfoldable pub conditionAt : ℕ → List ℕ → Read
   conditionAt zero bs = comparisonAt bs
-  conditionAt (suc deep) bs = cond (eqb (next bs) opens) (groupAt (conditionAt deep) (drop 1 bs)) (comparisonAt bs)
+  conditionAt (suc deep) bs = cond (eqb (nextByte bs) opens) (groupAt (conditionAt deep) (drop 1 bs)) (comparisonAt bs)
 
   -- no byte is none
   abbrev pub claimAt : List ℕ → Read

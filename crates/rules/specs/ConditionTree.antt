@@ -1,7 +1,7 @@
 -- The grammar of final conditions as trees: document 02, §3. That the bytes of a tree are read as the tree, and that nothing else
 -- is read, is proved (proofs/ConditionLaws). Assumes nothing.
 --     Comparison, Joint, Group, Deep     a condition, in groups at most so deep
---     bytesOf                            its bytes
+--     treeBytes                            its bytes
 --     claims                             what it says
 --     Fine                               it names threads and registers that there are
 --     Grammar                            what is proved
@@ -48,8 +48,8 @@ Deep (suc d) = Either (Deep d)
 
 -- Bytes
 
-abbrev pub comparisonOf : Comparison → List ℕ
-comparisonOf c = c .sign ∷ c .thread ∷ c .register ∷ little 8 (c .number)
+abbrev pub leafBytes : Comparison → List ℕ
+leafBytes c = c .sign ∷ c .thread ∷ c .register ∷ little 8 (c .number)
 
 abbrev pub jointOf : Joint → ℕ
 jointOf all = both
@@ -62,10 +62,10 @@ othersOf f joint (m ∷ more) = jointOf joint ∷ (f m ++ othersOf f joint more)
 abbrev pub groupOf : {M : Type 0} → (M → List ℕ) → Group M → List ℕ
 groupOf f g = opens ∷ (f (g .first) ++ othersOf f (g .joint) (g .others))
 
-unfoldable pub bytesOf : (d : ℕ) → Deep d → List ℕ
-bytesOf zero c = comparisonOf c
-bytesOf (suc d) (comparison c) = comparisonOf c
-bytesOf (suc d) (group g) = groupOf (bytesOf d) g
+unfoldable pub treeBytes : (d : ℕ) → Deep d → List ℕ
+treeBytes zero c = leafBytes c
+treeBytes (suc d) (comparison c) = leafBytes c
+treeBytes (suc d) (group g) = groupOf (treeBytes d) g
 
 -- What a condition says
 
@@ -76,12 +76,12 @@ hold f all (m ∷ more) = f m && hold f all more
 hold f some [] = false
 hold f some (m ∷ more) = f m || hold f some more
 
-abbrev pub says : (ℕ → ℕ → ℕ) → Comparison → Bool
-says register c = compared (c .sign) (register (c .thread) (c .register)) (c .number)
+abbrev pub comparisonHolds : (ℕ → ℕ → ℕ) → Comparison → Bool
+comparisonHolds register c = compared (c .sign) (register (c .thread) (c .register)) (c .number)
 
 unfoldable pub claims : (ℕ → ℕ → ℕ) → (d : ℕ) → Deep d → Bool
-claims register zero c = says register c
-claims register (suc d) (comparison c) = says register c
+claims register zero c = comparisonHolds register c
+claims register (suc d) (comparison c) = comparisonHolds register c
 claims register (suc d) (group g) = hold (claims register d) (g .joint) (g .first ∷ g .others)
 
 -- What it names
@@ -105,28 +105,28 @@ abbrev pub AllBytes : List ℕ → Type 0
 AllBytes bs = FineAll (λ (b : ℕ). b < 256) bs
 
 -- the bytes begin with a tree's, which says this
-pub record Tree (threads : ℕ) (register : ℕ → ℕ → ℕ) (d : ℕ) (bs : List ℕ) (v : Bool) (rest : List ℕ) : Type 0 where
+pub record BeginsTree (threads : ℕ) (register : ℕ → ℕ → ℕ) (d : ℕ) (bs : List ℕ) (v : Bool) (rest : List ℕ) : Type 0 where
   pub tree : Deep d
   pub fine : Fine threads d tree
-  pub is : bs ≡ bytesOf d tree ++ rest
+  pub is : bs ≡ treeBytes d tree ++ rest
   pub meant : v ≡ claims register d tree
 
 -- a condition that is accepted: none, which always holds, or a tree
 pub record Accepted (threads : ℕ) (bs : List ℕ) : Type 0 where
   pub tree : Deep groupsDeep
   pub fine : Fine threads groupsDeep tree
-  pub is : bs ≡ bytesOf groupsDeep tree
+  pub is : bs ≡ treeBytes groupsDeep tree
   pub meant : (register : ℕ → ℕ → ℕ) → holds threads register bs ≡ claims register groupsDeep tree
 
 pub record Grammar : Type 0 where
   -- a tree's bytes are read as the tree, whatever follows
   pub reads : (threads : ℕ) (register : ℕ → ℕ → ℕ) (d : ℕ) (c : Deep d) → Fine threads d c → (rest : List ℕ) →
-      conditionAt threads register d (bytesOf d c ++ rest) ≡ read (claims register d c) rest
+      conditionAt threads register d (treeBytes d c ++ rest) ≡ read (claims register d c) rest
   -- and what is read is a tree
   pub only : (threads : ℕ) (register : ℕ → ℕ → ℕ) (d : ℕ) (bs : List ℕ) → AllBytes bs → (v : Bool) (rest : List ℕ) →
-      conditionAt threads register d bs ≡ read v rest → Tree threads register d bs v rest
+      conditionAt threads register d bs ≡ read v rest → BeginsTree threads register d bs v rest
   -- so a tree of at most so many bytes is a condition
-  pub accepts : (threads : ℕ) (c : Deep groupsDeep) → Fine threads groupsDeep c → length (bytesOf groupsDeep c) ≤ conditionBytes →
-      isCondition threads (bytesOf groupsDeep c) ≡ true
+  pub accepts : (threads : ℕ) (c : Deep groupsDeep) → Fine threads groupsDeep c → length (treeBytes groupsDeep c) ≤ conditionBytes →
+      isCondition threads (treeBytes groupsDeep c) ≡ true
   -- and every condition is one, or none
   pub accepted : (threads : ℕ) (bs : List ℕ) → AllBytes bs → isCondition threads bs ≡ true → (bs ≡ []) ⊎ Accepted threads bs

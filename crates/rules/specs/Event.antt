@@ -100,22 +100,22 @@ pub data Standing : Type 0 where
   other : Standing
 
 -- a branch's position among all branches of the path [Q21], or none
-pub data Place : Type 0 where
-  nowhere : Place
-  branch : ℕ → Place
+pub data Point : Type 0 where
+  nowhere : Point
+  branch : ℕ → Point
 
 -- A scheduling, which says by thread from which branch to backtrack for it, then the initial thread and how each stands; a
 -- load's or an RMW's choice of a store; `branch_spurious`
 pub data Question : Type 0 where
-  whichThread : List Place → Whom → List Standing → Question
+  whichThread : List Point → Whom → List Standing → Question
   whichSlot : Matched → Question
   whichBit : Question
 
 -- The thread that a branch chooses and the branch's position; the slot, and all that were offered; the bit
-pub data Answer : Type 0 where
-  runThread : Whom → ℕ → Answer
-  readSlot : ℕ → List ℕ → Answer
-  takeBit : Bool → Answer
+pub data Pick : Type 0 where
+  runThread : Whom → ℕ → Pick
+  readSlot : ℕ → List ℕ → Pick
+  takeBit : Bool → Pick
 
 -- What a machine does next, with the trace entries of the rows that are now complete
 pub data Move (S : Type 0) : Type 0 where
@@ -145,6 +145,6 @@ pub record Machine : Type 1 where
   pub State : Type 0
   pub start : State
   pub next : State → Event State
-  pub answered : State → Answer → Move State
+  pub answered : State → Pick → Move State
   -- whether the final condition holds in a state in which an execution has ended: the explorer judges it, never `next`
   pub final : State → Bool

@@ -130,8 +130,8 @@ entriesBytes [] = []
 entriesBytes (e ∷ es) = entryBytes e ++ entriesBytes es
 
 -- "when it stops, all bytes past .. the last execution's last trace entry are zero"
-unfoldable pub noted : ℕ → List Entry → List ℕ
-noted n es = entriesBytes es ++ replicate (n - recordBytes * length es) 0
+unfoldable pub traceLeft : ℕ → List Entry → List ℕ
+traceLeft n es = entriesBytes es ++ replicate (n - recordBytes * length es) 0
 
 -- more ticks than an execution can take: one more than the measure of its start can be, 3·L + 25 (Measure). Each of L rows that
 -- begin takes at most three (it begins, may block once, acts); each of five threads ends, and may free the joins of four others
@@ -161,7 +161,7 @@ unfoldable pub ran : ℕ → ℕ → Stop State → Explored
 ran pathBytes traceBytes r = record {
   report = reported r;
   path = written pathBytes (r .walk .ledger .path);
-  trace = noted traceBytes (r .walk .trace);
+  trace = traceLeft traceBytes (r .walk .trace);
 }
 
 -- "operation limit L 1..4,096; execution budget N 1..65,535", and of B "branches from 1,024 to 4,096" (document 02, §4): each limit

@@ -17,7 +17,7 @@ use Rattle.rules.specs.State.{history}
 use Rattle.rules.specs.Vector.{Whom}
 use Rattle.rules.specs.Event as Event
 use Rattle.rules.specs.Event.{Standing, yielded, cannotRun, other, slotsOf}
-use Rattle.rules.specs.Event.{Fault, Entry, Place, nowhere, branch, Matched, offers, Question, whichThread, whichSlot, whichBit, Answer, runThread, readSlot, takeBit, Site, noSite, Move, Machine, moves, asks, stops, ends}
+use Rattle.rules.specs.Event.{Fault, Entry, Point, nowhere, branch, Matched, offers, Question, whichThread, whichSlot, whichBit, Pick, runThread, readSlot, takeBit, Site, noSite, Move, Machine, moves, asks, stops, ends}
 
 -- "Branch limit B", "operation limit L", the preemption bound, and how many ticks an execution may take
 pub record Limits : Type 0 where
@@ -35,7 +35,7 @@ pub record Ledger : Type 0 where
   pub begun : ℕ
 
 -- "(a) for each thread in order .. `backtrack` from that access's branch for that thread"
-abbrev pub backtrackFrom : Bound → Ledger → Place → ℕ → Ledger
+abbrev pub backtrackFrom : Bound → Ledger → Point → ℕ → Ledger
 backtrackFrom bound l nowhere t = l
 backtrackFrom bound l (branch point) t = record {
   path = backtracked bound (l .path) point t .path;
@@ -44,7 +44,7 @@ backtrackFrom bound l (branch point) t = record {
 }
 
 -- of the threads from this one on
-unfoldable pub allMarked : Bound → Ledger → List Place → ℕ → Ledger
+unfoldable pub allMarked : Bound → Ledger → List Point → ℕ → Ledger
 allMarked bound l [] t = l
 allMarked bound l (p ∷ points) t = allMarked bound (backtrackFrom bound l p t) points (t + 1)
 
@@ -88,7 +88,7 @@ withBranch l b = record { path = l .path ++ (b ∷ []); opened = l .opened + ope
 -- The record's answer, where it is one of the question's kind
 
 pub data Reply : Type 0 where
-  says : Answer → Reply
+  says : Pick → Reply
   unexpected : Reply
 
 abbrev pub maxSlots : ℕ
@@ -99,8 +99,8 @@ allBelow n [] = true
 allBelow n (x ∷ xs) = ltb x n && allBelow n xs
 
 -- a load's value at its position; no path has a position past its values or a value that is no slot (docs/DECISIONS.md, 51)
-abbrev pub slotOf : Load → Reply
-slotOf l =
+abbrev pub slotSaid : Load → Reply
+slotSaid l =
     cond (ltb (l .pos) (length (l .values)) && allBelow maxSlots (l .values))
     (says (readSlot (getD (l .values) (l .pos) 0) (l .values)))
     unexpected
@@ -110,7 +110,7 @@ reply pos (schedule s) (whichThread points initial standings) = says (runThread 
 reply pos (schedule s) (whichSlot m) = unexpected
 reply pos (schedule s) whichBit = unexpected
 reply pos (load l) (whichThread points initial standings) = unexpected
-reply pos (load l) (whichSlot m) = slotOf l
+reply pos (load l) (whichSlot m) = slotSaid l
 reply pos (load l) whichBit = unexpected
 reply pos (spurious u) (whichThread points initial standings) = unexpected
 reply pos (spurious u) (whichSlot m) = unexpected

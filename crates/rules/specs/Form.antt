@@ -2,7 +2,7 @@
 --     forms               a form for each opcode and change kind
 --     valueOf             what may stand for a word of a form
 --     rowIn               a line that is a row: its fields; or the first token that no form has there
---     rowBytes            a row's fields as bytes of the table
+--     fieldsAsBytes            a row's fields as bytes of the table
 use Prim.Native.Nat.{ℕ, zero, suc, _%_}
 use Prim.Native.String.{String}
 use mathlib.Core.List.{List, [], _∷_, _++_, map}
@@ -12,7 +12,7 @@ use lib.ListN.{length, getD, set, take}
 use Rattle.rules.specs.Vector.{equal}
 use Rattle.rules.specs.Table.{Room, isLoadOrder, isStoreOrder, isFenceOrder}
 use Rattle.rules.specs.Event.{little}
-use Rattle.rules.specs.Token.{bytesOf, isEmpty, endsLine, skip, token, pastToken, nextLine, Found, nothing, found, onlyIf, only, numberIn, registerIn, plainIn, placeIn}
+use Rattle.rules.specs.Token.{bytesOf, isEmpty, endsLine, pastBlanks, token, pastToken, nextLine, Found, nothing, found, foundIf, only, numberIn, registerIn, plainIn, placeIn}
 
 -- "Orders: 0 Relaxed, 1 Release, 2 Acquire, 3 AcqRel, 4 SeqCst."
 abbrev pub orders : List (List ℕ)
@@ -114,7 +114,7 @@ isField piece = eqb (length piece) 1 && ltb (fieldOf (getD piece 0 0)) 9
 
 unfoldable pub valueOf : Room → List ℕ → List ℕ → Found
 valueOf room piece word =
-    cond (isField piece) (letterIn room (getD piece 0 0) word) (onlyIf (equal piece word) 0)
+    cond (isField piece) (letterIn room (getD piece 0 0) word) (foundIf (equal piece word) 0)
 
 -- the fields with this one's value; a word that stands for itself sets none
 abbrev pub withField : List ℕ → List ℕ → ℕ → List ℕ
@@ -130,14 +130,14 @@ abbrev pub mostWords : ℕ
 mostWords = 10
 
 unfoldable pub follow : ℕ → Room → List ℕ → List ℕ → List ℕ → Followed
-follow zero room words fields bs = stuck (skip bs)
+follow zero room words fields bs = stuck (pastBlanks bs)
 follow (suc n) room words fields bs =
-    elim (isEmpty (skip words)) [
-      | true ↦ cond (endsLine (skip bs)) (fits fields (nextLine (skip bs))) (stuck (skip bs))
+    elim (isEmpty (pastBlanks words)) [
+      | true ↦ cond (endsLine (pastBlanks bs)) (fits fields (nextLine (pastBlanks bs))) (stuck (pastBlanks bs))
       | false ↦
-          elim (valueOf room (token (skip words)) (token (skip bs))) [
-            | nothing ↦ stuck (skip bs)
-            | found v ↦ follow n room (pastToken (skip words)) (withField fields (token (skip words)) v) (pastToken (skip bs))
+          elim (valueOf room (token (pastBlanks words)) (token (pastBlanks bs))) [
+            | nothing ↦ stuck (pastBlanks bs)
+            | found v ↦ follow n room (pastToken (pastBlanks words)) (withField fields (token (pastBlanks words)) v) (pastToken (pastBlanks bs))
           ]
     ]
 
@@ -158,11 +158,11 @@ tried room (f ∷ fs) best bs =
     ]
 
 unfoldable pub rowIn : Room → List ℕ → Followed
-rowIn room bs = tried room forms (skip bs) bs
+rowIn room bs = tried room forms (pastBlanks bs) bs
 
 -- "Row: opcode, cell or thread, order, failure order, change kind, register .., jump target u16 .., operand a u64, operand b u64.": a byte each,
 -- and two, eight and eight
-unfoldable pub rowBytes : List ℕ → List ℕ
-rowBytes fields =
+unfoldable pub fieldsAsBytes : List ℕ → List ℕ
+fieldsAsBytes fields =
     map (λ (v : ℕ). v % 256) (take 6 fields)
     ++ (little 2 (getD fields 6 0) ++ (little 8 (getD fields 7 0) ++ little 8 (getD fields 8 0)))

@@ -16,12 +16,12 @@ use Rattle.rules.specs.Table as Table
 use Rattle.rules.specs.Table.{Op, Decoded, refused, decoded, opAt, opcodeOf, roomOf, startValue, threadsOf, cellsOf, plainsOf, countsOf, firstRows}
 use Rattle.rules.specs.Condition.{holds}
 use Rattle.rules.specs.Event as Event
-use Rattle.rules.specs.Event.{Entry, Matched, Place, nowhere, branch, Standing, whichThread, whichSlot, whichBit, Answer, runThread, readSlot, takeBit, noSite, Move, Machine, moves, asks, stops, ends}
+use Rattle.rules.specs.Event.{Entry, Matched, Point, nowhere, branch, Standing, whichThread, whichSlot, whichBit, Pick, runThread, readSlot, takeBit, noSite, Move, Machine, moves, asks, stops, ends}
 use Rattle.rules.specs.State as State
 use Rattle.rules.specs.State.{State, Clocks, Numbers, vector, withVector, value, withValue, number, withNumber, marksOf, registerAt, vectorsHeld, valuesHeld, numbersHeld, threads, cells, history, none}
 use Rattle.rules.specs.State.{causality, scheduleOf, mutated, lastAccess, lastNonLoad, ofRegister, ofStore, nextRow, rowsOf, yields, lastYield, operation, operatesOn, phase, awaits, count, accessBranch, nonLoadBranch, activeThread, begun, exploring, skipping}
 use Rattle.rules.specs.Plain.{plainReadDone, plainWriteRace, plainWriteDone}
-use Rattle.rules.specs.Cell.{joinInto, version, slotOf, newest, storeDone, storeRace, storeTracked, loadDone, rmwDone, unsyncLoadDone, mutDone, newestOf, fenced, matchedLoad, matchedRmw, Access, raced, read, Race, noRace, raceOf, withClocks, withValues}
+use Rattle.rules.specs.Cell.{joinInto, version, slotOf, newest, storeDone, storeRace, storeTracked, loadDone, rmwDone, unsyncLoadDone, mutDone, newestOf, fenced, matchedLoad, matchedRmw, AccessResult, raced, read, Race, noRace, raceOf, withClocks, withValues}
 
 -- A program: the bytes of its table and of its final condition, the operation limit, and whether it is exploring on start
 pub record Program : Type 0 where
@@ -167,7 +167,7 @@ operationOf st t = cond (ltb (cellOf st t) cells) (number (st .numbers) (operati
 
 -- "(a) for each thread in order with a pending operation, if the cell's last dependent access has a vector not ≤ that thread's
 -- schedule vector, `backtrack` from that access's branch for that thread": vectors that cannot be compared do, equal ones not [Q22]
-unfoldable pub conflict : State → ℕ → Place
+unfoldable pub conflict : State → ℕ → Point
 conflict st t =
     let op = operationOf st t in
     let at = dependentBranch (st .numbers) op (cellOf st t) in
@@ -201,14 +201,14 @@ abbrev pub everyThread : List ℕ
 everyThread = 0 ∷ 1 ∷ 2 ∷ 3 ∷ 4 ∷ []
 
 -- whether a branch that is added now is an exploring one
-abbrev pub isExploring : Numbers → Bool
-isExploring numbers = eqb (number numbers exploring) 1
+abbrev pub exploringNow : Numbers → Bool
+exploringNow numbers = eqb (number numbers exploring) 1
 
 -- "Scheduling is called before opcodes 0, 1, 2, 3 act (pending operation set first), at yield, at a blocking join and at a
 -- thread's end." Rule (a) looks at every thread by number, at every scheduling [Q22]
 unfoldable pub schedules : State → List Entry → Move State
 schedules st es =
-    asks st es (isExploring (st .numbers))
+    asks st es (exploringNow (st .numbers))
     (whichThread (map (conflict st) everyThread) (initial (st .numbers)) (map (standing (st .numbers)) everyThread))
 
 -- "record access with this branch and vector"; a load is no store or RMW
@@ -314,11 +314,11 @@ stores st t k opcode c o v =
 
 -- "Opcodes 0, 3, 5, 6 put the value read in the register, also on failure."; the trace has the value read, or of opcode 6 the
 -- value left [Q18]
-abbrev pub reads : Access → ℕ → ℕ → ℕ → ℕ → ℕ → ℕ → Move State
+abbrev pub reads : AccessResult → ℕ → ℕ → ℕ → ℕ → ℕ → ℕ → Move State
 reads (raced kind other st) t k opcode r slot mask = stops st (Event.race kind other)
 reads (read v st) t k opcode r slot mask = moves (completed (withRegister st t r v) t (oneMore k)) (entry t k opcode slot mask v)
 
-abbrev pub leavesIn : Access → ℕ → ℕ → ℕ → ℕ → ℕ → Move State
+abbrev pub leavesIn : AccessResult → ℕ → ℕ → ℕ → ℕ → ℕ → Move State
 leavesIn (raced kind other st) t k opcode c r = stops st (Event.race kind other)
 leavesIn (read v st) t k opcode c r =
     moves (completed (withRegister st t r v) t (oneMore k))
@@ -384,7 +384,7 @@ skipped st = withNumbers st (withNumber (withNumber (st .numbers) exploring 0) s
 
 -- a load's or an RMW's question, with the version raised
 abbrev pub asksSlot : State → Matched → Move State
-asksSlot up m = asks up [] (isExploring (up .numbers)) (whichSlot m)
+asksSlot up m = asks up [] (exploringNow (up .numbers)) (whichSlot m)
 
 -- What each row does. "Load order: schedule; version; if new, match (13) then push (11); choose; race (14); coherence; touch;
 -- sync.": the scheduling is that of `begins`; then `versionRaised` and `matchedLoad` here, the push in the explorer's `pushed`, the
@@ -411,7 +411,7 @@ actsAs p st t k n (Table.check r a) = checks st t k n (eqb (register st t r) a)
 actsAs p st t k n Table.critical = explores st t k n false
 actsAs p st t k n Table.exploreState = explores st t k n true
 actsAs p st t k n Table.skipBranch = done (skipped st) t k n
-actsAs p st t k n (Table.spurious r) = asks st [] (isExploring (st .numbers)) whichBit
+actsAs p st t k n (Table.spurious r) = asks st [] (exploringNow (st .numbers)) whichBit
 actsAs p st t k n (Table.plainRead c r) = reads (plainReadDone st t c) t k n r noSlot 0
 actsAs p st t k n (Table.plainWrite c a) = writesUnless (plainWriteRace (st .clocks) t c) st (plainWriteDone st t c a) t k n a
 
@@ -482,12 +482,12 @@ threadEnded st t =
 
 -- What the active thread does next
 
-abbrev pub active : State → ℕ
-active st = number (st .numbers) activeThread
+abbrev pub current : State → ℕ
+current st = number (st .numbers) activeThread
 
 -- the row that the active thread is at
 abbrev pub activeRow : State → ℕ
-activeRow st = number (st .numbers) (nextRow (active st))
+activeRow st = number (st .numbers) (nextRow (current st))
 
 abbrev pub isToBegin : State → ℕ → Bool
 isToBegin st t = eqb (number (st .numbers) (phase t)) toBegin
@@ -504,8 +504,8 @@ nextAt p st t k =
 
 unfoldable pub next : Program → State → Event.Event State
 next p st =
-    cond (ltb (active st) threads)
-    (record { site = record { thread = active st; row = activeRow st }; move = nextAt p st (active st) (activeRow st) })
+    cond (ltb (current st) threads)
+    (record { site = record { thread = current st; row = activeRow st }; move = nextAt p st (current st) (activeRow st) })
     (record { site = noSite; move = stops st Event.impossible })
 
 -- How it goes on with an answer
@@ -569,12 +569,12 @@ bitTaken st t k v (decoded (Table.plainWrite c a)) = stops st Event.impossible
 
 -- what the active thread's row does
 abbrev pub activeOp : Program → State → Decoded Op
-activeOp p st = rowOf p (active st) (activeRow st)
+activeOp p st = rowOf p (current st) (activeRow st)
 
-unfoldable pub answered : Program → State → Answer → Move State
+unfoldable pub answered : Program → State → Pick → Move State
 answered p st (runThread whom at) = scheduled st whom at
-answered p st (readSlot slot offered) = readFrom st (active st) (activeRow st) slot (maskOf 0 offered) (activeOp p st)
-answered p st (takeBit bit) = bitTaken st (active st) (activeRow st) (cond bit 1 0) (activeOp p st)
+answered p st (readSlot slot offered) = readFrom st (current st) (activeRow st) slot (maskOf 0 offered) (activeOp p st)
+answered p st (takeBit bit) = bitTaken st (current st) (activeRow st) (cond bit 1 0) (activeOp p st)
 
 -- "The condition is judged when all threads have ended": by their registers there
 unfoldable pub final : Program → State → Bool

@@ -10,7 +10,7 @@ use lib.Dec.{eqb}
 use lib.ListN.{length}
 use Rattle.rules.specs.State as State
 use Rattle.rules.specs.State.{State, Numbers, number, numbersHeld, threads, cells, operatesOn, phase, begun}
-use Rattle.rules.specs.Machine.{Program, active, runnable, blocked, yielded, ended, toBegin}
+use Rattle.rules.specs.Machine.{Program, current, runnable, blocked, yielded, ended, toBegin}
 
 -- what a thread in this state, with its row to begin or to act, may still take: no tick for a row that is to begin, one for a
 -- row that is to act where the thread is blocked, else two, since it may block once; and five for its end, which may free the
@@ -42,5 +42,5 @@ CanAct standing = (standing ≡ runnable) ⊎ (standing ≡ yielded)
 -- and the active thread is one that can act
 pub record Ready (st : State) : Type 0 where
   pub whole : Whole (st .numbers)
-  pub below : active st < threads
-  pub runs : CanAct (number (st .numbers) (State.state (active st)))
+  pub below : current st < threads
+  pub runs : CanAct (number (st .numbers) (State.state (current st)))

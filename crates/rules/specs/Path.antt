@@ -12,7 +12,7 @@ use mathlib.Core.Bool.{Bool, true, false, cond, not, _&&_, _||_}
 use lib.Dec.{ltb, leb, eqb}
 use lib.ListN.{length, getD, set, replicate}
 use Rattle.rules.specs.State.{history}
-use Rattle.rules.specs.Vector.{Whom, nobody, thread, next}
+use Rattle.rules.specs.Vector.{Whom, nobody, thread, oneUp}
 
 -- Branches
 
@@ -108,7 +108,7 @@ written n bs = encodedAll bs ++ replicate (n - recordBytes * length bs) 0
 -- the lowest thread that is in a state
 unfoldable pub firstIn : ℕ → List ℕ → Whom
 firstIn x [] = nobody
-firstIn x (s ∷ states) = cond (eqb s x) (thread 0) (next (firstIn x states))
+firstIn x (s ∷ states) = cond (eqb s x) (thread 0) (oneUp (firstIn x states))
 
 abbrev pub activeIn : List ℕ → Whom
 activeIn = firstIn active
@@ -146,9 +146,9 @@ pub data Last : Type 0 where
   at : ℕ → Schedule → Last
 
 -- one branch further on
-abbrev pub further : Last → Last
-further none = none
-further (at k s) = at (k + 1) s
+abbrev pub oneFurther : Last → Last
+oneFurther none = none
+oneFurther (at k s) = at (k + 1) s
 
 abbrev pub orFirst : Last → Branch → Last
 orFirst (at k s) b = at k s
@@ -159,7 +159,7 @@ orFirst none (spurious u) = none
 -- the last schedule of a path, with its position among all branches (path.rs: last_schedule)
 unfoldable pub lastSchedule : List Branch → Last
 lastSchedule [] = none
-lastSchedule (b ∷ bs) = orFirst (further (lastSchedule bs)) b
+lastSchedule (b ∷ bs) = orFirst (oneFurther (lastSchedule bs)) b
 
 -- the preemptions before a new branch [Q20]
 abbrev pub preemptionsAfter : Last → ℕ
@@ -212,12 +212,12 @@ spuriousAdded B bs exploring =
 -- Marks
 
 -- "`explore` turns only Skip into Pending"
-abbrev pub explored : ℕ → ℕ
-explored s = cond (eqb s skip) pending s
+abbrev pub skipToPending : ℕ → ℕ
+skipToPending s = cond (eqb s skip) pending s
 
 -- "a disabled target explores all Skip". A thread that is none is no target (path.rs: Schedule::backtrack)
 unfoldable pub marked : List ℕ → ℕ → List ℕ
-marked states t = cond (eqb (getD states t visited) disabled) (map explored states) (set states t (explored (getD states t visited)))
+marked states t = cond (eqb (getD states t visited) disabled) (map skipToPending states) (set states t (skipToPending (getD states t visited)))
 
 -- "Opened: each Skip turned Pending": how many are Skip in the first states and Pending in the second
 unfoldable pub madePending : List ℕ → List ℕ → ℕ
@@ -310,15 +310,15 @@ switchIn (a ∷ b ∷ more) =
     (at (a .place) (a .schedule))
     (switchIn (b ∷ more))
 
-abbrev pub both : ℕ → Marked → Marked
-both n m = record { path = m .path; opened = n + m .opened }
+abbrev pub withOpened : ℕ → Marked → Marked
+withOpened n m = record { path = m .path; opened = n + m .opened }
 
 -- the second mark, where the first was looked for at this schedule: not where no exploring schedule was found, nor where none
 -- stands before it [Q32]
 unfoldable pub markedBefore : Bound → Marked → Last → ℕ → Marked
 markedBefore bound m none t = m
 markedBefore bound m (at k s) t =
-    both (m .opened) (markedAt bound (m .path) (switchIn (schedulesBelow (m .path) k)) t)
+    withOpened (m .opened) (markedAt bound (m .path) (switchIn (schedulesBelow (m .path) k)) t)
 
 -- `backtrack` from a branch for a thread. With a bound the second mark is made also where the first left none [Q22]
 unfoldable pub backtracked : Bound → List Branch → ℕ → ℕ → Marked

@@ -2,7 +2,7 @@
 -- tables that it reads, and is defined on every table. Assumes nothing.
 --     plainReadDone, plainWriteDone       the accesses
 use Prim.Native.Nat.{ℕ}
-use Rattle.rules.specs.Cell.{Race, raceWith, orElse, recorded, Access, read, unlessRace, withClocks, withValues}
+use Rattle.rules.specs.Cell.{Race, raceWith, orElse, recorded, AccessResult, read, unlessRace, withClocks, withValues}
 use Rattle.rules.specs.State.{State, Clocks, value, withValue, readAccess, writeAccess, ofPlain}
 
 -- "A read is refused if a write vector has a thread ahead (race kind 10)."
@@ -21,7 +21,7 @@ unfoldable pub plainWriteTracked : Clocks → ℕ → ℕ → Clocks
 plainWriteTracked clocks t c = recorded (plainWriteRace clocks t c) clocks (writeAccess c) t
 
 -- "Opcode 17 puts the value in the register"
-unfoldable pub plainReadDone : State → ℕ → ℕ → Access
+unfoldable pub plainReadDone : State → ℕ → ℕ → AccessResult
 plainReadDone st t c =
     unlessRace (plainReadRace (st .clocks) t c) st
     (read (value (st .values) (ofPlain c)) (withClocks st (plainReadTracked (st .clocks) t c)))

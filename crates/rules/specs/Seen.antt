@@ -6,7 +6,7 @@ use mathlib.Core.Bool.{Bool, true, false, cond, not, _&&_}
 use lib.Dec.{leb, eqb}
 use lib.ListN.{getD, set, replicate}
 use Rattle.rules.specs.State.{none}
-use Rattle.rules.specs.Vector.{Whom, nobody, thread, next}
+use Rattle.rules.specs.Vector.{Whom, nobody, thread, oneUp}
 
 -- "65535 is unseen"
 abbrev pub unseen : ℕ
@@ -28,7 +28,7 @@ known mark part = not (eqb mark unseen) && leb mark part
 unfoldable pub seenThrough : List ℕ → List ℕ → Whom
 seenThrough [] causality = nobody
 seenThrough (m ∷ marks) [] = nobody
-seenThrough (m ∷ marks) (part ∷ causality) = cond (known m part) (thread 0) (next (seenThrough marks causality))
+seenThrough (m ∷ marks) (part ∷ causality) = cond (known m part) (thread 0) (oneUp (seenThrough marks causality))
 
 abbrev pub someone : Whom → Bool
 someone nobody = false

@@ -13,8 +13,8 @@ use Rattle.rules.specs.Vector.{equal}
 use Rattle.rules.specs.Table.{maxThreads, maxCells, maxPlains, maxValues, maxRows, allRows, sizeOf}
 use Rattle.rules.specs.Event.{little}
 use Rattle.rules.specs.Condition.{Read, bad, read, conditionAt, isSign, groupsDeep, conditionBytes}
-use Rattle.rules.specs.Token.{bytesOf, lineFeed, isBetween, isEmpty, endsLine, skip, token, pastToken, nextLine, content, Found, nothing, found, onlyIf, only, numberIn, placeIn}
-use Rattle.rules.specs.Form.{Followed, stuck, fits, rowIn, rowBytes}
+use Rattle.rules.specs.Token.{bytesOf, lineFeed, isBetween, isEmpty, endsLine, pastBlanks, token, pastToken, nextLine, content, Found, nothing, found, foundIf, only, numberIn, placeIn}
+use Rattle.rules.specs.Form.{Followed, stuck, fits, rowIn, fieldsAsBytes}
 
 -- The final condition
 
@@ -28,7 +28,7 @@ markIn word = placeIn 1 word marks
 -- `THREAD.rREGISTER`: 4 times the thread, and the register
 unfoldable pub threadRegisterIn : List ℕ → Found
 threadRegisterIn bs =
-    onlyIf
+    foundIf
     (eqb (length bs) 4 && isBetween 48 52 (getD bs 0 0) && eqb (getD bs 1 0) 46 && eqb (getD bs 2 0) 114 && isBetween 48 51 (getD bs 3 0))
     (4 * (getD bs 0 0 - 48) + (getD bs 3 0 - 48))
 
@@ -100,18 +100,18 @@ module _ (lines : ℕ) where
 -- The whole text
 
 -- what was read of a program: cells, plain cells, threads, five row counts, and the bytes behind the header
-pub record Made : Type 0 where
+pub record Draft : Type 0 where
   pub cells : ℕ
   pub plains : ℕ
   pub threads : ℕ
   pub counts : List ℕ
   pub body : List ℕ
 
-abbrev pub nothingMade : Made
+abbrev pub nothingMade : Draft
 nothingMade = record { cells = 0; plains = 0; threads = 0; counts = replicate maxThreads 0; body = [] }
 
 -- one cell more, one plain cell more, one thread more, one row more
-abbrev pub withCell : Made → ℕ → Made
+abbrev pub withCell : Draft → ℕ → Draft
 withCell m v = record {
   cells = m .cells + 1;
   plains = m .plains;
@@ -120,7 +120,7 @@ withCell m v = record {
   body = m .body ++ little 8 v;
 }
 
-abbrev pub withPlain : Made → ℕ → Made
+abbrev pub withPlain : Draft → ℕ → Draft
 withPlain m v = record {
   cells = m .cells;
   plains = m .plains + 1;
@@ -129,7 +129,7 @@ withPlain m v = record {
   body = m .body ++ little 8 v;
 }
 
-abbrev pub withThread : Made → Made
+abbrev pub withThread : Draft → Draft
 withThread m = record {
   cells = m .cells;
   plains = m .plains;
@@ -139,112 +139,112 @@ withThread m = record {
 }
 
 -- the rows so far of the thread that was begun last
-abbrev pub rowsSoFar : Made → ℕ
+abbrev pub rowsSoFar : Draft → ℕ
 rowsSoFar m = getD (m .counts) (m .threads - 1) 0
 
-abbrev pub withRow : Made → List ℕ → Made
+abbrev pub withRow : Draft → List ℕ → Draft
 withRow m fields = record {
   cells = m .cells;
   plains = m .plains;
   threads = m .threads;
   counts = set (m .counts) (m .threads - 1) (rowsSoFar m + 1);
-  body = m .body ++ rowBytes fields;
+  body = m .body ++ fieldsAsBytes fields;
 }
 
 -- "Header of 8 bytes: threads .., cells .., five row counts ..", and the plain-cell count
-abbrev pub tableOf : Made → List ℕ
+abbrev pub tableOf : Draft → List ℕ
 tableOf m = m .threads ∷ m .cells ∷ (m .counts ++ (m .plains ∷ m .body))
 
 -- The first word of a line says what it is
 abbrev pub says : String → List ℕ → Bool
-says word bs = equal (token (skip bs)) (bytesOf word)
+says word bs = equal (token (pastBlanks bs)) (bytesOf word)
 
 -- a line with no token
 abbrev pub isBare : List ℕ → Bool
-isBare bs = endsLine (skip bs)
+isBare bs = endsLine (pastBlanks bs)
 
 -- the rows from here on up to the next thread, to the condition or to the end, by the first word of each line; n lines at most
 unfoldable pub rowsAhead : ℕ → List ℕ → ℕ
 rowsAhead zero bs = 0
 rowsAhead (suc n) bs =
-    elim (isEmpty (skip bs) || says "thread" bs || says "finally" bs) [
+    elim (isEmpty (pastBlanks bs) || says "thread" bs || says "finally" bs) [
       | true ↦ 0
-      | false ↦ cond (isBare bs) 0 1 + rowsAhead n (nextLine (skip bs))
+      | false ↦ cond (isBare bs) 0 1 + rowsAhead n (nextLine (pastBlanks bs))
     ]
 
 -- the threads from here on
 unfoldable pub threadsAhead : ℕ → List ℕ → ℕ
 threadsAhead zero bs = 0
 threadsAhead (suc n) bs =
-    elim (isEmpty (skip bs) || says "finally" bs) [
+    elim (isEmpty (pastBlanks bs) || says "finally" bs) [
       | true ↦ 0
-      | false ↦ cond (says "thread" bs) 1 0 + threadsAhead n (nextLine (skip bs))
+      | false ↦ cond (says "thread" bs) 1 0 + threadsAhead n (nextLine (pastBlanks bs))
     ]
 
 -- how a line comes out: the next one follows, in a thread of so many rows; it is refused; the text ends; the condition follows
 pub data Line : Type 0 where
-  goesOn : ℕ → Made → List ℕ → Line
+  goesOn : ℕ → Draft → List ℕ → Line
   refusedLine : List ℕ → Line
-  ended : Made → Line
-  concludes : Made → List ℕ → Line
+  ended : Draft → Line
+  concludes : Draft → List ℕ → Line
 
 -- nothing else may stand in the line
-abbrev pub bareThen : ℕ → Made → List ℕ → Line
-bareThen rows m bs = cond (isBare bs) (goesOn rows m (nextLine (skip bs))) (refusedLine (skip bs))
+abbrev pub bareThen : ℕ → Draft → List ℕ → Line
+bareThen rows m bs = cond (isBare bs) (goesOn rows m (nextLine (pastBlanks bs))) (refusedLine (pastBlanks bs))
 
 -- start values, of cells or of plain cells, one at least: each is one more, and n more may come
-unfoldable pub valuesLine : (Made → ℕ → Made) → (Made → ℕ) → ℕ → Made → List ℕ → Line
+unfoldable pub valuesLine : (Draft → ℕ → Draft) → (Draft → ℕ) → ℕ → Draft → List ℕ → Line
 valuesLine more many zero m bs = bareThen 0 m bs
 valuesLine more many (suc n) m bs =
-    elim (numberIn (token (skip bs))) [
-      | found v ↦ valuesLine more many n (more m v) (pastToken (skip bs))
-      | nothing ↦ cond (leb 1 (many m)) (bareThen 0 m bs) (refusedLine (skip bs))
+    elim (numberIn (token (pastBlanks bs))) [
+      | found v ↦ valuesLine more many n (more m v) (pastToken (pastBlanks bs))
+      | nothing ↦ cond (leb 1 (many m)) (bareThen 0 m bs) (refusedLine (pastBlanks bs))
     ]
 
 -- the first line that says anything: "cells" and one to four start values
-abbrev pub firstLine : Made → List ℕ → Line
+abbrev pub firstLine : Draft → List ℕ → Line
 firstLine m bs =
     cond (says "cells" bs)
-    (valuesLine withCell (λ (made : Made). made .cells) maxCells m (pastToken (skip bs)))
-    (refusedLine (skip bs))
+    (valuesLine withCell (λ (made : Draft). made .cells) maxCells m (pastToken (pastBlanks bs)))
+    (refusedLine (pastBlanks bs))
 
 -- "plain" and one to four start values: behind the cells, ahead of the threads, once
-abbrev pub isPlainLine : Made → List ℕ → Bool
+abbrev pub isPlainLine : Draft → List ℕ → Bool
 isPlainLine m bs = eqb (m .threads) 0 && eqb (m .plains) 0 && says "plain" bs
 
-abbrev pub plainLine : Made → List ℕ → Line
-plainLine m bs = valuesLine withPlain (λ (made : Made). made .plains) maxPlains m (pastToken (skip bs))
+abbrev pub plainLine : Draft → List ℕ → Line
+plainLine m bs = valuesLine withPlain (λ (made : Draft). made .plains) maxPlains m (pastToken (pastBlanks bs))
 
-abbrev pub rowLine : ℕ → Made → Followed → Line
+abbrev pub rowLine : ℕ → Draft → Followed → Line
 rowLine rows m (stuck rest) = refusedLine rest
 rowLine rows m (fits fields rest) = goesOn rows (withRow m fields) rest
 
 -- a row, in a text of so many threads: only in a thread, and no more than a thread may have
-abbrev pub aRow : ℕ → ℕ → Made → List ℕ → Line
+abbrev pub aRow : ℕ → ℕ → Draft → List ℕ → Line
 aRow all rows m bs =
     cond (leb 1 (m .threads) && ltb (rowsSoFar m) maxRows)
     (rowLine rows m (rowIn (record { threads = all; cells = m .cells; plains = m .plains; rows = rows; row = rowsSoFar m }) bs))
-    (refusedLine (skip bs))
+    (refusedLine (pastBlanks bs))
 
 -- "thread", and its rows
-abbrev pub aThread : ℕ → Made → List ℕ → Line
+abbrev pub aThread : ℕ → Draft → List ℕ → Line
 aThread lines m bs =
     cond (ltb (m .threads) maxThreads)
-    (bareThen (rowsAhead lines (nextLine (skip bs))) (withThread m) (pastToken (skip bs)))
-    (refusedLine (skip bs))
+    (bareThen (rowsAhead lines (nextLine (pastBlanks bs))) (withThread m) (pastToken (pastBlanks bs)))
+    (refusedLine (pastBlanks bs))
 
 -- `finally`, once there is a thread
-abbrev pub theCondition : Made → List ℕ → Line
-theCondition m bs = cond (leb 1 (m .threads)) (concludes m (pastToken (skip bs))) (refusedLine (skip bs))
+abbrev pub theCondition : Draft → List ℕ → Line
+theCondition m bs = cond (leb 1 (m .threads)) (concludes m (pastToken (pastBlanks bs))) (refusedLine (pastBlanks bs))
 
-abbrev pub theEnd : Made → List ℕ → Line
-theEnd m bs = cond (leb 1 (m .threads)) (ended m) (refusedLine (skip bs))
+abbrev pub theEnd : Draft → List ℕ → Line
+theEnd m bs = cond (leb 1 (m .threads)) (ended m) (refusedLine (pastBlanks bs))
 
 -- one line of a text of so many lines at most and so many threads, in a thread of so many rows
-unfoldable pub lineOf : ℕ → ℕ → ℕ → Made → List ℕ → Line
+unfoldable pub lineOf : ℕ → ℕ → ℕ → Draft → List ℕ → Line
 lineOf lines all rows m bs =
-    cond (isEmpty (skip bs)) (theEnd m bs)
-    (cond (isBare bs) (goesOn rows m (nextLine (skip bs)))
+    cond (isEmpty (pastBlanks bs)) (theEnd m bs)
+    (cond (isBare bs) (goesOn rows m (nextLine (pastBlanks bs)))
     (cond (eqb (m .cells) 0) (firstLine m bs)
     (cond (isPlainLine m bs) (plainLine m bs)
     (cond (says "thread" bs) (aThread lines m bs)
@@ -256,7 +256,7 @@ pub data TextRead : Type 0 where
   accepted : (table condition : List ℕ) → TextRead
 
 -- the condition's bytes are read, then judged: it is refused where its first byte stands that cannot stand there
-abbrev pub concluded : ℕ → Made → List ℕ → TextRead
+abbrev pub concluded : ℕ → Draft → List ℕ → TextRead
 concluded lines m bs =
     elim (conditionAt (m .threads) (λ t r. 0) groupsDeep (claimed lines lines (conditionBytes + 1) [] bs .made)) [
       | bad rest ↦ refusedAt (claimed lines lines (length (claimed lines lines (conditionBytes + 1) [] bs .made) - length rest) [] bs .rest)
@@ -268,7 +268,7 @@ concluded lines m bs =
     ]
 
 -- the lines from here on, n at most
-unfoldable pub linesFrom : ℕ → ℕ → ℕ → ℕ → Made → List ℕ → TextRead
+unfoldable pub linesFrom : ℕ → ℕ → ℕ → ℕ → Draft → List ℕ → TextRead
 linesFrom zero lines all rows m bs = refusedAt bs
 linesFrom (suc n) lines all rows m bs =
     elim (lineOf lines all rows m bs) [

@@ -1,6 +1,6 @@
 -- Tokens of a text, and what a word stands for: docs/GRAMMAR.md. A text is the list of its bytes, and where one is read, what is left of
 -- it: the place is where that begins. Assumes nothing.
---     skip, token, pastToken, nextLine     blanks, the next word or sign of a line, what follows, the next line
+--     pastBlanks, token, pastToken, nextLine     blanks, the next word or sign of a line, what follows, the next line
 --     numberIn, registerIn, placeIn        a word that is a number, a register, one of a list
 use Prim.Native.Nat.{ℕ, zero, suc, _+_, _-_, _*_, _^_}
 use Prim.Native.Char.{code}
@@ -48,20 +48,20 @@ endsLine (b ∷ bs) = eqb b lineFeed || eqb b 35 || (eqb b 13 && eqb (getD bs 0 
 -- Tokens
 
 -- how many of the first bytes are such bytes
-unfoldable pub run : (ℕ → Bool) → List ℕ → ℕ
-run p [] = 0
-run p (b ∷ bs) = cond (p b) (suc (run p bs)) 0
+unfoldable pub runLength : (ℕ → Bool) → List ℕ → ℕ
+runLength p [] = 0
+runLength p (b ∷ bs) = cond (p b) (suc (runLength p bs)) 0
 
 -- past blanks
-abbrev pub skip : List ℕ → List ℕ
-skip bs = drop (run isBlank bs) bs
+abbrev pub pastBlanks : List ℕ → List ℕ
+pastBlanks bs = drop (runLength isBlank bs) bs
 
 -- how long the token is that stands here: none at the line's end; any other byte is a token by itself
 unfoldable pub tokenLength : List ℕ → ℕ
 tokenLength bs =
     cond (endsLine bs) 0
-    (cond (isLetter (getD bs 0 0)) (run isLetter bs)
-    (cond (isMark (getD bs 0 0)) (run isMark bs)
+    (cond (isLetter (getD bs 0 0)) (runLength isLetter bs)
+    (cond (isMark (getD bs 0 0)) (runLength isMark bs)
     1))
 
 abbrev pub token : List ℕ → List ℕ
@@ -83,9 +83,9 @@ isEmpty bs = eqb (length bs) 0
 
 -- past blanks and line ends, n lines at most: where the next token stands
 unfoldable pub content : ℕ → List ℕ → List ℕ
-content zero bs = skip bs
+content zero bs = pastBlanks bs
 content (suc n) bs =
-    elim (isEmpty (skip bs) || not (endsLine (skip bs))) [ true ↦ skip bs | false ↦ content n (nextLine (skip bs)) ]
+    elim (isEmpty (pastBlanks bs) || not (endsLine (pastBlanks bs))) [ true ↦ pastBlanks bs | false ↦ content n (nextLine (pastBlanks bs)) ]
 
 -- What a word stands for
 
@@ -93,13 +93,13 @@ pub data Found : Type 0 where
   nothing : Found
   found : ℕ → Found
 
-abbrev pub onlyIf : Bool → ℕ → Found
-onlyIf true v = found v
-onlyIf false v = nothing
+abbrev pub foundIf : Bool → ℕ → Found
+foundIf true v = found v
+foundIf false v = nothing
 
 abbrev pub only : (ℕ → Bool) → Found → Found
 only p nothing = nothing
-only p (found v) = onlyIf (p v) v
+only p (found v) = foundIf (p v) v
 
 abbrev pub isDigit : ℕ → Bool
 isDigit b = isBetween 48 57 b
@@ -118,7 +118,7 @@ numberIn bs =
 -- a letter, and a number from 0 to 3 behind it
 abbrev pub fourth : ℕ → List ℕ → Found
 fourth letter bs =
-    onlyIf (eqb (length bs) 2 && eqb (getD bs 0 0) letter && isBetween 48 51 (getD bs 1 0)) (getD bs 1 0 - 48)
+    foundIf (eqb (length bs) 2 && eqb (getD bs 0 0) letter && isBetween 48 51 (getD bs 1 0)) (getD bs 1 0 - 48)
 
 -- r0 to r3
 unfoldable pub registerIn : List ℕ → Found

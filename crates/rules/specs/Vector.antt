@@ -41,15 +41,15 @@ pub data Whom : Type 0 where
   nobody : Whom
   thread : ℕ → Whom
 
-abbrev pub next : Whom → Whom
-next nobody = nobody
-next (thread t) = thread (t + 1)
+abbrev pub oneUp : Whom → Whom
+oneUp nobody = nobody
+oneUp (thread t) = thread (t + 1)
 
 -- "`ahead`: the lowest thread whose part in the other vector is greater."
 unfoldable pub ahead : List ℕ → List ℕ → Whom
 ahead xs [] = nobody
 ahead [] (y ∷ ys) = thread 0
-ahead (x ∷ xs) (y ∷ ys) = cond (ltb x y) (thread 0) (next (ahead xs ys))
+ahead (x ∷ xs) (y ∷ ys) = cond (ltb x y) (thread 0) (oneUp (ahead xs ys))
 
 -- "by 1": one more, but a u16 stays where it is largest (docs/DECISIONS.md, 34)
 abbrev pub oneMore : ℕ → ℕ

@@ -204,12 +204,12 @@ abbrev pub p6 : Worked
 p6 = record { given = answerOf (run (table (0 ∷ []) ((join 0 ∷ []) ∷ [])) (limits 8 4 unbounded)); said = 10 ∷ [] }
 
 -- "P7 thread 0 exclusive, thread 1 load: 14, kind 1, other 0."
-abbrev pub raceOf : Explored → List ℕ
-raceOf e = e .report .answer ∷ e .report .kind ∷ e .report .other ∷ []
+abbrev pub raceIn : Explored → List ℕ
+raceIn e = e .report .answer ∷ e .report .kind ∷ e .report .other ∷ []
 
 abbrev pub p7 : Worked
 p7 = record {
-  given = raceOf (run (table (0 ∷ []) ((exclusive 0 ∷ []) ∷ (load 0 ∷ []) ∷ [])) (limits 8 4 unbounded));
+  given = raceIn (run (table (0 ∷ []) ((exclusive 0 ∷ []) ∷ (load 0 ∷ []) ∷ [])) (limits 8 4 unbounded));
   said = 14 ∷ 1 ∷ 0 ∷ [];
 }
 
@@ -230,7 +230,7 @@ fenceOverNine =
     ∷ [])
 
 abbrev pub raceAndBegun : Explored → List ℕ
-raceAndBegun e = raceOf e ++ (e .report .begun ∷ [])
+raceAndBegun e = raceIn e ++ (e .report .begun ∷ [])
 
 abbrev pub p8Run : Worked
 p8Run = record {

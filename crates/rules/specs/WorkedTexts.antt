@@ -93,8 +93,8 @@ refusals =
     ∷ at "cells 0\nthread\n  jump 1\n  if r0 = 0 jump 1\n  jump 2\n" 5 8
     ∷ []
 
-abbrev pub answered : Refusal → TextAnswer
-answered r = readInto (bytesOf (r .text)) (replicate tableBytes 0) (replicate conditionBytes 0) .answer
+abbrev pub textAnswered : Refusal → TextAnswer
+textAnswered r = readInto (bytesOf (r .text)) (replicate tableBytes 0) (replicate conditionBytes 0) .answer
 
 abbrev pub expected : Refusal → TextAnswer
 expected r = refused (r .line) (r .column)

@@ -11,7 +11,7 @@ use mathlib.Core.Path.{_≡_, refl, ap, sym, _∙_}
 use native.Mathlib.Omega.{arith}
 use borrow.Author.Tests.{eq-eqb, ne-eqb, le-leb, lt-leb}
 use lib.ListN.{length, getD, drop}
-use Rattle.rules.specs.Token.{found, bytesOf, isBlank, isBetween, run, skip, token, tokenLength, endsLine, numberIn, plainIn}
+use Rattle.rules.specs.Token.{found, bytesOf, isBlank, isBetween, runLength, pastBlanks, token, tokenLength, endsLine, numberIn, plainIn}
 use Rattle.token.specs.Places.{part}
 use Rattle.token.proofs.PlaceLaws.{left-by, part-token}
 use Rattle.saying.specs.Sayings.{nameShown, says, namesPlain, namesCell, whyNoPlain, whyNoRow, whyNoNumber, reason, isClear, tokenShown, whatShown}
@@ -52,12 +52,12 @@ module _ (text : List ℕ) (before end : ℕ) (ends : end ≡ before + tokenLeng
   cell-said r t e h = ap namesCell (sym (part-token text before end ends)) ∙ sym e ∙ h
 
   pub plain-named : (begin first behind : ℕ) (read to write : Bool) →
-      first ≡ begin + run isBlank (drop begin text) → behind ≡ first + tokenLength (drop first text) →
+      first ≡ begin + runLength isBlank (drop begin text) → behind ≡ first + tokenLength (drop first text) →
       read ≡ says (part before end text) "read" → to ≡ says (part before end text) "to" → write ≡ says (part first behind text) "write"
-      → (read || (write && to)) ≡ namesPlain (token (skip (drop begin text))) (token (drop before text))
+      → (read || (write && to)) ≡ namesPlain (token (pastBlanks (drop begin text))) (token (drop before text))
   plain-named begin first behind read to write f b r t w =
-      let word : part first behind text ≡ token (skip (drop begin text)) = part-token text first behind b ∙ ap token (left-by text begin first _ f) in
-      rw (r, t, w) (ap (λ (v : List ℕ). namesPlain v (part before end text)) word ∙ ap (namesPlain (token (skip (drop begin text)))) (part-token text before end ends))
+      let word : part first behind text ≡ token (pastBlanks (drop begin text)) = part-token text first behind b ∙ ap token (left-by text begin first _ f) in
+      rw (r, t, w) (ap (λ (v : List ℕ). namesPlain v (part before end text)) word ∙ ap (namesPlain (token (pastBlanks (drop begin text)))) (part-token text before end ends))
 
 -- Why a token cannot stand there
 
@@ -80,7 +80,7 @@ module _ (row : ℕ) (before word : List ℕ) where
 
 module _ (text : List ℕ) (row begin before at : ℕ) where
   abbrev why-there : List ℕ → String
-  why-there word = reason row (token (skip (drop begin text))) (token (drop before text)) word
+  why-there word = reason row (token (pastBlanks (drop begin text))) (token (drop before text)) word
 
   abbrev what-by : Bool → Bool → List ℕ → List ℕ
   what-by missing clear word =

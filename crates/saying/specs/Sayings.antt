@@ -9,7 +9,7 @@ use mathlib.Core.Bool.{Bool, cond, _&&_, _||_}
 use lib.Dec.{leb, eqb}
 use lib.ListN.{length, getD, drop}
 use Rattle.rules.specs.Vector.{equal}
-use Rattle.rules.specs.Token.{Found, nothing, found, bytesOf, isBetween, isEmpty, skip, token, endsLine, numberIn, plainIn}
+use Rattle.rules.specs.Token.{Found, nothing, found, bytesOf, isBetween, isEmpty, pastBlanks, token, endsLine, numberIn, plainIn}
 use Rattle.rules.specs.Writer.{shown}
 
 -- a file's name comes first, where there is one
@@ -75,5 +75,5 @@ abbrev pub whatShown : List ℕ → ℕ → ℕ → ℕ → ℕ → List ℕ
 whatShown text row begin before at =
     cond (endsLine (drop at text)) (bytesOf "something is missing here\n")
     (cond (isClear (token (drop at text)))
-    (tokenShown (token (drop at text)) (reason row (token (skip (drop begin text))) (token (drop before text)) (token (drop at text))))
+    (tokenShown (token (drop at text)) (reason row (token (pastBlanks (drop begin text))) (token (drop before text)) (token (drop at text))))
     (bytesOf "this cannot stand here\n"))

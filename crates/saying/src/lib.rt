@@ -1,7 +1,7 @@
 // The sentence on a text that is refused.
 ghost use mathlib.Core.Path.{_≡_};
 ghost use lib.ListN.{drop};
-ghost use Rattle.rules.specs.Token.{bytesOf, token, skip, numberIn, plainIn};
+ghost use Rattle.rules.specs.Token.{bytesOf, token, pastBlanks, numberIn, plainIn};
 ghost use Rattle.token.specs.Places.{part};
 ghost use Rattle.put.specs.Puts.{Puts};
 ghost use Rattle.saying.specs.Sayings.{nameShown, placeShown, isClear, namesPlain, namesCell, whyNoPlain, whyNoRow, whyNoNumber, reason, whatShown};
@@ -89,7 +89,7 @@ fn put_reason(
     at: usize,
     end: usize,
 ) -> usize
-    ensures { λ r. ⌜ Puts (now (out .entry)) (now (out .exit)) to (bytesOf (reason row (token (skip (drop begin (now (text .entry))))) (token (drop before (now (text .entry)))) (part at end (now (text .entry))))) r ⌝ }
+    ensures { λ r. ⌜ Puts (now (out .entry)) (now (out .exit)) to (bytesOf (reason row (token (pastBlanks (drop begin (now (text .entry))))) (token (drop before (now (text .entry)))) (part at end (now (text .entry))))) r ⌝ }
 {
     if names_plain(text, begin, before) {
         return put_why_no_plain(out, to, text, at, end);
@@ -99,13 +99,14 @@ fn put_reason(
 
 // Whether a plain cell stands behind this token of the line that begins there.
 fn names_plain(text: &[u8], begin: usize, before: usize) -> bool
-    ensures { λ r. ⌜ r ≡ namesPlain (token (skip (drop begin (now (text .entry))))) (token (drop before (now (text .entry)))) ⌝ }
+    ensures { λ r. ⌜ r ≡ namesPlain (token (pastBlanks (drop begin (now (text .entry))))) (token (drop before (now (text .entry)))) ⌝ }
 {
     let end = token::token_end(text, before);
-    let read = token::is_word(text, before, end, b"read");
-    let to = token::is_word(text, before, end, b"to");
-    let first = token::skip(text, begin);
-    let write = token::is_word(text, first, token::token_end(text, first), b"write");
+    let read = token::is_word(text, b"read", before, end);
+    let to = token::is_word(text, b"to", before, end);
+    let first = token::past_blanks(text, begin);
+    let behind = token::token_end(text, first);
+    let write = token::is_word(text, b"write", first, behind);
     read | (write & to)
 }
 
@@ -135,10 +136,10 @@ fn put_why(
         return to;
     };
     let behind = token::token_end(text, before);
-    if token::is_word(text, before, behind, b"jump") {
+    if token::is_word(text, b"jump", before, behind) {
         return put_why_no_row(out, to, number, row);
     }
-    if token::is_word(text, before, behind, b"join") {
+    if token::is_word(text, b"join", before, behind) {
         return put_bytes(out, to, b": there is no such thread");
     }
     if names_cell(text, before, behind) {
@@ -161,9 +162,9 @@ fn put_why_no_row(out: &mut [u8], to: usize, number: u64, row: usize) -> usize
 fn names_cell(text: &[u8], before: usize, end: usize) -> bool
     ensures { λ r. ⌜ r ≡ namesCell (part before end (now (text .entry))) ⌝ }
 {
-    let load = token::is_word(text, before, end, b"load");
-    let unsync = token::is_word(text, before, end, b"unsync_load");
-    let to = token::is_word(text, before, end, b"to");
-    let on = token::is_word(text, before, end, b"on");
+    let load = token::is_word(text, b"load", before, end);
+    let unsync = token::is_word(text, b"unsync_load", before, end);
+    let to = token::is_word(text, b"to", before, end);
+    let on = token::is_word(text, b"on", before, end);
     load | unsync | to | on
 }

@@ -18,7 +18,7 @@ use native.Mathlib.Omega.{arith}
 use lib.Dec.{ltb, eqb}
 use borrow.Author.Tests.{lt-ltb, le-ltb, ltb-true, eq-eqb, ne-eqb, eqb-true, not-true, not-false}
 use Rattle.rules.specs.Event as rules
-use Rattle.rules.specs.Event.{Place, nowhere, branch}
+use Rattle.rules.specs.Event.{Point, nowhere, branch}
 use Rattle.rules.specs.State.{State, Clocks, Marks, Values, Numbers, number, withNumber, vector, scheduleOf, operation, operatesOn, yields, activeThread, none}
 use Rattle.rules.specs.State as names
 use Rattle.rules.specs.Vector.{Whom, nobody, thread, atMost}
@@ -63,7 +63,7 @@ module _ (r : Operation) (st : State) (t : ℕ) (means : operationMeans r st t) 
 abbrev calm : State → ℕ → ℕ → ℕ → Bool
 calm st t op c = eqb (dependentBranch (st .numbers) op c) none || atMost (dependentVector (st .clocks) op c) (vector (st .clocks) (scheduleOf t))
 
-judged : State → ℕ → ℕ → ℕ → Place
+judged : State → ℕ → ℕ → ℕ → Point
 judged st t op c =
     cond (eqb op noOperation || eqb (dependentBranch (st .numbers) op c) none || atMost (dependentVector (st .clocks) op c) (vector (st .clocks) (scheduleOf t)))
     nowhere

@@ -1,5 +1,5 @@
 -- What the answers of this crate stand for in the definition. Assumes nothing.
---     placeOf            a branch's position
+--     pointOf            a branch's position
 --     operationMeans     a thread's pending operation
 --     orFive             a thread as an index
 use Prim.Native.Nat.{ℕ, _<_}
@@ -9,14 +9,14 @@ use Rattle.rules.specs.Event as rules
 use Rattle.rules.specs.State.{State}
 use Rattle.rules.specs.Vector.{Whom, nobody, thread}
 use Rattle.rules.specs.Machine.{operationOf, cellOf, noOperation}
-use Rattle.scheduling.specs.declared.Place.{Place}
-use Rattle.scheduling.specs.declared.Place.the-variants as place
+use Rattle.scheduling.specs.declared.Point.{Point}
+use Rattle.scheduling.specs.declared.Point.the-variants as place
 use Rattle.scheduling.specs.declared.Operation.{Operation}
 use Rattle.scheduling.specs.declared.Operation.the-variants as operation
 
-abbrev pub placeOf : Place → rules.Place
-placeOf place.Nowhere = rules.nowhere
-placeOf (place.Branch n) = rules.branch n
+abbrev pub pointOf : Point → rules.Point
+pointOf place.Nowhere = rules.nowhere
+pointOf (place.Branch n) = rules.branch n
 
 -- an operation on a cell, as the thread's numbers have it
 pub record On (st : State) (t action cell : ℕ) : Type 0 where

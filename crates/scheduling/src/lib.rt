@@ -12,15 +12,15 @@ ghost use Rattle.rules.specs.State as rules;
 ghost use Rattle.rules.specs.Vector.{nobody, thread};
 ghost use Rattle.layout.specs.Tables.{state};
 ghost use Rattle.event.specs.Moves.{moveOf};
-ghost use Rattle.scheduling.specs.Schedules.{placeOf, operationMeans, orFive};
-use event::Event;
+ghost use Rattle.scheduling.specs.Schedules.{pointOf, operationMeans, orFive};
 use event::Fault;
+use event::Moved;
 use layout::Clocks;
 use layout::MAX_CELLS;
 use layout::MAX_THREADS;
 use layout::NONE;
 use layout::Numbers;
-use layout::of_run::ACTIVE;
+use layout::of_run::ACTIVE_THREAD;
 use layout::of_thread::OBJECT;
 use layout::of_thread::OPERATION;
 use layout::of_thread::STATE;
@@ -33,7 +33,7 @@ use thread::YIELDED;
 use track::access;
 
 // A branch's position, or none.
-pub enum Place {
+pub enum Point {
     Nowhere,
     Branch(u16),
 }
@@ -62,17 +62,17 @@ pub fn pending_operation(numbers: &Numbers, thread: usize) -> Operation
 
 // Rule (a): the branch of the access that a thread's pending operation is concurrent with. That branch is to be backtracked
 // from.
-pub fn conflict(clocks: &Clocks, numbers: &Numbers, thread: usize) -> Place
+pub fn conflict(clocks: &Clocks, numbers: &Numbers, thread: usize) -> Point
     requires { ⌜ thread < 5 ⌝ }
-    ensures { λ r. ⌜ ((marks : rules.Marks) (values : rules.Values) → placeOf r ≡ machine.conflict (state (now (clocks .entry)) marks values (now (numbers .entry))) thread) ⌝ }
+    ensures { λ r. ⌜ ((marks : rules.Marks) (values : rules.Values) → pointOf r ≡ machine.conflict (state (now (clocks .entry)) marks values (now (numbers .entry))) thread) ⌝ }
 {
     let Operation::On { action, cell } = pending_operation(numbers, thread) else {
-        return Place::Nowhere;
+        return Point::Nowhere;
     };
     if access::is_concurrent(clocks, numbers, thread, action, cell) {
-        return Place::Branch(access::last_dependent_branch(numbers, action, cell));
+        return Point::Branch(access::last_dependent_branch(numbers, action, cell));
     }
-    Place::Nowhere
+    Point::Nowhere
 }
 
 // Rule (b): the active thread if it is runnable, so that a thread that can go on is not preempted unless a mark asks for it;
@@ -80,7 +80,7 @@ pub fn conflict(clocks: &Clocks, numbers: &Numbers, thread: usize) -> Place
 pub fn initial(numbers: &Numbers) -> usize
     ensures { λ r. ⌜ r ≡ orFive (machine.initial (now (numbers .entry))) ⌝ }
 {
-    let active = wide16(numbers[ACTIVE]);
+    let active = wide16(numbers[ACTIVE_THREAD]);
     if active < MAX_THREADS {
         if numbers[STATE + active] == RUNNABLE {
             return active;
@@ -137,21 +137,21 @@ fn seed_of(state: u16, first: bool) -> u8
 
 // Rules (d) and (e), where a branch chooses a thread: it becomes active, its operation its cell's last access at this branch,
 // and every other yielded thread is runnable again. A thread that cannot run is chosen by no branch of a run.
-pub fn switch(clocks: &mut Clocks, numbers: &mut Numbers, chosen: usize, branch: u16) -> Event
+pub fn switch(clocks: &mut Clocks, numbers: &mut Numbers, chosen: usize, branch: u16) -> Moved
     ensures { λ r. ⌜ ((marks : rules.Marks) (values : rules.Values) (t k opcode : ℕ) (m : events.Matched) → moveOf r t k opcode m (state (now (clocks .exit)) marks values (now (numbers .exit))) ≡ machine.scheduled (state (now (clocks .entry)) marks values (now (numbers .entry))) (thread chosen) branch) ⌝ }
 {
     if !thread::can_run(numbers, chosen) {
-        return Event::Stops(Fault::Impossible);
+        return Moved::Stops(Fault::Impossible);
     }
     choose(clocks, numbers, chosen, branch);
-    Event::Moves
+    Moved::Moves
 }
 
 fn choose(clocks: &mut Clocks, numbers: &mut Numbers, chosen: usize, branch: u16)
     requires { ⌜ chosen < 5 ⌝ }
     ensures { λ _. ⌜ ((marks : rules.Marks) (values : rules.Values) → state (now (clocks .exit)) marks values (now (numbers .exit)) ≡ machine.switched (state (now (clocks .entry)) marks values (now (numbers .entry))) chosen branch) ⌝ }
 {
-    numbers[ACTIVE] = chosen as u16;
+    numbers[ACTIVE_THREAD] = chosen as u16;
     if let Operation::On { action, cell } = pending_operation(numbers, chosen) {
         access::set_last_access(clocks, numbers, chosen, action, cell, branch);
     }
@@ -160,14 +160,14 @@ fn choose(clocks: &mut Clocks, numbers: &mut Numbers, chosen: usize, branch: u16
 
 // Rule (d), where a branch chooses none: the execution has ended, or it is a deadlock. No branch of a run chooses none where a
 // thread can run.
-pub fn nobody(numbers: &Numbers) -> Event
+pub fn nobody(numbers: &Numbers) -> Moved
     ensures { λ r. ⌜ ((clocks : rules.Clocks) (marks : rules.Marks) (values : rules.Values) (t k opcode at : ℕ) (m : events.Matched) → moveOf r t k opcode m (state clocks marks values (now (numbers .entry))) ≡ machine.scheduled (state clocks marks values (now (numbers .entry))) nobody at) ⌝ }
 {
     if thread::all_ended(numbers) {
-        return Event::Ends;
+        return Moved::Ends;
     }
     if thread::some_can_run(numbers) {
-        return Event::Stops(Fault::Impossible);
+        return Moved::Stops(Fault::Impossible);
     }
-    Event::Stops(Fault::Deadlock)
+    Moved::Stops(Fault::Deadlock)
 }

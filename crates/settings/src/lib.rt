@@ -23,6 +23,8 @@ pub const MAX_OPERATIONS: u64 = 4096;
 
 pub const MAX_EXECUTIONS: u64 = 65535;
 
+pub const MAX_BOUND: u64 = 255;
+
 // The bytes of the largest buffers.
 pub const PATH_BYTES: usize = RECORD * MAX_BRANCHES as usize;
 
@@ -44,7 +46,7 @@ fn within(n: u64, most: u64) -> bool
 }
 
 // Whether a buffer of so many bytes holds exactly so many records of 16 bytes.
-pub fn holds(bytes: usize, records: u64) -> bool
+pub fn holds_exactly(bytes: usize, records: u64) -> bool
     ensures { λ r. ⌜ r ≡ eqb bytes (16 * records) ⌝ }
 {
     bytes % RECORD == 0 && (bytes / RECORD) as u64 == records

@@ -13,9 +13,7 @@ use settings::PATH_BYTES;
 use settings::Settings;
 use settings::TRACE_BYTES;
 use source::FILE_BYTES;
-
-// One byte more than is taken.
-const ROOM: usize = FILE_BYTES + 1;
+use source::ROOM;
 
 // A read that fails counts as the input's end: what there is, is then refused.
 fn main() {
@@ -52,8 +50,8 @@ fn take(bytes: &[u8]) {
 fn show(table: &[u8], condition: &[u8]) {
     let mut path = [0u8; PATH_BYTES];
     let mut trace = [0u8; TRACE_BYTES];
-    let report = explorer::explore(table, condition, settings(), &mut path, &mut trace);
-    tell::print_report(table, condition, settings(), report, &trace, false);
+    let report = explorer::explore(table, condition, &mut path, &mut trace, settings());
+    tell::print_report(table, condition, &trace, settings(), report, false);
 }
 
 // The largest limits, no bound, exploring.

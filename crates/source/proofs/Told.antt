@@ -9,8 +9,8 @@ use lib.Dec.{leb, eqb}
 use lib.ListN.{length, getD}
 use Rattle.rules.specs.Vector.{equal}
 use Rattle.rules.specs.Table.{Judged, headerBytes, maxThreads, judged, good, badHeader, headerFine, rowsJudged, countsOf}
-use Rattle.rules.specs.Token.{run, endsLine, tokenLength, bytesOf}
-use Rattle.rules.specs.Text.{Made, Line, goesOn, refusedLine, ended, concludes, TextRead, refusedAt, accepted, tableOf, concluded, nothingMade, lineOf, linesFrom, readText, linesIn, threadsAhead}
+use Rattle.rules.specs.Token.{runLength, endsLine, tokenLength, bytesOf}
+use Rattle.rules.specs.Text.{Draft, Line, goesOn, refusedLine, ended, concludes, TextRead, refusedAt, accepted, tableOf, concluded, nothingMade, lineOf, linesFrom, readText, linesIn, threadsAhead}
 use Rattle.source.specs.Told.{holdsTable, Told}
 
 -- whatever a test says, where both its ways are the same
@@ -20,23 +20,23 @@ either x false = refl
 
 -- a first line that begins with such a byte
 refused-1 : (lines all : ℕ) (bs : List ℕ) → lineOf lines all 0 nothingMade (1 ∷ bs) ≡ refusedLine (1 ∷ bs)
-unfolding lineOf run endsLine tokenLength equal bytesOf
+unfolding lineOf runLength endsLine tokenLength equal bytesOf
 refused-1 lines all bs = either (refusedLine (1 ∷ bs)) (eqb (length (1 ∷ bs)) 0)
 
 refused-2 : (lines all : ℕ) (bs : List ℕ) → lineOf lines all 0 nothingMade (2 ∷ bs) ≡ refusedLine (2 ∷ bs)
-unfolding lineOf run endsLine tokenLength equal bytesOf
+unfolding lineOf runLength endsLine tokenLength equal bytesOf
 refused-2 lines all bs = either (refusedLine (2 ∷ bs)) (eqb (length (2 ∷ bs)) 0)
 
 refused-3 : (lines all : ℕ) (bs : List ℕ) → lineOf lines all 0 nothingMade (3 ∷ bs) ≡ refusedLine (3 ∷ bs)
-unfolding lineOf run endsLine tokenLength equal bytesOf
+unfolding lineOf runLength endsLine tokenLength equal bytesOf
 refused-3 lines all bs = either (refusedLine (3 ∷ bs)) (eqb (length (3 ∷ bs)) 0)
 
 refused-4 : (lines all : ℕ) (bs : List ℕ) → lineOf lines all 0 nothingMade (4 ∷ bs) ≡ refusedLine (4 ∷ bs)
-unfolding lineOf run endsLine tokenLength equal bytesOf
+unfolding lineOf runLength endsLine tokenLength equal bytesOf
 refused-4 lines all bs = either (refusedLine (4 ∷ bs)) (eqb (length (4 ∷ bs)) 0)
 
 refused-5 : (lines all : ℕ) (bs : List ℕ) → lineOf lines all 0 nothingMade (5 ∷ bs) ≡ refusedLine (5 ∷ bs)
-unfolding lineOf run endsLine tokenLength equal bytesOf
+unfolding lineOf runLength endsLine tokenLength equal bytesOf
 refused-5 lines all bs = either (refusedLine (5 ∷ bs)) (eqb (length (5 ∷ bs)) 0)
 
 -- what comes of a line

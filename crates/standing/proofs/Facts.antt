@@ -16,7 +16,7 @@ use borrow.Author.Tests.{eqb-true, eq-eqb, ne-eqb}
 use Rattle.rules.specs.Table.{threadsOf, cellsOf}
 use Rattle.rules.specs.State as State
 use Rattle.rules.specs.State.{State, Numbers, Number, number, withNumber, numberAt, numbersHeld, threads, cells, nextRow, rowsOf, phase, count, begun, awaits}
-use Rattle.rules.specs.Machine.{Program, forThreads, awake, freed, isIn, absent, runnable, blocked, yielded, ended, active}
+use Rattle.rules.specs.Machine.{Program, forThreads, awake, freed, isIn, absent, runnable, blocked, yielded, ended, current}
 use Rattle.rules.specs.Measure.{CanAct}
 use Rattle.rules.proofs.StateLaws.{number-same, number-other, number-kept}
 use Rattle.rules.proofs.NumberLaws.{five-one, five-has, five-same, after, for-threads}
@@ -263,7 +263,7 @@ module _ (p : Program) (held : cellsOf (p .table) ≤ cells) (few : threadsOf (p
       for-threads (Facts p t k q r u) (freed t) threads (λ i b h g. freed-one i b h g) threads 0 a (omega arith) f
 
   -- What stands in a state, with this thread apart: the active one, or another
-  pub opened : (st : State) (n u : ℕ) → (u ≢ 0 → t ≡ active st) → Over p st n →
+  pub opened : (st : State) (n u : ℕ) → (u ≢ 0 → t ≡ current st) → Over p st n →
       Facts p t (number (st .numbers) (nextRow t)) (underWay (st .numbers) - number (st .numbers) (phase t)) (number (st .numbers) begun) u
       (st .numbers)
   opened st n u same h = record {
@@ -271,7 +271,7 @@ module _ (p : Program) (held : cellsOf (p .table) ≤ cells) (few : threadsOf (p
     at = refl;
     others = λ i l d. h .each i l;
     blocks = λ i l d e o. h .blocks i l e;
-    awake = λ i l d o. let z : t ≡ active st = same (omega arith) in h .awake i l (λ g. d (g ∙ sym z));
+    awake = λ i l d o. let z : t ≡ current st = same (omega arith) in h .awake i l (λ g. d (g ∙ sym z));
     acting = omega (arith, five-has (λ (i : ℕ). number (st .numbers) (phase i)) t below);
     rows = h .shared;
     counted = h .counted;

@@ -13,7 +13,7 @@ use Rattle.rules.specs.State as State
 use Rattle.rules.specs.State.{State, Numbers, number, marksOf, threads, cells, phase, begun, nextRow, awaits, count}
 use Rattle.rules.specs.Cell.{matchedLoad, matchedRmw, liveIn}
 use Rattle.rules.specs.Machine as Machine
-use Rattle.rules.specs.Machine.{Program, active, activeOp, rowCount, toAct}
+use Rattle.rules.specs.Machine.{Program, current, activeOp, rowCount, toAct}
 use Rattle.rules.proofs.NumberLaws.{five-has}
 use Rattle.rules.proofs.SlotLaws.{Long, matched-long, offered-long, live-most}
 use Rattle.rules.proofs.MeasureRows.{Names}
@@ -47,12 +47,12 @@ rmw-long st c = matched-long _ (liveIn (st .numbers) c) 0
 
 -- A row that has asked
 module _ (p : Program) (held : cellsOf (p .table) ≤ cells) (few : threadsOf (p .table) ≤ threads) (accepted : judged (p .table) ≡ good)
-    (st : State) (n : ℕ) (holds : Holds p st n) (acts : number (st .numbers) (phase (active st)) ≡ toAct) where
+    (st : State) (n : ℕ) (holds : Holds p st n) (acts : number (st .numbers) (phase (current st)) ≡ toAct) where
   abbrev a : Numbers
   a = st .numbers
 
   abbrev t : ℕ
-  t = active st
+  t = current st
 
   abbrev s : ℕ
   s = number a (State.state t)

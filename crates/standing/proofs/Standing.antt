@@ -8,7 +8,7 @@ use mathlib.Core.Path.{_≡_, subst}
 use native.Mathlib.Omega.{arith}
 use Rattle.rules.specs.Vector.{largest}
 use Rattle.rules.specs.Table.{judged, good, threadsOf, cellsOf}
-use Rattle.rules.specs.Event.{Entry, Question, whichThread, whichSlot, whichBit, Answer, runThread, readSlot, takeBit, Move, asks}
+use Rattle.rules.specs.Event.{Entry, Question, whichThread, whichSlot, whichBit, Pick, runThread, readSlot, takeBit, Move, asks}
 use Rattle.rules.specs.State.{State, threads, cells}
 use Rattle.rules.specs.Machine.{Program, machine, next, answered}
 use Rattle.rules.specs.Explored.{Settings, settingsFine, programOf, limitsOf}
@@ -59,7 +59,7 @@ module _ (p : Program) (l : ℕ) where
       MeasureSteps.Asked p l st q
   lower-asks (MeasureSteps.asking h) = h
 
-  answer-lower : (st : State) (q : Question) (a : Answer) → MeasureSteps.Asked p l st q → Fitting q a → Lower p l (answered p st a)
+  answer-lower : (st : State) (q : Question) (a : Pick) → MeasureSteps.Asked p l st q → Fitting q a → Lower p l (answered p st a)
   answer-lower st (whichThread points first standings) (runThread whom at) h fit = thread-lower p l st whom at h
   answer-lower st (whichSlot m) (readSlot slot values) h fit = slot-lower p l st slot values h
   answer-lower st whichBit (takeBit bit) h fit = spurious-lower p l st bit h
@@ -88,7 +88,7 @@ module _ (table condition : List ℕ) (s : Settings) (accepted : judged table �
   lowers st n h =
       next-lower p limited st (record { whole = h .over .whole; below = omega (arith, h .over .runs, within); runs = h .ready })
 
-  answers : (st : State) (n : ℕ) (q : Question) (a : Answer) → Asked p st n q → Fitting q a → After p n (answered p st a)
+  answers : (st : State) (n : ℕ) (q : Question) (a : Pick) → Asked p st n q → Fitting q a → After p n (answered p st a)
   answers st n (whichThread points first standings) (runThread whom at) h fit =
       thread-after p (within .2) (within .1) st n first standings h whom at fit
   answers st n (whichSlot m) (readSlot slot values) h fit =

@@ -20,7 +20,7 @@ use Rattle.rules.specs.Event as Event
 use Rattle.rules.specs.Event.{Fault, impossible, faultNumber, Entry, Matched, Question, whichSlot, whichBit, Move, moves, asks, stops, ends}
 use Rattle.rules.specs.State as State
 use Rattle.rules.specs.State.{State, Numbers, number, withNumber, threads, cells, phase, nextRow, yields, lastYield, operation, awaits, count, isSeqCst, exploring, skipping, storeAt}
-use Rattle.rules.specs.Cell.{version, storeDone, slotOf, Access, raced, read, Race, noRace, raceOf, loadDone, rmwDone, unsyncLoadDone, mutDone, storeRace, storeTracked, withClocks}
+use Rattle.rules.specs.Cell.{version, storeDone, slotOf, AccessResult, raced, read, Race, noRace, raceOf, loadDone, rmwDone, unsyncLoadDone, mutDone, storeRace, storeTracked, withClocks}
 use Rattle.rules.specs.Plain.{plainReadDone, plainWriteRace, plainWriteDone}
 use Rattle.rules.specs.Machine as Machine
 use Rattle.rules.specs.Machine.{Program, rowCount, rowOf, activeOp, runnable, blocked, yielded, ended, toBegin, toAct, completed}
@@ -131,11 +131,11 @@ module _ (p : Program) (held : cellsOf (p .table) ≤ cells) (few : threadsOf (p
   stopped : (st : State) (f : Fault) → faultNumber f ≢ 20 → At st → After p n (stops st f)
   stopped st f d at = stops-at st f d (holds-at st n refl at .over)
 
-  reads-after : (x : Access) (opcode r slot mask : ℕ) → Leaves On x → After p n (Machine.reads x t k opcode r slot mask)
+  reads-after : (x : AccessResult) (opcode r slot mask : ℕ) → Leaves On x → After p n (Machine.reads x t k opcode r slot mask)
   reads-after (raced kind other st) opcode r slot mask (isRaced at) = stopped st _ (omega arith) at
   reads-after (read v st) opcode r slot mask (isRead at) = finished (Machine.withRegister st t r v) (oneMore k) _ next-row at
 
-  leaves-after : (x : Access) (opcode c r : ℕ) → Leaves On x → After p n (Machine.leavesIn x t k opcode c r)
+  leaves-after : (x : AccessResult) (opcode c r : ℕ) → Leaves On x → After p n (Machine.leavesIn x t k opcode c r)
   leaves-after (raced kind other st) opcode c r (isRaced at) = stopped st _ (omega arith) at
   leaves-after (read v st) opcode c r (isRead at) = finished (Machine.withRegister st t r v) (oneMore k) _ next-row at
 

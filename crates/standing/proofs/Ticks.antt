@@ -15,7 +15,7 @@ use Rattle.rules.specs.Event as Event
 use Rattle.rules.specs.State as State
 use Rattle.rules.specs.State.{State, Numbers, number, withNumber, threads, cells, phase, begun, rowsOf, operation, operatesOn, nextRow, awaits}
 use Rattle.rules.specs.Machine as Machine
-use Rattle.rules.specs.Machine.{Program, Pending, nothing, pends, pendingOf, active, rowOf, rowCount, forThreads, freed, ended, toBegin, toAct, noOperation}
+use Rattle.rules.specs.Machine.{Program, Pending, nothing, pends, pendingOf, current, rowOf, rowCount, forThreads, freed, ended, toBegin, toAct, noOperation}
 use Rattle.rules.specs.Measure.{CanAct}
 use Rattle.rules.proofs.NumberLaws.{five-has, more-below}
 use Rattle.rules.proofs.Measure.{Is, aside, toState, toPhase, toBegun, toCell, seen, otherWork}
@@ -54,7 +54,7 @@ module _ (p : Program) (held : cellsOf (p .table) ≤ cells) (few : threadsOf (p
     a = st .numbers
 
     abbrev t : ℕ
-    t = active st
+    t = current st
 
     abbrev s : ℕ
     s = number a (State.state t)
@@ -188,4 +188,4 @@ module _ (p : Program) (held : cellsOf (p .table) ≤ cells) (few : threadsOf (p
 
       pub next-good : Good p n (Machine.next p st .move)
       unfolding Machine.next
-      next-good = rw (lt-ltb (active st) threads below) next-at
+      next-good = rw (lt-ltb (current st) threads below) next-at

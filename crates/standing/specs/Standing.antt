@@ -21,7 +21,7 @@ use Rattle.rules.specs.State as State
 use Rattle.rules.specs.State.{State, Clocks, Numbers, number, marksOf, threads, nextRow, rowsOf, phase, awaits, count, begun}
 use Rattle.rules.specs.Cell.{matchedLoad, matchedRmw}
 use Rattle.rules.specs.Machine as Machine
-use Rattle.rules.specs.Machine.{Program, rowCount, rowOf, absent, runnable, blocked, yielded, ended, toBegin, toAct, active, activeOp, everyThread}
+use Rattle.rules.specs.Machine.{Program, rowCount, rowOf, absent, runnable, blocked, yielded, ended, toBegin, toAct, current, activeOp, everyThread}
 use Rattle.rules.specs.Measure.{Whole, CanAct}
 
 -- Wherever a run comes to
@@ -59,13 +59,13 @@ pub record Over (p : Program) (st : State) (n : ℕ) : Type 0 where
   -- the numbers are all there, and every pending operation is on a cell
   pub whole : Whole (st .numbers)
   -- the active thread is one of the table's
-  pub runs : active st < threadsOf (p .table)
+  pub runs : current st < threadsOf (p .table)
   pub each : (t : ℕ) → t < threads → ThreadIn p (st .numbers) t
   -- "until the target's end makes it runnable": no thread is blocked on one that has ended
   pub blocks : (t : ℕ) → t < threads → number (st .numbers) (State.state t) ≡ blocked →
       number (st .numbers) (State.state (number (st .numbers) (awaits t))) ≢ ended
   -- "every yielded thread other than the one just chosen becomes runnable": none but the active one has yielded
-  pub awake : (t : ℕ) → t < threads → t ≢ active st → number (st .numbers) (State.state t) ≢ yielded
+  pub awake : (t : ℕ) → t < threads → t ≢ current st → number (st .numbers) (State.state t) ≢ yielded
   -- "cells take a Release store of their start value": every cell has a store
   pub counted : (c : ℕ) → c < cellsOf (p .table) → 1 ≤ number (st .numbers) (count c)
   -- a row that has begun is to act, or has its entry
@@ -78,7 +78,7 @@ pub record Over (p : Program) (st : State) (n : ℕ) : Type 0 where
 -- and where an execution has stopped or ended, it may be blocked or have ended
 pub record Holds (p : Program) (st : State) (n : ℕ) : Type 0 where
   pub over : Over p st n
-  pub ready : CanAct (number (st .numbers) (State.state (active st)))
+  pub ready : CanAct (number (st .numbers) (State.state (current st)))
 
 -- Where it asks
 
@@ -91,20 +91,20 @@ pub record Schedules (p : Program) (st : State) (n : ℕ) (first : Whom) (standi
 -- the active thread's row is a load or an RMW, and what is asked is the match of that cell in this very state
 pub data Reading (p : Program) (st : State) (m : Matched) : Type 0 where
   ofLoad : (c o r : ℕ) → activeOp p st ≡ decoded (Table.load c o r) →
-      m ≡ matchedLoad (st .clocks) (marksOf (st .marks) c) (st .numbers) (active st) c o → Reading p st m
+      m ≡ matchedLoad (st .clocks) (marksOf (st .marks) c) (st .numbers) (current st) c o → Reading p st m
   ofRmw : (c o f : ℕ) (change : Change) (r : ℕ) → activeOp p st ≡ decoded (Table.rmw c o f change r) →
       m ≡ matchedRmw (st .clocks) (st .numbers) c → Reading p st m
 
 -- for a slot
 pub record Reads (p : Program) (st : State) (n : ℕ) (m : Matched) : Type 0 where
   pub holds : Holds p st n
-  pub toAct : number (st .numbers) (phase (active st)) ≡ toAct
+  pub toAct : number (st .numbers) (phase (current st)) ≡ toAct
   pub reading : Reading p st m
 
 -- for a bit
 pub record Takes (p : Program) (st : State) (n : ℕ) : Type 0 where
   pub holds : Holds p st n
-  pub toAct : number (st .numbers) (phase (active st)) ≡ toAct
+  pub toAct : number (st .numbers) (phase (current st)) ≡ toAct
   pub register : ℕ
   pub isSpurious : activeOp p st ≡ decoded (Table.spurious register)
 

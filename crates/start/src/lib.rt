@@ -16,6 +16,7 @@ use layout::Marks;
 use layout::NONE;
 use layout::NUMBERS;
 use layout::Numbers;
+use layout::UNSEEN;
 use layout::VALUES;
 use layout::Values;
 use layout::of_cell::ACCESS_BRANCH;
@@ -38,12 +39,12 @@ use thread::RUNNABLE;
 // Lays the tables anew, whatever they held, as a table of this shape has them at the start: cells and plain cells made by thread 0, then all
 // threads runnable.
 pub fn start(
+    table: &[u8],
+    shape: &Shape,
     clocks: &mut Clocks,
     marks: &mut Marks,
     values: &mut Values,
     numbers: &mut Numbers,
-    table: &[u8],
-    shape: &Shape,
     exploring: bool,
 )
     requires { ⌜ (getD (now shape) 0 0 ≤ 5) × (getD (now shape) 1 0 ≤ 4) × (getD (now shape) 12 0 ≤ 4) ⌝ }
@@ -52,9 +53,9 @@ pub fn start(
     clear(clocks, marks, values, numbers, exploring);
     clocks[CAUSALITY] = [1, 0, 0, 0, 0];
     let cells = wide16(shape[CELLS]);
-    make_cells(clocks, marks, values, numbers, table, cells);
+    make_cells(table, clocks, marks, values, numbers, cells);
     let plains = wide16(shape[PLAINS]);
-    make_plains(clocks, values, table, cells, plains);
+    make_plains(table, clocks, values, cells, plains);
     start_threads(clocks, numbers, wide16(shape[THREADS]));
 }
 
@@ -69,7 +70,7 @@ fn clear(
     ensures { λ _. ⌜ state (now (clocks .exit)) (now (marks .exit)) (now (values .exit)) (now (numbers .exit)) ≡ machine.blank exploring ⌝ }
 {
     *clocks = [[0; MAX_THREADS]; CLOCKS];
-    *marks = [[[NONE; MAX_THREADS]; MAX_ATOMIC_HISTORY]; MAX_CELLS];
+    *marks = [[[UNSEEN; MAX_THREADS]; MAX_ATOMIC_HISTORY]; MAX_CELLS];
     *values = [0; VALUES];
     *numbers = [0; NUMBERS];
     clear_yields(numbers);
@@ -79,11 +80,11 @@ fn clear(
 
 // The cells, in order.
 fn make_cells(
+    table: &[u8],
     clocks: &mut Clocks,
     marks: &mut Marks,
     values: &mut Values,
     numbers: &mut Numbers,
-    table: &[u8],
     cells: usize,
 )
     requires { ⌜ cells ≤ 4 ⌝ }
@@ -91,18 +92,18 @@ fn make_cells(
 {
     let mut cell = 0;
     while cell < cells {
-        make_cell(clocks, marks, values, numbers, table, cell);
+        make_cell(table, clocks, marks, values, numbers, cell);
         cell += 1;
     }
 }
 
 // A cell takes thread 0's vector as its exclusive one, and a Release store of its start value.
 fn make_cell(
+    table: &[u8],
     clocks: &mut Clocks,
     marks: &mut Marks,
     values: &mut Values,
     numbers: &mut Numbers,
-    table: &[u8],
     cell: usize,
 )
     requires { ⌜ cell < 4 ⌝ }
@@ -127,19 +128,19 @@ fn make_cell(
 }
 
 // The plain cells, in order.
-fn make_plains(clocks: &mut Clocks, values: &mut Values, table: &[u8], cells: usize, plains: usize)
+fn make_plains(table: &[u8], clocks: &mut Clocks, values: &mut Values, cells: usize, plains: usize)
     requires { ⌜ (cells ≤ 4) × (plains ≤ 4) ⌝ }
     ensures { λ _. ⌜ ((marks : rules.Marks) (numbers : rules.Numbers) → cellsOf (now (table .entry)) ≡ cells → state (now (clocks .exit)) marks (now (values .exit)) numbers ≡ machine.plainsMade (now (table .entry)) (state (now (clocks .entry)) marks (now (values .entry)) numbers) plains 0) ⌝ }
 {
     let mut plain = 0;
     while plain < plains {
-        make_plain(clocks, values, table, cells, plain);
+        make_plain(table, clocks, values, cells, plain);
         plain += 1;
     }
 }
 
 // A plain cell is written by thread 0. Its start value stands behind those of the cells.
-fn make_plain(clocks: &mut Clocks, values: &mut Values, table: &[u8], cells: usize, plain: usize)
+fn make_plain(table: &[u8], clocks: &mut Clocks, values: &mut Values, cells: usize, plain: usize)
     requires { ⌜ (cells ≤ 4) × (plain < 4) ⌝ }
     ensures { λ _. ⌜ ((marks : rules.Marks) (numbers : rules.Numbers) → cellsOf (now (table .entry)) ≡ cells → state (now (clocks .exit)) marks (now (values .exit)) numbers ≡ machine.plainMade (now (table .entry)) (state (now (clocks .entry)) marks (now (values .entry)) numbers) plain) ⌝ }
 {

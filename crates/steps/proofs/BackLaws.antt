@@ -1,4 +1,4 @@
--- What the definitions say of the trace that a run leaves, `noted`: its entries, and zeros past them. Assumes nothing.
+-- What the definitions say of the trace that a run leaves, `traceLeft`: its entries, and zeros past them. Assumes nothing.
 --     entry-back       each is read back as it was
 --     entries-back     they are counted, where none is a load that was offered nothing
 use Prim.Native.Nat.{ℕ, zero, suc, _+_, _-_, _*_, _/_, _%_, _≤_, _<_, _^_}
@@ -13,7 +13,7 @@ use lib.ListN.{length, getD, replicate, length-append, length-replicate, getD-re
 use lib.Seq.{getD-append-add}
 use borrow.Author.Tests.{lt-ltb}
 use Rattle.rules.specs.Event.{Entry, little, entryBytes}
-use Rattle.rules.specs.Explored.{entriesBytes, noted}
+use Rattle.rules.specs.Explored.{entriesBytes, traceLeft}
 use Rattle.rules.specs.Table.{u16At, u32At, u64At}
 use Rattle.steps.specs.Entries.{room, byteAt, entryAt, isEntry, entries}
 use Rattle.steps.proofs.EntryLaws.{entriesLeft, entries-all, entries-on, entries-found, entries-none}
@@ -79,35 +79,35 @@ past es k i h =
     rw at (getD-append-add (entriesBytes es) (replicate k 0) (i - 16 * length es) 0 ∙ zeros k (i - 16 * length es))
 
 module _ (n : ℕ) (es : List Entry) (fits : 16 * length es ≤ n) where
-  long : length (noted n es) ≡ n
-  unfolding noted
+  long : length (traceLeft n es) ≡ n
+  unfolding traceLeft
   long = simp (length-append, length-replicate, length-entries) (omega arith)
 
   module _ (i : ℕ) (h : length es ≤ i) where
-    past-byte : (place : ℕ) → byteAt (noted n es) i place ≡ 0
-    unfolding byteAt noted
-    past-byte place = cond-zero (ltb i (room (noted n es))) (past es (n - 16 * length es) (16 * i + place) (omega arith))
+    past-byte : (place : ℕ) → byteAt (traceLeft n es) i place ≡ 0
+    unfolding byteAt traceLeft
+    past-byte place = cond-zero (ltb i (room (traceLeft n es))) (past es (n - 16 * length es) (16 * i + place) (omega arith))
 
-    past-is : isEntry (entryAt (noted n es) i) ≡ false
+    past-is : isEntry (entryAt (traceLeft n es) i) ≡ false
     past-is = rw (past-byte 2, past-byte 4)
 
   module _ (none : Entry) (i : ℕ) (h : i < length es) where
-    there : ltb i (room (noted n es)) ≡ true
-    there = lt-ltb i (room (noted n es)) (omega (arith, long))
+    there : ltb i (room (traceLeft n es)) ≡ true
+    there = lt-ltb i (room (traceLeft n es)) (omega (arith, long))
 
-    at-place : (j place : ℕ) → j ≡ 16 * i + place → place < 16 → getD (noted n es) j 0 ≡ getD (entryBytes (getD es i none)) place 0
-    unfolding noted
+    at-place : (j place : ℕ) → j ≡ 16 * i + place → place < 16 → getD (traceLeft n es) j 0 ≡ getD (entryBytes (getD es i none)) place 0
+    unfolding traceLeft
     at-place j place e k = rw e (within es (replicate (n - 16 * length es) 0) none i place h k)
 
-    byte-back : (place : ℕ) → place < 16 → byteAt (noted n es) i place ≡ getD (entryBytes (getD es i none)) place 0
+    byte-back : (place : ℕ) → place < 16 → byteAt (traceLeft n es) i place ≡ getD (entryBytes (getD es i none)) place 0
     unfolding byteAt
     byte-back place k = rw there (at-place (16 * i + place) place refl k)
 
-    entry-is : isEntry (entryAt (noted n es) i) ≡ isEntry (getD es i none)
+    entry-is : isEntry (entryAt (traceLeft n es) i) ≡ isEntry (getD es i none)
     unfolding entryBytes
     entry-is = rw (byte-back 2 (omega arith), byte-back 4 (omega arith))
 
-    value-back : u64At (noted n es) (16 * i + 8) ≡ getD es i none .value % 2 ^ 64
+    value-back : u64At (traceLeft n es) (16 * i + 8) ≡ getD es i none .value % 2 ^ 64
     unfolding u64At u32At u16At entryBytes little
     value-back =
         let at = 16 * i + 8 in
@@ -123,21 +123,21 @@ module _ (n : ℕ) (es : List Entry) (fits : 16 * length es ≤ n) where
         )
         (eight (getD es i none .value))
 
-    pub entry-back : entryAt (noted n es) i ≡ inBytes (getD es i none)
+    pub entry-back : entryAt (traceLeft n es) i ≡ inBytes (getD es i none)
     unfolding entryBytes
     entry-back =
         rw
         (byte-back 0 (omega arith), byte-back 1 (omega arith), byte-back 2 (omega arith), byte-back 3 (omega arith), byte-back 4 (omega arith), there, value-back)
 
   module _ (none : Entry) (real : (i : ℕ) → i < length es → isEntry (getD es i none) ≡ true) where
-    walk : (k i : ℕ) → i + k ≡ length es → entriesLeft (noted n es) i ≡ length es
-    walk zero i e = elim (decLt i (room (noted n es))) [
-      | yes l ↦ entries-found (noted n es) i l (past-is i (omega arith)) ∙ (omega arith)
-      | no l ↦ entries-none (noted n es) i (omega arith) (omega (arith, long)) ∙ (omega arith)
+    walk : (k i : ℕ) → i + k ≡ length es → entriesLeft (traceLeft n es) i ≡ length es
+    walk zero i e = elim (decLt i (room (traceLeft n es))) [
+      | yes l ↦ entries-found (traceLeft n es) i l (past-is i (omega arith)) ∙ (omega arith)
+      | no l ↦ entries-none (traceLeft n es) i (omega arith) (omega (arith, long)) ∙ (omega arith)
     ]
     walk (suc k) i e =
-        sym (entries-on (noted n es) i (omega (arith, long)) (entry-is none i (omega arith) ∙ real i (omega arith)))
+        sym (entries-on (traceLeft n es) i (omega (arith, long)) (entry-is none i (omega arith) ∙ real i (omega arith)))
         ∙ walk k (i + 1) (omega arith)
 
-    pub entries-back : entries (noted n es) ≡ length es
-    entries-back = sym (entries-all (noted n es)) ∙ walk (length es) 0 (omega arith)
+    pub entries-back : entries (traceLeft n es) ≡ length es
+    entries-back = sym (entries-all (traceLeft n es)) ∙ walk (length es) 0 (omega arith)

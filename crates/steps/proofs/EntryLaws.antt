@@ -3,18 +3,25 @@
 --     entry-found                    whether it is one
 --     entries-all, entries-on, entries-found, entries-none      the walk to the first that is none
 --     operation-there, operation-none, operation-within      the row of an entry
+--     operation-in                                           its thread, and what it names, are in range
 use Prim.Native.Nat.{ℕ, _+_, _-_, _≤_, _<_}
 use mathlib.Core.List.{List}
-use mathlib.Core.Bool.{Bool, true, false, not, _||_}
-use mathlib.Core.Path.{_≡_, _∙_}
+use mathlib.Core.Bool.{Bool, true, false, cond, not, _||_}
+use mathlib.Core.Path.{_≡_, refl, ap, sym, _∙_}
 use native.Mathlib.Omega.{arith}
 use native.Mathlib.Nat.{sub-zero}
 use native.Mathlib.Decide.{decLt}
-use lib.Dec.{eqb}
+use lib.Dec.{ltb, eqb}
 use borrow.Author.Tests.{lt-ltb, le-ltb}
-use Rattle.rules.specs.Table.{Op, Decoded, refused, decoded, firstNot}
+use Rattle.rules.specs.Table.{Op, Decoded, refused, decoded, firstNot, maxThreads}
+use Rattle.decode.specs.declared.Decoded as code
+use Rattle.decode.specs.declared.Decoded.the-variants.{Row as Says}
+use Rattle.decode.specs.declared.Op as codes
+use Rattle.decode.specs.Ops.{opOf, decodedOf, inRange, opWithin}
+use Rattle.table.proofs.Within.{op-made}
 use Rattle.table.proofs.Walks.{first-on, first-found, first-none}
 use Rattle.steps.specs.Entries.{room, ofEntry, entryAt, isEntry, entries, rowSays, operationAt}
+use Rattle.steps.proofs.RowLaws.{row-none}
 
 module _ (trace : List ℕ) (i : ℕ) where
   pub there : {x y : ℕ} → i < room trace → x ≡ y → x ≡ ofEntry trace i y
@@ -49,6 +56,11 @@ module _ (trace : List ℕ) where
     pub entries-none : room trace ≤ i → i ≤ room trace → entriesLeft trace i ≡ i
     entries-none h k = first-none (isAt trace) (room trace) i h k ∙ (omega arith)
 
+-- what is decoded under a test is within where it is without the test
+within-if : (b : Bool) {x : Decoded Op} (d : code.Decoded) → (decodedOf d ≡ x → opWithin d) → decodedOf d ≡ cond b x refused → opWithin d
+within-if true d h e = h e
+within-if false d h e = rw e tt
+
 module _ (table trace : List ℕ) (i : ℕ) where
   pub operation-there : i < room trace → {t k : ℕ} {d : Decoded Op} → t ≡ entryAt trace i .thread → k ≡ entryAt trace i .row →
       d ≡ rowSays table t k → d ≡ operationAt table trace i
@@ -64,3 +76,25 @@ module _ (table trace : List ℕ) (i : ℕ) where
     | yes l ↦ l
     | no l ↦ let past : room trace ≤ i = omega arith in let z : _≡_ {A = ℕ} 0 1 = cc (operation-none past) in absurd (omega arith)
   ]
+
+  operation-range : (d : code.Decoded) → decodedOf d ≡ operationAt table trace i → opWithin d
+  unfolding operationAt rowSays
+  operation-range d =
+      within-if (ltb i (room trace)) d
+      (within-if (ltb (entryAt trace i .thread) maxThreads) d (λ h. op-made table _ _ d h .within))
+
+  operation-thread : {op : Op} → operationAt table trace i ≡ decoded op → entryAt trace i .thread < maxThreads
+  operation-thread e = elim (decLt (entryAt trace i .thread) maxThreads) [
+    | yes l ↦ l
+    | no l ↦
+        let past : maxThreads ≤ entryAt trace i .thread = omega arith in
+        let none = operation-there (operation-within e) refl refl (row-none table (entryAt trace i .row) refl past) in
+        let z : _≡_ {A = ℕ} 0 1 = cc in
+        absurd (omega arith)
+  ]
+
+  pub operation-in : (d : code.Decoded) {op : codes.Op} {byte thread : ℕ} → decodedOf d ≡ operationAt table trace i → d ≡ Says op →
+      byte ≡ entryAt trace i .thread → thread ≡ byte → (thread < 5) × inRange (opOf op)
+  operation-in d {op} e f p q =
+      let named : inRange (opOf op) = rw f at (operation-range d e) in
+      (omega (arith, operation-thread (sym e ∙ ap decodedOf f)), named)

@@ -1,12 +1,12 @@
 -- The laws of what is held: a place that is read or written, a store, a step, the steps one after the other. Assumes nothing.
 --     both, not-first, not-second           the tests of a place that is named by two numbers
---     reads, reads-none, puts, puts-none    a place, and one that there is not
---     stored-at, stored-none, over-at, over-none      a store, and one that writes over the newest
+--     reads, reads-none, puts               a place, and one that there is not
+--     stored-at, over-at                    a store, and one that writes over the newest
 --     cell-from                             a cell that takes its start value
 --     left-from, jump-from                  a change of what a register was put into, a jump on one
 --     taken-none, taken-made                a step
 --     after-on, after-all                   the walk along the steps
-use Prim.Native.Nat.{ℕ, _+_, _*_, _%_, _≤_, _<_}
+use Prim.Native.Nat.{ℕ, _+_, _*_, _≤_, _<_}
 use mathlib.Core.Bool.{true, false, cond, _&&_}
 use mathlib.Core.List.{List}
 use mathlib.Core.Path.{_≡_, ap, _∙_}
@@ -15,11 +15,12 @@ use native.Mathlib.Numerals.{add-one}
 use lib.Dec.{ltb, eqb}
 use lib.ListN.{getD, set}
 use borrow.Author.Tests.{lt-ltb, le-ltb}
+use Rattle.layout.specs.Slots.{Next, Newest}
 use Rattle.rules.specs.Change.{Change, Changed, applied}
 use Rattle.rules.specs.Table.{Op, refused, decoded, startValue}
 use Rattle.rules.specs.Vector.{oneMore}
 use Rattle.steps.specs.Entries.{entryAt, operationAt}
-use Rattle.steps.specs.Holds.{Place, register, nextRow, isPlace, placeOf, held, withHeld, stored, writtenOver, cellMade, acted, nextOf, taken, heldAfter}
+use Rattle.steps.specs.Holds.{HeldPlace, register, nextRow, isPlace, heldPlaceOf, held, withHeld, stored, writtenOver, cellMade, acted, nextOf, taken, heldAfter}
 
 module _ (a b m n : ℕ) where
   pub both : a < m → b < n → ltb a m && ltb b n ≡ true
@@ -31,8 +32,8 @@ module _ (a b m n : ℕ) where
   pub not-second : a < m → n ≤ b → ltb a m && ltb b n ≡ false
   not-second p q = rw (lt-ltb a m p, le-ltb b n q)
 
-module _ (h : List ℕ) (p : Place) where
-  pub reads : {at : ℕ} → at ≡ placeOf p → isPlace p ≡ true → getD h at 0 ≡ held h p
+module _ (h : List ℕ) (p : HeldPlace) where
+  pub reads : {at : ℕ} → at ≡ heldPlaceOf p → isPlace p ≡ true → getD h at 0 ≡ held h p
   unfolding held
   reads e is = rw (is, e)
 
@@ -40,35 +41,19 @@ module _ (h : List ℕ) (p : Place) where
   unfolding held
   reads-none is = rw is
 
-  pub puts : {at : ℕ} (v : ℕ) → at ≡ placeOf p → isPlace p ≡ true → set h at v ≡ withHeld h p v
+  pub puts : {at : ℕ} (v : ℕ) → at ≡ heldPlaceOf p → isPlace p ≡ true → set h at v ≡ withHeld h p v
   unfolding withHeld
   puts v e is = rw (is, e)
 
-  pub puts-none : (v : ℕ) → isPlace p ≡ false → h ≡ withHeld h p v
-  unfolding withHeld
-  puts-none v is = rw is
-
-module _ (h : List ℕ) (c v step : ℕ) where
-  pub stored-at : c < 4 → {n : ℕ} → n ≡ oneMore (getD h (28 + c) 0) →
-      set (set (set h (7 * c + getD h (28 + c) 0 % 7) step) (28 + c) n) (32 + c) v ≡ stored h c v step
+module _ (h : List ℕ) (c v step : ℕ) (l : c < 4) {at slot : ℕ} (e : at ≡ 7 * c + slot) where
+  pub stored-at : Next (getD h (28 + c) 0) slot → {n : ℕ} → n ≡ oneMore (getD h (28 + c) 0) →
+      set (set (set h at step) (28 + c) n) (32 + c) v ≡ stored h c v step
   unfolding stored held withHeld
-  stored-at l e =
-      let s : ltb (getD h (28 + c) 0 % 7) 7 ≡ true = lt-ltb (getD h (28 + c) 0 % 7) 7 (omega arith) in
-      rw (lt-ltb c 4 l, s, e)
+  stored-at s m = rw (e, s .is, lt-ltb c 4 l, lt-ltb _ 7 (rw (s .is) at (s .within)), m)
 
-  pub stored-none : 4 ≤ c → h ≡ stored h c v step
-  unfolding stored held withHeld
-  stored-none l = rw (le-ltb c 4 l)
-
-  pub over-at : c < 4 → set (set h (7 * c + (getD h (28 + c) 0 % 7 + 6) % 7) step) (32 + c) v ≡ writtenOver h c v step
+  pub over-at : Newest (getD h (28 + c) 0) slot → set (set h at step) (32 + c) v ≡ writtenOver h c v step
   unfolding writtenOver held withHeld
-  over-at l =
-      let s : ltb ((getD h (28 + c) 0 % 7 + 6) % 7) 7 ≡ true = lt-ltb ((getD h (28 + c) 0 % 7 + 6) % 7) 7 (omega arith) in
-      rw (lt-ltb c 4 l, s)
-
-  pub over-none : 4 ≤ c → h ≡ writtenOver h c v step
-  unfolding writtenOver held withHeld
-  over-none l = rw (le-ltb c 4 l)
+  over-at s = rw (e, s .is, lt-ltb c 4 l, lt-ltb _ 7 (rw (s .is) at (s .within)))
 
 -- a cell that takes its start value
 pub cell-from : (table : List ℕ) (c : ℕ) {v : ℕ} {h x out : List ℕ} → v ≡ startValue table c → h ≡ x → out ≡ stored h c v 0 → out ≡ cellMade table c x

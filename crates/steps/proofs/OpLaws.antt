@@ -1,5 +1,5 @@
 -- The laws of a row that was taken apart, and of the arm of a match that takes all other rows together. Assumes nothing.
---     op-as, says, refuses, changed-as      what is said of a row or a change, from what it was found to be
+--     op-as, op-in, says, refuses, changed-as      what is said of a row or a change, from what it was found to be
 --     no-jump, no-act                       the rows that do not jump, that change nothing
 use Prim.Native.Nat.{ℕ, _+_}
 use mathlib.Core.List.{List, [], _∷_}
@@ -15,11 +15,14 @@ use Rattle.decode.specs.declared.Op.{Op}
 use Rattle.decode.specs.declared.Op.the-variants as code
 use Rattle.decode.specs.declared.Decoded.{Decoded}
 use Rattle.decode.specs.declared.Decoded.the-variants.{Refused, Row as Says}
-use Rattle.decode.specs.Ops.{opOf, decodedOf}
+use Rattle.decode.specs.Ops.{opOf, decodedOf, inRange}
 use Rattle.steps.specs.Holds.{nextOf, acted}
 
 pub op-as : {A : Type 0} (f : rules.Op → A) {op m : Op} {x : A} → op ≡ m → x ≡ f (opOf m) → x ≡ f (opOf op)
 op-as f e h = h ∙ sym (ap (λ (p : Op). f (opOf p)) e)
+
+pub op-in : {op m : Op} → op ≡ m → inRange (opOf op) → inRange (opOf m)
+op-in e h = rw e at h
 
 module _ {d : Decoded} {x : rules.Decoded rules.Op} (is : decodedOf d ≡ x) where
   pub says : {op : Op} → d ≡ Says op → x ≡ rules.decoded (opOf op)

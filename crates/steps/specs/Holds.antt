@@ -19,15 +19,15 @@ use Rattle.steps.specs.Entries.{entryAt, operationAt}
 
 -- of a cell: the step that wrote what a slot holds, counted from 1, or 0; how many stores it had; its newest value. Of a thread:
 -- a register; the row that it is at. Of a plain cell: the step that wrote what it holds, or 0
-pub data Place : Type 0 where
-  writer : (cell slot : ℕ) → Place
-  count : (cell : ℕ) → Place
-  newest : (cell : ℕ) → Place
-  register : (thread r : ℕ) → Place
-  nextRow : (thread : ℕ) → Place
-  plainWriter : (plain : ℕ) → Place
+pub data HeldPlace : Type 0 where
+  writer : (cell slot : ℕ) → HeldPlace
+  count : (cell : ℕ) → HeldPlace
+  newest : (cell : ℕ) → HeldPlace
+  register : (thread r : ℕ) → HeldPlace
+  nextRow : (thread : ℕ) → HeldPlace
+  plainWriter : (plain : ℕ) → HeldPlace
 
-abbrev pub isPlace : Place → Bool
+abbrev pub isPlace : HeldPlace → Bool
 isPlace (writer c s) = ltb c cells && ltb s history
 isPlace (count c) = ltb c cells
 isPlace (newest c) = ltb c cells
@@ -35,20 +35,20 @@ isPlace (register t r) = ltb t threads && ltb r registers
 isPlace (nextRow t) = ltb t threads
 isPlace (plainWriter c) = ltb c plains
 
-abbrev pub placeOf : Place → ℕ
-placeOf (writer c s) = storeAt c s
-placeOf (count c) = 28 + c
-placeOf (newest c) = 32 + c
-placeOf (register t r) = 36 + registerAt t r
-placeOf (nextRow t) = 56 + t
-placeOf (plainWriter c) = 61 + c
+abbrev pub heldPlaceOf : HeldPlace → ℕ
+heldPlaceOf (writer c s) = storeAt c s
+heldPlaceOf (count c) = 28 + c
+heldPlaceOf (newest c) = 32 + c
+heldPlaceOf (register t r) = 36 + registerAt t r
+heldPlaceOf (nextRow t) = 56 + t
+heldPlaceOf (plainWriter c) = 61 + c
 
 -- what a place holds; 0 where there is no such place, and there nothing is put
-unfoldable pub held : List ℕ → Place → ℕ
-held h p = cond (isPlace p) (getD h (placeOf p) 0) 0
+unfoldable pub held : List ℕ → HeldPlace → ℕ
+held h p = cond (isPlace p) (getD h (heldPlaceOf p) 0) 0
 
-unfoldable pub withHeld : List ℕ → Place → ℕ → List ℕ
-withHeld h p v = cond (isPlace p) (set h (placeOf p) v) h
+unfoldable pub withHeld : List ℕ → HeldPlace → ℕ → List ℕ
+withHeld h p v = cond (isPlace p) (set h (heldPlaceOf p) v) h
 
 -- "Slot is cnt mod 7": a store takes the next slot
 unfoldable pub stored : List ℕ → ℕ → ℕ → ℕ → List ℕ

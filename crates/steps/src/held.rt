@@ -2,8 +2,10 @@
 // wrote each of its seven slots; a thread's registers and its next row; which step wrote what a plain cell holds.
 ghost use mathlib.Core.Path.{_≡_};
 ghost use mathlib.Core.Bool.{cond};
+ghost use Prim.Native.Nat.{_<_};
 ghost use Rattle.change.specs.Changes.{changeMeant};
-ghost use Rattle.decode.specs.Ops.{opOf};
+ghost use Rattle.decode.specs.Ops.{opOf, inRange};
+ghost use Rattle.layout.specs.Slots.{Next, Newest};
 ghost use Rattle.rules.specs.Vector.{oneMore};
 ghost use Rattle.steps.specs.Holds as holds;
 use change::Change;
@@ -15,7 +17,10 @@ use layout::MAX_CELLS;
 use layout::MAX_PLAINS;
 use layout::MAX_THREADS;
 use layout::REGISTERS;
+use layout::register_at;
+use layout::store_at;
 use layout::wide8;
+use vv::LARGEST;
 
 // All of it in one table: 28 writers, 4 counts, 4 values, 20 registers, 5 rows, 4 writers of plain cells.
 pub type Held = [u64; HELD];
@@ -51,7 +56,7 @@ pub fn after(table: &[u8], trace: &[u8], n: usize) -> Held
     let mut held = start(table);
     let mut i = 0;
     while i < n {
-        take(&mut held, table, trace, i);
+        take(table, trace, &mut held, i);
         i += 1;
     }
     held
@@ -64,7 +69,7 @@ pub fn writer(held: &Held, cell: usize, slot: u8) -> u64
     let s = wide8(slot);
     if cell < MAX_CELLS {
         if s < MAX_ATOMIC_HISTORY {
-            return held[MAX_ATOMIC_HISTORY * cell + s];
+            return held[store_at(cell, s)];
         }
     }
     0
@@ -86,10 +91,18 @@ pub fn register(held: &Held, thread: u8, register: usize) -> u64
     let t = wide8(thread);
     if t < MAX_THREADS {
         if register < REGISTERS {
-            return held[REGISTER + (REGISTERS * t + register)];
+            return register_of(held, t, register);
         }
     }
     0
+}
+
+// The same, of a thread and a register that there are.
+fn register_of(held: &Held, thread: usize, register: usize) -> u64
+    requires { ⌜ (thread < 5) × (register < 4) ⌝ }
+    ensures { λ r. ⌜ r ≡ holds.held (now (held .entry)) (holds.register thread register) ⌝ }
+{
+    held[REGISTER + register_at(thread, register)]
 }
 
 // The row that a thread is at, where it has not ended.
@@ -113,36 +126,45 @@ pub fn plain_writer(held: &Held, plain: usize) -> u64
     0
 }
 
-// What step `i` changes.
-pub fn take(held: &mut Held, table: &[u8], trace: &[u8], i: usize)
+// What step `i` changes. A row that is not refused has a thread, cells and registers that there are: nothing below tests them again.
+pub fn take(table: &[u8], trace: &[u8], held: &mut Held, i: usize)
     ensures { λ _. ⌜ now (held .exit) ≡ holds.taken (now (table .entry)) (now (trace .entry)) i (now (held .entry)) ⌝ }
 {
     let Decoded::Row(op) = crate::operation(table, trace, i) else {
         return;
     };
-    let thread = crate::thread(trace, i);
+    let thread = wide8(crate::thread(trace, i));
     let next = next_of(held, thread, crate::row(trace, i), op);
     go_on(held, thread, next);
     act(held, thread, crate::value(trace, i), i as u64 + 1, op);
 }
 
 // The row that a thread goes on with.
-fn next_of(held: &Held, thread: u8, row: u8, op: Op) -> u64
+fn next_of(held: &Held, thread: usize, row: u8, op: Op) -> u64
+    requires { ⌜ (thread < 5) × inRange (opOf op) ⌝ }
     ensures { λ r. ⌜ r ≡ holds.nextOf (now (held .entry)) thread row (opOf op) ⌝ }
 {
     let next = row as u64 + 1;
     match op {
         Op::Jump { target } => target as u64,
         Op::JumpIf {
-            register: r,
+            register,
             a,
             target,
-        } => after_jump(register(held, thread, r) == a, target as u64, next),
+        } => after_jump(
+            register_of(held, thread, register) == a,
+            target as u64,
+            next,
+        ),
         Op::JumpUnless {
-            register: r,
+            register,
             a,
             target,
-        } => after_jump(register(held, thread, r) == a, next, target as u64),
+        } => after_jump(
+            register_of(held, thread, register) == a,
+            next,
+            target as u64,
+        ),
         _ => next,
     }
 }
@@ -157,17 +179,16 @@ fn after_jump(equal: bool, then: u64, other: u64) -> u64
     other
 }
 
-fn go_on(held: &mut Held, thread: u8, next: u64)
+fn go_on(held: &mut Held, thread: usize, next: u64)
+    requires { ⌜ thread < 5 ⌝ }
     ensures { λ _. ⌜ now (held .exit) ≡ holds.withHeld (now (held .entry)) (holds.nextRow thread) next ⌝ }
 {
-    let t = wide8(thread);
-    if t < MAX_THREADS {
-        held[NEXT + t] = next;
-    }
+    held[NEXT + thread] = next;
 }
 
 // What a row of this thread does, with the value of its trace entry.
-fn act(held: &mut Held, thread: u8, value: u64, step: u64, op: Op)
+fn act(held: &mut Held, thread: usize, value: u64, step: u64, op: Op)
+    requires { ⌜ (thread < 5) × inRange (opOf op) ⌝ }
     ensures { λ _. ⌜ now (held .exit) ≡ holds.acted (now (held .entry)) thread value step (opOf op) ⌝ }
 {
     match op {
@@ -194,44 +215,51 @@ fn act(held: &mut Held, thread: u8, value: u64, step: u64, op: Op)
 }
 
 // Puts a value in a register.
-fn put(held: &mut Held, thread: u8, register: usize, value: u64)
+fn put(held: &mut Held, thread: usize, register: usize, value: u64)
+    requires { ⌜ (thread < 5) × (register < 4) ⌝ }
     ensures { λ _. ⌜ now (held .exit) ≡ holds.withHeld (now (held .entry)) (holds.register thread register) value ⌝ }
 {
-    let t = wide8(thread);
-    if t < MAX_THREADS {
-        if register < REGISTERS {
-            held[REGISTER + (REGISTERS * t + register)] = value;
-        }
-    }
+    held[REGISTER + register_at(thread, register)] = value;
 }
 
 // Notes the step that wrote a plain cell.
 fn write(held: &mut Held, plain: usize, step: u64)
+    requires { ⌜ plain < 4 ⌝ }
     ensures { λ _. ⌜ now (held .exit) ≡ holds.withHeld (now (held .entry)) (holds.plainWriter plain) step ⌝ }
 {
-    if plain < MAX_PLAINS {
-        held[PLAIN_WRITER + plain] = step;
-    }
+    held[PLAIN_WRITER + plain] = step;
 }
 
 // A store takes the cell's next slot.
 fn store(held: &mut Held, cell: usize, value: u64, step: u64)
+    requires { ⌜ cell < 4 ⌝ }
     ensures { λ _. ⌜ now (held .exit) ≡ holds.stored (now (held .entry)) cell value step ⌝ }
 {
-    if cell < MAX_CELLS {
-        let count = held[COUNT + cell];
-        let slot = (count % 7) as usize;
-        held[MAX_ATOMIC_HISTORY * cell + slot] = step;
-        held[COUNT + cell] = one_more(count);
-        held[NEWEST + cell] = value;
-    }
+    let count = held[COUNT + cell];
+    let at = store_at(cell, next_slot(count));
+    held[at] = step;
+    held[COUNT + cell] = one_more(count);
+    held[NEWEST + cell] = value;
+}
+
+// The slot that the next store takes, and that of the newest, by how many there were: `layout::slots` for a count of any size.
+fn next_slot(count: u64) -> usize
+    ensures { λ r. ⌜ Next count r ⌝ }
+{
+    count as usize % MAX_ATOMIC_HISTORY
+}
+
+fn newest_slot(count: u64) -> usize
+    ensures { λ r. ⌜ Newest count r ⌝ }
+{
+    (count as usize % MAX_ATOMIC_HISTORY + (MAX_ATOMIC_HISTORY - 1)) % MAX_ATOMIC_HISTORY
 }
 
 // A count stays where it is largest.
 fn one_more(count: u64) -> u64
     ensures { λ r. ⌜ r ≡ oneMore count ⌝ }
 {
-    if count < 65535 {
+    if count < LARGEST as u64 {
         return count + 1;
     }
     count
@@ -240,13 +268,14 @@ fn one_more(count: u64) -> u64
 // The value read goes into the register; a change that succeeds is a store.
 fn rmw(
     held: &mut Held,
-    thread: u8,
+    thread: usize,
     register: usize,
     cell: usize,
     change: Change,
     read: u64,
     step: u64,
 )
+    requires { ⌜ (thread < 5) × (cell < 4) × (register < 4) ⌝ }
     ensures { λ _. ⌜ now (held .exit) ≡ holds.rmwDone (now (held .entry)) thread register cell (changeMeant change) read step ⌝ }
 {
     put(held, thread, register, read);
@@ -256,10 +285,11 @@ fn rmw(
 }
 
 // The same for an exclusive change, which reads the newest store and, if it succeeds, writes over it.
-fn with_mut(held: &mut Held, thread: u8, register: usize, cell: usize, change: Change, step: u64)
+fn with_mut(held: &mut Held, thread: usize, register: usize, cell: usize, change: Change, step: u64)
+    requires { ⌜ (thread < 5) × (cell < 4) × (register < 4) ⌝ }
     ensures { λ _. ⌜ now (held .exit) ≡ holds.exclusiveDone (now (held .entry)) thread register cell (changeMeant change) step ⌝ }
 {
-    let before = newest(held, cell);
+    let before = held[NEWEST + cell];
     put(held, thread, register, before);
     if let Changed::Success(value) = change::apply(change, before) {
         write_over(held, cell, value, step);
@@ -268,11 +298,10 @@ fn with_mut(held: &mut Held, thread: u8, register: usize, cell: usize, change: C
 
 // Writes over the newest store of a cell.
 fn write_over(held: &mut Held, cell: usize, value: u64, step: u64)
+    requires { ⌜ cell < 4 ⌝ }
     ensures { λ _. ⌜ now (held .exit) ≡ holds.writtenOver (now (held .entry)) cell value step ⌝ }
 {
-    if cell < MAX_CELLS {
-        let slot = ((held[COUNT + cell] % 7 + 6) % 7) as usize;
-        held[MAX_ATOMIC_HISTORY * cell + slot] = step;
-        held[NEWEST + cell] = value;
-    }
+    let at = store_at(cell, newest_slot(held[COUNT + cell]));
+    held[at] = step;
+    held[NEWEST + cell] = value;
 }

@@ -5,6 +5,10 @@ ghost use Rattle.report.specs.Answers.{summaryOf};
 ghost use Rattle.summary.specs.Summaries.{putCount, putLedger, putHeading, putThread, putState, putLegend};
 use page::Page;
 use report::ThreadRecord;
+use thread::ABSENT;
+use thread::BLOCKED;
+use thread::RUNNABLE;
+use thread::YIELDED;
 
 // One count, with its name in front.
 pub fn put_count(page: &mut Page, at: usize, name: &[u8], n: u64) -> usize
@@ -40,7 +44,7 @@ pub fn put_heading(page: &mut Page, at: usize) -> usize
 pub fn put_thread(page: &mut Page, at: usize, thread: usize, end: ThreadRecord) -> usize
     ensures { λ r. ⌜ ended (now (page .exit)) r ≡ putThread (ended (now (page .entry)) at) thread (summaryOf end) ⌝ }
 {
-    if end.state == 0 {
+    if end.state == ABSENT {
         return at;
     }
     let to = page::put_right(page, at, 6, thread as u64);
@@ -57,9 +61,9 @@ fn put_state(page: &mut Page, at: usize, state: u16) -> usize
     ensures { λ r. ⌜ ended (now (page .exit)) r ≡ putState (ended (now (page .entry)) at) state ⌝ }
 {
     match state {
-        1 => page::put(page, at, b"runnable"),
-        2 => page::put(page, at, b"blocked"),
-        3 => page::put(page, at, b"yielded"),
+        RUNNABLE => page::put(page, at, b"runnable"),
+        BLOCKED => page::put(page, at, b"blocked"),
+        YIELDED => page::put(page, at, b"yielded"),
         _ => page::put(page, at, b"ended"),
     }
 }

@@ -19,7 +19,7 @@ use lib.Dec.{ltb, leb, eqb}
 use lib.ListN.{length, getD, set, take, drop, drop-of-length-le, length-set, length-map, List·getD-eq-default, List·getD-map}
 use lib.Seq.{drop-cons, take-suc-set, set-out, take-all, append-snoc, set-getD, getD-set-same, getD-set-other}
 use borrow.Author.Tests.{lt-ltb, le-ltb, le-leb, lt-leb, eq-eqb, ne-eqb, ltb-true, ltb-false, leb-true, leb-false, eqb-true, eqb-false, not-true}
-use Rattle.rules.specs.Vector.{Whom, nobody, thread, next}
+use Rattle.rules.specs.Vector.{Whom, nobody, thread, oneUp}
 use Rattle.vv.proofs.Walks.{left-cons}
 use Rattle.rules.specs.Seen.{unseen, markOf, known, seenThrough, someone, seen, seenBeforeYield, touched, touchedAt, seenSlots}
 
@@ -27,7 +27,7 @@ never : (b : Bool) → false ≡ b && false
 never true = refl
 never false = refl
 
-someone-next : (w : Whom) → someone (next w) ≡ someone w
+someone-next : (w : Whom) → someone (oneUp w) ≡ someone w
 someone-next nobody = refl
 someone-next (thread t) = refl
 

@@ -9,8 +9,9 @@ use layout::MAX_ATOMIC_HISTORY;
 use layout::MAX_THREADS;
 use layout::Marks;
 use layout::NONE;
+use layout::UNSEEN;
 
-// The version of each thread at its first sight of the store, or NONE.
+// The version of each thread at its first sight of the store, or UNSEEN.
 pub struct FirstSeen {
     pub versions: [u16; MAX_THREADS],
 }
@@ -21,7 +22,7 @@ impl FirstSeen {
         ensures { λ r. ⌜ r .versions ≡ unseens 5 ⌝ }
     {
         FirstSeen {
-            versions: [NONE; MAX_THREADS],
+            versions: [UNSEEN; MAX_THREADS],
         }
     }
 
@@ -32,7 +33,7 @@ impl FirstSeen {
         let mut i = 0;
         while i < MAX_THREADS {
             let mark = self.versions[i];
-            self.versions[i] = if (i == thread) & (mark == NONE) {
+            self.versions[i] = if (i == thread) & (mark == UNSEEN) {
                 version
             } else {
                 mark
@@ -66,18 +67,18 @@ impl FirstSeen {
         if last_yield == NONE {
             return false;
         }
-        if self.versions[thread] == NONE {
+        if self.versions[thread] == UNSEEN {
             return false;
         }
         self.versions[thread] <= last_yield
     }
 }
 
-// The latest mark that a part of a causality knows: the part itself, but never NONE, which is no mark.
+// The latest mark that a part of a causality knows: the part itself, but never UNSEEN, which is no mark.
 fn latest_known(part: u16) -> u16
     ensures { λ r. ⌜ ((mark : ℕ) → leb mark r ≡ known mark part) ⌝ }
 {
-    if part < NONE { part } else { NONE - 1 }
+    if part < UNSEEN { part } else { UNSEEN - 1 }
 }
 
 // Changes the mark of first sight in place, where the thread has none: over the function that hands the marks back.

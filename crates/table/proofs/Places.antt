@@ -7,8 +7,8 @@ use lib.ListN.{length}
 use borrow.Author.Tests.{lt-ltb, le-ltb, le-leb, lt-leb}
 use Rattle.rules.specs.Table.{maxCells, maxPlains, maxValues, allRows, Room, roomOf, threadsOf, cellsOf, plainsOf, headerBytes, valueBytes, rowBytes, sizeOf, u64At, startValue, rowFrom, noRow, rowAt, maxThreads, Row, refused, rowDecoded, opAt}
 use Rattle.table.specs.Answers.{PlaceOf}
-use Rattle.table.specs.declared.Place.{Place}
-use Rattle.table.specs.declared.Place.the-variants.{Nowhere, At}
+use Rattle.table.specs.declared.RowStart.{RowStart}
+use Rattle.table.specs.declared.RowStart.the-variants.{Nowhere, At}
 
 module _ (t : List ℕ) (i : ℕ) where
   pub value-held : i < maxValues → headerBytes + valueBytes * i + valueBytes ≤ length t →
@@ -84,7 +84,7 @@ module _ (t : List ℕ) (room : Room) (index : ℕ) where
   place-none h = rw (lt-leb (room .threads) maxThreads h)
 
   -- a place that was taken apart
-  module _ {x : Place} (p : PlaceOf t room index x) where
+  module _ {x : RowStart} (p : PlaceOf t room index x) where
     pub op-nowhere : x ≡ Nowhere → refused ≡ opAt t room index
     op-nowhere e = subst (PlaceOf t room index) e p
 

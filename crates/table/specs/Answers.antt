@@ -8,8 +8,8 @@ use Rattle.decode.specs.declared.Decoded.{Decoded}
 use Rattle.decode.specs.Ops.{decodedOf, opWithin}
 use Rattle.table.specs.declared.Judged.{Judged}
 use Rattle.table.specs.declared.Judged.the-variants.{Accepted, Header, Row}
-use Rattle.table.specs.declared.Place.{Place}
-use Rattle.table.specs.declared.Place.the-variants.{Nowhere, At}
+use Rattle.table.specs.declared.RowStart.{RowStart}
+use Rattle.table.specs.declared.RowStart.the-variants.{Nowhere, At}
 
 abbrev pub judgedOf : Judged → rules.Judged
 judgedOf Accepted = rules.good
@@ -17,7 +17,7 @@ judgedOf Header = rules.badHeader
 judgedOf (Row thread row) = rules.badRow thread row
 
 -- where a row stands: there it is what the definition decodes; a row that stands nowhere is refused
-abbrev pub PlaceOf : List ℕ → rules.Room → ℕ → Place → Type 0
+abbrev pub PlaceOf : List ℕ → rules.Room → ℕ → RowStart → Type 0
 PlaceOf t room index Nowhere = rules.refused ≡ rules.opAt t room index
 PlaceOf t room index (At at) =
     (at + rules.rowBytes ≤ length t) × (rules.rowDecoded room (rules.rowFrom t at) ≡ rules.opAt t room index)

@@ -5,7 +5,7 @@ ghost use Prim.Native.Nat.{_+_, _<_, _≤_, _^_};
 ghost use lib.ListN.{length, getD};
 ghost use Rattle.rules.specs.Table as rules;
 ghost use Rattle.rules.specs.Table.{headerBytes, rowBytes, headerFine, countFine, countsFine, countsOf, firstBad, judged, shapeOf, startValue, rowFrom, opAt, isFine};
-ghost use Rattle.decode.specs.Ops.{rowOf, roomOf};
+ghost use Rattle.decode.specs.Ops.{rowMeant, roomOf};
 ghost use Rattle.table.specs.Answers.{judgedOf, roomIn, OpAt, PlaceOf};
 
 pub mod limits;
@@ -17,6 +17,7 @@ use decode::Room;
 pub use decode::Row;
 use decode::is_row;
 pub use decode::opcode;
+use decode::opcodes::NO_OPCODE;
 use decode::row_decoded;
 use layout::MAX_CELLS;
 use layout::MAX_PLAINS;
@@ -25,12 +26,12 @@ use layout::short8;
 use layout::wide8;
 use layout::wide16;
 use limits::ALL_ROWS;
-use limits::HEADER;
+use limits::HEADER_BYTES;
 use limits::MAX_ROWS;
 use limits::MAX_VALUES;
 use limits::PLAIN_COUNT;
-use limits::ROW;
-use limits::VALUE;
+use limits::ROW_BYTES;
+use limits::VALUE_BYTES;
 
 // A table's shape: threads, cells, the five row counts, the number of each thread's first row among all rows, and plain cells. Its
 // first seven numbers are the header's, in their places.
@@ -49,9 +50,9 @@ pub const FIRSTS: usize = 7;
 pub const PLAINS: usize = 12;
 
 // Where a shape has the last thread's row count and first row, whose sum is the number of all rows.
-const LAST_COUNT: usize = 6;
+pub const LAST_COUNT: usize = COUNTS + MAX_THREADS - 1;
 
-const LAST_FIRST: usize = 11;
+pub const LAST_FIRST: usize = FIRSTS + MAX_THREADS - 1;
 
 // What is wrong with a table, if anything is: the header or the length, or else the first bad row in byte order.
 pub enum Judged {
@@ -61,7 +62,7 @@ pub enum Judged {
 }
 
 // The first byte of a row, or that the table does not hold it.
-pub enum Place {
+pub enum RowStart {
     Nowhere,
     At(usize),
 }
@@ -91,7 +92,7 @@ pub fn judge(table: &[u8]) -> Judged
 pub fn shape(table: &[u8]) -> Shape
     ensures { λ r. ⌜ r ≡ shapeOf (now (table .entry)) ⌝ }
 {
-    if table.len() < HEADER {
+    if table.len() < HEADER_BYTES {
         return [0; SHAPE];
     }
     let threads = short8(table[0]);
@@ -127,8 +128,8 @@ pub fn start_value(table: &[u8], i: usize) -> u64
     ensures { λ r. ⌜ r ≡ startValue (now (table .entry)) i ⌝ }
 {
     if i < MAX_VALUES {
-        let at = HEADER + VALUE * i;
-        if at + VALUE <= table.len() {
+        let at = HEADER_BYTES + VALUE_BYTES * i;
+        if at + VALUE_BYTES <= table.len() {
             return little::u64_at(table, at);
         }
     }
@@ -161,7 +162,7 @@ pub fn row_of(table: &[u8], shape: &Shape, thread: usize, number: u16) -> Decode
 pub fn op_at(table: &[u8], room: Room, index: usize) -> Decoded
     ensures { λ r. ⌜ OpAt (now (table .entry)) (roomOf room) index r ⌝ }
 {
-    let Place::At(at) = place_of(table, room, index) else {
+    let RowStart::At(at) = place_of(table, room, index) else {
         return Decoded::Refused;
     };
     row_decoded(row_from(table, at), room)
@@ -171,14 +172,14 @@ pub fn op_at(table: &[u8], room: Room, index: usize) -> Decoded
 fn is_fine(table: &[u8], room: Room, index: usize) -> bool
     ensures { λ r. ⌜ r ≡ isFine (opAt (now (table .entry)) (roomOf room) index) ⌝ }
 {
-    let Place::At(at) = place_of(table, room, index) else {
+    let RowStart::At(at) = place_of(table, room, index) else {
         return false;
     };
     is_row(row_from(table, at), room)
 }
 
 // Where the row of this number among all rows stands.
-fn place_of(table: &[u8], room: Room, index: usize) -> Place
+fn place_of(table: &[u8], room: Room, index: usize) -> RowStart
     ensures { λ r. ⌜ PlaceOf (now (table .entry)) (roomOf room) index r ⌝ }
 {
     let threads = room.threads;
@@ -188,31 +189,31 @@ fn place_of(table: &[u8], room: Room, index: usize) -> Place
         if cells <= MAX_CELLS {
             if plains <= MAX_PLAINS {
                 if index < ALL_ROWS {
-                    let at = HEADER + VALUE * (cells + plains) + ROW * index;
-                    if at + ROW <= table.len() {
-                        return Place::At(at);
+                    let at = HEADER_BYTES + VALUE_BYTES * (cells + plains) + ROW_BYTES * index;
+                    if at + ROW_BYTES <= table.len() {
+                        return RowStart::At(at);
                     }
                 }
             }
         }
     }
-    Place::Nowhere
+    RowStart::Nowhere
 }
 
 // The row of this number among all rows of a table with so many start values; where the table does not hold it, one that no opcode has.
 pub fn row_at(table: &[u8], values: usize, index: usize) -> Row
-    ensures { λ r. ⌜ rowOf r ≡ rules.rowAt (now (table .entry)) values index ⌝ }
+    ensures { λ r. ⌜ rowMeant r ≡ rules.rowAt (now (table .entry)) values index ⌝ }
 {
     if values <= MAX_VALUES {
         if index < ALL_ROWS {
-            let at = HEADER + VALUE * values + ROW * index;
-            if at + ROW <= table.len() {
+            let at = HEADER_BYTES + VALUE_BYTES * values + ROW_BYTES * index;
+            if at + ROW_BYTES <= table.len() {
                 return row_from(table, at);
             }
         }
     }
     Row {
-        opcode: 255,
+        opcode: NO_OPCODE,
         object: 0,
         order: 0,
         failure: 0,
@@ -227,7 +228,7 @@ pub fn row_at(table: &[u8], values: usize, index: usize) -> Row
 // The row whose first byte is this one.
 fn row_from(table: &[u8], at: usize) -> Row
     requires { ⌜ at + rowBytes ≤ length (now table) ⌝ }
-    ensures { λ r. ⌜ rowOf r ≡ rowFrom (now (table .entry)) at ⌝ }
+    ensures { λ r. ⌜ rowMeant r ≡ rowFrom (now (table .entry)) at ⌝ }
 {
     Row {
         opcode: table[at],
@@ -246,7 +247,7 @@ fn row_from(table: &[u8], at: usize) -> Row
 fn header_fine(table: &[u8]) -> bool
     ensures { λ r. ⌜ r ≡ headerFine (now (table .entry)) ⌝ }
 {
-    if table.len() < HEADER {
+    if table.len() < HEADER_BYTES {
         return false;
     }
     let threads = wide8(table[0]);
@@ -254,7 +255,7 @@ fn header_fine(table: &[u8]) -> bool
     let plains = wide8(table[PLAIN_COUNT]);
     let s = shape(table);
     let rows = wide16(s[LAST_COUNT]) + wide16(s[LAST_FIRST]);
-    let size = HEADER + VALUE * (cells + plains) + ROW * rows;
+    let size = HEADER_BYTES + VALUE_BYTES * (cells + plains) + ROW_BYTES * rows;
     ((1 <= threads) & (threads <= MAX_THREADS))
         & ((1 <= cells) & (cells <= MAX_CELLS))
         & counts_fine(table, threads)

@@ -17,11 +17,11 @@ pub const CELL_COUNT: usize = 1;
 pub const PLAIN_COUNT: usize = 7;
 
 // In bytes: the header, a cell's start value, a row.
-pub const HEADER: usize = 8;
+pub const HEADER_BYTES: usize = 8;
 
-pub const VALUE: usize = 8;
+pub const VALUE_BYTES: usize = 8;
 
-pub const ROW: usize = 24;
+pub const ROW_BYTES: usize = 24;
 
 // The bytes of the largest table.
-pub const TABLE_BYTES: usize = HEADER + VALUE * MAX_VALUES + ROW * ALL_ROWS;
+pub const TABLE_BYTES: usize = HEADER_BYTES + VALUE_BYTES * MAX_VALUES + ROW_BYTES * ALL_ROWS;

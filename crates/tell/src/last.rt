@@ -20,7 +20,7 @@ pub fn execution(page: &mut Page, table: &[u8], trace: &[u8], whole: bool) {
     let mut i = 0;
     while i < n {
         step(page, table, trace, &held, i, n, width, whole);
-        held::take(&mut held, table, trace, i);
+        held::take(table, trace, &mut held, i);
         i += 1;
     }
 }

@@ -3,6 +3,7 @@
 use page::Page;
 use page::WIDTH;
 use report::Report;
+use report::answers;
 use settings::Settings;
 
 mod last;
@@ -14,9 +15,9 @@ mod threads;
 pub fn print_report(
     table: &[u8],
     condition: &[u8],
+    trace: &[u8],
     settings: Settings,
     report: Report,
-    trace: &[u8],
     whole: bool,
 ) {
     let mut page = [0u8; WIDTH];
@@ -45,11 +46,11 @@ fn ran(page: &mut Page, table: &[u8], trace: &[u8], report: Report, whole: bool)
     let threads = report.threads;
     let is_limit = limit::is_limit(number);
     last::execution(page, table, trace, whole || !is_limit);
-    let thread = report::thread_of(answer);
-    let row = report::row_of(answer);
+    let thread = report::thread_at_fault(answer);
+    let row = report::row_at_fault(answer);
     let to = stop::put_place(page, 0, table, thread, row, is_limit);
     out::write(page, to);
-    if number == 10 {
+    if number == answers::DEADLOCK {
         threads::waiting(page, table, trace, threads);
     }
 }

@@ -9,7 +9,7 @@ use native.Mathlib.Omega.{arith}
 use borrow.Author.Tests.{eq-eqb, ne-eqb}
 use lib.ListN.{length, drop, length-drop}
 use Rattle.rules.specs.Vector.{equal}
-use Rattle.rules.specs.Token.{run, endsLine, bytesOf, isEmpty, skip, token, pastToken, tokenLength, Found, nothing, found, placeIn}
+use Rattle.rules.specs.Token.{runLength, endsLine, bytesOf, isEmpty, pastBlanks, token, pastToken, tokenLength, Found, nothing, found, placeIn}
 use Rattle.rules.specs.Form.{orders}
 use Rattle.rules.specs.Text.{marks}
 use Rattle.token.specs.Places.{part}
@@ -20,7 +20,7 @@ use Rattle.token.proofs.PlaceLaws.{left-by, part-token}
 abbrev further : ℕ → List ℕ → Bool → List (List ℕ)
 further n bs t = elim t [ true ↦ [] | false ↦ token bs ∷ wordsIn n (pastToken bs) ]
 
-further-next : (n : ℕ) (bs : List ℕ) → wordsIn (suc n) bs ≡ further n (skip bs) (isEmpty (skip bs))
+further-next : (n : ℕ) (bs : List ℕ) → wordsIn (suc n) bs ≡ further n (pastBlanks bs) (isEmpty (pastBlanks bs))
 unfolding wordsIn
 further-next n bs = refl
 
@@ -37,7 +37,7 @@ module _ (word words : List ℕ) (i from left : ℕ) where
   unfolding placeIn wordsIn
   place-out h = let e : left ≡ 0 = omega arith in rw e
 
-  module _ (at : ℕ) (skipped : drop at words ≡ skip (drop from words)) (more : 0 < left) where
+  module _ (at : ℕ) (skipped : drop at words ≡ pastBlanks (drop from words)) (more : 0 < left) where
     one-more : (t : Bool) → isEmpty (drop at words) ≡ t → further (left - 1) (drop at words) t ≡ wordsIn left (drop from words)
     one-more t e =
         let s : left ≡ suc (left - 1) = omega arith in
@@ -69,9 +69,9 @@ module _ (word words : List ℕ) (i from left : ℕ) where
       place-on e = place-next false e
 
 pub orders-line : wordsIn 37 (bytesOf "relaxed release acquire acqrel seqcst") ≡ orders
-unfolding wordsIn bytesOf run tokenLength endsLine
+unfolding wordsIn bytesOf runLength tokenLength endsLine
 orders-line = refl
 
 pub marks-line : wordsIn 25 (bytesOf "= != < <= > >= ( ) and or") ≡ marks
-unfolding wordsIn bytesOf run tokenLength endsLine
+unfolding wordsIn bytesOf runLength tokenLength endsLine
 marks-line = refl

@@ -16,30 +16,30 @@ use borrow.Author.Tests.{eq-eqb, ne-eqb}
 use lib.Dec.{eqb}
 use lib.ListN.{length, getD, take, drop, length-drop, drop-of-length-le}
 use lib.Seq.{drop-cons, getD-drop, drop-drop, take-nil, take-all}
-use Rattle.rules.specs.Token.{run, endsLine, lineLength, tokenLength, isLetter, isMark, isEmpty, skip, token, nextLine, content, lineFeed}
+use Rattle.rules.specs.Token.{runLength, endsLine, lineLength, tokenLength, isLetter, isMark, isEmpty, pastBlanks, token, nextLine, content, lineFeed}
 use Rattle.rules.specs.Vector.{equal}
 use Rattle.token.specs.Places.{part, Between}
 
 -- Scans
 
 module _ (p : ℕ → Bool) (text : List ℕ) (at : ℕ) where
-  pub run-past : length text ≤ at → run p (drop at text) ≡ 0
-  unfolding run
+  pub run-past : length text ≤ at → runLength p (drop at text) ≡ 0
+  unfolding runLength
   run-past h = rw (drop-of-length-le text {i = at} h)
 
-  pub run-on : at < length text → p (getD text at 0) ≡ true → run p (drop at text) ≡ suc (run p (drop (at + 1) text))
-  unfolding run
+  pub run-on : at < length text → p (getD text at 0) ≡ true → runLength p (drop at text) ≡ suc (runLength p (drop (at + 1) text))
+  unfolding runLength
   run-on h t = rw (add-one, drop-cons text at 0, t)
 
-  pub run-stops : at < length text → p (getD text at 0) ≡ false → run p (drop at text) ≡ 0
-  unfolding run
+  pub run-stops : at < length text → p (getD text at 0) ≡ false → runLength p (drop at text) ≡ 0
+  unfolding runLength
   run-stops h t = rw (drop-cons text at 0, t)
 
-pub run-within : (p : ℕ → Bool) (bs : List ℕ) → run p bs ≤ length bs
-unfolding run
+pub run-within : (p : ℕ → Bool) (bs : List ℕ) → runLength p bs ≤ length bs
+unfolding runLength
 run-within p [] = omega arith
 run-within p (b ∷ bs) =
-    elim (p b) as (λ t. cond t (suc (run p bs)) 0 ≤ suc (length bs)) [ true ↦ omega (arith, run-within p bs) | false ↦ omega arith ]
+    elim (p b) as (λ t. cond t (suc (runLength p bs)) 0 ≤ suc (length bs)) [ true ↦ omega (arith, run-within p bs) | false ↦ omega arith ]
 
 module _ (text : List ℕ) (at : ℕ) where
   pub line-past : length text ≤ at → lineLength (drop at text) ≡ 0
@@ -102,11 +102,11 @@ module _ (text : List ℕ) (at : ℕ) where
     first : getD (drop at text) 0 0 ≡ getD text at 0
     first = let z : at + 0 ≡ at = omega arith in getD-drop at text 0 0 ∙ ap (λ (i : ℕ). getD text i 0) z
 
-    pub token-word : isLetter (getD text at 0) ≡ true → tokenLength (drop at text) ≡ run isLetter (drop at text)
+    pub token-word : isLetter (getD text at 0) ≡ true → tokenLength (drop at text) ≡ runLength isLetter (drop at text)
     unfolding tokenLength
     token-word t = rw (e, first, t)
 
-    pub token-sign : isLetter (getD text at 0) ≡ false → isMark (getD text at 0) ≡ true → tokenLength (drop at text) ≡ run isMark (drop at text)
+    pub token-sign : isLetter (getD text at 0) ≡ false → isMark (getD text at 0) ≡ true → tokenLength (drop at text) ≡ runLength isMark (drop at text)
     unfolding tokenLength
     token-sign f t = rw (e, first, f, t)
 
@@ -120,12 +120,12 @@ token-within [] = omega arith
 token-within (b ∷ bs) =
     let word = run-within isLetter (b ∷ bs) in
     let sign = run-within isMark (b ∷ bs) in
-    elim (endsLine (b ∷ bs)) as (λ t. cond t 0 (cond (isLetter b) (run isLetter (b ∷ bs)) (cond (isMark b) (run isMark (b ∷ bs)) 1)) ≤ suc (length bs)) [
+    elim (endsLine (b ∷ bs)) as (λ t. cond t 0 (cond (isLetter b) (runLength isLetter (b ∷ bs)) (cond (isMark b) (runLength isMark (b ∷ bs)) 1)) ≤ suc (length bs)) [
       | true ↦ omega arith
       | false ↦
-          elim (isLetter b) as (λ t. cond t (run isLetter (b ∷ bs)) (cond (isMark b) (run isMark (b ∷ bs)) 1) ≤ suc (length bs)) [
+          elim (isLetter b) as (λ t. cond t (runLength isLetter (b ∷ bs)) (cond (isMark b) (runLength isMark (b ∷ bs)) 1) ≤ suc (length bs)) [
             | true ↦ word
-            | false ↦ elim (isMark b) as (λ t. cond t (run isMark (b ∷ bs)) 1 ≤ suc (length bs)) [ true ↦ sign | false ↦ omega arith ]
+            | false ↦ elim (isMark b) as (λ t. cond t (runLength isMark (b ∷ bs)) 1 ≤ suc (length bs)) [ true ↦ sign | false ↦ omega arith ]
           ]
     ]
 
@@ -148,7 +148,7 @@ between-by text at n l =
     record { further = omega arith; within = λ h. omega arith; past = λ h. omega arith }
 
 module _ (text : List ℕ) (at r : ℕ) where
-  pub between-run : (p : ℕ → Bool) → r ≡ at + run p (drop at text) → Between text at r
+  pub between-run : (p : ℕ → Bool) → r ≡ at + runLength p (drop at text) → Between text at r
   between-run p e = rw e (between-by text at _ (run-within p (drop at text)))
 
   pub between-line : r ≡ at + lineLength (drop at text) → Between text at r
@@ -167,11 +167,11 @@ module _ (text : List ℕ) (at r : ℕ) where
 abbrev onward : ℕ → List ℕ → Bool → List ℕ
 onward n bs t = elim t [ true ↦ bs | false ↦ content n (nextLine bs) ]
 
-onward-next : (n : ℕ) (bs : List ℕ) → content (suc n) bs ≡ onward n (skip bs) (isEmpty (skip bs) || not (endsLine (skip bs)))
+onward-next : (n : ℕ) (bs : List ℕ) → content (suc n) bs ≡ onward n (pastBlanks bs) (isEmpty (pastBlanks bs) || not (endsLine (pastBlanks bs)))
 unfolding content
 onward-next n bs = refl
 
-module _ (text : List ℕ) (from left to : ℕ) (skipped : drop to text ≡ skip (drop from text)) where
+module _ (text : List ℕ) (from left to : ℕ) (skipped : drop to text ≡ pastBlanks (drop from text)) where
   pub content-out : left ≤ 0 → drop to text ≡ content left (drop from text)
   unfolding content
   content-out h = let e : left ≡ 0 = omega arith in rw e skipped

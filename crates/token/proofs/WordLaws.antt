@@ -11,7 +11,7 @@ use native.Mathlib.Omega.{arith}
 use borrow.Author.Tests.{eq-eqb, ne-eqb, le-leb, lt-leb, leb-true}
 use lib.Dec.{ltb, leb, eqb}
 use lib.ListN.{length, getD}
-use Rattle.rules.specs.Token.{Found, nothing, found, onlyIf, isBetween, isDigit, digitsBehind, numberIn, fourth}
+use Rattle.rules.specs.Token.{Found, nothing, found, foundIf, isBetween, isDigit, digitsBehind, numberIn, fourth}
 use Rattle.rules.specs.Text.{threadRegisterIn}
 use Rattle.decimal.specs.Decimal.{numberOf, behind, withDigit, extended}
 use Rattle.decimal.specs.declared.Parsed.{Parsed}
@@ -64,28 +64,28 @@ number-short (b ∷ c ∷ bs) h = absurd (omega arith)
 -- Registers
 
 module _ (last b : ℕ) where
-  pub digit-low : b < 48 → nothing ≡ onlyIf (isBetween 48 last b) (b - 48)
+  pub digit-low : b < 48 → nothing ≡ foundIf (isBetween 48 last b) (b - 48)
   digit-low h = simp (lt-leb 48 b h)
 
-  pub digit-high : 48 ≤ b → last < b → nothing ≡ onlyIf (isBetween 48 last b) (b - 48)
+  pub digit-high : 48 ≤ b → last < b → nothing ≡ foundIf (isBetween 48 last b) (b - 48)
   digit-high l h = simp (le-leb 48 b l, lt-leb b last h)
 
-  pub digit-one : 48 ≤ b → b ≤ last → found (b - 48) ≡ onlyIf (isBetween 48 last b) (b - 48)
+  pub digit-one : 48 ≤ b → b ≤ last → found (b - 48) ≡ foundIf (isBetween 48 last b) (b - 48)
   digit-one l h = simp (le-leb 48 b l, le-leb b last h)
 
-pub only-not : (t : Bool) (v : ℕ) → onlyIf t v ≡ nothing → t ≡ false
+pub only-not : (t : Bool) (v : ℕ) → foundIf t v ≡ nothing → t ≡ false
 only-not true v e = cc
 only-not false v e = refl
 
-pub only-is : (t : Bool) (v w : ℕ) → onlyIf t v ≡ found w → t ≡ true
+pub only-is : (t : Bool) (v w : ℕ) → foundIf t v ≡ found w → t ≡ true
 only-is true v w e = refl
 only-is false v w e = cc
 
-pub only-value : (t : Bool) (v w : ℕ) → onlyIf t v ≡ found w → v ≡ w
+pub only-value : (t : Bool) (v w : ℕ) → foundIf t v ≡ found w → v ≡ w
 only-value true v w e = cc
 only-value false v w e = cc
 
-pub digit-most : (last b v : ℕ) → onlyIf (isBetween 48 last b) (b - 48) ≡ found v → v ≤ last - 48
+pub digit-most : (last b v : ℕ) → foundIf (isBetween 48 last b) (b - 48) ≡ found v → v ≤ last - 48
 digit-most last b v e =
     let t : isBetween 48 last b ≡ true = only-is (isBetween 48 last b) _ _ e in
     let w : b - 48 ≡ v = only-value (isBetween 48 last b) _ _ e in
@@ -103,7 +103,7 @@ module _ (letter : ℕ) (word : List ℕ) where
   pub fourth-letter : (getD word 0 0 ≡ letter → ⊥) → nothing ≡ fourth letter word
   fourth-letter n = simp (ne-eqb _ _ n, and-false)
 
-  pub fourth-digit : length word ≡ 2 → getD word 0 0 ≡ letter → onlyIf (isBetween 48 51 (getD word 1 0)) (getD word 1 0 - 48) ≡ fourth letter word
+  pub fourth-digit : length word ≡ 2 → getD word 0 0 ≡ letter → foundIf (isBetween 48 51 (getD word 1 0)) (getD word 1 0 - 48) ≡ fourth letter word
   fourth-digit h e = simp (eq-eqb _ _ h, eq-eqb _ _ e)
 
 module _ (word : List ℕ) where
@@ -129,8 +129,8 @@ module _ (word : List ℕ) where
   thread-register-register e = rw e (simp and-false)
 
   pub thread-register-all : (t r : ℕ) → length word ≡ 4 → getD word 1 0 ≡ 46 → getD word 2 0 ≡ 114
-      → onlyIf (isBetween 48 52 (getD word 0 0)) (getD word 0 0 - 48) ≡ found t
-      → onlyIf (isBetween 48 51 (getD word 3 0)) (getD word 3 0 - 48) ≡ found r
+      → foundIf (isBetween 48 52 (getD word 0 0)) (getD word 0 0 - 48) ≡ found t
+      → foundIf (isBetween 48 51 (getD word 3 0)) (getD word 3 0 - 48) ≡ found r
       → found (4 * t + r) ≡ threadRegisterIn word
   unfolding threadRegisterIn
   thread-register-all t r h p l e f =

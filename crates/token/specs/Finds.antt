@@ -5,7 +5,7 @@ use Prim.Native.Nat.{ℕ, zero, suc}
 use mathlib.Core.List.{List, [], _∷_}
 use mathlib.Core.Bool.{true, false}
 use Rattle.rules.specs.Token as rules
-use Rattle.rules.specs.Token.{isEmpty, skip, token, pastToken}
+use Rattle.rules.specs.Token.{isEmpty, pastBlanks, token, pastToken}
 use Rattle.token.specs.declared.Found.{Found}
 use Rattle.token.specs.declared.Found.the-variants.{Nothing, Value}
 
@@ -17,4 +17,4 @@ foundOf (Value v) = rules.found v
 unfoldable pub wordsIn : ℕ → List ℕ → List (List ℕ)
 wordsIn zero bs = []
 wordsIn (suc n) bs =
-    elim (isEmpty (skip bs)) [ true ↦ [] | false ↦ token (skip bs) ∷ wordsIn n (pastToken (skip bs)) ]
+    elim (isEmpty (pastBlanks bs)) [ true ↦ [] | false ↦ token (pastBlanks bs) ∷ wordsIn n (pastToken (pastBlanks bs)) ]

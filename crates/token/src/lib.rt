@@ -4,12 +4,13 @@ ghost use mathlib.Core.Path.{_≡_};
 ghost use Prim.Native.Nat.{_+_, _-_, _<_};
 ghost use lib.ListN.{length, drop};
 ghost use Rattle.rules.specs.Vector.{equal};
-ghost use Rattle.rules.specs.Token.{run, isBlank, isLetter, isBetween, endsLine, tokenLength, lineLength, onlyIf, numberIn, fourth, registerIn, plainIn, placeIn};
+ghost use Rattle.rules.specs.Token.{runLength, isBlank, isLetter, isBetween, endsLine, tokenLength, lineLength, foundIf, numberIn, fourth, registerIn, plainIn, placeIn};
 ghost use Rattle.rules.specs.Form.{orderIn};
 ghost use Rattle.rules.specs.Text.{markIn, threadRegisterIn};
 ghost use Rattle.token.specs.Places.{isOf, part, Content};
 ghost use Rattle.token.specs.Finds.{foundOf, wordsIn};
 use decimal::Parsed;
+use layout::REGISTERS;
 
 // The bytes that make a token, or stand between two.
 enum Kind {
@@ -25,8 +26,8 @@ pub enum Found {
 }
 
 // Past blanks.
-pub fn skip(text: &[u8], at: usize) -> usize
-    ensures { λ r. ⌜ r ≡ at + run isBlank (drop at (now (text .entry))) ⌝ }
+pub fn past_blanks(text: &[u8], at: usize) -> usize
+    ensures { λ r. ⌜ r ≡ at + runLength isBlank (drop at (now (text .entry))) ⌝ }
 {
     run_end(text, at, Kind::Blank)
 }
@@ -92,7 +93,7 @@ pub fn content(text: &[u8], at: usize, lines: usize) -> usize
     let mut from = at;
     let mut left = lines;
     while 0 < left {
-        let to = skip(text, from);
+        let to = past_blanks(text, from);
         if text.len() <= to {
             return to;
         }
@@ -102,7 +103,7 @@ pub fn content(text: &[u8], at: usize, lines: usize) -> usize
         from = next_line(text, to);
         left -= 1;
     }
-    skip(text, from)
+    past_blanks(text, from)
 }
 
 // The bytes from one place up to another, as far as the text has them.
@@ -122,7 +123,7 @@ pub fn part(text: &[u8], from: usize, to: usize) -> &[u8]
 }
 
 // Whether these bytes are that word.
-pub fn is_word(text: &[u8], from: usize, to: usize, word: &[u8]) -> bool
+pub fn is_word(text: &[u8], word: &[u8], from: usize, to: usize) -> bool
     ensures { λ r. ⌜ r ≡ equal (part from to (now (text .entry))) (now (word .entry)) ⌝ }
 {
     same(part(text, from, to), word)
@@ -178,7 +179,7 @@ pub fn thread_register(text: &[u8], from: usize, to: usize) -> Found
     let Found::Value(register) = digit(word[3], b'3') else {
         return Found::Nothing;
     };
-    Found::Value(4 * thread + register)
+    Found::Value(REGISTERS as u64 * thread + register)
 }
 
 // The number of an order.
@@ -208,7 +209,7 @@ fn place_in(word: &[u8], words: &[u8], first: u64) -> Found
     let mut from = 0;
     let mut left = words.len();
     while 0 < left {
-        let at = skip(words, from);
+        let at = past_blanks(words, from);
         if words.len() <= at {
             return Found::Nothing;
         }
@@ -237,7 +238,7 @@ fn fourth(word: &[u8], letter: u8) -> Found
 
 // The number of a digit that is not above the last.
 fn digit(byte: u8, last: u8) -> Found
-    ensures { λ r. ⌜ foundOf r ≡ onlyIf (isBetween 48 last byte) (byte - 48) ⌝ }
+    ensures { λ r. ⌜ foundOf r ≡ foundIf (isBetween 48 last byte) (byte - 48) ⌝ }
 {
     if byte < b'0' {
         return Found::Nothing;
@@ -267,7 +268,7 @@ fn same(word: &[u8], other: &[u8]) -> bool
 
 // The end of a run of such bytes.
 fn run_end(text: &[u8], at: usize, kind: Kind) -> usize
-    ensures { λ r. ⌜ r ≡ at + run (isOf kind) (drop at (now (text .entry))) ⌝ }
+    ensures { λ r. ⌜ r ≡ at + runLength (isOf kind) (drop at (now (text .entry))) ⌝ }
 {
     let mut to = at;
     while to < text.len() {

@@ -9,7 +9,7 @@ use native.Mathlib.Omega.{arith}
 use lib.ListN.{length, getD, take, drop, replicate, length-append, length-take, length-drop, length-replicate, getD-replicate, take-append-drop}
 use lib.Seq.{paste, take-all, take-paste, drop-paste, length-paste, getD-drop, ext-getD}
 use Rattle.rules.specs.Event.{Entry, entryBytes}
-use Rattle.rules.specs.Explored.{entriesBytes, noted}
+use Rattle.rules.specs.Explored.{entriesBytes, traceLeft}
 use Rattle.trace.proofs.TraceLaws.{length-entryBytes}
 use Rattle.trace.specs.Entries.{Front, Appended}
 
@@ -69,6 +69,6 @@ module _ (bytes : List ℕ) (es : List Entry) (front : Front bytes es) (zeros : 
       ∙ zeros (16 * length es + i) (omega arith)
       ∙ sym (getD-replicate (length bytes - 16 * length es) i 0 0 (omega (arith, length-drop (16 * length es) bytes))))
 
-  pub front-noted : bytes ≡ noted (length bytes) es
-  unfolding noted
+  pub front-noted : bytes ≡ traceLeft (length bytes) es
+  unfolding traceLeft
   front-noted = sym (take-append-drop (16 * length es) bytes) ∙ (cc (front, rest-zeros))

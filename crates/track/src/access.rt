@@ -20,18 +20,18 @@ use layout::of_thread::SCHEDULE;
 use vv::VersionVec;
 
 // The operation that a thread is about to take, as a number; 0 is none (crate thread).
-pub const LOAD: u16 = 1;
+pub const A_LOAD: u16 = 1;
 
-pub const STORE: u16 = 2;
+pub const A_STORE: u16 = 2;
 
-pub const RMW: u16 = 3;
+pub const A_RMW: u16 = 3;
 
 // The branch of the access that this operation depends on, or NONE: a load does not depend on loads.
 pub fn last_dependent_branch(numbers: &Numbers, action: u16, cell: usize) -> u16
     requires { ⌜ cell < 4 ⌝ }
     ensures { λ r. ⌜ r ≡ dependentBranch (now (numbers .entry)) action cell ⌝ }
 {
-    let at = if action == LOAD {
+    let at = if action == A_LOAD {
         NON_LOAD_BRANCH
     } else {
         ACCESS_BRANCH
@@ -44,7 +44,7 @@ pub fn last_dependent_version(clocks: &Clocks, action: u16, cell: usize) -> [u16
     requires { ⌜ cell < 4 ⌝ }
     ensures { λ r. ⌜ r ≡ dependentVector (now (clocks .entry)) action cell ⌝ }
 {
-    let at = if action == LOAD {
+    let at = if action == A_LOAD {
         LAST_NON_LOAD_ACCESS
     } else {
         LAST_ACCESS
@@ -95,7 +95,7 @@ pub fn set_last_access(
     clocks[SCHEDULE + thread] = row;
     clocks[LAST_ACCESS + cell] = row;
     numbers[ACCESS_BRANCH + cell] = branch;
-    if action != LOAD {
+    if action != A_LOAD {
         clocks[LAST_NON_LOAD_ACCESS + cell] = row;
         numbers[NON_LOAD_BRANCH + cell] = branch;
     }

@@ -10,6 +10,9 @@ use condition::BELOW;
 use condition::COMPARISON;
 use condition::DIFFERS;
 use condition::EQUALS;
+use condition::NUMBER_AT;
+use condition::REGISTER_AT;
+use condition::THREAD_AT;
 use layout::wide8;
 use steps::held;
 use steps::held::Held;
@@ -49,7 +52,7 @@ fn is_sign(byte: u8) -> bool
 }
 
 // The comparison that begins here, by what is held; zeros where there is no room for one.
-pub fn part_at(condition: &[u8], at: usize, held: &Held) -> Part
+pub fn part_at(condition: &[u8], held: &Held, at: usize) -> Part
     ensures { λ r. ⌜ r ≡ partAt (now (condition .entry)) (now (held .entry)) at ⌝ }
 {
     if condition.len() < COMPARISON {
@@ -59,9 +62,9 @@ pub fn part_at(condition: &[u8], at: usize, held: &Held) -> Part
         return none();
     }
     let sign = condition[at];
-    let thread = condition[at + 1];
-    let register = condition[at + 2];
-    let number = u64_at(condition, at + 3);
+    let thread = condition[at + THREAD_AT];
+    let register = condition[at + REGISTER_AT];
+    let number = u64_at(condition, at + NUMBER_AT);
     let value = held::register(held, thread, wide8(register));
     Part {
         sign,

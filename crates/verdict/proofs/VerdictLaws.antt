@@ -11,7 +11,7 @@ use denote.Enum.Declared.{tagOf}
 use borrow.Author.Tests.{ne-eqb}
 use Rattle.rules.specs.Token.{bytesOf}
 use Rattle.rules.specs.Table as rules
-use Rattle.rules.specs.Explored.{Settings, Report}
+use Rattle.rules.specs.Explored.{Settings, Report, isRefusal}
 use Rattle.page.specs.Pages.{Page, filled}
 use Rattle.decode.proofs.Op as Op
 use Rattle.decode.specs.declared.Op.{Op}
@@ -23,7 +23,7 @@ use Rattle.refusal.specs.Refusals.{putRefusal}
 use Rattle.race.specs.Races.{putRace}
 use Rattle.limit.specs.Limits.{isLimit, putLimit}
 use Rattle.finally.specs.Finals.{putFinally}
-use Rattle.verdict.specs.Verdicts.{putWants, putCheck, putFailed, putPassed, putRefused, isRefusal, putVerdict}
+use Rattle.verdict.specs.Verdicts.{putWants, putCheck, putFailed, putPassed, putRefused, putVerdict}
 
 -- the places among the variants of what is no check
 abbrev others : List ℕ

@@ -7,11 +7,11 @@
 --     putVerdict     by the answer's number
 use Prim.Native.Nat.{ℕ, _%_}
 use mathlib.Core.List.{List}
-use mathlib.Core.Bool.{Bool, cond, _&&_}
-use lib.Dec.{eqb, leb}
+use mathlib.Core.Bool.{cond}
+use lib.Dec.{eqb}
 use lib.ListN.{length}
 use Rattle.rules.specs.Token.{bytesOf}
-use Rattle.rules.specs.Explored.{Settings, Report}
+use Rattle.rules.specs.Explored.{Settings, Report, isRefusal}
 use Rattle.rules.specs.Table.{Op, Decoded, refused, decoded, load, store, storeRegister, rmw, fence, unsyncLoad, exclusive, yield, join, jump, jumpIf, jumpUnless, check, critical, exploreState, skipBranch, spurious, plainRead, plainWrite}
 use Rattle.page.specs.Pages.{Page, putText, filled}
 use Rattle.steps.specs.Entries.{entries, rowSays}
@@ -80,10 +80,6 @@ putFailed p number thread row =
     (cond (eqb number 16)
     (filled p (bytesOf "answer 16: failed: `critical` while exploring is off, or `explore_state` while it is on, at thread #, row #\n") thread row 0)
     (filled p (bytesOf "answer #: stopped by a mistake of the explorer itself, at thread #, row #: please report it\n") number thread row)))
-
--- the refusals, 2 to 5
-abbrev pub isRefusal : ℕ → Bool
-isRefusal n = leb 2 n && leb n 5
 
 -- no verdict, refused, 0 where nothing failed, 14 a race, 15 a check, 18 the final condition
 unfoldable pub putVerdict : Page → List ℕ → List ℕ → List ℕ → Settings → Report → Page

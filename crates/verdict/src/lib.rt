@@ -4,11 +4,12 @@ ghost use mathlib.Core.Path.{_≡_};
 ghost use Rattle.page.specs.Pages.{ended};
 ghost use Rattle.settings.specs.Given.{settingsOf};
 ghost use Rattle.report.specs.Answers.{reportOf};
-ghost use Rattle.verdict.specs.Verdicts.{putVerdict, isRefusal, putPassed, putRefused, putCheck, putWanted, putFailed};
+ghost use Rattle.verdict.specs.Verdicts.{putVerdict, putPassed, putRefused, putCheck, putWanted, putFailed};
 use decode::Decoded;
 use decode::Op;
 use page::Page;
 use report::Report;
+use report::answers;
 use settings::Settings;
 
 // Puts the verdict.
@@ -25,32 +26,25 @@ pub fn put(
 {
     let answer = report.answer;
     let number = report::number(answer);
-    let thread = report::thread_of(answer);
-    let row = report::row_of(answer);
+    let thread = report::thread_at_fault(answer);
+    let row = report::row_at_fault(answer);
     if limit::is_limit(number) {
         return limit::put(page, at, trace, number, settings, thread, row);
     }
-    if is_refusal(number) {
+    if report::is_refusal(number) {
         return put_refused(page, at, table, condition, number, thread, row);
     }
     match number {
-        0 => put_passed(page, at, table, condition, settings, report.begun),
-        14 => {
+        answers::EXHAUSTED => put_passed(page, at, table, condition, settings, report.begun),
+        answers::RACE => {
             let kind = report::race_kind(answer);
             let other = report::other_thread(answer);
             race::put(page, at, table, trace, thread, row, kind, other)
         }
-        15 => put_check(page, at, table, trace, thread, row),
-        18 => finally::put(page, at, table, condition, trace),
+        answers::CHECK => put_check(page, at, table, trace, thread, row),
+        answers::UNMET => finally::put(page, at, table, condition, trace),
         _ => put_failed(page, at, number, thread, row),
     }
-}
-
-// Whether nothing was run, for what was given was refused.
-fn is_refusal(number: u64) -> bool
-    ensures { λ r. ⌜ r ≡ isRefusal number ⌝ }
-{
-    (2 <= number) & (number <= 5)
 }
 
 // Nothing failed: what was covered, and that the final condition was true, where there is one.
@@ -88,17 +82,17 @@ fn put_refused(
     ensures { λ r. ⌜ ended (now (page .exit)) r ≡ putRefused (ended (now (page .entry)) at) (now (table .entry)) (now (condition .entry)) number thread row ⌝ }
 {
     match number {
-        2 => page::put(
+        answers::BAD_SETTINGS => page::put(
             page,
             at,
             b"answer 2: refused: the settings are out of range\n",
         ),
-        3 => page::put(
+        answers::BAD_PATH => page::put(
             page,
             at,
             b"answer 3: refused: the path buffer has the wrong length\n",
         ),
-        4 => page::put(
+        answers::BAD_TRACE => page::put(
             page,
             at,
             b"answer 4: refused: the trace buffer has the wrong length\n",
@@ -157,12 +151,12 @@ fn put_failed(page: &mut Page, at: usize, number: u64, thread: u64, row: u64) ->
     ensures { λ r. ⌜ ended (now (page .exit)) r ≡ putFailed (ended (now (page .entry)) at) number thread row ⌝ }
 {
     match number {
-        10 => page::put(
+        answers::DEADLOCK => page::put(
             page,
             at,
             b"answer 10: failed: deadlock: no thread can run, and not every thread has ended\n",
         ),
-        13 => page::fill(
+        answers::EQUAL => page::fill(
             page,
             at,
             b"answer 13: failed: two stores that a load may read have no order between them, at thread #, row #\n",
@@ -170,7 +164,7 @@ fn put_failed(page: &mut Page, at: usize, number: u64, thread: u64, row: u64) ->
             row,
             0,
         ),
-        16 => page::fill(
+        answers::FLAGS => page::fill(
             page,
             at,
             b"answer 16: failed: `critical` while exploring is off, or `explore_state` while it is on, at thread #, row #\n",

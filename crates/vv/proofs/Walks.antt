@@ -15,7 +15,7 @@ use native.Mathlib.Numerals.{add-one}
 use lib.ListN.{length, getD, set, take, drop, drop-of-length-le, length-set}
 use lib.Seq.{drop-cons, take-suc-set, drop-set-lt, set-getD, set-out, take-all, append-snoc}
 use borrow.Author.Tests.{lt-ltb, le-ltb, le-leb, lt-leb, ne-eqb, eq-eqb, ltb-true, ltb-false}
-use Rattle.rules.specs.Vector.{largest, atMost, equal, less, joined, oneMore, raised, ahead, next, Whom, nobody, thread}
+use Rattle.rules.specs.Vector.{largest, atMost, equal, less, joined, oneMore, raised, ahead, oneUp, Whom, nobody, thread}
 use Rattle.rules.proofs.VectorLaws.{atMost-refl, equal-true}
 use Rattle.vv.specs.declared.Ordering.{Ordering}
 use Rattle.vv.specs.declared.Ordering.the-variants.{Less, Equal, Neither}
@@ -127,7 +127,7 @@ abbrev pub past : ℕ → Whom → Whom
 past i nobody = nobody
 past i (thread t) = thread (i + t)
 
-past-next : (i : ℕ) (w : Whom) → past (i + 1) w ≡ past i (next w)
+past-next : (i : ℕ) (w : Whom) → past (i + 1) w ≡ past i (oneUp w)
 past-next i nobody = refl
 past-next i (thread t) = let e : (i + 1) + t ≡ i + (t + 1) = omega arith in cc
 

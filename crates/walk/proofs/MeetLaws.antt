@@ -21,15 +21,15 @@ use Rattle.rules.specs.State.{State, Clocks, Marks as MarkTable, Values, Number
 use Rattle.rules.specs.Table.{Op, Decoded}
 use Rattle.rules.specs.Path as paths
 use Rattle.rules.specs.Path.{Branch, noBranch, positions}
-use Rattle.rules.specs.Machine.{Program, machine, scheduled, readFrom, bitTaken, maskOf, active, activeRow, rowOf, answered, isExploring}
+use Rattle.rules.specs.Machine.{Program, machine, scheduled, readFrom, bitTaken, maskOf, current, activeRow, rowOf, answered, exploringNow}
 use Rattle.rules.specs.Explorer as explorer
 use Rattle.rules.specs.Explorer.{Walk, Tick, goes, over, faulted, pushes, faults, says, unexpected}
 use Rattle.layout.specs.Tables.{state}
 use Rattle.decode.specs.Ops.{decodedOf}
 use Rattle.execution.specs.Answers.{Answers}
-use Rattle.event.specs.declared.Choice.{Choice}
-use Rattle.event.specs.declared.Choice.the-variants as choice
-use Rattle.event.specs.declared.Event.{Event}
+use Rattle.event.specs.declared.Picked.{Picked}
+use Rattle.event.specs.declared.Picked.the-variants as choice
+use Rattle.event.specs.declared.Moved.{Moved}
 use Rattle.event.specs.declared.Fault.the-variants as fault
 use Rattle.event.specs.declared.Question.{Question}
 use Rattle.event.specs.declared.Question.the-variants as question
@@ -46,7 +46,7 @@ use Rattle.meeting.specs.declared.Ticked.{Ticked}
 use Rattle.meeting.proofs.Outcome.{the-type as outcomes}
 use Rattle.meeting.proofs.ComesLaws.{same-stands, comes-stops}
 use Rattle.meeting.proofs.MetLaws.{met-ahead}
-use Rattle.walk.specs.Walks.{Placed, Passed}
+use Rattle.walk.specs.Walks.{CursorPlaced, Passed}
 use Rattle.walk.specs.Parts.{thenOn, thenReplied, AtRow, AsksAt, Rooms, Goes, meetsAt, metAt}
 use Rattle.walk.proofs.WalkLaws.{meet-stops, meet-on}
 use Rattle.meeting.proofs.ComesLaws.{wrote-none}
@@ -94,7 +94,7 @@ module _ (p : Program) (L : explorer.Limits) (site : rules.Site) (w : Walk State
 
 -- The answer
 
-abbrev AnswerRow : rules.Answer → State → Here → Type 0
+abbrev AnswerRow : rules.Pick → State → Here → Type 0
 AnswerRow (rules.runThread whom at) st h = Unit
 AnswerRow (rules.readSlot slot values) st h = AtRow st h
 AnswerRow (rules.takeBit bit) st h = AtRow st h
@@ -120,10 +120,10 @@ reply-row question.Bit st h a pos (paths.load l) in-state t row = tt
 reply-row question.Bit st h a pos (paths.spurious u) in-state t row = a
 
 module _ (p : Program) (h : Here) (st : State) (move : rules.Move State) (is-row : rowOf p (h .site .thread) (h .site .row) ≡ decodedOf (h .row)) where
-  abbrev Goes-with : Choice → Type 0
+  abbrev Goes-with : Picked → Type 0
   Goes-with ch = Answers ch (decodedOf (h .row)) (h .site .thread) (h .site .row) st move
 
-  row-there : AtRow st h → rowOf p (active st) (activeRow st) ≡ decodedOf (h .row)
+  row-there : AtRow st h → rowOf p (current st) (activeRow st) ≡ decodedOf (h .row)
   row-there a = ap (λ (t : ℕ). rowOf p t (activeRow st)) (a .who) ∙ ap (λ (k : ℕ). rowOf p (h .site .thread) k) (a .row) ∙ is-row
 
   slot-is : (slot mask : ℕ) (values : List ℕ) → AtRow st h → mask ≡ maskOf 0 values → move ≡ readFrom st (h .site .thread) (h .site .row) slot mask (decodedOf (h .row)) → move ≡ answered p st (rules.readSlot slot values)
@@ -132,16 +132,16 @@ module _ (p : Program) (h : Here) (st : State) (move : rules.Move State) (is-row
       e
       ∙ ap (λ (k : ℕ). readFrom st (h .site .thread) (h .site .row) slot k (decodedOf (h .row))) m
       ∙ ap (λ (d : Decoded Op). readFrom st (h .site .thread) (h .site .row) slot (maskOf 0 values) d) (sym (row-there a))
-      ∙ ap (λ (t : ℕ). readFrom st t (h .site .row) slot (maskOf 0 values) (rowOf p (active st) (activeRow st))) (sym (a .who))
-      ∙ ap (λ (k : ℕ). readFrom st (active st) k slot (maskOf 0 values) (rowOf p (active st) (activeRow st))) (sym (a .row))
+      ∙ ap (λ (t : ℕ). readFrom st t (h .site .row) slot (maskOf 0 values) (rowOf p (current st) (activeRow st))) (sym (a .who))
+      ∙ ap (λ (k : ℕ). readFrom st (current st) k slot (maskOf 0 values) (rowOf p (current st) (activeRow st))) (sym (a .row))
 
   bit-is : (bit : Bool) → AtRow st h → move ≡ bitTaken st (h .site .thread) (h .site .row) (cond bit 1 0) (decodedOf (h .row)) → move ≡ answered p st (rules.takeBit bit)
   unfolding answered
   bit-is bit a e =
       e
       ∙ ap (λ (d : Decoded Op). bitTaken st (h .site .thread) (h .site .row) (cond bit 1 0) d) (sym (row-there a))
-      ∙ ap (λ (t : ℕ). bitTaken st t (h .site .row) (cond bit 1 0) (rowOf p (active st) (activeRow st))) (sym (a .who))
-      ∙ ap (λ (k : ℕ). bitTaken st (active st) k (cond bit 1 0) (rowOf p (active st) (activeRow st))) (sym (a .row))
+      ∙ ap (λ (t : ℕ). bitTaken st t (h .site .row) (cond bit 1 0) (rowOf p (current st) (activeRow st))) (sym (a .who))
+      ∙ ap (λ (k : ℕ). bitTaken st (current st) k (cond bit 1 0) (rowOf p (current st) (activeRow st))) (sym (a .row))
 
   thread-is : (chosen branch : ℕ) → move ≡ scheduled st (thread chosen) branch → move ≡ answered p st (rules.runThread (thread chosen) branch)
   unfolding answered
@@ -151,12 +151,12 @@ module _ (p : Program) (h : Here) (st : State) (move : rules.Move State) (is-row
   unfolding answered
   nobody-is at e = e
 
-  pub answered-is : (ch : Choice) (a : rules.Answer) → Fits ch a → AnswerRow a st h → Goes-with ch → move ≡ answered p st a
+  pub answered-is : (ch : Picked) (a : rules.Pick) → Fits ch a → AnswerRow a st h → Goes-with ch → move ≡ answered p st a
   answered-is (choice.Thread chosen branch) a f row g = thread-is chosen branch g ∙ ap (answered p st) (sym f)
   answered-is choice.Nobody a f row g = nobody-is (f .at) (g (f .at)) ∙ ap (answered p st) (sym (f .is))
   answered-is (choice.Slot slot mask) a f row g =
-      slot-is slot mask (f .values) (subst (λ (y : rules.Answer). AnswerRow y st h) (f .is) row) (f .masked) g ∙ ap (answered p st) (sym (f .is))
-  answered-is (choice.Bit bit) a f row g = bit-is bit (subst (λ (y : rules.Answer). AnswerRow y st h) f row) g ∙ ap (answered p st) (sym f)
+      slot-is slot mask (f .values) (subst (λ (y : rules.Pick). AnswerRow y st h) (f .is) row) (f .masked) g ∙ ap (answered p st) (sym (f .is))
+  answered-is (choice.Bit bit) a f row g = bit-is bit (subst (λ (y : rules.Pick). AnswerRow y st h) f row) g ∙ ap (answered p st) (sym f)
 
 pub followed-state : (p : Program) (L : explorer.Limits) (site : rules.Site) (w : Walk State) (s : State) (m : rules.Move State) → explorer.followed (machine p) L site (explorer.withState w s) m ≡ explorer.followed (machine p) L site w m
 followed-state p L site w s (rules.moves st es) = refl
@@ -167,7 +167,7 @@ followed-state p L site w s (rules.ends st) = refl
 -- The meeting
 
 module _ (c : Cursor) (m : Ticked) (h : Here) (q : Question) (clocks : Clocks) (marks : MarkTable) (values : Values) (numbers : Numbers) (path there trace : List ℕ)
-    (placed : Placed c path trace) (reach : Reaches c m clocks marks numbers path there (reachedAt q h)) where
+    (placed : CursorPlaced c path trace) (reach : Reaches c m clocks marks numbers path there (reachedAt q h)) where
   abbrev before : Lent
   before = lent clocks marks values numbers path trace
 
@@ -186,7 +186,7 @@ module _ (c : Cursor) (m : Ticked) (h : Here) (q : Question) (clocks : Clocks) (
         };
         wrote = wrote-none c (m .cursor) trace (reach .met .same-entries);
         comes = λ p L w rooms needs s.
-            subst (λ (y : Tick State). Comes (m .outcome) (m .cursor) reaching y) (sym (met-reached p L (siteOf (h .site)) w (askedAt q h (w .state)) (isExploring (w .state .numbers))))
+            subst (λ (y : Tick State). Comes (m .outcome) (m .cursor) reaching y) (sym (met-reached p L (siteOf (h .site)) w (askedAt q h (w .state)) (exploringNow (w .state .numbers))))
             (stays-then (replies p L w) (m .cursor) reaching (m .outcome) k (reachedAt q h L w) (reach .comes L w values trace (rooms .holding) s));
       }
 
@@ -208,7 +208,7 @@ module _ (c : Cursor) (m : Ticked) (h : Here) (q : Question) (clocks : Clocks) (
         let v = on .walk in
         let row : AsksAt q (v .state) h = subst (λ (st : State). AsksAt q st h) (s .is-state ∙ sym (on .stands .is-state)) asks in
         subst (λ (y : Tick State). Comes (r .outcome) (r .cursor) exit y)
-        (sym (met-reached p L (siteOf (h .site)) w (askedAt q h (w .state)) (isExploring (w .state .numbers)) ∙ ap (thenOn (replies p L w)) (on .is)))
+        (sym (met-reached p L (siteOf (h .site)) w (askedAt q h (w .state)) (exploringNow (w .state .numbers)) ∙ ap (thenOn (replies p L w)) (on .is)))
         (f p L v rooms (on .stands) (explorer.reply (v .pos) (getD (v .ledger .path) (v .pos) noBranch) (askedAt q h (w .state))) (answers p L w v (rooms .holding) (on .stands))
         (reply-row q (v .state) h row (v .pos) (getD (v .ledger .path) (v .pos) noBranch) (w .state) (h .site .thread) (decodedOf (h .row))))
 
@@ -227,7 +227,7 @@ module _ (c : Cursor) (m : Ticked) (h : Here) (q : Question) (clocks : Clocks) (
             (λ p L v rooms stands x f row. unexpected-comes r s p L v stands x (subst (λ (y : Reply). AnswersBy y x) e f));
       }
 
-  module _ (ch : Choice) (ev : Event) (clocks2 : Clocks) (marks2 : MarkTable) (values2 : Values) (numbers2 : Numbers) (d : Cursor) (passed : Passed (m .cursor) d)
+  module _ (ch : Picked) (ev : Moved) (clocks2 : Clocks) (marks2 : MarkTable) (values2 : Values) (numbers2 : Numbers) (d : Cursor) (passed : Passed (m .cursor) d)
       (goes-with : Answers ch (decodedOf (h .row)) (h .site .thread) (h .site .row) (state clocks marks values numbers) (moveAt ev h (state clocks2 marks2 values2 numbers2)))
       (r : Ticked) (left : List ℕ) (lands : Lands d r trace left (concludedAt ev h)) where
     abbrev leaving : Lent

@@ -14,31 +14,31 @@ use lib.ListN.{length}
 use Rattle.rules.specs.Event as rules
 use Rattle.rules.specs.State.{State, Clocks, Marks as MarkTable, Values, Numbers}
 use Rattle.rules.specs.Path as paths
-use Rattle.rules.specs.Machine.{Program, machine, schedules, isExploring}
+use Rattle.rules.specs.Machine.{Program, machine, schedules, exploringNow}
 use Rattle.rules.specs.Explorer as explorer
 use Rattle.rules.specs.Explorer.{Walk, Tick, goes, faulted}
 use Rattle.path.specs.Bounds.{boundOf}
 use Rattle.path.specs.declared.Bound.{Bound}
-use Rattle.event.proofs.Event.{the-type as happened}
-use Rattle.event.specs.declared.Event.{Event}
-use Rattle.event.specs.declared.Event.the-variants as event
+use Rattle.event.proofs.Moved.{the-type as happened}
+use Rattle.event.specs.declared.Moved.{Moved}
+use Rattle.event.specs.declared.Moved.the-variants as event
 use Rattle.event.specs.declared.Question.{Question}
 use Rattle.event.specs.declared.Question.the-variants as question
 use Rattle.meeting.specs.Stands.{Lent, lent, Stands, Comes, siteOf}
-use Rattle.meeting.specs.Branches.{askedAt, Marks}
+use Rattle.meeting.specs.Branches.{askedAt, CursorMarks}
 use Rattle.meeting.specs.Entries.{Kept, completedBy, completedAt, concludedAt, Lands}
 use Rattle.meeting.specs.declared.Cursor.{Cursor}
 use Rattle.meeting.specs.declared.Here.{Here}
 use Rattle.meeting.specs.declared.Outcome.the-variants as code
 use Rattle.meeting.specs.declared.Ticked.{Ticked}
 use Rattle.meeting.proofs.Outcome.{the-type as outcomes}
-use Rattle.walk.specs.Walks.{Placed, Gone}
+use Rattle.walk.specs.Walks.{CursorPlaced, Gone}
 use Rattle.walk.specs.Parts.{thenOn, AsksAt, Rooms, Goes, meetsAt, metAt, takesAt, takenAt}
 use Rattle.walk.proofs.WalkLaws.{take-on}
 use Rattle.walk.proofs.MeetLaws.{stays-then, went-on}
 
 module _ (h : Here) where
-  concluded-taken : (e : Event) → OneOf (0 ∷ 1 ∷ 3 ∷ 4 ∷ []) (tagOf happened e) → (p : Program) (L : explorer.Limits) (w : Walk State) → concludedAt e h p L w ≡ takenAt e h p L w
+  concluded-taken : (e : Moved) → OneOf (0 ∷ 1 ∷ 3 ∷ 4 ∷ []) (tagOf happened e) → (p : Program) (L : explorer.Limits) (w : Walk State) → concludedAt e h p L w ≡ takenAt e h p L w
   concluded-taken event.Moves k p L w = refl
   concluded-taken (event.Done slot mask v) k p L w = refl
   concluded-taken (event.Asks q yielded) k p L w = absurd (miss (0 ∷ 1 ∷ 3 ∷ 4 ∷ []) 2 tt k)
@@ -46,7 +46,7 @@ module _ (h : Here) where
   concluded-taken (event.Stops f) k p L w = refl
 
   abbrev asking : Question → Program → explorer.Limits → State → Walk State → Tick State
-  asking q p L st v = explorer.asked (machine p) L (siteOf (h .site)) v (isExploring (st .numbers)) (askedAt q h st)
+  asking q p L st v = explorer.asked (machine p) L (siteOf (h .site)) v (exploringNow (st .numbers)) (askedAt q h st)
 
   by-fit : (f : Walk State → Tick State) (b : Bool) (v w : Walk State) → cond b (f v) (faulted rules.impossible (siteOf (h .site)) w) ≡ thenOn f (cond b (goes v) (faulted rules.impossible (siteOf (h .site)) w))
   by-fit f true v w = refl
@@ -58,7 +58,7 @@ module _ (h : Here) where
   taken-asks question.Slot yielded p L w = by-fit (asking question.Slot p L (w .state)) (leb (length (w .trace) + length (completedBy yielded h)) (L .operations)) (explorer.noted w (w .state) (completedBy yielded h)) w
   taken-asks question.Bit yielded p L w = by-fit (asking question.Bit p L (w .state)) (leb (length (w .trace) + length (completedBy yielded h)) (L .operations)) (explorer.noted w (w .state) (completedBy yielded h)) w
 
-module _ (c : Cursor) (h : Here) (ev : Event) (bound : Bound) (clocks : Clocks) (marks : MarkTable) (values : Values) (numbers : Numbers) (path trace : List ℕ) (placed : Placed c path trace) where
+module _ (c : Cursor) (h : Here) (ev : Moved) (bound : Bound) (clocks : Clocks) (marks : MarkTable) (values : Values) (numbers : Numbers) (path trace : List ℕ) (placed : CursorPlaced c path trace) where
   abbrev before : Lent
   before = lent clocks marks values numbers path trace
 
@@ -85,7 +85,7 @@ module _ (c : Cursor) (h : Here) (ev : Event) (bound : Bound) (clocks : Clocks) 
     noted = lent clocks marks values numbers path left
 
     for-event : {exit : Lent} {r : Ticked} → Goes before exit c r 60 h (takesAt (event.Asks q yielded) h bound) (takenAt (event.Asks q yielded) h) → Goes before exit c r 60 h (takesAt ev h bound) (takenAt ev h)
-    for-event {exit} {r} g = subst (λ (x : Event). Goes before exit c r 60 h (takesAt x h bound) (takenAt x h)) (sym e) g
+    for-event {exit} {r} g = subst (λ (x : Moved). Goes before exit c r 60 h (takesAt x h bound) (takenAt x h)) (sym e) g
 
     pub take-stays : OneOf (1 ∷ 2 ∷ []) (tagOf outcomes (n .outcome)) → Goes before noted c n 60 h (takesAt ev h bound) (takenAt ev h)
     take-stays k =
@@ -98,7 +98,7 @@ module _ (c : Cursor) (h : Here) (ev : Event) (bound : Bound) (clocks : Clocks) 
               (stays-then (asking h q p L (w .state)) (n .cursor) noted (n .outcome) k (completedAt yielded h p L w) (l .comes p L before w (rooms .room) s));
         })
 
-    module _ (d : Cursor) (marked : List ℕ) (m : Marks (n .cursor) d clocks numbers path marked bound q) (long : length marked ≡ length path) (goes-on : n .outcome ≡ code.Goes) (r : Ticked) (exit : Lent)
+    module _ (d : Cursor) (marked : List ℕ) (m : CursorMarks (n .cursor) d clocks numbers path marked bound q) (long : length marked ≡ length path) (goes-on : n .outcome ≡ code.Goes) (r : Ticked) (exit : Lent)
         (g : Goes (lent clocks marks values numbers marked left) exit d r 6 h (meetsAt q h) (metAt q h)) where
       meets-rooms : (p : Program) (L : explorer.Limits) → Rooms p L h path trace → Rooms p L h marked left
       meets-rooms p L rooms =
@@ -109,7 +109,7 @@ module _ (c : Cursor) (h : Here) (ev : Event) (bound : Bound) (clocks : Clocks) 
           }
 
       abbrev marking : Program → explorer.Limits → Walk State → paths.Bound → State → Tick State
-      marking p L v b st = explorer.met (machine p) L (siteOf (h .site)) (explorer.withLedger v (explorer.firstMarked b (v .ledger) (askedAt q h st))) (isExploring (st .numbers)) (askedAt q h st)
+      marking p L v b st = explorer.met (machine p) L (siteOf (h .site)) (explorer.withLedger v (explorer.firstMarked b (v .ledger) (askedAt q h st))) (exploringNow (st .numbers)) (askedAt q h st)
 
       meets-comes : (p : Program) (L : explorer.Limits) (w v : Walk State) → Rooms p L h path trace → AsksAt q (w .state) h → L .bound ≡ boundOf bound → v .state ≡ w .state → Stands noted (n .cursor) v
           → Comes (r .outcome) (r .cursor) exit (asking h q p L (w .state) v)

@@ -20,13 +20,13 @@ use Rattle.rules.specs.Table as Table
 use Rattle.rules.specs.Table.{cellsOf}
 use Rattle.rules.specs.Machine as machines
 use Rattle.rules.proofs.StateLaws.{number-other}
-use Rattle.rules.specs.Machine.{Program, machine, active, schedules, begins, acts, actsAs, nextAt, rowOf, rowCount, isToBegin, stores, joins, threadEnded, begunAs, pendingOf, rowBegun, Pending, nothing, pends, register}
+use Rattle.rules.specs.Machine.{Program, machine, current, schedules, begins, acts, actsAs, nextAt, rowOf, rowCount, isToBegin, stores, joins, threadEnded, begunAs, pendingOf, rowBegun, Pending, nothing, pends, register}
 use Rattle.rules.specs.Explorer as explorer
 use Rattle.rules.specs.Explorer.{Walk, Tick}
 use Rattle.layout.specs.Tables.{state}
 use Rattle.decode.specs.Ops.{decodedOf}
-use Rattle.event.specs.declared.Event.{Event}
-use Rattle.event.specs.declared.Event.the-variants as event
+use Rattle.event.specs.declared.Moved.{Moved}
+use Rattle.event.specs.declared.Moved.the-variants as event
 use Rattle.event.specs.declared.Question.{Question}
 use Rattle.event.specs.declared.Question.the-variants as question
 use Rattle.execution.specs.Next.{nextWith}
@@ -41,7 +41,7 @@ use Rattle.walk.specs.declared.Limits.{Limits}
 
 -- the same thread is active, and a thread is at the same row
 record Same (t : ℕ) (st s : State) : Type 0 where
-  who : active s ≡ active st
+  who : current s ≡ current st
   row : number (s .numbers) (names.nextRow t) ≡ number (st .numbers) (names.nextRow t)
 
 abbrev KeepsBy : ℕ → State → State → rules.Question → Type 0
@@ -100,11 +100,11 @@ module _ (t : ℕ) (st : State) where
       let up = machines.versionRaised st t in
       stores-keep (cells.storeRace (up .clocks) t c) up (cells.withClocks up (cells.storeTracked (up .clocks) t c)) k opcode c o v
 
-  reads-keep : (a : cells.Access) (k opcode r slot mask : ℕ) → AskKeeps t st (machines.reads a t k opcode r slot mask)
+  reads-keep : (a : cells.AccessResult) (k opcode r slot mask : ℕ) → AskKeeps t st (machines.reads a t k opcode r slot mask)
   reads-keep (cells.raced kind other s) k opcode r slot mask = record { is = tt }
   reads-keep (cells.read v s) k opcode r slot mask = record { is = tt }
 
-  leaves-keep : (a : cells.Access) (k opcode c r : ℕ) → AskKeeps t st (machines.leavesIn a t k opcode c r)
+  leaves-keep : (a : cells.AccessResult) (k opcode c r : ℕ) → AskKeeps t st (machines.leavesIn a t k opcode c r)
   leaves-keep (cells.raced kind other s) k opcode c r = record { is = tt }
   leaves-keep (cells.read v s) k opcode c r = record { is = tt }
 
@@ -175,7 +175,7 @@ still-there st s h e a =
           ∙ ap (λ (t : ℕ). number (st .numbers) (names.nextRow t)) (sym (a .who)) ∙ a .row;
     }
 
-moves-at : (ev : Event) (st s : State) (h : Here) → AtRow st h → AskKeeps (h .site .thread) st (moveAt ev h s) → MovesAt ev s h
+moves-at : (ev : Moved) (st s : State) (h : Here) → AtRow st h → AskKeeps (h .site .thread) st (moveAt ev h s) → MovesAt ev s h
 moves-at event.Moves st s h a k = tt
 moves-at (event.Done slot mask v) st s h a k = tt
 moves-at (event.Asks question.Thread yielded) st s h a k = tt
@@ -190,7 +190,7 @@ taken-state p L site w s (asks st es e q) = refl
 taken-state p L site w s (stops st f) = refl
 taken-state p L site w s (ends st) = refl
 
-module _ (c : Cursor) (h : Here) (ev : Event) (shape : List ℕ) (limits : Limits) (clocks : Clocks) (marks : MarkTable) (values : Values) (numbers : Numbers) (clocks2 : Clocks) (marks2 : MarkTable) (values2 : Values) (numbers2 : Numbers) (path trace : List ℕ)
+module _ (c : Cursor) (h : Here) (ev : Moved) (shape : List ℕ) (limits : Limits) (clocks : Clocks) (marks : MarkTable) (values : Values) (numbers : Numbers) (clocks2 : Clocks) (marks2 : MarkTable) (values2 : Values) (numbers2 : Numbers) (path trace : List ℕ)
     (does : (p : Program) → p .operations ≡ limits .operations → cellsOf (p .table) ≡ getD shape 1 0
     → moveAt ev h (state clocks2 marks2 values2 numbers2) ≡ nextWith p (state clocks marks values numbers) (h .site .thread) (h .site .row) (getD shape (2 + h .site .thread) 0) (decodedOf (h .row)))
     (below : h .site .thread < 5) (r : Ticked) (exit : Lent) (g : Goes (lent clocks2 marks2 values2 numbers2 path trace) exit c r 60 h (takesAt ev h (limits .bound)) (takenAt ev h)) where

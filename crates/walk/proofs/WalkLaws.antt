@@ -6,12 +6,12 @@ use Prim.Native.Nat.{ℕ}
 use mathlib.Core.List.{List}
 use mathlib.Core.Path.{_≡_, subst}
 use native.Mathlib.Omega.{arith}
-use Rattle.event.specs.declared.Choice.{Choice}
+use Rattle.event.specs.declared.Picked.{Picked}
 use Rattle.event.specs.declared.Fault.{Fault}
 use Rattle.event.specs.declared.Site.{Site}
 use Rattle.execution.specs.Answers.{choiceWithin}
 use Rattle.meeting.specs.Stands.{Stopped}
-use Rattle.meeting.specs.Branches.{Marked, Met, replyWithin}
+use Rattle.meeting.specs.Branches.{CursorMarked, Met, replyWithin}
 use Rattle.meeting.specs.Entries.{Kept}
 use Rattle.meeting.specs.declared.Cursor.{Cursor}
 use Rattle.meeting.specs.declared.Outcome.the-variants as code
@@ -19,12 +19,12 @@ use Rattle.meeting.specs.declared.Reply.{Reply}
 use Rattle.meeting.specs.declared.Reply.the-variants as reply
 use Rattle.meeting.specs.declared.Ticked.{Ticked}
 use Rattle.meeting.proofs.MetLaws.{met-ahead}
-use Rattle.walk.specs.Walks.{Placed, Gone, Passed}
+use Rattle.walk.specs.Walks.{CursorPlaced, Gone, Passed}
 
-pub says-within : (r : Reply) {x : Choice} → r ≡ reply.Says x → replyWithin r → choiceWithin x
+pub says-within : (r : Reply) {x : Picked} → r ≡ reply.Says x → replyWithin r → choiceWithin x
 says-within r e h = subst (λ (x : Reply). replyWithin x) e h
 
-module _ {c : Cursor} {m : Ticked} {entry path trace : List ℕ} (placed : Placed c entry trace) (met : Met c m path) where
+module _ {c : Cursor} {m : Ticked} {entry path trace : List ℕ} (placed : CursorPlaced c entry trace) (met : Met c m path) where
   pub meet-stops : {r : Ticked} {f : Fault} {at : Site} → Stopped f at (m .cursor) r → Gone c (r .cursor) 6 path trace
   meet-stops s =
       record {
@@ -47,5 +47,5 @@ module _ {c : Cursor} {m : Ticked} {entry path trace : List ℕ} (placed : Place
         few = omega (arith, met .few, p .same-opened, k .same-opened);
       }
 
-pub take-on : {c d e f : Cursor} {noted path trace : List ℕ} → Kept c d noted → Marked d e → Gone e f 6 path trace → Gone c f 60 path trace
+pub take-on : {c d e f : Cursor} {noted path trace : List ℕ} → Kept c d noted → CursorMarked d e → Gone e f 6 path trace → Gone c f 60 path trace
 take-on k m g = record { placed = g .placed; few = omega (arith, k .same-opened, m .few, g .few) }

@@ -13,7 +13,7 @@ use Rattle.rules.specs.Event as rules
 use Rattle.rules.specs.Event.{noSite}
 use Rattle.rules.specs.State.{State, Clocks, Marks as MarkTable, Values, Numbers, number, activeThread, nextRow}
 use Rattle.rules.specs.Table.{opAt, roomOf, shapeOf, cellsOf, countsOf, firstRows}
-use Rattle.rules.specs.Machine.{Program, machine, active, next, rowOf}
+use Rattle.rules.specs.Machine.{Program, machine, current, next, rowOf}
 use Rattle.rules.specs.Explorer as explorer
 use Rattle.rules.specs.Explorer.{Walk, Tick, faulted}
 use Rattle.layout.specs.Tables.{state}
@@ -26,16 +26,16 @@ use Rattle.meeting.specs.declared.Cursor.{Cursor}
 use Rattle.meeting.specs.declared.Here.{Here}
 use Rattle.meeting.specs.declared.Ticked.{Ticked}
 use Rattle.meeting.proofs.ComesLaws.{comes-stops, same-stands}
-use Rattle.walk.specs.Walks.{Placed, Runs, Ticks}
+use Rattle.walk.specs.Walks.{CursorPlaced, Runs, Ticks}
 use Rattle.walk.specs.Parts.{Goes, ticksAt, tickedAt, AtRow}
 use Rattle.walk.specs.declared.Limits.{Limits}
 use Rattle.table.proofs.ShapeLaws.{shape-threads, shape-cells, shape-plains, shape-rows, shape-first}
 
-nobody-tick : (p : Program) (L : explorer.Limits) (w : Walk State) → ltb (active (w .state)) 5 ≡ false → explorer.tick (machine p) L w ≡ faulted rules.impossible noSite w
+nobody-tick : (p : Program) (L : explorer.Limits) (w : Walk State) → ltb (current (w .state)) 5 ≡ false → explorer.tick (machine p) L w ≡ faulted rules.impossible noSite w
 unfolding explorer.tick next
 nobody-tick p L w e = rw e
 
-someone-tick : (p : Program) (L : explorer.Limits) (w : Walk State) (h : Here) → ltb (active (w .state)) 5 ≡ true → AtRow (w .state) h → explorer.tick (machine p) L w ≡ tickedAt h p L w
+someone-tick : (p : Program) (L : explorer.Limits) (w : Walk State) (h : Here) → ltb (current (w .state)) 5 ≡ true → AtRow (w .state) h → explorer.tick (machine p) L w ≡ tickedAt h p L w
 unfolding explorer.tick next
 someone-tick p L w h e at = rw (e, at .row, at .who)
 
@@ -43,12 +43,12 @@ module _ (table shape : List ℕ) (limits : Limits) (c : Cursor) (r : Ticked) (c
   abbrev entry : Lent
   entry = lent clocks marks values numbers path trace
 
-  pub tick-nobody : (s : Site) → Placed c path trace → 5 ≤ number numbers activeThread → siteOf s ≡ noSite → Stopped fault.Impossible s c r → Ticks entry entry table shape limits c r
+  pub tick-nobody : (s : Site) → CursorPlaced c path trace → 5 ≤ number numbers activeThread → siteOf s ≡ noSite → Stopped fault.Impossible s c r → Ticks entry entry table shape limits c r
   tick-nobody s placed h e g =
       record {
         comes = λ p L w runs stands.
             comes-stops r entry w fault.Impossible s (explorer.tick (machine p) L w) (g .is)
-            (nobody-tick p L w (subst (λ (st : State). ltb (active st) 5 ≡ false) (sym (stands .is-state)) (le-ltb (number numbers activeThread) 5 h))
+            (nobody-tick p L w (subst (λ (st : State). ltb (current st) 5 ≡ false) (sym (stands .is-state)) (le-ltb (number numbers activeThread) 5 h))
             ∙ ap (λ (x : rules.Site). faulted rules.impossible x w) (sym e))
             (same-stands (g .stays) stands);
         gone = record {
@@ -70,10 +70,10 @@ module _ (table shape : List ℕ) (limits : Limits) (c : Cursor) (r : Ticked) (c
 
     at-row : (w : Walk State) → Stands entry c w → AtRow (w .state) h
     at-row w stands =
-        let a : active (w .state) ≡ t = ap (λ (st : State). active st) (stands .is-state) ∙ sym who in
+        let a : current (w .state) ≡ t = ap (λ (st : State). current st) (stands .is-state) ∙ sym who in
         record {
           who = a;
-          row = ap (λ (st : State). number (st .numbers) (nextRow (active st))) (stands .is-state) ∙ ap (λ (n : ℕ). number numbers (nextRow n)) (sym who) ∙ sym number-is;
+          row = ap (λ (st : State). number (st .numbers) (nextRow (current st))) (stands .is-state) ∙ ap (λ (n : ℕ). number numbers (nextRow n)) (sym who) ∙ sym number-is;
         }
 
     is-row : (p : Program) (L : explorer.Limits) → Runs p L table shape limits path trace → rowOf p t (h .site .row) ≡ decodedOf (h .row)
@@ -93,7 +93,7 @@ module _ (table shape : List ℕ) (limits : Limits) (c : Cursor) (r : Ticked) (c
           comes = λ p L w runs stands.
               let at = at-row w stands in
               let s : (k : ℕ) → getD shape k 0 ≡ getD (shapeOf table) k 0 = λ k. ap (λ (l : List ℕ). getD l k 0) (runs .is-shape) in
-              let on : ltb (active (w .state)) 5 ≡ true = subst (λ (n : ℕ). ltb n 5 ≡ true) (sym (at .who)) (lt-ltb t 5 few) in
+              let on : ltb (current (w .state)) 5 ≡ true = subst (λ (n : ℕ). ltb n 5 ≡ true) (sym (at .who)) (lt-ltb t 5 few) in
               subst (λ (y : Tick State). Comes (r .outcome) (r .cursor) exit y) (sym (someone-tick p L w h on at))
               (g .comes p L w
               (record { holding = record { branches = runs .branches; few = runs .few }; room = runs .room; is-row = is-row p L runs })

@@ -9,15 +9,15 @@ use lib.ListN.{length, getD}
 use Rattle.rules.specs.Event as rules
 use Rattle.rules.specs.State.{State}
 use Rattle.rules.specs.Table.{cellsOf}
-use Rattle.rules.specs.Machine.{Program, machine, isExploring, active, activeRow, rowOf, rowCount, nextAt}
+use Rattle.rules.specs.Machine.{Program, machine, exploringNow, current, activeRow, rowOf, rowCount, nextAt}
 use Rattle.rules.specs.Path.{noBranch}
 use Rattle.rules.specs.Explorer as explorer
 use Rattle.rules.specs.Explorer.{Walk, Tick, goes, over, faulted}
 use Rattle.decode.specs.Ops.{decodedOf}
 use Rattle.path.specs.Bounds.{boundOf}
 use Rattle.path.specs.declared.Bound.{Bound}
-use Rattle.event.specs.declared.Event.{Event}
-use Rattle.event.specs.declared.Event.the-variants as event
+use Rattle.event.specs.declared.Moved.{Moved}
+use Rattle.event.specs.declared.Moved.the-variants as event
 use Rattle.event.specs.declared.Question.{Question}
 use Rattle.event.specs.declared.Question.the-variants as question
 use Rattle.meeting.specs.Stands.{Lent, Stands, Comes, siteOf}
@@ -42,7 +42,7 @@ thenReplied p L site q =
 
 -- the active thread is this one, at this row
 pub record AtRow (st : State) (h : Here) : Type 0 where
-  pub who : active st ≡ h .site .thread
+  pub who : current st ≡ h .site .thread
   pub row : activeRow st ≡ h .site .row
 
 -- a question that the active thread's row goes on with; after a scheduling no row is looked at
@@ -51,7 +51,7 @@ AsksAt question.Thread st h = Unit
 AsksAt question.Slot st h = AtRow st h
 AsksAt question.Bit st h = AtRow st h
 
-abbrev pub MovesAt : Event → State → Here → Type 0
+abbrev pub MovesAt : Moved → State → Here → Type 0
 MovesAt event.Moves st h = Unit
 MovesAt (event.Done slot mask value) st h = Unit
 MovesAt (event.Asks q yielded) st h = AsksAt q st h
@@ -74,19 +74,19 @@ pub record Goes (entry exit : Lent) (c : Cursor) (r : Ticked) (most : ℕ) (h : 
       → Comes (r .outcome) (r .cursor) exit (out p L w)
 
 abbrev pub metAt : Question → Here → Program → explorer.Limits → Walk State → Tick State
-metAt q h p L w = explorer.met (machine p) L (siteOf (h .site)) w (isExploring (w .state .numbers)) (askedAt q h (w .state))
+metAt q h p L w = explorer.met (machine p) L (siteOf (h .site)) w (exploringNow (w .state .numbers)) (askedAt q h (w .state))
 
 abbrev pub meetsAt : Question → Here → Program → explorer.Limits → State → Type 0
 meetsAt q h p L st = AsksAt q st h
 
-abbrev pub takenAt : Event → Here → Program → explorer.Limits → Walk State → Tick State
+abbrev pub takenAt : Moved → Here → Program → explorer.Limits → Walk State → Tick State
 takenAt e h p L w = explorer.taken (machine p) L (siteOf (h .site)) w (moveAt e h (w .state))
 
-pub record TakesAt (e : Event) (h : Here) (bound : Bound) (L : explorer.Limits) (st : State) : Type 0 where
+pub record TakesAt (e : Moved) (h : Here) (bound : Bound) (L : explorer.Limits) (st : State) : Type 0 where
   pub moves : MovesAt e st h
   pub is-bound : L .bound ≡ boundOf bound
 
-abbrev pub takesAt : Event → Here → Bound → Program → explorer.Limits → State → Type 0
+abbrev pub takesAt : Moved → Here → Bound → Program → explorer.Limits → State → Type 0
 takesAt e h bound p L st = TakesAt e h bound L st
 
 -- the program's facts that a tick of a thread at its row looks at

@@ -1,5 +1,5 @@
 -- What a tick promises. Assumes nothing.
---     Placed        the cursor is within the buffers
+--     CursorPlaced        the cursor is within the buffers
 --     Gone, Passed  how far a part of a tick takes the cursor, whatever the bytes are
 --     Runs          the program and the limits of a run
 --     Ticks         what a tick promises
@@ -20,14 +20,14 @@ use Rattle.meeting.specs.declared.Ticked.{Ticked}
 use Rattle.walk.specs.declared.Limits.{Limits}
 
 -- the branches passed are among those of the path, and those among the buffer's records; the entries have room in the trace
-pub record Placed (c : Cursor) (path trace : List ℕ) : Type 0 where
+pub record CursorPlaced (c : Cursor) (path trace : List ℕ) : Type 0 where
   pub passed : c .pos ≤ c .len
   pub within : 16 * c .len ≤ length path
   pub noted : 16 * c .entries ≤ length trace
 
 -- the cursor is still within the buffers, and at most so many choices were opened
 pub record Gone (c d : Cursor) (most : ℕ) (path trace : List ℕ) : Type 0 where
-  pub placed : Placed d path trace
+  pub placed : CursorPlaced d path trace
   pub few : d .opened ≤ c .opened + most
 
 -- one record more is passed

@@ -7,9 +7,11 @@ ghost use lib.ListN.{getD};
 ghost use Rattle.rules.specs.Event.{noSite};
 ghost use Rattle.meeting.specs.Stands.{HereWithin, lent, siteOf};
 ghost use Rattle.walk.specs.Parts.{Goes, ticksAt, tickedAt, takesAt, takenAt, meetsAt, metAt};
-ghost use Rattle.walk.specs.Walks.{Placed, Ticks, Passed};
-use event::Event;
+ghost use Rattle.walk.specs.Walks.{CursorPlaced, Ticks, Passed};
 use event::Fault;
+use event::Moved;
+use event::NO_ROW;
+use event::NOWHERE;
 use event::Question;
 use event::Site;
 use layout::Clocks;
@@ -17,7 +19,7 @@ use layout::MAX_THREADS;
 use layout::Marks;
 use layout::Numbers;
 use layout::Values;
-use layout::of_run::ACTIVE;
+use layout::of_run::ACTIVE_THREAD;
 use layout::of_thread::NEXT_ROW;
 use layout::wide16;
 pub use meeting::Cursor;
@@ -42,21 +44,21 @@ pub struct Limits {
 
 // One tick of the active thread, and the answer to what it asks.
 pub fn tick(
+    table: &[u8],
+    shape: &Shape,
     clocks: &mut Clocks,
     marks: &mut Marks,
     values: &mut Values,
     numbers: &mut Numbers,
     path: &mut [u8],
     trace: &mut [u8],
-    table: &[u8],
-    shape: &Shape,
     limits: Limits,
     cursor: Cursor,
 ) -> Ticked
-    requires { ⌜ (getD (now shape) 1 0 ≤ 4) × Placed cursor (now path) (now trace) × (cursor .opened + 60 < 2 ^ 64) ⌝ }
+    requires { ⌜ (getD (now shape) 1 0 ≤ 4) × CursorPlaced cursor (now path) (now trace) × (cursor .opened + 60 < 2 ^ 64) ⌝ }
     ensures { λ r. ⌜ Ticks (lent (now (clocks .entry)) (now (marks .entry)) (now (values .entry)) (now (numbers .entry)) (now (path .entry)) (now (trace .entry))) (lent (now (clocks .exit)) (now (marks .exit)) (now (values .exit)) (now (numbers .exit)) (now (path .exit)) (now (trace .exit))) (now (table .entry)) (now (shape .entry)) limits cursor r ⌝ }
 {
-    let thread = wide16(numbers[ACTIVE]);
+    let thread = wide16(numbers[ACTIVE_THREAD]);
     if MAX_THREADS <= thread {
         return stops(Fault::Impossible, nowhere(), cursor);
     }
@@ -68,13 +70,13 @@ pub fn tick(
     };
     let here = Here { site, row };
     tick_at(
+        shape,
         clocks,
         marks,
         values,
         numbers,
         path,
         trace,
-        shape,
         limits,
         here,
         cursor,
@@ -83,25 +85,25 @@ pub fn tick(
 
 // One tick of a thread at its row.
 fn tick_at(
+    shape: &Shape,
     clocks: &mut Clocks,
     marks: &mut Marks,
     values: &mut Values,
     numbers: &mut Numbers,
     path: &mut [u8],
     trace: &mut [u8],
-    shape: &Shape,
     limits: Limits,
     here: Here,
     cursor: Cursor,
 ) -> Ticked
-    requires { ⌜ (getD (now shape) 1 0 ≤ 4) × HereWithin here × Placed cursor (now path) (now trace) × (cursor .opened + 60 < 2 ^ 64) ⌝ }
+    requires { ⌜ (getD (now shape) 1 0 ≤ 4) × HereWithin here × CursorPlaced cursor (now path) (now trace) × (cursor .opened + 60 < 2 ^ 64) ⌝ }
     ensures { λ r. ⌜ Goes (lent (now (clocks .entry)) (now (marks .entry)) (now (values .entry)) (now (numbers .entry)) (now (path .entry)) (now (trace .entry))) (lent (now (clocks .exit)) (now (marks .exit)) (now (values .exit)) (now (numbers .exit)) (now (path .exit)) (now (trace .exit))) cursor r 60 here (ticksAt (now (shape .entry)) limits here) (tickedAt here) ⌝ }
 {
     let site = here.site;
     let row = here.row;
     let operations = limits.operations;
     let bound = limits.bound;
-    let event = execution::next(clocks, marks, values, numbers, shape, operations, site, row);
+    let event = execution::next(shape, clocks, marks, values, numbers, operations, site, row);
     take(
         clocks,
         marks,
@@ -126,13 +128,13 @@ fn take(
     trace: &mut [u8],
     bound: Bound,
     here: Here,
-    event: Event,
+    event: Moved,
     cursor: Cursor,
 ) -> Ticked
-    requires { ⌜ HereWithin here × Placed cursor (now path) (now trace) × (cursor .opened + 60 < 2 ^ 64) ⌝ }
+    requires { ⌜ HereWithin here × CursorPlaced cursor (now path) (now trace) × (cursor .opened + 60 < 2 ^ 64) ⌝ }
     ensures { λ r. ⌜ Goes (lent (now (clocks .entry)) (now (marks .entry)) (now (values .entry)) (now (numbers .entry)) (now (path .entry)) (now (trace .entry))) (lent (now (clocks .exit)) (now (marks .exit)) (now (values .exit)) (now (numbers .exit)) (now (path .exit)) (now (trace .exit))) cursor r 60 here (takesAt event here bound) (takenAt event here) ⌝ }
 {
-    let Event::Asks { question, yielded } = event else {
+    let Moved::Asks { question, yielded } = event else {
         return conclude(trace, here, event, cursor);
     };
     let noted = note_if(trace, here, yielded, cursor);
@@ -167,7 +169,7 @@ fn meet(
     question: Question,
     cursor: Cursor,
 ) -> Ticked
-    requires { ⌜ HereWithin here × Placed cursor (now path) (now trace) × (cursor .opened + 6 < 2 ^ 64) ⌝ }
+    requires { ⌜ HereWithin here × CursorPlaced cursor (now path) (now trace) × (cursor .opened + 6 < 2 ^ 64) ⌝ }
     ensures { λ r. ⌜ Goes (lent (now (clocks .entry)) (now (marks .entry)) (now (values .entry)) (now (numbers .entry)) (now (path .entry)) (now (trace .entry))) (lent (now (clocks .exit)) (now (marks .exit)) (now (values .exit)) (now (numbers .exit)) (now (path .exit)) (now (trace .exit))) cursor r 6 here (meetsAt question here) (metAt question here) ⌝ }
 {
     let met = reach(clocks, marks, numbers, path, here, question, cursor);
@@ -199,7 +201,7 @@ pub fn nowhere() -> Site
     ensures { λ r. ⌜ siteOf r ≡ noSite ⌝ }
 {
     Site {
-        thread: 255,
-        row: 255,
+        thread: NOWHERE,
+        row: NO_ROW,
     }
 }

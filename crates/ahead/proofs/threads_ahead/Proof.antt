@@ -3,7 +3,7 @@ use mathlib.Core.Bool.{true, false}
 use mathlib.Core.Path.{_≡_, refl, sym, _∙_}
 use native.Mathlib.Omega.{arith}
 use lib.ListN.{drop}
-use Rattle.rules.specs.Token.{skip, nextLine}
+use Rattle.rules.specs.Token.{pastBlanks, nextLine}
 use Rattle.rules.specs.Text.{threadsAhead}
 use Rattle.token.proofs.PlaceLaws.{left-by}
 use Rattle.ahead.proofs.AheadLaws.{says-finally, threads-out, threads-end, threads-finally, threads-on}
@@ -18,14 +18,14 @@ Inv-loop text at lines threads₀ from₀ left₀ t9 threads from left =
 abbrev μ-loop : tie.MeasureT-loop
 μ-loop text at lines threads₀ from₀ left₀ t9 threads from left = left
 
-skipped : (c : tie.After-skip Inv-loop μ-loop) → drop (c .skip .result) (c .before .before .before .before .args .text .now) ≡ skip (drop (c .before .before .loop .from) (c .before .before .before .before .args .text .now))
-skipped c = left-by (c .before .before .before .before .args .text .now) (c .before .before .loop .from) (c .skip .result) _ (c .skip .ensures)
+skipped : (c : tie.After-past-blanks Inv-loop μ-loop) → drop (c .past-blanks .result) (c .before .before .before .before .args .text .now) ≡ pastBlanks (drop (c .before .before .loop .from) (c .before .before .before .before .args .text .now))
+skipped c = left-by (c .before .before .before .before .args .text .now) (c .before .before .loop .from) (c .past-blanks .result) _ (c .past-blanks .ensures)
 
 loop-holds : tie.Need-loop-holds Inv-loop μ-loop
 loop-holds c = (search needs, omega arith)
 
-skip-requires : tie.Need-skip-requires Inv-loop μ-loop
-skip-requires c κs = search needs
+past-blanks-requires : tie.Need-past-blanks-requires Inv-loop μ-loop
+past-blanks-requires c κs = search needs
 
 token-end-requires : tie.Need-token-end-requires Inv-loop μ-loop
 token-end-requires c κs = search needs
@@ -36,7 +36,7 @@ returns c =
     let got = long .before in
     let at = got .before .before in
     let a = at .before .before .args in
-    record { is = omega (arith, threads-end (a .text .now) (at .loop .from) (at .loop .left) (got .skip .result) (long .token-end .result) (skipped got) (long .token-end .ensures) (got .before .loop-test .taken) (c .if1 .taken), at .loop .inv .1); most = omega (arith, at .loop .inv .0) }
+    record { is = omega (arith, threads-end (a .text .now) (at .loop .from) (at .loop .left) (got .past-blanks .result) (long .token-end .result) (skipped got) (long .token-end .ensures) (got .before .loop-test .taken) (c .if1 .taken), at .loop .inv .1); most = omega (arith, at .loop .inv .0) }
 
 slice-aggregate-is-word : tie.Need-slice-aggregate-is-word Inv-loop μ-loop
 slice-aggregate-is-word c = search needs
@@ -50,15 +50,15 @@ returns-2 c =
     let got = long .before in
     let at = got .before .before in
     let a = at .before .before .args in
-    record { is = omega (arith, threads-finally (a .text .now) (at .loop .from) (at .loop .left) (got .skip .result) (long .token-end .result) (skipped got) (long .token-end .ensures) (got .before .loop-test .taken) (c .before .before .before .if1 .left) (says-finally (a .text .now) (got .skip .result) (long .token-end .result) _ (c .before .is-word .ensures) true (c .if2 .taken)), at .loop .inv .1); most = omega (arith, at .loop .inv .0) }
+    record { is = omega (arith, threads-finally (a .text .now) (at .loop .from) (at .loop .left) (got .past-blanks .result) (long .token-end .result) (skipped got) (long .token-end .ensures) (got .before .loop-test .taken) (c .before .before .before .if1 .left) (says-finally (a .text .now) (got .past-blanks .result) (long .token-end .result) _ (c .before .is-word .ensures) true (c .if2 .taken)), at .loop .inv .1); most = omega (arith, at .loop .inv .0) }
 
-thread-of-requires : tie.Need-thread-of-requires Inv-loop μ-loop
-thread-of-requires c κs = search needs
+thread-here-requires : tie.Need-thread-here-requires Inv-loop μ-loop
+thread-here-requires c κs = search needs
 
 add-threads : tie.Need-add-threads Inv-loop μ-loop
 add-threads c =
     let at = c .before .before .before .before .before .before .before .before in
-    omega (arith, at .loop .inv .0, c .thread-of .ensures .most)
+    omega (arith, at .loop .inv .0, c .thread-here .ensures .most)
 
 next-line-requires : tie.Need-next-line-requires Inv-loop μ-loop
 next-line-requires c κs = search needs
@@ -76,8 +76,8 @@ loop-again c =
     let got = long .before in
     let at = got .before .before in
     let a = at .before .before .args in
-    let on = threads-on (a .text .now) (at .loop .from) (at .loop .left) (got .skip .result) (long .token-end .result) (skipped got) (long .token-end .ensures) (got .before .loop-test .taken) (one .before .before .before .if1 .left) (c .next-line .result) (left-by (a .text .now) (got .skip .result) (c .next-line .result) _ (c .next-line .ensures)) (says-finally (a .text .now) (got .skip .result) (long .token-end .result) _ (one .before .is-word .ensures) false (one .if2 .left)) in
-    (omega (arith, c .before .thread-of .ensures .most, at .loop .inv .0, got .before .loop-test .taken), omega (arith, on, c .before .thread-of .ensures .is, at .loop .inv .1))
+    let on = threads-on (a .text .now) (at .loop .from) (at .loop .left) (got .past-blanks .result) (long .token-end .result) (skipped got) (long .token-end .ensures) (got .before .loop-test .taken) (one .before .before .before .if1 .left) (c .next-line .result) (left-by (a .text .now) (got .past-blanks .result) (c .next-line .result) _ (c .next-line .ensures)) (says-finally (a .text .now) (got .past-blanks .result) (long .token-end .result) _ (one .before .is-word .ensures) false (one .if2 .left)) in
+    (omega (arith, c .before .thread-here .ensures .most, at .loop .inv .0, got .before .loop-test .taken), omega (arith, on, c .before .thread-here .ensures .is, at .loop .inv .1))
 
 returns-3 : tie.Need-returns-3 Inv-loop μ-loop
 returns-3 c =
@@ -92,13 +92,13 @@ threads-ahead-spec =
     Inv-loop
     μ-loop
     loop-holds
-    skip-requires
+    past-blanks-requires
     token-end-requires
     returns
     slice-aggregate-is-word
     is-word-requires
     returns-2
-    thread-of-requires
+    thread-here-requires
     add-threads
     next-line-requires
     sub-left

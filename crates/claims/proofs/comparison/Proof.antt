@@ -9,35 +9,41 @@ use Rattle.claims.proofs.comparison.Tie as tie
 cast-t6 : tie.Need-cast-t6
 cast-t6 c = search needs
 
-cast-t8 : tie.Need-cast-t8
-cast-t8 c = search needs
+div-t8 : tie.Need-div-t8
+div-t8 c = search needs
 
-cast-t10 : tie.Need-cast-t10
-cast-t10 c = search needs
+cast-t9 : tie.Need-cast-t9
+cast-t9 c = search needs
+
+rem-t11 : tie.Need-rem-t11
+rem-t11 c = search needs
 
 cast-t12 : tie.Need-cast-t12
 cast-t12 c = search needs
 
-cast-t15 : tie.Need-cast-t15
-cast-t15 c = search needs
+cast-t14 : tie.Need-cast-t14
+cast-t14 c = search needs
 
-cast-t18 : tie.Need-cast-t18
-cast-t18 c = search needs
+cast-t17 : tie.Need-cast-t17
+cast-t17 c = search needs
 
-cast-t21 : tie.Need-cast-t21
-cast-t21 c = search needs
+cast-t20 : tie.Need-cast-t20
+cast-t20 c = search needs
 
 cast-t23 : tie.Need-cast-t23
 cast-t23 c = search needs
 
-cast-t26 : tie.Need-cast-t26
-cast-t26 c = search needs
+cast-t25 : tie.Need-cast-t25
+cast-t25 c = search needs
 
-cast-t29 : tie.Need-cast-t29
-cast-t29 c = search needs
+cast-t28 : tie.Need-cast-t28
+cast-t28 c = search needs
 
-cast-t32 : tie.Need-cast-t32
-cast-t32 c = search needs
+cast-t31 : tie.Need-cast-t31
+cast-t31 c = search needs
+
+cast-t34 : tie.Need-cast-t34
+cast-t34 c = search needs
 
 returns : tie.Need-returns
 returns c = ap (λ (bs : List ℕ). c .args .sign ∷ c .args .register / 4 ∷ c .args .register % 4 ∷ bs) (low-eight (c .args .n))
@@ -47,14 +53,16 @@ comparison-spec =
     tie.close
     (tie.spec
     cast-t6
-    cast-t8
-    cast-t10
+    div-t8
+    cast-t9
+    rem-t11
     cast-t12
-    cast-t15
-    cast-t18
-    cast-t21
+    cast-t14
+    cast-t17
+    cast-t20
     cast-t23
-    cast-t26
-    cast-t29
-    cast-t32
+    cast-t25
+    cast-t28
+    cast-t31
+    cast-t34
     returns)

@@ -31,6 +31,9 @@ returns c =
     let a = got .before .before .args in
     mark-none (a .text .now) (a .at) (a .to) _ (c .none .ensures) (sym (got .mark .ensures) ∙ ap foundOf (c .before .enum-told .given .1))
 
+cast-if1 : tie.Need-cast-if1
+cast-if1 c = search needs
+
 none-requires-2 : tie.Need-none-requires-2
 none-requires-2 c κs = search needs
 
@@ -40,8 +43,8 @@ returns-2 c =
     let a = told .before .before .before .before .args in
     mark-sign (a .text .now) (a .at) (a .to) _ (value told) _ (c .none2 .ensures) (c .before .if1 .taken)
 
-cast-t7 : tie.Need-cast-t7
-cast-t7 c =
+cast-t8 : tie.Need-cast-t8
+cast-t8 c =
     let told = c .before .before in
     omega (arith, mark-most _ _ (value told))
 
@@ -60,7 +63,8 @@ mark-at-spec =
     enum-told
     none-requires
     returns
+    cast-if1
     none-requires-2
     returns-2
-    cast-t7
+    cast-t8
     returns-3)

@@ -30,6 +30,9 @@ returns c =
     let there = long .before in
     sign-none _ _ _ _ _ _ (there .content .ensures .left) (long .token-end .ensures) _ (c .broken .ensures) (sym (got .mark .ensures) ∙ ap foundOf (c .before .enum-told .given .1))
 
+cast-if1 : tie.Need-cast-if1
+cast-if1 c = search needs
+
 broken-requires-2 : tie.Need-broken-requires-2
 broken-requires-2 c κs = search needs
 
@@ -63,6 +66,7 @@ sign-behind-spec =
     enum-told
     broken-requires
     returns
+    cast-if1
     broken-requires-2
     returns-2
     number-behind-requires

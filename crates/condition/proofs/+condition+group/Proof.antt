@@ -51,11 +51,11 @@ abbrev group-calls : ℕ → group-lts.Claims
 group-calls t = (condition-below t, condition.Post, byte-at-reads.Asked, byte-at-reads.Learnt, may-join-reads.Asked, may-join-reads.Learnt, joined-by-reads.Asked, joined-by-reads.Learnt)
 
 abbrev Inv-loop : group-lts.InvT-loop
-Inv-loop values bytes start deep threads value behind holds₀ at₀ joint₀ holds at joint =
+Inv-loop bytes values start deep threads value behind holds₀ at₀ joint₀ holds at joint =
     laws.Goes bytes start (conditionAt threads (registerIn values) deep) at joint holds
 
 abbrev μ-loop : group-lts.MeasureT-loop
-μ-loop values bytes start deep threads value behind holds₀ at₀ joint₀ holds at joint = length bytes - at
+μ-loop bytes values start deep threads value behind holds₀ at₀ joint₀ holds at joint = length bytes - at
 
 module _ (t : ℕ) where
   condition-comparison-requires : condition-lts.Need-comparison-requires (condition-calls t) (condition-at t) condition.Post

@@ -1,4 +1,4 @@
-use Rattle.decode.specs.Ops.{opOf, rowOf}
+use Rattle.decode.specs.Ops.{opOf, rowMeant}
 use Rattle.decode.proofs.RowLaws.{bare-made}
 use borrow.Author.Needs.{needs}
 use Rattle.decode.proofs.bare_row.Statement.{statement}
@@ -16,7 +16,7 @@ only-if-requires c κs = search needs
 returns : tie.Need-returns
 returns c =
     let g = c .before .before .before .before .before .before .before .args in
-    bare-made (rowOf (g .row)) (opOf (g .op)) (c .only-if .ensures) (c .before .before .before .before .no-change .ensures) (c .before .no-operands .ensures)
+    bare-made (rowMeant (g .row)) (opOf (g .op)) (c .only-if .ensures) (c .before .before .before .before .no-change .ensures) (c .before .no-operands .ensures)
 
 pub bare-row-spec : {M : Type 1} → statement M
 bare-row-spec =

@@ -1,4 +1,4 @@
-use Rattle.decode.specs.Ops.{rowOf}
+use Rattle.decode.specs.Ops.{rowMeant}
 use Rattle.decode.proofs.RowLaws.{fence-made}
 use borrow.Author.Needs.{needs}
 use Rattle.decode.proofs.fence_row.Statement.{statement}
@@ -16,7 +16,7 @@ only-if-requires c κs = search needs
 returns : tie.Need-returns
 returns c =
     let g = c .before .before .before .before .before .before .before .before .args in
-    fence-made (rowOf (g .row)) (c .only-if .ensures) (c .before .before .before .before .no-change .ensures) (c .before .no-operands .ensures)
+    fence-made (rowMeant (g .row)) (c .only-if .ensures) (c .before .before .before .before .no-change .ensures) (c .before .no-operands .ensures)
 
 pub fence-row-spec : {M : Type 1} → statement M
 fence-row-spec =

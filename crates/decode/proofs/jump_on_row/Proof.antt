@@ -1,4 +1,4 @@
-use Rattle.decode.specs.Ops.{opOf, rowOf}
+use Rattle.decode.specs.Ops.{opOf, rowMeant}
 use Rattle.decode.proofs.RowLaws.{jump-on-made}
 use borrow.Author.Needs.{needs}
 use Rattle.decode.proofs.jump_on_row.Statement.{statement}
@@ -19,7 +19,7 @@ only-if-requires c κs = search needs
 returns : tie.Need-returns
 returns c =
     let g = c .before .before .before .before .before .before .before .args in
-    jump-on-made (g .count) (rowOf (g .row)) (opOf (g .op)) (c .only-if .ensures) (c .before .before .before .before .before .before .is-register .ensures) (c .before .before .before .before .before .reached .ensures) (c .before .before .no-change .ensures)
+    jump-on-made (g .count) (rowMeant (g .row)) (opOf (g .op)) (c .only-if .ensures) (c .before .before .before .before .before .before .is-register .ensures) (c .before .before .before .before .before .reached .ensures) (c .before .before .no-change .ensures)
 
 pub jump-on-row-spec : {M : Type 1} → statement M
 jump-on-row-spec =

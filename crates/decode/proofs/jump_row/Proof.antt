@@ -1,4 +1,4 @@
-use Rattle.decode.specs.Ops.{rowOf}
+use Rattle.decode.specs.Ops.{rowMeant}
 use Rattle.decode.proofs.RowLaws.{jump-made}
 use borrow.Author.Needs.{needs}
 use Rattle.decode.proofs.jump_row.Statement.{statement}
@@ -22,7 +22,7 @@ only-if-requires c κs = search needs
 returns : tie.Need-returns
 returns c =
     let g = c .before .before .before .before .before .before .before .before .args in
-    jump-made (g .count) (g .own) (rowOf (g .row)) (c .only-if .ensures) (c .before .before .before .before .before .before .before .reached .ensures) (c .before .before .before .before .before .before .leads-on .ensures) (c .before .before .before .no-change .ensures) (c .before .no-operands .ensures)
+    jump-made (g .count) (g .own) (rowMeant (g .row)) (c .only-if .ensures) (c .before .before .before .before .before .before .before .reached .ensures) (c .before .before .before .before .before .before .leads-on .ensures) (c .before .before .before .no-change .ensures) (c .before .no-operands .ensures)
 
 pub jump-row-spec : {M : Type 1} → statement M
 jump-row-spec =

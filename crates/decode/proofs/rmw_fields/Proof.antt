@@ -1,5 +1,5 @@
 use Rattle.decode.proofs.RowLaws.{fields-told}
-use Rattle.decode.specs.Ops.{rowOf}
+use Rattle.decode.specs.Ops.{rowMeant}
 use borrow.Author.Needs.{needs}
 use Rattle.decode.proofs.rmw_fields.Statement.{statement}
 use Rattle.decode.proofs.rmw_fields.Tie as tie
@@ -16,7 +16,7 @@ is-register-requires c κs = search needs
 returns : tie.Need-returns
 returns c =
     let args = c .before .before .before .before .before .args in
-    fields-told (args .cells) (rowOf (args .row)) (c .before .before .before .before .named .ensures) (c .before .before .is-failure-order .ensures) (c .before .is-register .ensures)
+    fields-told (args .cells) (rowMeant (args .row)) (c .before .before .before .before .named .ensures) (c .before .before .is-failure-order .ensures) (c .before .is-register .ensures)
 
 pub rmw-fields-spec : {M : Type 1} → statement M
 rmw-fields-spec =

@@ -1,4 +1,4 @@
-use Rattle.decode.specs.Ops.{rowOf}
+use Rattle.decode.specs.Ops.{rowMeant}
 use Rattle.decode.proofs.RowLaws.{spurious-made}
 use borrow.Author.Needs.{needs}
 use Rattle.decode.proofs.spurious_row.Statement.{statement}
@@ -22,7 +22,7 @@ only-if-requires c κs = search needs
 returns : tie.Need-returns
 returns c =
     let g = c .before .before .before .before .before .before .before .before .args in
-    spurious-made (rowOf (g .row)) (c .only-if .ensures) (c .before .before .before .before .before .before .before .is-register .ensures) (c .before .before .before .before .no-change .ensures) (c .before .before .no-operands .ensures) (c .before .wide8 .ensures .same)
+    spurious-made (rowMeant (g .row)) (c .only-if .ensures) (c .before .before .before .before .before .before .before .is-register .ensures) (c .before .before .before .before .no-change .ensures) (c .before .before .no-operands .ensures) (c .before .wide8 .ensures .same)
 
 pub spurious-row-spec : {M : Type 1} → statement M
 spurious-row-spec =

@@ -9,10 +9,10 @@ use Rattle.digits.proofs.write.Statement.{statement}
 use Rattle.digits.proofs.write.Tie as tie
 
 abbrev Inv-loop : tie.InvT-loop
-Inv-loop n k out₀ i₀ rest₀ out i rest = (i ≤ k) × (sets out 0 (lowest i rest) ≡ sets out₀ 0 (shown n))
+Inv-loop out₀ n k i₀ rest₀ out i rest = (i ≤ k) × (sets out 0 (lowest i rest) ≡ sets out₀ 0 (shown n))
 
 abbrev μ-loop : tie.MeasureT-loop
-μ-loop n k out₀ i₀ rest₀ out i rest = i
+μ-loop out₀ n k i₀ rest₀ out i rest = i
 
 loop-holds : tie.Need-loop-holds Inv-loop μ-loop
 loop-holds c = (search needs, rw (c .pre, lowest-all (c .args .n)))

@@ -15,8 +15,8 @@ abbrev μ-loop : tie.MeasureT-loop
 loop-holds : tie.Need-loop-holds Inv-loop μ-loop
 loop-holds c = refl
 
-skip-requires : tie.Need-skip-requires Inv-loop μ-loop
-skip-requires c κs = search needs
+past-blanks-requires : tie.Need-past-blanks-requires Inv-loop μ-loop
+past-blanks-requires c κs = search needs
 
 returns : tie.Need-returns Inv-loop μ-loop
 returns c =
@@ -24,7 +24,7 @@ returns c =
     let turn = got .before in
     let at = turn .before in
     let a = at .before .before .args in
-    sym (before-here (a .text .now) (a .at) (at .loop .left) (at .loop .found) (at .loop .from) (got .skip .result) (turn .loop-test .taken) (got .skip .ensures) (c .if1 .taken)) ∙ at .loop .inv
+    sym (before-here (a .text .now) (a .at) (at .loop .left) (at .loop .found) (at .loop .from) (got .past-blanks .result) (turn .loop-test .taken) (got .past-blanks .ensures) (c .if1 .taken)) ∙ at .loop .inv
 
 token-end-requires : tie.Need-token-end-requires Inv-loop μ-loop
 token-end-requires c κs = search needs
@@ -41,7 +41,7 @@ loop-again c =
     let turn = got .before in
     let at = turn .before in
     let a = at .before .before .args in
-    before-on (a .text .now) (a .at) (at .loop .left) (at .loop .found) (at .loop .from) (got .skip .result) (turn .loop-test .taken) (got .skip .ensures) (c .token-end .result) (c .before .if1 .left) (c .token-end .ensures) ∙ at .loop .inv
+    before-on (a .text .now) (a .at) (at .loop .left) (at .loop .found) (at .loop .from) (got .past-blanks .result) (turn .loop-test .taken) (got .past-blanks .ensures) (c .token-end .result) (c .before .if1 .left) (c .token-end .ensures) ∙ at .loop .inv
 
 returns-2 : tie.Need-returns-2 Inv-loop μ-loop
 returns-2 c =
@@ -56,7 +56,7 @@ token-before-spec =
     Inv-loop
     μ-loop
     loop-holds
-    skip-requires
+    past-blanks-requires
     returns
     token-end-requires
     sub-left

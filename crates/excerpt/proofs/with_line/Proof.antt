@@ -4,8 +4,8 @@ use borrow.Author.Needs.{needs}
 use Rattle.excerpt.proofs.with_line.Statement.{statement}
 use Rattle.excerpt.proofs.with_line.Tie as tie
 
-skip-requires : tie.Need-skip-requires
-skip-requires c κs = search needs
+past-blanks-requires : tie.Need-past-blanks-requires
+past-blanks-requires c κs = search needs
 
 ends-line-requires : tie.Need-ends-line-requires
 ends-line-requires c κs = search needs
@@ -15,7 +15,7 @@ returns c =
     let ends = c .before in
     let got = ends .before in
     let a = got .before .before .args in
-    with-bare (a .text .now) (a .at) (a .rows) (got .skip .result) (got .skip .ensures) (sym (ends .ends-line .ensures) ∙ c .if1 .taken)
+    with-bare (a .text .now) (a .at) (a .rows) (got .past-blanks .result) (got .past-blanks .ensures) (sym (ends .ends-line .ensures) ∙ c .if1 .taken)
 
 token-end-requires : tie.Need-token-end-requires
 token-end-requires c κs = search needs
@@ -34,7 +34,7 @@ returns-2 c =
     let ends = bare .before in
     let got = ends .before in
     let a = got .before .before .args in
-    with-thread (a .text .now) (a .at) (a .rows) (got .skip .result) (got .skip .ensures) (sym (ends .ends-line .ensures) ∙ bare .if1 .left) (long .token-end .result) (long .token-end .ensures) _ (says .is-word .ensures) (c .if2 .taken)
+    with-thread (a .text .now) (a .at) (a .rows) (got .past-blanks .result) (got .past-blanks .ensures) (sym (ends .ends-line .ensures) ∙ bare .if1 .left) (long .token-end .result) (long .token-end .ensures) _ (says .is-word .ensures) (c .if2 .taken)
 
 add-result : tie.Need-add-result
 add-result c = search needs
@@ -47,13 +47,13 @@ returns-3 c =
     let ends = bare .before in
     let got = ends .before in
     let a = got .before .before .args in
-    with-row (a .text .now) (a .at) (a .rows) (got .skip .result) (got .skip .ensures) (sym (ends .ends-line .ensures) ∙ bare .if1 .left) (long .token-end .result) (long .token-end .ensures) _ (says .is-word .ensures) (c .if2 .left)
+    with-row (a .text .now) (a .at) (a .rows) (got .past-blanks .result) (got .past-blanks .ensures) (sym (ends .ends-line .ensures) ∙ bare .if1 .left) (long .token-end .result) (long .token-end .ensures) _ (says .is-word .ensures) (c .if2 .left)
 
 pub with-line-spec : {M : Type 1} → statement M
 with-line-spec =
     tie.close
     (tie.spec
-    skip-requires
+    past-blanks-requires
     ends-line-requires
     returns
     token-end-requires

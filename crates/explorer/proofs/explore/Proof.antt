@@ -19,10 +19,10 @@ fine : (c : tie.Else1) → settingsFine (settingsOf (c .before .before .before .
 fine c = sym (c .before .settings-fine .ensures) ∙ not-false _ (c .if1 .left)
 
 path-held : (c : tie.Else2) → eqb (length (c .before .before .before .before .before .before .before .before .args .path .now)) (16 * c .before .before .before .before .before .before .before .before .args .settings .branches) ≡ true
-path-held c = sym (c .before .holds .ensures) ∙ not-false _ (c .if2 .left)
+path-held c = sym (c .before .holds-exactly .ensures) ∙ not-false _ (c .if2 .left)
 
 trace-held : (c : tie.Else3) → eqb (length (c .before .before .before .before .before .before .before .before .before .before .args .trace .now)) (16 * c .before .before .before .before .before .before .before .before .before .before .args .settings .operations) ≡ true
-trace-held c = sym (c .before .holds2 .ensures) ∙ not-false _ (c .if3 .left)
+trace-held c = sym (c .before .holds-exactly2 .ensures) ∙ not-false _ (c .if3 .left)
 
 -- and check 5
 ready : (c : tie.After-enum-told) → Ready (c .before .before .before .before .before .before .before .before .before .before .before .before .before .args .table .now) (settingsOf (c .before .before .before .before .before .before .before .before .before .before .before .before .before .args .settings)) (c .before .before .before .before .before .before .before .before .before .before .before .before .before .args .path .now) (c .before .before .before .before .before .before .before .before .before .before .before .before .before .args .trace .now)
@@ -41,18 +41,18 @@ returns : tie.Need-returns
 returns c =
     refuse-settings (c .refused .result) _ _ (c .before .before .before .before .before .before .before .args .settings) _ _ (sym (c .before .before .settings-fine .ensures) ∙ not-true _ (c .before .if1 .taken)) (c .refused .ensures)
 
-holds-requires : tie.Need-holds-requires
-holds-requires c κs = search needs
+holds-exactly-requires : tie.Need-holds-exactly-requires
+holds-exactly-requires c κs = search needs
 
 refused-requires-2 : tie.Need-refused-requires-2
 refused-requires-2 c κs = search needs
 
 returns-2 : tie.Need-returns-2
 returns-2 c =
-    refuse-path (c .refused2 .result) _ _ (c .before .before .before .before .before .before .before .before .before .args .settings) _ _ (fine (c .before .before .before)) (sym (c .before .before .holds .ensures) ∙ not-true _ (c .before .if2 .taken)) (c .refused2 .ensures)
+    refuse-path (c .refused2 .result) _ _ (c .before .before .before .before .before .before .before .before .before .args .settings) _ _ (fine (c .before .before .before)) (sym (c .before .before .holds-exactly .ensures) ∙ not-true _ (c .before .if2 .taken)) (c .refused2 .ensures)
 
-holds-requires-2 : tie.Need-holds-requires-2
-holds-requires-2 c κs = search needs
+holds-exactly-requires-2 : tie.Need-holds-exactly-requires-2
+holds-exactly-requires-2 c κs = search needs
 
 refused-requires-3 : tie.Need-refused-requires-3
 refused-requires-3 c κs = search needs
@@ -60,7 +60,7 @@ refused-requires-3 c κs = search needs
 returns-3 : tie.Need-returns-3
 returns-3 c =
     let held = c .before .before .before in
-    refuse-trace (c .refused3 .result) _ _ (c .before .before .before .before .before .before .before .before .before .before .before .args .settings) _ _ (fine (held .before .before)) (path-held held) (sym (c .before .before .holds2 .ensures) ∙ not-true _ (c .before .if3 .taken)) (c .refused3 .ensures)
+    refuse-trace (c .refused3 .result) _ _ (c .before .before .before .before .before .before .before .before .before .before .before .args .settings) _ _ (fine (held .before .before)) (path-held held) (sym (c .before .before .holds-exactly2 .ensures) ∙ not-true _ (c .before .if3 .taken)) (c .refused3 .ensures)
 
 judge-requires : tie.Need-judge-requires
 judge-requires c κs = search needs
@@ -133,10 +133,10 @@ explore-spec =
     settings-fine-requires
     refused-requires
     returns
-    holds-requires
+    holds-exactly-requires
     refused-requires-2
     returns-2
-    holds-requires-2
+    holds-exactly-requires-2
     refused-requires-3
     returns-3
     judge-requires

@@ -6,7 +6,7 @@ use borrow.Author.Tests.{not-true, not-false}
 use lib.ListN.{getD, drop}
 use Rattle.rules.specs.Table.{maxRows}
 use Rattle.rules.specs.Form.{rowIn}
-use Rattle.rules.specs.Text.{Made, rowsSoFar, withRow}
+use Rattle.rules.specs.Text.{Draft, rowsSoFar, withRow}
 use Rattle.rules.proofs.LimitLaws.{rows-fit}
 use Rattle.filling.specs.Tables.{Held}
 use Rattle.filling.proofs.HeldLaws.{held-threads, held-cells, held-plains, within, begun, count-there}
@@ -16,7 +16,7 @@ use Rattle.filling.proofs.a_row.Statement.{statement}
 use Rattle.filling.proofs.a_row.Tie as tie
 
 -- what a row may name, by the header
-named : (b : List ℕ) (n : ℕ) (m : Made) → Held b n m → 1 ≤ getD b 0 0 → (all rows : ℕ) (bs : List ℕ)
+named : (b : List ℕ) (n : ℕ) (m : Draft) → Held b n m → 1 ≤ getD b 0 0 → (all rows : ℕ) (bs : List ℕ)
     → rowIn (record { threads = all; cells = m .cells; plains = m .plains; rows = rows; row = rowsSoFar m }) bs
     ≡ rowIn (record { threads = all; cells = getD b 1 0; plains = getD b 7 0; rows = rows; row = getD b (1 + getD b 0 0) 0 }) bs
 named b n m held some all rows bs = rw (held-cells b n m held, held-plains b n m held, count-there b n m held some)

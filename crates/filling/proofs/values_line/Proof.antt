@@ -1,8 +1,8 @@
 use mathlib.Core.Path.{_≡_, refl, ap, sym, _∙_}
 use native.Mathlib.Omega.{arith}
 use lib.ListN.{length, getD, drop}
-use Rattle.rules.specs.Token.{skip}
-use Rattle.rules.specs.Text.{Line, Made, valuesLine}
+use Rattle.rules.specs.Token.{pastBlanks}
+use Rattle.rules.specs.Text.{Line, Draft, valuesLine}
 use Rattle.token.specs.Finds.{foundOf}
 use Rattle.token.proofs.PlaceLaws.{left-by}
 use Rattle.filling.specs.Tables.{Held, howMany, oneMore}
@@ -13,15 +13,15 @@ use Rattle.filling.proofs.values_line.Statement.{statement}
 use Rattle.filling.proofs.values_line.Tie as tie
 
 abbrev Inv-loop : tie.InvT-loop
-Inv-loop text at n place most table₀ from₀ long₀ left₀ table from long left =
+Inv-loop text table₀ at n place most from₀ long₀ left₀ table from long left =
     (length table ≡ length table₀)
-    × ((m : Made) → Held table₀ n m → Underway text table place long left from (valuesLine (oneMore place) (howMany place) most m (drop at text)))
+    × ((m : Draft) → Held table₀ n m → Underway text table place long left from (valuesLine (oneMore place) (howMany place) most m (drop at text)))
 
 abbrev μ-loop : tie.MeasureT-loop
-μ-loop text at n place most table₀ from₀ long₀ left₀ table from long left = left
+μ-loop text table₀ at n place most from₀ long₀ left₀ table from long left = left
 
 -- what the line comes to, from a table that the buffer holds
-abbrev whole : (at : tie.At-loop Inv-loop μ-loop) → Made → Line
+abbrev whole : (at : tie.At-loop Inv-loop μ-loop) → Draft → Line
 whole at m =
     let a = at .before .before .before .args in
     valuesLine (oneMore (a .place)) (howMany (a .place)) (a .most) m (drop (a .at) (a .text .now))
@@ -31,11 +31,11 @@ way : (at : tie.At-loop Inv-loop μ-loop) → Underway (at .before .before .befo
 way at = at .loop .inv .1 (at .before .before .before .pre .0 .made) (at .before .before .before .pre .0 .held)
 
 -- how many start values it has
-many : (at : tie.At-loop Inv-loop μ-loop) (m : Made) → Held (at .loop .table) (at .loop .long) m → getD (at .loop .table) (at .before .before .before .args .place) 0 ≡ howMany (at .before .before .before .args .place) m
+many : (at : tie.At-loop Inv-loop μ-loop) (m : Draft) → Held (at .loop .table) (at .loop .long) m → getD (at .loop .table) (at .before .before .before .args .place) 0 ≡ howMany (at .before .before .before .args .place) m
 many at m held = held-many (at .loop .table) (at .loop .long) m held (at .before .before .before .args .place) (at .before .before .before .pre .1)
 
-skipped : (c : tie.After-skip Inv-loop μ-loop) → drop (c .skip .result) (c .before .before .before .before .before .args .text .now) ≡ skip (drop (c .before .before .loop .from) (c .before .before .before .before .before .args .text .now))
-skipped c = left-by (c .before .before .before .before .before .args .text .now) (c .before .before .loop .from) (c .skip .result) _ (c .skip .ensures)
+skipped : (c : tie.After-past-blanks Inv-loop μ-loop) → drop (c .past-blanks .result) (c .before .before .before .before .before .args .text .now) ≡ pastBlanks (drop (c .before .before .loop .from) (c .before .before .before .before .before .args .text .now))
+skipped c = left-by (c .before .before .before .before .before .args .text .now) (c .before .before .loop .from) (c .past-blanks .result) _ (c .past-blanks .ensures)
 
 loop-holds : tie.Need-loop-holds Inv-loop μ-loop
 loop-holds c = (
@@ -50,8 +50,8 @@ loop-holds c = (
   },
 )
 
-skip-requires : tie.Need-skip-requires Inv-loop μ-loop
-skip-requires c κs = search needs
+past-blanks-requires : tie.Need-past-blanks-requires Inv-loop μ-loop
+past-blanks-requires c κs = search needs
 
 token-end-requires : tie.Need-token-end-requires Inv-loop μ-loop
 token-end-requires c κs = search needs
@@ -83,7 +83,7 @@ returns c = record {
       let at = got .before .before in
       let a = at .before .before .before .args in
       let w = at .loop .inv .1 m held in
-      sym (w .same) ∙ values-none (oneMore (a .place)) (howMany (a .place)) (a .text .now) (at .loop .from) (at .loop .left) (w .made) (got .skip .result) (long .token-end .result) (skipped got) (long .token-end .ensures) (got .before .loop-test .taken) (sym (num .number .ensures) ∙ ap foundOf (told .enum-told .given .1)) (omega (arith, c .if1 .taken, many at (w .made) (w .held)));
+      sym (w .same) ∙ values-none (oneMore (a .place)) (howMany (a .place)) (a .text .now) (at .loop .from) (at .loop .left) (w .made) (got .past-blanks .result) (long .token-end .result) (skipped got) (long .token-end .ensures) (got .before .loop-test .taken) (sym (num .number .ensures) ∙ ap foundOf (told .enum-told .given .1)) (omega (arith, c .if1 .taken, many at (w .made) (w .held)));
 }
 
 bare-then-requires : tie.Need-bare-then-requires Inv-loop μ-loop
@@ -102,7 +102,7 @@ returns-2 c = record {
       let at = got .before .before in
       let a = at .before .before .before .args in
       let w = at .loop .inv .1 m held in
-      lined-bare (a .text .now) (at .loop .from) 0 (at .loop .long) (c .bare-then .result) (c .bare-then .ensures) (at .loop .table) (a .length) (w .made) (w .held) _ (values-bare (oneMore (a .place)) (howMany (a .place)) (a .text .now) (at .loop .from) (at .loop .left) (w .made) (got .skip .result) (long .token-end .result) (skipped got) (long .token-end .ensures) (got .before .loop-test .taken) (sym (num .number .ensures) ∙ ap foundOf (told .enum-told .given .1)) (omega (arith, c .before .if1 .left, many at (w .made) (w .held))) ∙ w .same);
+      lined-bare (a .text .now) (at .loop .from) 0 (at .loop .long) (c .bare-then .result) (c .bare-then .ensures) (at .loop .table) (a .length) (w .made) (w .held) _ (values-bare (oneMore (a .place)) (howMany (a .place)) (a .text .now) (at .loop .from) (at .loop .left) (w .made) (got .past-blanks .result) (long .token-end .result) (skipped got) (long .token-end .ensures) (got .before .loop-test .taken) (sym (num .number .ensures) ∙ ap foundOf (told .enum-told .given .1)) (omega (arith, c .before .if1 .left, many at (w .made) (w .held))) ∙ w .same);
 }
 
 add-value-requires : tie.Need-add-value-requires Inv-loop μ-loop
@@ -138,7 +138,7 @@ loop-again c =
             made = oneMore (a .place) (w .made) (val .value .given .0 .0);
             held = put .add-value .ensures (w .made) (w .held);
             count = omega (arith, w .count, got .before .loop-test .taken, more-many (a .place) (w .made) (val .value .given .0 .0));
-            same = values-found (oneMore (a .place)) (howMany (a .place)) (a .text .now) (at .loop .from) (at .loop .left) (w .made) (got .skip .result) (long .token-end .result) (skipped got) (long .token-end .ensures) (got .before .loop-test .taken) _ (sym (num .number .ensures) ∙ ap foundOf (val .value .given .1)) ∙ w .same;
+            same = values-found (oneMore (a .place)) (howMany (a .place)) (a .text .now) (at .loop .from) (at .loop .left) (w .made) (got .past-blanks .result) (long .token-end .result) (skipped got) (long .token-end .ensures) (got .before .loop-test .taken) _ (sym (num .number .ensures) ∙ ap foundOf (val .value .given .1)) ∙ w .same;
           },
     )
 
@@ -164,7 +164,7 @@ values-line-spec =
     Inv-loop
     μ-loop
     loop-holds
-    skip-requires
+    past-blanks-requires
     token-end-requires
     number-requires
     enum-known-value

@@ -11,12 +11,12 @@ use Rattle.finally.proofs.put_parts.Statement.{statement}
 use Rattle.finally.proofs.put_parts.Tie as tie
 
 abbrev Inv-loop : tie.InvT-loop
-Inv-loop page₀ at condition threads held to₀ from₀ left₀ page to from left =
+Inv-loop page₀ at condition held threads to₀ from₀ left₀ page to from left =
     (left ≤ length condition)
     × (putParts left (ended page to) condition threads held from ≡ putParts (length condition) (ended page₀ at) condition threads held (nextFrom condition 0))
 
 abbrev μ-loop : tie.MeasureT-loop
-μ-loop page₀ at condition threads held to₀ from₀ left₀ page to from left = left
+μ-loop page₀ at condition held threads to₀ from₀ left₀ page to from left = left
 
 next-requires : tie.Need-next-requires Inv-loop μ-loop
 next-requires c κs = search needs

@@ -2,7 +2,7 @@ use Prim.Native.Nat.{ℕ, _-_}
 use mathlib.Core.List.{List}
 use mathlib.Core.Path.{_≡_, refl, ap, sym, _∙_}
 use lib.ListN.{drop}
-use Rattle.rules.specs.Token.{isBlank, skip}
+use Rattle.rules.specs.Token.{isBlank, pastBlanks}
 use Rattle.rules.specs.Form.{valueOf, withField, follow, mostWords}
 use Rattle.token.specs.Places.{part, Between}
 use Rattle.token.specs.Finds.{foundOf}
@@ -21,32 +21,32 @@ abbrev μ-loop : tie.MeasureT-loop
 μ-loop words text at room fields₀ from₀ to₀ left₀ fields from to left = left
 
 -- the places of a turn's words
-left-words : (c : tie.After-skip2 Inv-loop μ-loop) → drop (c .before .skip .result) (c .before .before .before .before .before .before .args .words .now) ≡ skip (drop (c .before .before .before .loop .from) (c .before .before .before .before .before .before .args .words .now))
-left-words c = left-by (c .before .before .before .before .before .before .args .words .now) (c .before .before .before .loop .from) (c .before .skip .result) _ (c .before .skip .ensures)
+left-words : (c : tie.After-past-blanks2 Inv-loop μ-loop) → drop (c .before .past-blanks .result) (c .before .before .before .before .before .before .args .words .now) ≡ pastBlanks (drop (c .before .before .before .loop .from) (c .before .before .before .before .before .before .args .words .now))
+left-words c = left-by (c .before .before .before .before .before .before .args .words .now) (c .before .before .before .loop .from) (c .before .past-blanks .result) _ (c .before .past-blanks .ensures)
 
-left-text : (c : tie.After-skip2 Inv-loop μ-loop) → drop (c .skip2 .result) (c .before .before .before .before .before .before .args .text .now) ≡ skip (drop (c .before .before .before .loop .to) (c .before .before .before .before .before .before .args .text .now))
-left-text c = left-by (c .before .before .before .before .before .before .args .text .now) (c .before .before .before .loop .to) (c .skip2 .result) _ (c .skip2 .ensures)
+left-text : (c : tie.After-past-blanks2 Inv-loop μ-loop) → drop (c .past-blanks2 .result) (c .before .before .before .before .before .before .args .text .now) ≡ pastBlanks (drop (c .before .before .before .loop .to) (c .before .before .before .before .before .before .args .text .now))
+left-text c = left-by (c .before .before .before .before .before .before .args .text .now) (c .before .before .before .loop .to) (c .past-blanks2 .result) _ (c .past-blanks2 .ensures)
 
-so-far : (c : tie.After-skip2 Inv-loop μ-loop) → Between (c .before .before .before .before .before .before .args .text .now) (c .before .before .before .before .before .before .args .at) (c .skip2 .result)
-so-far c = between-on _ _ (c .before .before .before .loop .to) _ (c .before .before .before .loop .inv .1) (between-run _ _ _ isBlank (c .skip2 .ensures))
+so-far : (c : tie.After-past-blanks2 Inv-loop μ-loop) → Between (c .before .before .before .before .before .before .args .text .now) (c .before .before .before .before .before .before .args .at) (c .past-blanks2 .result)
+so-far c = between-on _ _ (c .before .before .before .loop .to) _ (c .before .before .before .loop .inv .1) (between-run _ _ _ isBlank (c .past-blanks2 .ensures))
 
 -- what the turn's token stands for
 valued : (c : tie.After-value-of Inv-loop μ-loop) →
-    valueOf (roomOf (c .before .before .before .before .before .before .before .before .before .before .before .args .room)) (part (c .before .before .before .before .before .before .skip .result) (c .before .before .before .token-end .result) (c .before .before .before .before .before .before .before .before .before .before .before .args .words .now)) (part (c .before .before .before .before .before .skip2 .result) (c .before .before .token-end2 .result) (c .before .before .before .before .before .before .before .before .before .before .before .args .text .now))
+    valueOf (roomOf (c .before .before .before .before .before .before .before .before .before .before .before .args .room)) (part (c .before .before .before .before .before .before .past-blanks .result) (c .before .before .before .token-end .result) (c .before .before .before .before .before .before .before .before .before .before .before .args .words .now)) (part (c .before .before .before .before .before .past-blanks2 .result) (c .before .before .token-end2 .result) (c .before .before .before .before .before .before .before .before .before .before .before .args .text .now))
     ≡ foundOf (c .value-of .result)
 valued c =
     sym
     (c .value-of .ensures
-    ∙ ap (λ (piece : List ℕ). valueOf (roomOf (c .before .before .before .before .before .before .before .before .before .before .before .args .room)) piece (part (c .before .before .before .before .before .skip2 .result) (c .before .before .token-end2 .result) (c .before .before .before .before .before .before .before .before .before .before .before .args .text .now))) (c .before .part .ensures))
+    ∙ ap (λ (piece : List ℕ). valueOf (roomOf (c .before .before .before .before .before .before .before .before .before .before .before .args .room)) piece (part (c .before .before .before .before .before .past-blanks2 .result) (c .before .before .token-end2 .result) (c .before .before .before .before .before .before .before .before .before .before .before .args .text .now))) (c .before .part .ensures))
 
 loop-holds : tie.Need-loop-holds Inv-loop μ-loop
 loop-holds c = (refl, between-here _ _)
 
-skip-requires : tie.Need-skip-requires Inv-loop μ-loop
-skip-requires c κs = search needs
+past-blanks-requires : tie.Need-past-blanks-requires Inv-loop μ-loop
+past-blanks-requires c κs = search needs
 
-skip-requires-2 : tie.Need-skip-requires-2 Inv-loop μ-loop
-skip-requires-2 c κs = search needs
+past-blanks-requires-2 : tie.Need-past-blanks-requires-2 Inv-loop μ-loop
+past-blanks-requires-2 c κs = search needs
 
 ended-requires : tie.Need-ended-requires Inv-loop μ-loop
 ended-requires c κs = search needs
@@ -56,8 +56,8 @@ returns c =
     let got = c .before .before in
     let at = got .before .before .before in
     let a = at .before .before .before .args in
-    follows-on (a .text .now) (c .ended .result) (a .at) (got .skip2 .result) {some = ended (at .loop .fields) (drop (got .skip2 .result) (a .text .now))} (c .ended .ensures)
-    (follow-ended (roomOf (a .room)) (at .loop .fields) (a .words .now) (a .text .now) (at .loop .from) (at .loop .to) (at .loop .left) (got .before .skip .result) (got .skip2 .result) (left-words got) (left-text got) (got .before .before .loop-test .taken) (c .before .if1 .taken)
+    follows-on (a .text .now) (c .ended .result) (a .at) (got .past-blanks2 .result) {some = ended (at .loop .fields) (drop (got .past-blanks2 .result) (a .text .now))} (c .ended .ensures)
+    (follow-ended (roomOf (a .room)) (at .loop .fields) (a .words .now) (a .text .now) (at .loop .from) (at .loop .to) (at .loop .left) (got .before .past-blanks .result) (got .past-blanks2 .result) (left-words got) (left-text got) (got .before .before .loop-test .taken) (c .before .if1 .taken)
     ∙ at .loop .inv .0)
     (so-far got)
 
@@ -88,8 +88,8 @@ returns-2 c =
     let got = value .before .before .before .before .before in
     let at = got .before .before .before in
     let a = at .before .before .before .args in
-    follows-stuck (a .text .now) (c .stuck .result) (a .at) (got .skip2 .result) (c .stuck .ensures .0) (c .stuck .ensures .1)
-    (follow-stuck (roomOf (a .room)) (at .loop .fields) (a .words .now) (a .text .now) (at .loop .from) (at .loop .to) (at .loop .left) (got .before .skip .result) (got .skip2 .result) (left-words got) (left-text got) (got .before .before .loop-test .taken)
+    follows-stuck (a .text .now) (c .stuck .result) (a .at) (got .past-blanks2 .result) (c .stuck .ensures .0) (c .stuck .ensures .1)
+    (follow-stuck (roomOf (a .room)) (at .loop .fields) (a .words .now) (a .text .now) (at .loop .from) (at .loop .to) (at .loop .left) (got .before .past-blanks .result) (got .past-blanks2 .result) (left-words got) (left-text got) (got .before .before .loop-test .taken)
     (value .before .before .before .before .if1 .left) (value .before .before .before .token-end .result) (value .before .before .token-end2 .result) (value .before .before .before .token-end .ensures) (value .before .before .token-end2 .ensures)
     (valued value ∙ ap foundOf (c .before .enum-told .given .1))
     ∙ at .loop .inv .0)
@@ -111,15 +111,15 @@ loop-again c =
     let got = value .before .before .before .before .before in
     let at = got .before .before .before in
     let a = at .before .before .before .args in (
-      follow-on (roomOf (a .room)) (at .loop .fields) (a .words .now) (a .text .now) (at .loop .from) (at .loop .to) (at .loop .left) (got .before .skip .result) (got .skip2 .result) (left-words got) (left-text got) (got .before .before .loop-test .taken)
+      follow-on (roomOf (a .room)) (at .loop .fields) (a .words .now) (a .text .now) (at .loop .from) (at .loop .to) (at .loop .left) (got .before .past-blanks .result) (got .past-blanks2 .result) (left-words got) (left-text got) (got .before .before .loop-test .taken)
           (value .before .before .before .before .if1 .left) (value .before .before .before .token-end .result) (value .before .before .token-end2 .result) (value .before .before .before .token-end .ensures) (value .before .before .token-end2 .ensures)
           (known .value .given .0 .0) (c .with-field .result) (valued value ∙ ap foundOf (known .value .given .1)) (c .with-field .ensures ∙ ap (λ (piece : List ℕ). withField (at .loop .fields) piece (known .value .given .0 .0)) (value .before .part .ensures))
           ∙ at .loop .inv .0,
-      between-on _ _ (got .skip2 .result) _ (so-far got) (between-token _ _ _ (value .before .before .token-end2 .ensures)),
+      between-on _ _ (got .past-blanks2 .result) _ (so-far got) (between-token _ _ _ (value .before .before .token-end2 .ensures)),
     )
 
-skip-requires-3 : tie.Need-skip-requires-3 Inv-loop μ-loop
-skip-requires-3 c κs = search needs
+past-blanks-requires-3 : tie.Need-past-blanks-requires-3 Inv-loop μ-loop
+past-blanks-requires-3 c κs = search needs
 
 stuck-requires-2 : tie.Need-stuck-requires-2 Inv-loop μ-loop
 stuck-requires-2 c κs = search needs
@@ -129,10 +129,10 @@ returns-3 c =
     let skipped = c .before in
     let at = skipped .before .before in
     let a = at .before .before .before .args in
-    follows-stuck (a .text .now) (c .stuck2 .result) (a .at) (skipped .skip3 .result) (c .stuck2 .ensures .0) (c .stuck2 .ensures .1)
-    (follow-out (roomOf (a .room)) (at .loop .fields) (drop (at .loop .from) (a .words .now)) (a .text .now) (at .loop .to) (at .loop .left) (skipped .skip3 .result) (left-by (a .text .now) (at .loop .to) (skipped .skip3 .result) _ (skipped .skip3 .ensures)) (skipped .before .loop-test .left)
+    follows-stuck (a .text .now) (c .stuck2 .result) (a .at) (skipped .past-blanks3 .result) (c .stuck2 .ensures .0) (c .stuck2 .ensures .1)
+    (follow-out (roomOf (a .room)) (at .loop .fields) (drop (at .loop .from) (a .words .now)) (a .text .now) (at .loop .to) (at .loop .left) (skipped .past-blanks3 .result) (left-by (a .text .now) (at .loop .to) (skipped .past-blanks3 .result) _ (skipped .past-blanks3 .ensures)) (skipped .before .loop-test .left)
     ∙ at .loop .inv .0)
-    (between-on _ _ (at .loop .to) _ (at .loop .inv .1) (between-run _ _ _ isBlank (skipped .skip3 .ensures)))
+    (between-on _ _ (at .loop .to) _ (at .loop .inv .1) (between-run _ _ _ isBlank (skipped .past-blanks3 .ensures)))
 
 pub followed-spec : {M : Type 1} → statement M
 followed-spec =
@@ -141,8 +141,8 @@ followed-spec =
     Inv-loop
     μ-loop
     loop-holds
-    skip-requires
-    skip-requires-2
+    past-blanks-requires
+    past-blanks-requires-2
     ended-requires
     returns
     token-end-requires
@@ -157,6 +157,6 @@ followed-spec =
     sub-left
     loop-less
     loop-again
-    skip-requires-3
+    past-blanks-requires-3
     stuck-requires-2
     returns-3)

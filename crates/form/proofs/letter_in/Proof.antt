@@ -1,6 +1,6 @@
 use mathlib.Core.Bool.{Bool}
 use mathlib.Core.Path.{ap, sym, _∙_}
-use Rattle.rules.specs.Token.{onlyIf}
+use Rattle.rules.specs.Token.{foundIf}
 use Rattle.token.specs.Finds.{foundOf}
 use Rattle.form.specs.Rows.{roomOf}
 use Rattle.form.proofs.LetterLaws.{letter-by}
@@ -29,14 +29,14 @@ returns-2 : tie.Need-returns-2
 returns-2 c =
     let known = c .before .before .before in
     let a = known .before .before .before .before .args in
-    ap (λ (t : Bool). onlyIf t (known .value .given .0 .0)) (sym (sym (c .before .may-be .ensures) ∙ c .if1 .taken))
+    ap (λ (t : Bool). foundIf t (known .value .given .0 .0)) (sym (sym (c .before .may-be .ensures) ∙ c .if1 .taken))
     ∙ letter-by (roomOf (a .room)) _ (a .letter) _ (sym (known .before .before .kind-in .ensures) ∙ ap foundOf (known .value .given .1))
 
 returns-3 : tie.Need-returns-3
 returns-3 c =
     let known = c .before .before .before in
     let a = known .before .before .before .before .args in
-    ap (λ (t : Bool). onlyIf t (known .value .given .0 .0)) (sym (sym (c .before .may-be .ensures) ∙ c .if1 .left))
+    ap (λ (t : Bool). foundIf t (known .value .given .0 .0)) (sym (sym (c .before .may-be .ensures) ∙ c .if1 .left))
     ∙ letter-by (roomOf (a .room)) _ (a .letter) _ (sym (known .before .before .kind-in .ensures) ∙ ap foundOf (known .value .given .1))
 
 pub letter-in-spec : {M : Type 1} → statement M

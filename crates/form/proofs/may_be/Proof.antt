@@ -8,6 +8,30 @@ use borrow.Author.Needs.{needs}
 use Rattle.form.proofs.may_be.Statement.{statement}
 use Rattle.form.proofs.may_be.Tie as tie
 
+cast-result : tie.Need-cast-result
+cast-result c = search needs
+
+cast-result-2 : tie.Need-cast-result-2
+cast-result-2 c = search needs
+
+cast-result-3 : tie.Need-cast-result-3
+cast-result-3 c = search needs
+
+cast-result-4 : tie.Need-cast-result-4
+cast-result-4 c = search needs
+
+cast-result-5 : tie.Need-cast-result-5
+cast-result-5 c = search needs
+
+cast-result-6 : tie.Need-cast-result-6
+cast-result-6 c = search needs
+
+cast-result-7 : tie.Need-cast-result-7
+cast-result-7 c = search needs
+
+cast-result-8 : tie.Need-cast-result-8
+cast-result-8 c = search needs
+
 returns : tie.Need-returns
 unfolding mayBe
 returns c = let a = c .before .before .args in ap (λ (b : ℕ). mayBe (roomOf (a .room)) b (a .value)) (sym (c .before .match .keys1))
@@ -49,4 +73,22 @@ returns-9 c =
 
 pub may-be-spec : {M : Type 1} → statement M
 may-be-spec =
-    tie.close (tie.spec returns returns-2 returns-3 returns-4 returns-5 returns-6 returns-7 returns-8 returns-9)
+    tie.close
+    (tie.spec
+    cast-result
+    cast-result-2
+    cast-result-3
+    cast-result-4
+    cast-result-5
+    cast-result-6
+    cast-result-7
+    cast-result-8
+    returns
+    returns-2
+    returns-3
+    returns-4
+    returns-5
+    returns-6
+    returns-7
+    returns-8
+    returns-9)

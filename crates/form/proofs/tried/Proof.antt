@@ -41,13 +41,13 @@ by-form c =
     (opcode-there (n .form) (n .rest) (a .forms .now) (round c .before .loop .from) (n .left))
     (kind-there (n .form) (n .rest) (a .forms .now) (round c .before .loop .from) (n .left))
 
-skip-requires : tie.Need-skip-requires Inv-loop μ-loop
-skip-requires c κs = search needs
+past-blanks-requires : tie.Need-past-blanks-requires Inv-loop μ-loop
+past-blanks-requires c κs = search needs
 
 loop-holds : tie.Need-loop-holds Inv-loop μ-loop
 loop-holds c =
     let a = c .before .before .before .args in
-    trying-none (roomOf (a .room)) (a .forms .now) (a .text .now) (a .at) (c .before .before .before .pre) (c .skip .result) (left-by (a .text .now) (a .at) (c .skip .result) _ (c .skip .ensures)) (between-run _ _ _ isBlank (c .skip .ensures))
+    trying-none (roomOf (a .room)) (a .forms .now) (a .text .now) (a .at) (c .before .before .before .pre) (c .past-blanks .result) (left-by (a .text .now) (a .at) (c .past-blanks .result) _ (c .past-blanks .ensures)) (between-run _ _ _ isBlank (c .past-blanks .ensures))
 
 add-next-line : tie.Need-add-next-line Inv-loop μ-loop
 add-next-line c = search needs
@@ -131,7 +131,7 @@ tried-spec =
     (tie.spec
     Inv-loop
     μ-loop
-    skip-requires
+    past-blanks-requires
     loop-holds
     add-next-line
     next-line-requires

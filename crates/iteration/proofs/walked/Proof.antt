@@ -10,12 +10,12 @@ use Rattle.iteration.proofs.walked.Statement.{statement}
 use Rattle.iteration.proofs.walked.Tie as tie
 
 abbrev Inv-loop : tie.InvT-loop
-Inv-loop clocks₀ marks₀ values₀ numbers₀ path₀ trace₀ table shape limits fuel now₀ counter₀ clocks marks values numbers path trace now counter =
+Inv-loop table shape clocks₀ marks₀ values₀ numbers₀ path₀ trace₀ limits fuel now₀ counter₀ clocks marks values numbers path trace now counter =
     (counter ≤ fuel)
     × Ticking (lent clocks₀ marks₀ values₀ numbers₀ path₀ trace₀) (lent clocks marks values numbers path trace) table shape limits now₀ now counter
 
 abbrev μ-loop : tie.MeasureT-loop
-μ-loop clocks₀ marks₀ values₀ numbers₀ path₀ trace₀ table shape limits fuel now₀ counter₀ clocks marks values numbers path trace now counter = fuel - counter
+μ-loop table shape clocks₀ marks₀ values₀ numbers₀ path₀ trace₀ limits fuel now₀ counter₀ clocks marks values numbers path trace now counter = fuel - counter
 
 ticks-requires : tie.Need-ticks-requires Inv-loop μ-loop
 ticks-requires c κs = search needs

@@ -8,8 +8,8 @@ use Rattle.numbers.proofs.summaries.Reads as summaries-reads
 use Rattle.report.proofs.number.Reads as number-reads
 use Rattle.report.proofs.other_thread.Reads as other-thread-reads
 use Rattle.report.proofs.race_kind.Reads as race-kind-reads
-use Rattle.report.proofs.row_of.Reads as row-of-reads
-use Rattle.report.proofs.thread_of.Reads as thread-of-reads
+use Rattle.report.proofs.row_at_fault.Reads as row-of-reads
+use Rattle.report.proofs.thread_at_fault.Reads as thread-of-reads
 
 summaries-requires : tie.Need-summaries-requires
 summaries-requires c κs = search needs
@@ -17,11 +17,11 @@ summaries-requires c κs = search needs
 number-requires : tie.Need-number-requires
 number-requires c κs = search needs
 
-thread-of-requires : tie.Need-thread-of-requires
-thread-of-requires c κs = search needs
+thread-at-fault-requires : tie.Need-thread-at-fault-requires
+thread-at-fault-requires c κs = search needs
 
-row-of-requires : tie.Need-row-of-requires
-row-of-requires c κs = search needs
+row-at-fault-requires : tie.Need-row-at-fault-requires
+row-at-fault-requires c κs = search needs
 
 race-kind-requires : tie.Need-race-kind-requires
 race-kind-requires c κs = search needs
@@ -95,7 +95,7 @@ returns c =
     let row = kind .before in
     let thread = row .before in
     let number = thread .before in
-    numbers-made (number .before .before .before .args .done) _ _ _ _ _ _ (number .number .ensures) (thread .thread-of .ensures) (row .row-of .ensures) (kind .race-kind .ensures) (c .other-thread .ensures) (number .before .summaries .ensures)
+    numbers-made (number .before .before .before .args .done) _ _ _ _ _ _ (number .number .ensures) (thread .thread-at-fault .ensures) (row .row-at-fault .ensures) (kind .race-kind .ensures) (c .other-thread .ensures) (number .before .summaries .ensures)
 
 pub of-report-spec : {M : Type 1} → statement M
 of-report-spec =
@@ -103,8 +103,8 @@ of-report-spec =
     (tie.spec
     summaries-requires
     number-requires
-    thread-of-requires
-    row-of-requires
+    thread-at-fault-requires
+    row-at-fault-requires
     race-kind-requires
     other-thread-requires
     array-read-t13

@@ -1,20 +1,24 @@
+use mathlib.Core.Path.{refl, ap, sym, _∙_}
+use lib.ListN.{length}
+use Rattle.digits.proofs.ShownLaws.{front, within}
 use Rattle.put.proofs.PutLaws.{puts-are}
-use Rattle.put.proofs.NumberLaws.{last-all}
+use Rattle.put.proofs.NumberLaws.{same-shown}
 use borrow.Author.Needs.{needs}
 use Rattle.put.proofs.put_number.Statement.{statement}
 use Rattle.put.proofs.put_number.Tie as tie
 
-digits-requires : tie.Need-digits-requires
-digits-requires c κs = search needs
+spell-requires : tie.Need-spell-requires
+spell-requires c κs = search needs
 
-sub-put-bytes : tie.Need-sub-put-bytes
-sub-put-bytes c = search needs
+array-share-prefix-digits : tie.Need-array-share-prefix-digits
+array-share-prefix-digits c =
+    let called = c .before in
+    within _ _ _ _ (called .spell .ensures) (search needs) refl
 
-part-put-bytes-start : tie.Need-part-put-bytes-start
-part-put-bytes-start c = search needs
-
-part-put-bytes-end : tie.Need-part-put-bytes-end
-part-put-bytes-end c = search needs
+slice-aggregate-put-bytes : tie.Need-slice-aggregate-put-bytes
+slice-aggregate-put-bytes c =
+    let called = c .before .before in
+    called .spell .ensures .said ∙ ap length (sym (front _ _ _ _ (called .spell .ensures) (search needs) refl))
 
 put-bytes-requires : tie.Need-put-bytes-requires
 put-bytes-requires c κs = search needs
@@ -25,17 +29,16 @@ same-length c = search needs
 returns : tie.Need-returns
 returns c =
     let put = c .before .before in
-    let made = put .before .before .before .before .before in
-    puts-are _ _ _ _ _ _ (last-all _ _ _ (made .digits .ensures)) (put .put-bytes .ensures)
+    let called = put .before .before .before in
+    puts-are _ _ _ _ _ _ (front _ _ _ _ (called .spell .ensures) (search needs) refl ∙ same-shown _ (search needs)) (put .put-bytes .ensures)
 
 pub put-number-spec : {M : Type 1} → statement M
 put-number-spec =
     tie.close
     (tie.spec
-    digits-requires
-    sub-put-bytes
-    part-put-bytes-start
-    part-put-bytes-end
+    spell-requires
+    array-share-prefix-digits
+    slice-aggregate-put-bytes
     put-bytes-requires
     same-length
     returns)

@@ -37,7 +37,7 @@ register-at-requires c κs =
     let row = op .before .before .before in
     let start = row .before .before in
     let args = start .args in
-    (search needs, bit-within (args .row) _ _ (row .row .given .1) (op .op .given .1) (start .pre .1))
+    (search needs, omega (arith, bit-within (args .row) _ _ (row .row .given .1) (op .op .given .1) (start .pre .1)))
 
 add-values : tie.Need-add-values
 add-values c =

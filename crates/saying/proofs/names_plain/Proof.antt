@@ -19,8 +19,8 @@ slice-aggregate-is-word-2 c = search needs
 is-word-requires-2 : tie.Need-is-word-requires-2
 is-word-requires-2 c κs = search needs
 
-skip-requires : tie.Need-skip-requires
-skip-requires c κs = search needs
+past-blanks-requires : tie.Need-past-blanks-requires
+past-blanks-requires c κs = search needs
 
 token-end-requires-2 : tie.Need-token-end-requires-2
 token-end-requires-2 c κs = search needs
@@ -40,7 +40,7 @@ returns c =
     let read = to .before .before in
     let end = read .before .before in
     let a = end .before .before .args in
-    plain-named (a .text .now) (a .before) _ (end .token-end .ensures) (a .begin) _ _ _ _ _ (first .skip .ensures) (behind .token-end2 .ensures) (read .is-word .ensures) (to .is-word2 .ensures) (c .is-word3 .ensures)
+    plain-named (a .text .now) (a .before) _ (end .token-end .ensures) (a .begin) _ _ _ _ _ (first .past-blanks .ensures) (behind .token-end2 .ensures) (read .is-word .ensures) (to .is-word2 .ensures) (c .is-word3 .ensures)
 
 pub names-plain-spec : {M : Type 1} → statement M
 names-plain-spec =
@@ -51,7 +51,7 @@ names-plain-spec =
     is-word-requires
     slice-aggregate-is-word-2
     is-word-requires-2
-    skip-requires
+    past-blanks-requires
     token-end-requires-2
     slice-aggregate-is-word-3
     is-word-requires-3

@@ -3,7 +3,7 @@ use mathlib.Core.Path.{refl, sym, _∙_}
 use native.Mathlib.Omega.{arith}
 use borrow.Author.Tests.{not-true, not-false}
 use lib.ListN.{length, drop}
-use Rattle.rules.specs.Token.{bytesOf, token, skip}
+use Rattle.rules.specs.Token.{bytesOf, token, pastBlanks}
 use Rattle.token.specs.Places.{part}
 use Rattle.put.specs.Puts.{last}
 use Rattle.put.proofs.PutLaws.{puts-are, coming-all, coming-on}
@@ -105,7 +105,7 @@ returns-3 c =
     let ends = end .before .before in
     let known = ends .before .before in
     let a = known .before .args in
-    let why = reason (a .row) (token (skip (drop (a .begin) (a .text .now)))) (token (drop (a .before) (a .text .now))) (part (a .at) (end .token-end .result) (a .text .now)) in
+    let why = reason (a .row) (token (pastBlanks (drop (a .begin) (a .text .now)))) (token (drop (a .before) (a .text .now))) (part (a .at) (end .token-end .result) (a .text .now)) in
     let there = sym (ends .ends-line .ensures) ∙ end .before .if1 .left in
     let whole = what-clear (a .text .now) (a .row) (a .begin) (a .before) (a .at) there _ (end .token-end .ensures) _ (taken .part .ensures) (sym (clear .is-clear .ensures) ∙ not-false _ (quote .before .before .if2 .left)) in
     let all = coming-all _ (a .to) (whatShown (a .text .now) (a .row) (a .begin) (a .before) (a .at)) (low known) (long known) in

@@ -8,10 +8,10 @@ use Rattle.start.proofs.make_cells.Statement.{statement}
 use Rattle.start.proofs.make_cells.Tie as tie
 
 abbrev Inv-loop : tie.InvT-loop
-Inv-loop clocks₀ marks₀ values₀ numbers₀ table cells cell₀ clocks marks values numbers cell = (cell ≤ cells) × (cellsMade table (state clocks marks values numbers) (cells - cell) cell ≡ cellsMade table (state clocks₀ marks₀ values₀ numbers₀) cells 0)
+Inv-loop table clocks₀ marks₀ values₀ numbers₀ cells cell₀ clocks marks values numbers cell = (cell ≤ cells) × (cellsMade table (state clocks marks values numbers) (cells - cell) cell ≡ cellsMade table (state clocks₀ marks₀ values₀ numbers₀) cells 0)
 
 abbrev μ-loop : tie.MeasureT-loop
-μ-loop clocks₀ marks₀ values₀ numbers₀ table cells cell₀ clocks marks values numbers cell = cells - cell
+μ-loop table clocks₀ marks₀ values₀ numbers₀ cells cell₀ clocks marks values numbers cell = cells - cell
 
 loop-holds : tie.Need-loop-holds Inv-loop μ-loop
 loop-holds c =

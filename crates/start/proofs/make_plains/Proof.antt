@@ -10,12 +10,12 @@ use Rattle.start.proofs.make_plains.Statement.{statement}
 use Rattle.start.proofs.make_plains.Tie as tie
 
 abbrev Inv-loop : tie.InvT-loop
-Inv-loop clocks₀ values₀ table cells plains plain₀ clocks values plain =
+Inv-loop table clocks₀ values₀ cells plains plain₀ clocks values plain =
     (plain ≤ plains)
     × ((marks : Marks) (numbers : Numbers) → cellsOf table ≡ cells → plainsMade table (state clocks marks values numbers) (plains - plain) plain ≡ plainsMade table (state clocks₀ marks values₀ numbers) plains 0)
 
 abbrev μ-loop : tie.MeasureT-loop
-μ-loop clocks₀ values₀ table cells plains plain₀ clocks values plain = plains - plain
+μ-loop table clocks₀ values₀ cells plains plain₀ clocks values plain = plains - plain
 
 loop-holds : tie.Need-loop-holds Inv-loop μ-loop
 loop-holds c =

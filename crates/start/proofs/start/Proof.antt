@@ -48,8 +48,8 @@ returns c =
     let clearing = celling .before .before in
     let args = clearing .before .before .before .before .before .before .args in
     let cleared = clearing .clear .last in
-    let made = making .make-cells .last in
-    let plained = plaining .make-plains .last in
+    let made = making .make-cells .last .1 in
+    let plained = plaining .make-plains .last .1 in
     λ p a b d e f.
     let held = e ∙ sym (celling .wide16 .ensures .same) in
     start-as p (cleared .0) (cleared .1 .0) (cleared .1 .1 .0) (cleared .1 .1 .1 .0) (args .table .now) (args .exploring)

@@ -2,7 +2,7 @@ use Prim.Native.Nat.{_+_, _-_}
 use mathlib.Core.Path.{_≡_, refl, sym, _∙_, ap}
 use lib.ListN.{length, drop}
 use Rattle.rules.specs.Vector.{equal}
-use Rattle.rules.specs.Token.{skip, placeIn}
+use Rattle.rules.specs.Token.{pastBlanks, placeIn}
 use Rattle.token.specs.Places.{part}
 use Rattle.token.specs.Finds.{wordsIn}
 use Rattle.token.proofs.PlaceLaws.{left-by}
@@ -18,26 +18,26 @@ abbrev μ-loop : tie.MeasureT-loop
 μ-loop word words first place₀ from₀ left₀ place from left = left
 
 -- the place of a turn's word, and whether it is the one that is looked for
-skipped : (c : tie.After-skip Inv-loop μ-loop) → drop (c .skip .result) (c .before .before .before .before .before .args .words .now) ≡ skip (drop (c .before .before .loop .from) (c .before .before .before .before .before .args .words .now))
-skipped c = left-by (c .before .before .before .before .before .args .words .now) (c .before .before .loop .from) (c .skip .result) _ (c .skip .ensures)
+skipped : (c : tie.After-past-blanks Inv-loop μ-loop) → drop (c .past-blanks .result) (c .before .before .before .before .before .args .words .now) ≡ pastBlanks (drop (c .before .before .loop .from) (c .before .before .before .before .before .args .words .now))
+skipped c = left-by (c .before .before .before .before .before .args .words .now) (c .before .before .loop .from) (c .past-blanks .result) _ (c .past-blanks .ensures)
 
 same-as : (c : tie.After-same Inv-loop μ-loop) →
     c .same .result
-    ≡ equal (c .before .before .before .before .before .before .before .before .before .args .word .now) (part (c .before .before .before .before .skip .result) (c .before .before .token-end .result) (c .before .before .before .before .before .before .before .before .before .args .words .now))
+    ≡ equal (c .before .before .before .before .before .before .before .before .before .args .word .now) (part (c .before .before .before .before .past-blanks .result) (c .before .before .token-end .result) (c .before .before .before .before .before .before .before .before .before .args .words .now))
 same-as c = c .same .ensures ∙ ap (equal _) (c .before .part .ensures)
 
 loop-holds : tie.Need-loop-holds Inv-loop μ-loop
 loop-holds c = (search needs, refl)
 
-skip-requires : tie.Need-skip-requires Inv-loop μ-loop
-skip-requires c κs = search needs
+past-blanks-requires : tie.Need-past-blanks-requires Inv-loop μ-loop
+past-blanks-requires c κs = search needs
 
 returns : tie.Need-returns Inv-loop μ-loop
 returns c =
     let got = c .before in
     let at = got .before .before in
     let a = at .before .before .before .args in
-    place-end (a .word .now) (a .words .now) (at .loop .place) (at .loop .from) (at .loop .left) (got .skip .result) (skipped got) (got .before .loop-test .taken) (c .if1 .taken)
+    place-end (a .word .now) (a .words .now) (at .loop .place) (at .loop .from) (at .loop .left) (got .past-blanks .result) (skipped got) (got .before .loop-test .taken) (c .if1 .taken)
     ∙ at .loop .inv .1
 
 token-end-requires : tie.Need-token-end-requires Inv-loop μ-loop
@@ -56,7 +56,7 @@ returns-2 c =
     let got = long .before .before in
     let at = got .before .before in
     let a = at .before .before .before .args in
-    place-here (a .word .now) (a .words .now) (at .loop .place) (at .loop .from) (at .loop .left) (got .skip .result) (skipped got) (got .before .loop-test .taken) (long .token-end .result) (long .before .if1 .left) (long .token-end .ensures) (sym (same-as told) ∙ c .if2 .taken)
+    place-here (a .word .now) (a .words .now) (at .loop .place) (at .loop .from) (at .loop .left) (got .past-blanks .result) (skipped got) (got .before .loop-test .taken) (long .token-end .result) (long .before .if1 .left) (long .token-end .ensures) (sym (same-as told) ∙ c .if2 .taken)
     ∙ at .loop .inv .1
 
 add-place : tie.Need-add-place Inv-loop μ-loop
@@ -76,7 +76,7 @@ loop-again c =
     let at = got .before .before in
     let a = at .before .before .before .args in (
       search needs,
-      place-on (a .word .now) (a .words .now) (at .loop .place) (at .loop .from) (at .loop .left) (got .skip .result) (skipped got) (got .before .loop-test .taken) (long .token-end .result) (long .before .if1 .left) (long .token-end .ensures) (sym (same-as told) ∙ c .if2 .left)
+      place-on (a .word .now) (a .words .now) (at .loop .place) (at .loop .from) (at .loop .left) (got .past-blanks .result) (skipped got) (got .before .loop-test .taken) (long .token-end .result) (long .before .if1 .left) (long .token-end .ensures) (sym (same-as told) ∙ c .if2 .left)
           ∙ at .loop .inv .1,
     )
 
@@ -94,7 +94,7 @@ place-in-spec =
     Inv-loop
     μ-loop
     loop-holds
-    skip-requires
+    past-blanks-requires
     returns
     token-end-requires
     part-requires

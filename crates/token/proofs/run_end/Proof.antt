@@ -3,7 +3,7 @@ use mathlib.Core.Path.{_≡_, sym, _∙_}
 use native.Mathlib.Omega.{arith}
 use borrow.Author.Tests.{not-true, not-false}
 use lib.ListN.{length, drop}
-use Rattle.rules.specs.Token.{run}
+use Rattle.rules.specs.Token.{runLength}
 use Rattle.token.specs.Places.{isOf}
 use Rattle.token.proofs.PlaceLaws.{run-past, run-on, run-stops}
 use borrow.Author.Needs.{needs}
@@ -11,7 +11,7 @@ use Rattle.token.proofs.run_end.Statement.{statement}
 use Rattle.token.proofs.run_end.Tie as tie
 
 abbrev Inv-loop : tie.InvT-loop
-Inv-loop text at kind to₀ to = to + run (isOf kind) (drop to text) ≡ at + run (isOf kind) (drop at text)
+Inv-loop text at kind to₀ to = to + runLength (isOf kind) (drop to text) ≡ at + runLength (isOf kind) (drop at text)
 
 abbrev μ-loop : tie.MeasureT-loop
 μ-loop text at kind to₀ to = length text - to

@@ -3,7 +3,7 @@ use mathlib.Core.List.{List}
 use mathlib.Core.Path.{_≡_, ap, sym, _∙_}
 use native.Mathlib.Omega.{arith}
 use lib.ListN.{getD}
-use Rattle.rules.specs.Token.{found, onlyIf, isBetween}
+use Rattle.rules.specs.Token.{found, foundIf, isBetween}
 use Rattle.rules.specs.Text.{threadRegisterIn}
 use Rattle.token.specs.Finds.{foundOf}
 use Rattle.token.proofs.WordLaws.{only-not, digit-most, thread-register-long, thread-register-point, thread-register-letter, thread-register-thread, thread-register-register, thread-register-all}
@@ -15,13 +15,13 @@ use Rattle.token.proofs.thread_register.Tie as tie
 abbrev word : tie.After-digit → List ℕ
 word c = c .before .before .before .before .before .before .before .part .result .now
 
-thread : (c : tie.After-thread) → onlyIf (isBetween 48 52 (getD (word (c .before .before)) 0 0)) (getD (word (c .before .before)) 0 0 - 48) ≡ found (c .thread .given .0 .0)
+thread : (c : tie.After-thread) → foundIf (isBetween 48 52 (getD (word (c .before .before)) 0 0)) (getD (word (c .before .before)) 0 0 - 48) ≡ found (c .thread .given .0 .0)
 thread c = sym (c .before .before .digit .ensures) ∙ ap foundOf (c .thread .given .1)
 
 abbrev first : tie.After-register → tie.After-thread
 first c = c .before .before .before .before .before
 
-register : (c : tie.After-register) → onlyIf (isBetween 48 51 (getD (word (first c .before .before)) 3 0)) (getD (word (first c .before .before)) 3 0 - 48) ≡ found (c .register .given .0 .0)
+register : (c : tie.After-register) → foundIf (isBetween 48 51 (getD (word (first c .before .before)) 3 0)) (getD (word (first c .before .before)) 3 0 - 48) ≡ found (c .register .given .0 .0)
 register c = sym (c .before .before .digit2 .ensures) ∙ ap foundOf (c .register .given .1)
 
 part-requires : tie.Need-part-requires
@@ -86,13 +86,13 @@ returns-5 c =
     thread-register-register (got .result .now) (only-not _ (getD (got .result .now) 3 0 - 48) (sym (digit .digit2 .ensures) ∙ ap foundOf (c .enum-told2 .given .1)))
     ∙ ap threadRegisterIn (got .ensures)
 
-mul-t16 : tie.Need-mul-t16
-mul-t16 c =
+mul-t17 : tie.Need-mul-t17
+mul-t17 c =
     let one = first (c .before) in
     omega (arith, digit-most 52 (getD (word (one .before .before)) 0 0) _ (thread one))
 
-add-t17 : tie.Need-add-t17
-add-t17 c =
+add-t18 : tie.Need-add-t18
+add-t18 c =
     let one = first (c .before) in
     omega (arith, digit-most 52 (getD (word (one .before .before)) 0 0) _ (thread one), digit-most 51 (getD (word (one .before .before)) 3 0) _ (register (c .before)))
 
@@ -125,6 +125,6 @@ thread-register-spec =
     enum-known-register
     enum-told-2
     returns-5
-    mul-t16
-    add-t17
+    mul-t17
+    add-t18
     returns-6)

@@ -6,10 +6,10 @@ use Rattle.explore.proofs.file.read_all.Statement.{statement}
 use Rattle.explore.proofs.file.read_all.Tie as tie
 
 abbrev Inv-loop : tie.InvT-loop
-Inv-loop fd buffer₀ n₀ reads₀ buffer n reads = (n ≤ length buffer₀) × (length buffer ≡ length buffer₀)
+Inv-loop buffer₀ fd n₀ reads₀ buffer n reads = (n ≤ length buffer₀) × (length buffer ≡ length buffer₀)
 
 abbrev μ-loop : tie.MeasureT-loop
-μ-loop fd buffer₀ n₀ reads₀ buffer n reads = (length buffer₀ + 1) - reads
+μ-loop buffer₀ fd n₀ reads₀ buffer n reads = (length buffer₀ + 1) - reads
 
 loop-holds : tie.Need-loop-holds Inv-loop μ-loop
 loop-holds c = search needs

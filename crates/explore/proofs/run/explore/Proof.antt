@@ -6,10 +6,10 @@ use Rattle.explore.proofs.run.explore.Statement.{statement}
 use Rattle.explore.proofs.run.explore.Tie as tie
 
 abbrev Inv-loop : tie.InvT-loop
-Inv-loop table condition settings path₀ trace₀ budget₀ path trace budget = (1 ≤ budget) × ((length path ≡ length path₀) × (length trace ≡ length trace₀))
+Inv-loop table condition path₀ trace₀ settings budget₀ path trace budget = (1 ≤ budget) × ((length path ≡ length path₀) × (length trace ≡ length trace₀))
 
 abbrev μ-loop : tie.MeasureT-loop
-μ-loop table condition settings path₀ trace₀ budget₀ path trace budget = 65535 - budget
+μ-loop table condition path₀ trace₀ settings budget₀ path trace budget = 65535 - budget
 
 loop-holds : tie.Need-loop-holds Inv-loop μ-loop
 loop-holds c = search needs

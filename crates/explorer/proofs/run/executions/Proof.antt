@@ -14,11 +14,11 @@ use Rattle.explorer.proofs.run.executions.Statement.{statement}
 use Rattle.explorer.proofs.run.executions.Tie as tie
 
 abbrev Inv-loop : tie.InvT-loop
-Inv-loop path₀ trace₀ table condition settings shape terms clocks₀ marks₀ values₀ numbers₀ progress₀ path trace clocks marks values numbers progress =
+Inv-loop table condition path₀ trace₀ settings shape terms clocks₀ marks₀ values₀ numbers₀ progress₀ path trace clocks marks values numbers progress =
     Running table condition (settingsOf settings) path trace progress × (length path ≡ length path₀) × (length trace ≡ length trace₀)
 
 abbrev μ-loop : tie.MeasureT-loop
-μ-loop path₀ trace₀ table condition settings shape terms clocks₀ marks₀ values₀ numbers₀ progress₀ path trace clocks marks values numbers progress = settings .executions - progress .begun
+μ-loop table condition path₀ trace₀ settings shape terms clocks₀ marks₀ values₀ numbers₀ progress₀ path trace clocks marks values numbers progress = settings .executions - progress .begun
 
 shape-requires : tie.Need-shape-requires Inv-loop μ-loop
 shape-requires c κs = search needs

@@ -21,23 +21,11 @@ wide8-requires-2 c κs = search needs
 add-values : tie.Need-add-values
 add-values c = search needs
 
-add-wide16 : tie.Need-add-wide16
-add-wide16 c = search needs
-
-mul-wide16 : tie.Need-mul-wide16
-mul-wide16 c = search needs
-
 array-read-wide16 : tie.Need-array-read-wide16
 array-read-wide16 c = search needs
 
 wide16-requires : tie.Need-wide16-requires
 wide16-requires c κs = search needs
-
-add-wide16-2 : tie.Need-add-wide16-2
-add-wide16-2 c = search needs
-
-mul-wide16-2 : tie.Need-mul-wide16-2
-mul-wide16-2 c = search needs
 
 array-read-wide16-2 : tie.Need-array-read-wide16-2
 array-read-wide16-2 c = search needs
@@ -85,12 +73,8 @@ size-spec =
     shared-slice-read-wide8-2
     wide8-requires-2
     add-values
-    add-wide16
-    mul-wide16
     array-read-wide16
     wide16-requires
-    add-wide16-2
-    mul-wide16-2
     array-read-wide16-2
     wide16-requires-2
     add-rows

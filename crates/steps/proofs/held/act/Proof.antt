@@ -1,5 +1,5 @@
 use Rattle.steps.specs.Holds.{acted}
-use Rattle.steps.proofs.OpLaws.{op-as, no-act}
+use Rattle.steps.proofs.OpLaws.{op-as, op-in, no-act}
 use borrow.Author.Needs.{needs}
 use Rattle.steps.proofs.held.act.Statement.{statement}
 use Rattle.steps.proofs.held.act.Tie as tie
@@ -8,55 +8,91 @@ enum-known-op : tie.Need-enum-known-op
 enum-known-op c = search needs
 
 put-requires : tie.Need-put-requires
-put-requires c κs = search needs
+put-requires c κs =
+    let op = c .before .before in
+    let pre = op .before .before .pre in
+    let within = op-in (op .op .given .1) (pre .1) in
+    (pre .0, within .1)
 
 enum-known-op-2 : tie.Need-enum-known-op-2
 enum-known-op-2 c = search needs
 
 store-requires : tie.Need-store-requires
-store-requires c κs = search needs
+store-requires c κs =
+    let op = c .before .before in
+    let pre = op .before .before .pre in
+    let within = op-in (op .op2 .given .1) (pre .1) in
+    within
 
 enum-known-op-3 : tie.Need-enum-known-op-3
 enum-known-op-3 c = search needs
 
 store-requires-2 : tie.Need-store-requires-2
-store-requires-2 c κs = search needs
+store-requires-2 c κs =
+    let op = c .before .before in
+    let pre = op .before .before .pre in
+    let within = op-in (op .op3 .given .1) (pre .1) in
+    within .0
 
 enum-known-op-4 : tie.Need-enum-known-op-4
 enum-known-op-4 c = search needs
 
 rmw-requires : tie.Need-rmw-requires
-rmw-requires c κs = search needs
+rmw-requires c κs =
+    let op = c .before .before in
+    let pre = op .before .before .pre in
+    let within = op-in (op .op4 .given .1) (pre .1) in
+    (pre .0, within .0, within .1)
 
 enum-known-op-5 : tie.Need-enum-known-op-5
 enum-known-op-5 c = search needs
 
 put-requires-2 : tie.Need-put-requires-2
-put-requires-2 c κs = search needs
+put-requires-2 c κs =
+    let op = c .before .before in
+    let pre = op .before .before .pre in
+    let within = op-in (op .op5 .given .1) (pre .1) in
+    (pre .0, within .1)
 
 enum-known-op-6 : tie.Need-enum-known-op-6
 enum-known-op-6 c = search needs
 
 with-mut-requires : tie.Need-with-mut-requires
-with-mut-requires c κs = search needs
+with-mut-requires c κs =
+    let op = c .before .before in
+    let pre = op .before .before .pre in
+    let within = op-in (op .op6 .given .1) (pre .1) in
+    (pre .0, within .0, within .1)
 
 enum-known-op-7 : tie.Need-enum-known-op-7
 enum-known-op-7 c = search needs
 
 put-requires-3 : tie.Need-put-requires-3
-put-requires-3 c κs = search needs
+put-requires-3 c κs =
+    let op = c .before .before in
+    let pre = op .before .before .pre in
+    let within = op-in (op .op7 .given .1) (pre .1) in
+    (pre .0, within)
 
 enum-known-op-8 : tie.Need-enum-known-op-8
 enum-known-op-8 c = search needs
 
 put-requires-4 : tie.Need-put-requires-4
-put-requires-4 c κs = search needs
+put-requires-4 c κs =
+    let op = c .before .before in
+    let pre = op .before .before .pre in
+    let within = op-in (op .op8 .given .1) (pre .1) in
+    (pre .0, within .1)
 
 enum-known-op-9 : tie.Need-enum-known-op-9
 enum-known-op-9 c = search needs
 
 write-requires : tie.Need-write-requires
-write-requires c κs = search needs
+write-requires c κs =
+    let op = c .before .before in
+    let pre = op .before .before .pre in
+    let within = op-in (op .op9 .given .1) (pre .1) in
+    within
 
 returns : tie.Need-returns
 unfolding acted

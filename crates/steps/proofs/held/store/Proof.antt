@@ -1,4 +1,4 @@
-use Rattle.steps.proofs.HoldLaws.{stored-at, stored-none}
+use Rattle.steps.proofs.HoldLaws.{stored-at}
 use borrow.Author.Needs.{needs}
 use Rattle.steps.proofs.held.store.Statement.{statement}
 use Rattle.steps.proofs.held.store.Tie as tie
@@ -12,14 +12,14 @@ mul-count c = search needs
 element-copy-out-count : tie.Need-element-copy-out-count
 element-copy-out-count c = search needs
 
+next-slot-requires : tie.Need-next-slot-requires
+next-slot-requires c κs = search needs
+
+store-at-requires : tie.Need-store-at-requires
+store-at-requires c κs = search needs
+
 mul-held : tie.Need-mul-held
 mul-held c = search needs
-
-add-held : tie.Need-add-held
-add-held c = search needs
-
-mul-held-2 : tie.Need-mul-held-2
-mul-held-2 c = search needs
 
 element-write-held : tie.Need-element-write-held
 element-write-held c = search needs
@@ -27,29 +27,29 @@ element-write-held c = search needs
 one-more-requires : tie.Need-one-more-requires
 one-more-requires c κs = search needs
 
+add-held : tie.Need-add-held
+add-held c = search needs
+
+mul-held-2 : tie.Need-mul-held-2
+mul-held-2 c = search needs
+
+element-write-held-2 : tie.Need-element-write-held-2
+element-write-held-2 c = search needs
+
 add-held-2 : tie.Need-add-held-2
 add-held-2 c = search needs
 
 mul-held-3 : tie.Need-mul-held-3
 mul-held-3 c = search needs
 
-element-write-held-2 : tie.Need-element-write-held-2
-element-write-held-2 c = search needs
-
-add-held-3 : tie.Need-add-held-3
-add-held-3 c = search needs
-
-mul-held-4 : tie.Need-mul-held-4
-mul-held-4 c = search needs
-
 element-write-held-3 : tie.Need-element-write-held-3
 element-write-held-3 c = search needs
 
 returns : tie.Need-returns
-returns c = stored-at _ _ _ _ (c .before .before .if1 .taken) (c .one-more .ensures)
-
-returns-2 : tie.Need-returns-2
-returns-2 c = stored-none _ _ _ _ (c .if1 .left)
+returns c =
+    let placed = c .before in
+    let start = placed .before .before .before in
+    stored-at _ _ _ _ (start .pre) (placed .store-at .ensures) (placed .before .next-slot .ensures) (c .one-more .ensures)
 
 pub store-spec : {M : Type 1} → statement M
 store-spec =
@@ -58,16 +58,15 @@ store-spec =
     add-count
     mul-count
     element-copy-out-count
+    next-slot-requires
+    store-at-requires
     mul-held
-    add-held
-    mul-held-2
     element-write-held
     one-more-requires
+    add-held
+    mul-held-2
+    element-write-held-2
     add-held-2
     mul-held-3
-    element-write-held-2
-    add-held-3
-    mul-held-4
     element-write-held-3
-    returns
-    returns-2)
+    returns)

@@ -1,7 +1,7 @@
 use mathlib.Core.Path.{refl}
-use borrow.Author.Tests.{lt-ltb, le-ltb}
+use borrow.Author.Tests.{lt-ltb}
 use Rattle.steps.specs.Holds as holds
-use Rattle.steps.proofs.HoldLaws.{puts, puts-none}
+use Rattle.steps.proofs.HoldLaws.{puts}
 use borrow.Author.Needs.{needs}
 use Rattle.steps.proofs.held.write.Statement.{statement}
 use Rattle.steps.proofs.held.write.Tie as tie
@@ -16,10 +16,7 @@ element-write-held : tie.Need-element-write-held
 element-write-held c = search needs
 
 returns : tie.Need-returns
-returns c = let g = c .before .args in puts (g .held .now) (holds.plainWriter (g .plain)) _ refl (lt-ltb _ _ (c .if1 .taken))
-
-returns-2 : tie.Need-returns-2
-returns-2 c = let g = c .before .args in puts-none (g .held .now) (holds.plainWriter (g .plain)) _ (le-ltb _ _ (c .if1 .left))
+returns c = puts (c .args .held .now) (holds.plainWriter (c .args .plain)) _ refl (lt-ltb _ _ (c .pre))
 
 pub write-spec : {M : Type 1} → statement M
-write-spec = tie.close (tie.spec add-held mul-held element-write-held returns returns-2)
+write-spec = tie.close (tie.spec add-held mul-held element-write-held returns)

@@ -8,21 +8,18 @@ use Rattle.steps.proofs.held.writer.Tie as tie
 wide8-requires : tie.Need-wide8-requires
 wide8-requires c κs = search needs
 
+store-at-requires : tie.Need-store-at-requires
+store-at-requires c κs = search needs
+
 mul-result : tie.Need-mul-result
 mul-result c = search needs
-
-add-result : tie.Need-add-result
-add-result c = search needs
-
-mul-result-2 : tie.Need-mul-result-2
-mul-result-2 c = search needs
 
 element-copy-out-result : tie.Need-element-copy-out-result
 element-copy-out-result c = search needs
 
 returns : tie.Need-returns
 returns c =
-    let g = c .before .before .before .before .args in
+    let g = c .before .before .before .before .before .args in
     reads (g .held .now) (holds.writer (g .cell) (g .slot)) (omega arith) (both (g .cell) (g .slot) 4 7 (omega arith) (omega arith))
 
 returns-2 : tie.Need-returns-2
@@ -36,9 +33,8 @@ writer-spec =
     tie.close
     (tie.spec
     wide8-requires
+    store-at-requires
     mul-result
-    add-result
-    mul-result-2
     element-copy-out-result
     returns
     returns-2

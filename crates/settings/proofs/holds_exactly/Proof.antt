@@ -1,7 +1,7 @@
 use Rattle.settings.proofs.TestLaws.{holds-both, holds-not}
 use borrow.Author.Needs.{needs}
-use Rattle.settings.proofs.holds.Statement.{statement}
-use Rattle.settings.proofs.holds.Tie as tie
+use Rattle.settings.proofs.holds_exactly.Statement.{statement}
+use Rattle.settings.proofs.holds_exactly.Tie as tie
 
 returns : tie.Need-returns
 returns c =
@@ -11,5 +11,5 @@ returns-2 : tie.Need-returns-2
 returns-2 c =
     holds-not (c .before .args .bytes) (c .before .args .records) (c .if1 .left)
 
-pub holds-spec : {M : Type 1} → statement M
-holds-spec = tie.close (tie.spec returns returns-2)
+pub holds-exactly-spec : {M : Type 1} → statement M
+holds-exactly-spec = tie.close (tie.spec returns returns-2)
