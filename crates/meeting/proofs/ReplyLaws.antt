@@ -24,8 +24,8 @@ use Rattle.path.specs.Holds.{Holds}
 use Rattle.path.specs.Choices.{Chooses, Reads, Says, chosenOf, chosenIn, saidBy}
 use Rattle.path.specs.declared.Chosen.{Chosen}
 use Rattle.path.specs.declared.Chosen.the-variants as chosen
-use Rattle.path.specs.declared.Spurious.{Spurious}
-use Rattle.path.specs.declared.Spurious.the-variants as said
+use Rattle.path.specs.declared.Said.{Said}
+use Rattle.path.specs.declared.Said.the-variants as said
 use Rattle.event.specs.declared.Picked.the-variants as choice
 use Rattle.event.specs.declared.Question.{Question}
 use Rattle.event.specs.declared.Question.the-variants as question
@@ -147,7 +147,7 @@ module _ (path : List ℕ) (pos : ℕ) (q : Question) (e : q ≡ question.Slot) 
 
 -- A spurious branch
 
-abbrev BitSaid : Spurious → explorer.Reply → Type 0
+abbrev BitSaid : Said → explorer.Reply → Type 0
 BitSaid (said.Bit b) r = r ≡ says (rules.takeBit b)
 BitSaid said.Unexpected r = r ≡ unexpected
 
@@ -157,7 +157,7 @@ spurious-said pos (paths.schedule x) = refl
 spurious-said pos (paths.load l) = refl
 spurious-said pos (paths.spurious u) = refl
 
-module _ (path : List ℕ) (pos : ℕ) (q : Question) (e : q ≡ question.Bit) (r : Spurious) (h : Says path pos r) where
+module _ (path : List ℕ) (pos : ℕ) (q : Question) (e : q ≡ question.Bit) (r : Said) (h : Says path pos r) where
   bit-replies : (a : Reply) → replyWithin a → ((x : explorer.Reply) → BitSaid r x → AnswersBy a x) → RepliesBy path pos q a
   bit-replies a within f =
       subst (λ (k : Question). RepliesBy path pos k a) (sym e)
@@ -165,7 +165,7 @@ module _ (path : List ℕ) (pos : ℕ) (q : Question) (e : q ≡ question.Bit) (
         within = within;
         is = λ bs holds small st t row.
             f (explorer.reply pos (getD bs pos noBranch) rules.whichBit)
-            (subst (λ (x : Spurious). BitSaid x (explorer.reply pos (getD bs pos noBranch) rules.whichBit)) (sym (h .is bs holds))
+            (subst (λ (x : Said). BitSaid x (explorer.reply pos (getD bs pos noBranch) rules.whichBit)) (sym (h .is bs holds))
             (spurious-said pos (getD bs pos noBranch)));
       })
 
@@ -173,12 +173,12 @@ module _ (path : List ℕ) (pos : ℕ) (q : Question) (e : q ≡ question.Bit) (
   bit-said {b} g =
       bit-replies (code.Says (choice.Bit b)) tt
       (λ x s.
-      let is : x ≡ says (rules.takeBit b) = subst (λ (y : Spurious). BitSaid y x) g s in
+      let is : x ≡ says (rules.takeBit b) = subst (λ (y : Said). BitSaid y x) g s in
       subst (λ (y : explorer.Reply). AnswersBy (code.Says (choice.Bit b)) y) (sym is) refl)
 
   pub bit-unexpected : r ≡ said.Unexpected → RepliesBy path pos q code.Unexpected
   bit-unexpected g =
       bit-replies code.Unexpected tt
       (λ x s.
-      let is : x ≡ unexpected = subst (λ (y : Spurious). BitSaid y x) g s in
+      let is : x ≡ unexpected = subst (λ (y : Said). BitSaid y x) g s in
       subst (λ (y : explorer.Reply). AnswersBy code.Unexpected y) (sym is) tt)

@@ -28,7 +28,7 @@ use matches::Matched;
 use path::Addition;
 use path::Bound;
 use path::Chosen;
-use path::Spurious;
+use path::Said;
 use record::Offered;
 use scheduling::Point;
 use trace::Entry;
@@ -208,8 +208,8 @@ pub fn answer(path: &[u8], pos: usize, question: Question) -> Reply
             Offered::Unexpected => Reply::Unexpected,
         },
         Question::Bit => match path::branch_spurious(path, pos) {
-            Spurious::Bit(bit) => Reply::Says(Picked::Bit(bit)),
-            Spurious::Unexpected => Reply::Unexpected,
+            Said::Bit(bit) => Reply::Says(Picked::Bit(bit)),
+            Said::Unexpected => Reply::Unexpected,
         },
     }
 }

@@ -27,7 +27,7 @@ use Rattle.path.specs.Holds.{Holds}
 use Rattle.path.specs.Places.{HasKind}
 use Rattle.path.specs.Walks.{HoldsAt}
 use Rattle.path.specs.declared.Chosen.the-variants as chosen
-use Rattle.path.specs.declared.Spurious.the-variants as said
+use Rattle.path.specs.declared.Said.the-variants as said
 use Rattle.path.proofs.HoldsLaws.{holds-stands, at-stands, at-five}
 use Rattle.path.proofs.KindLaws.{There, there, kind-yes, kind-past, kind-unlike, kind-not, kind-inside}
 use Rattle.path.proofs.PrevLaws.{schedule-there}

@@ -20,8 +20,8 @@ use Rattle.path.specs.Answers.{chosenThread}
 use Rattle.path.specs.Holds.{Holds}
 use Rattle.path.specs.declared.Chosen.{Chosen}
 use Rattle.path.specs.declared.Chosen.the-variants as chosen
-use Rattle.path.specs.declared.Spurious.{Spurious}
-use Rattle.path.specs.declared.Spurious.the-variants as said
+use Rattle.path.specs.declared.Said.{Said}
+use Rattle.path.specs.declared.Said.the-variants as said
 
 pub record Reads (path : List ℕ) (pos : ℕ) (r : Offered) : Type 0 where
   pub slot : offeredSlot r
@@ -29,12 +29,12 @@ pub record Reads (path : List ℕ) (pos : ℕ) (r : Offered) : Type 0 where
   pub other : eqb (fieldOf path pos 0) 2 ≡ false → r ≡ offered.Unexpected
   pub is : (bs : List rules.Branch) → Holds path bs → r ≡ offeredBy (getD bs pos rules.noBranch)
 
-unfoldable pub saidBy : rules.Branch → Spurious
+unfoldable pub saidBy : rules.Branch → Said
 saidBy (rules.schedule s) = said.Unexpected
 saidBy (rules.load l) = said.Unexpected
 saidBy (rules.spurious u) = said.Bit (u .bit)
 
-pub record Says (path : List ℕ) (pos : ℕ) (r : Spurious) : Type 0 where
+pub record Says (path : List ℕ) (pos : ℕ) (r : Said) : Type 0 where
   pub past : length path < 16 * pos + 16 → r ≡ said.Unexpected
   pub other : eqb (fieldOf path pos 0) 3 ≡ false → r ≡ said.Unexpected
   pub is : (bs : List rules.Branch) → Holds path bs → r ≡ saidBy (getD bs pos rules.noBranch)

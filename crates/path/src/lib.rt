@@ -41,7 +41,7 @@ pub enum Chosen {
 }
 
 // What a spurious branch chooses. Unexpected where the branch is none.
-pub enum Spurious {
+pub enum Said {
     Bit(bool),
     Unexpected,
 }
@@ -144,13 +144,13 @@ pub fn push_spurious(path: &mut [u8], len: usize, exploring: bool) -> Addition
 }
 
 // What the branch at a position says now.
-pub fn branch_spurious(path: &[u8], pos: usize) -> Spurious
+pub fn branch_spurious(path: &[u8], pos: usize) -> Said
     ensures { λ r. ⌜ Says (now (path .entry)) pos r ⌝ }
 {
     if !has_kind(path, pos, fields::KIND_SPURIOUS) {
-        return Spurious::Unexpected;
+        return Said::Unexpected;
     }
-    Spurious::Bit(field(path, pos, fields::SPUR) != 0)
+    Said::Bit(field(path, pos, fields::SPUR) != 0)
 }
 
 // Marks a thread to be explored at the last exploring schedule from a point downwards, and answers

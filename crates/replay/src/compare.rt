@@ -18,7 +18,7 @@ use report::Report;
 pub type Given = [u64; REPORT_NUMBERS];
 
 // How a case comes out.
-pub enum Outcome {
+pub enum Agreement {
     Agrees,
     // The report's number `place` is `given` and not `listed`.
     Number {
@@ -45,19 +45,19 @@ pub enum Outcome {
 }
 
 // Asks the case of a line again.
-pub fn replay_line(line: &[u8], path: &mut [u8], trace: &mut [u8]) -> Outcome {
+pub fn replay_line(line: &[u8], path: &mut [u8], trace: &mut [u8]) -> Agreement {
     let mut starts = [0usize; STARTS];
     let count = fields::split(line, &mut starts);
     if count != FIELDS && count != FIELDS + 1 {
-        return Outcome::Count(count);
+        return Agreement::Count(count);
     }
     let mut numbers = [0u64; FIELDS];
     let wrong = case::read_fields(line, &starts, &mut numbers);
     if wrong != FIELDS {
-        return Outcome::Field(wrong);
+        return Agreement::Field(wrong);
     }
     if count != FIELDS && !fields::is_hex(condition_text(line, &starts)) {
-        return Outcome::Field(case::CONDITION);
+        return Agreement::Field(case::CONDITION);
     }
     let mut table = [0u8; MOST_TABLE];
     let size = case::read_table(
@@ -67,7 +67,7 @@ pub fn replay_line(line: &[u8], path: &mut [u8], trace: &mut [u8]) -> Outcome {
     let path_len = numbers[case::PATH] as usize;
     let trace_len = numbers[case::TRACE] as usize;
     if path.len() < path_len || trace.len() < trace_len {
-        return Outcome::Unread;
+        return Agreement::Unread;
     }
     run_case(
         line,
@@ -103,15 +103,15 @@ fn run_case(
     path: &mut [u8],
     trace: &mut [u8],
     size: usize,
-) -> Outcome {
+) -> Agreement {
     let bytes: &[u8] = table;
     if bytes.len() < size {
-        return Outcome::Field(case::TABLE);
+        return Agreement::Field(case::TABLE);
     }
     let mut condition = [0u8; MOST_TABLE];
     let claimed = case::read_table(condition_text(line, starts), &mut condition);
     if MOST_TABLE < claimed {
-        return Outcome::Field(case::CONDITION);
+        return Agreement::Field(case::CONDITION);
     }
     let claim = first_bytes(&condition, claimed);
     let given = ask(&bytes[0..size], claim, numbers, path, trace);
@@ -155,10 +155,10 @@ fn judge(
     given: &Given,
     path: &[u8],
     trace: &[u8],
-) -> Outcome {
+) -> Agreement {
     let place = first_other(given, numbers);
     if place < REPORT_NUMBERS {
-        return Outcome::Number {
+        return Agreement::Number {
             place,
             given: given[place],
             listed: numbers[case::ANSWER + place],
@@ -166,7 +166,7 @@ fn judge(
     }
     let path_text = fields::text(line, starts[case::PATH_LEFT], starts[case::PATH_LEFT + 1]);
     if let Compared::Differs { at, listed } = buffers::compare(path, path_text) {
-        return Outcome::Path {
+        return Agreement::Path {
             at,
             given: byte_at(path, at),
             listed: listed as u64,
@@ -174,13 +174,13 @@ fn judge(
     }
     let trace_text = fields::text(line, starts[case::TRACE_LEFT], starts[case::TRACE_LEFT + 1]);
     if let Compared::Differs { at, listed } = buffers::compare(trace, trace_text) {
-        return Outcome::Trace {
+        return Agreement::Trace {
             at,
             given: byte_at(trace, at),
             listed: listed as u64,
         };
     }
-    Outcome::Agrees
+    Agreement::Agrees
 }
 
 // A byte of a buffer, or 0 past its end.

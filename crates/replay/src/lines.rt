@@ -5,7 +5,7 @@ use crate::tally::Tally;
 use libc::STDIN_FILENO;
 
 // How far the whole lines of a text reach, with the tally of them.
-pub struct Lines {
+pub struct Replayed {
     pub end: usize,
     pub tally: Tally,
 }
@@ -74,7 +74,7 @@ fn last_line(text: &[u8], path: &mut [u8], trace: &mut [u8], kept: usize, now: T
 }
 
 // Replays each line of a text that has its end.
-fn whole_lines(text: &[u8], path: &mut [u8], trace: &mut [u8], before: Tally) -> Lines {
+fn whole_lines(text: &[u8], path: &mut [u8], trace: &mut [u8], before: Tally) -> Replayed {
     let mut now = before;
     let mut from = 0;
     let mut i = 0;
@@ -85,7 +85,7 @@ fn whole_lines(text: &[u8], path: &mut [u8], trace: &mut [u8], before: Tally) ->
         }
         i += 1;
     }
-    Lines {
+    Replayed {
         end: from,
         tally: now,
     }

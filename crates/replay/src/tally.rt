@@ -1,5 +1,5 @@
 // What was found so far, and what is said of it.
-use crate::compare::Outcome;
+use crate::compare::Agreement;
 use crate::fields;
 use libc::STDERR_FILENO;
 use libc::STDOUT_FILENO;
@@ -41,22 +41,22 @@ impl Tally {
     }
 
     // Counts a case, and says what differs first if it does not agree.
-    pub fn with(mut self, line: &[u8], outcome: Outcome) -> Self {
+    pub fn with(mut self, line: &[u8], outcome: Agreement) -> Self {
         match outcome {
-            Outcome::Count(count) => {
+            Agreement::Count(count) => {
                 say_line(self.lines);
                 say_count(count);
                 return self.stop();
             }
-            Outcome::Field(field) => {
+            Agreement::Field(field) => {
                 say_line(self.lines);
                 say_field(field);
                 return self.stop();
             }
-            Outcome::Agrees => {
+            Agreement::Agrees => {
                 self.agree = one_more(self.agree);
             }
-            Outcome::Unread => {
+            Agreement::Unread => {
                 self.unread = one_more(self.unread);
             }
             _ => {
@@ -148,11 +148,11 @@ fn say_field(field: usize) {
 }
 
 // One line for a case that does not agree: its name, and what differs first.
-fn show(line: &[u8], outcome: Outcome) {
+fn show(line: &[u8], outcome: Agreement) {
     io::write_all(STDOUT_FILENO, name(line));
     io::write_all(STDOUT_FILENO, b": ");
     match outcome {
-        Outcome::Number {
+        Agreement::Number {
             place,
             given,
             listed,
@@ -160,13 +160,13 @@ fn show(line: &[u8], outcome: Outcome) {
             show_number(place);
             show_both(given, listed);
         }
-        Outcome::Path { at, given, listed } => {
+        Agreement::Path { at, given, listed } => {
             io::write_all(STDOUT_FILENO, b"byte ");
             io::print_decimal(STDOUT_FILENO, at as u64);
             io::write_all(STDOUT_FILENO, b" of the path");
             show_both(given, listed);
         }
-        Outcome::Trace { at, given, listed } => {
+        Agreement::Trace { at, given, listed } => {
             io::write_all(STDOUT_FILENO, b"byte ");
             io::print_decimal(STDOUT_FILENO, at as u64);
             io::write_all(STDOUT_FILENO, b" of the trace");
