@@ -212,7 +212,7 @@ pub fn read_from(
     mask: u8,
 ) -> Moved
     requires { ⌜ (site .thread < 5) × (slot < 7) × opWithin row ⌝ }
-    ensures { λ r. ⌜ ((m : events.Matched) → moveOf r (site .thread) (site .row) (opcodeIn (decodedOf row)) m (state (now (clocks .exit)) (now (marks .exit)) (now (values .exit)) (now (numbers .exit))) ≡ machine.readFrom (state (now (clocks .entry)) (now (marks .entry)) (now (values .entry)) (now (numbers .entry))) (site .thread) (site .row) slot mask (decodedOf row)) ⌝ }
+    ensures { λ r. ⌜ ((m : events.Matched) → moveOf r (site .thread) (site .row) (opcodeIn (decodedOf row)) m (state (now (clocks .exit)) (now (marks .exit)) (now (values .exit)) (now (numbers .exit))) ≡ machine.readFrom (state (now (clocks .entry)) (now (marks .entry)) (now (values .entry)) (now (numbers .entry))) (site .thread) (site .row) slot mask (machine.roleIn (decodedOf row))) ⌝ }
 {
     let Decoded::Row(op) = row else {
         return Moved::Stops(Fault::Impossible);
@@ -230,7 +230,7 @@ pub fn read_from(
 // The cell that a load or a read-modify-write reads, and the register that takes the value.
 fn to_read(op: Op) -> Reading
     requires { ⌜ inRange (opOf op) ⌝ }
-    ensures { λ r. ⌜ Means r (opOf op) ⌝ }
+    ensures { λ r. ⌜ Means r (machine.roleOf (opOf op)) ⌝ }
 {
     match op {
         Op::Load { cell, register, .. } => Reading::Of { cell, register },
@@ -250,7 +250,7 @@ fn read(
     slot: usize,
 ) -> Loaded
     requires { ⌜ (thread < 5) × (slot < 7) × inRange (opOf op) ⌝ }
-    ensures { λ r. ⌜ accessOf r (state (now (clocks .exit)) (now (marks .exit)) (now (values .exit)) (now (numbers .exit))) ≡ readDone (state (now (clocks .entry)) (now (marks .entry)) (now (values .entry)) (now (numbers .entry))) thread slot (opOf op) ⌝ }
+    ensures { λ r. ⌜ accessOf r (state (now (clocks .exit)) (now (marks .exit)) (now (values .exit)) (now (numbers .exit))) ≡ readDone (state (now (clocks .entry)) (now (marks .entry)) (now (values .entry)) (now (numbers .entry))) thread slot (machine.roleOf (opOf op)) ⌝ }
 {
     match op {
         Op::Load { cell, order, .. } => {

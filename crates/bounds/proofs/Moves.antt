@@ -21,9 +21,9 @@ use Rattle.rules.specs.State.{State, Numbers, vector, withVector, number, withN
 use Rattle.rules.specs.State.{scheduleOf, lastAccess, lastNonLoad, rowsOf, operation, operatesOn, phase, accessBranch, nonLoadBranch, activeThread, begun}
 use Rattle.rules.specs.Cell.{version, withClocks}
 use Rattle.rules.specs.Machine
-use Rattle.rules.specs.Machine.{Program, Pending, nothing, pends, pendingOf, current, activeRow, activeOp, rowOf, rowCount, forThreads, runnable, ended, toAct, noOperation}
+use Rattle.rules.specs.Machine.{Program, Pending, nothing, pends, pendingOf, current, activeRow, activeRole, rowOf, rowCount, forThreads, runnable, ended, toAct, noOperation}
 use Rattle.rules.proofs.NumberLaws.{for-threads}
-use Rattle.rules.proofs.MeasureRows.{pick, both-left, Names, RowNames, widest, row-in-place}
+use Rattle.rules.proofs.MeasureRows.{pick, both-left, Names, RowNames, widest, row-in-place, row-on-cell}
 use Rattle.bounds.specs.Bounds
 use Rattle.bounds.specs.Bounds.{Fits, Kind, ofVersions, ofChoices, given, but, owed, waiting, Part, Tally, Holds}
 use Rattle.bounds.proofs.Parts.{Fit, joined-fit, raised-fit, Since, fit-of, put}
@@ -323,11 +323,11 @@ module _ (p : Program) (fits : Fits p) (n : ℕ) where
   unfolding Machine.answered
   slot-ending st slot offered h s =
       read-ending p fits (current st) n _ _ _ _ (s .0 .tally .runs) (s .1) st (activeRow st) slot (Machine.maskOf 0 offered)
-      (activeOp p st) h
-      (row-in-place p (current st) (activeRow st)) (opened st (s .0))
+      (activeRole p st) h
+      (row-on-cell p (current st) (activeRow st)) (opened st (s .0))
 
   pub spurious-ending : (st : State) (bit : Bool) → Bounds.Reading p st n → Ending p n (Machine.answered p st (takeBit bit))
   unfolding Machine.answered
   spurious-ending st bit s =
-      bit-ending p fits (current st) n _ _ _ _ (s .0 .tally .runs) (s .1) st (activeRow st) (cond bit 1 0) (activeOp p st)
+      bit-ending p fits (current st) n _ _ _ _ (s .0 .tally .runs) (s .1) st (activeRow st) (cond bit 1 0) (activeRole p st)
       (opened st (s .0))

@@ -16,7 +16,7 @@ use lib.ListN.{length, getD}
 use Rattle.rules.specs.Vector.{oneMore, largest, zeros, raised}
 use Rattle.rules.specs.Change.{Change, Changed, success, failure, applied}
 use Rattle.rules.specs.Table as Table
-use Rattle.rules.specs.Table.{Op, Decoded, refused, decoded}
+use Rattle.rules.specs.Table.{Op}
 use Rattle.rules.specs.Event.{Entry, offers}
 use Rattle.rules.specs.State as State
 use Rattle.rules.specs.State.{State, vector, number, withNumber, threads, cells, plains, history, storeAt}
@@ -25,9 +25,9 @@ use Rattle.rules.specs.Cell as Cell
 use Rattle.rules.specs.Cell.{version, storeDone, slotOf, withClocks, AccessResult, raced, read, Race, noRace, raceOf, unlessRace, sighted, loadDone, byChange, succeeded, rmwDone, unsyncLoadDone, mutDone}
 use Rattle.rules.specs.Plain.{plainReadRace, plainWriteRace, plainReadDone, plainWriteDone}
 use Rattle.rules.specs.Machine
-use Rattle.rules.specs.Machine.{Program, rowCount, completed, toBegin, ended, blocked, yielded}
+use Rattle.rules.specs.Machine.{Program, Role, loads, storesOperand, storesRegister, modifies, takesBit, otherwise, rowCount, completed, toBegin, ended, blocked, yielded}
 use Rattle.rules.proofs.SlotLaws.{matched-long, offered-long, live-most}
-use Rattle.rules.proofs.MeasureRows.{pick, Names, RowNames, widest}
+use Rattle.rules.proofs.MeasureRows.{pick, Names, widest, RoleOnCell}
 use Rattle.rules.proofs.VectorLaws.{raised-own}
 use Rattle.bounds.specs.Bounds
 use Rattle.bounds.specs.Bounds.{Fits, Kind, ofVersions, but, Part, Holds}
@@ -374,55 +374,26 @@ module _ (p : Program) (fits : Fits p) (t n : ℕ) (rows owing waits least : ℕ
       (writes-unless race st k 18 c a h (not-raised st s))
 
   -- a load or an RMW reads its slot
-  pub read-ending : (st : State) (k slot mask : ℕ) (row : Decoded Op) → slot < history →
-      RowNames (widest (rowCount p t) k) row → Raised st →
-      Ending p n (Machine.readFrom st t k slot mask row)
-  unfolding Machine.readFrom RowNames
-  read-ending st k slot mask refused d h s = over st s
-  read-ending st k slot mask (decoded (Table.load c o r)) d h s =
+  pub read-ending : (st : State) (k slot mask : ℕ) (role : Role) → slot < history → RoleOnCell role → Raised st →
+      Ending p n (Machine.readFrom st t k slot mask role)
+  unfolding Machine.readFrom
+  read-ending st k slot mask (loads c o r) d h s =
       pick (Ending p n) (ltb slot (number (st .numbers) (count c)))
       (λ e. reads-ending (loadDone st t c slot o) k 0 r slot mask (load-at st c slot o h d s)) (λ e. over st s)
-  read-ending st k slot mask (decoded (Table.rmw c o f change r)) d h s =
+  read-ending st k slot mask (modifies c o f change r) d h s =
       pick (Ending p n) (ltb slot (number (st .numbers) (count c)))
       (λ e. reads-ending (rmwDone st t c slot change o f) k 3 r slot mask (rmw-at st c slot change o f h d s)) (λ e. over st s)
-  read-ending st k slot mask (decoded (Table.store c o a)) d h s = over st s
-  read-ending st k slot mask (decoded (Table.storeRegister c o r)) d h s = over st s
-  read-ending st k slot mask (decoded (Table.fence o)) d h s = over st s
-  read-ending st k slot mask (decoded (Table.unsyncLoad c r)) d h s = over st s
-  read-ending st k slot mask (decoded (Table.exclusive c change r)) d h s = over st s
-  read-ending st k slot mask (decoded Table.yield) d h s = over st s
-  read-ending st k slot mask (decoded (Table.join target)) d h s = over st s
-  read-ending st k slot mask (decoded (Table.jump target)) d h s = over st s
-  read-ending st k slot mask (decoded (Table.jumpIf r a target)) d h s = over st s
-  read-ending st k slot mask (decoded (Table.jumpUnless r a target)) d h s = over st s
-  read-ending st k slot mask (decoded (Table.check r a)) d h s = over st s
-  read-ending st k slot mask (decoded Table.critical) d h s = over st s
-  read-ending st k slot mask (decoded Table.exploreState) d h s = over st s
-  read-ending st k slot mask (decoded Table.skipBranch) d h s = over st s
-  read-ending st k slot mask (decoded (Table.spurious r)) d h s = over st s
-  read-ending st k slot mask (decoded (Table.plainRead c r)) d h s = over st s
-  read-ending st k slot mask (decoded (Table.plainWrite c a)) d h s = over st s
+  read-ending st k slot mask (storesOperand c o a) d h s = over st s
+  read-ending st k slot mask (storesRegister c o r) d h s = over st s
+  read-ending st k slot mask (takesBit r) d h s = over st s
+  read-ending st k slot mask otherwise d h s = over st s
 
   -- "16 `branch_spurious` into register (0 or 1)"
-  pub bit-ending : (st : State) (k v : ℕ) (row : Decoded Op) → Raised st → Ending p n (Machine.bitTaken st t k v row)
+  pub bit-ending : (st : State) (k v : ℕ) (role : Role) → Raised st → Ending p n (Machine.bitTaken st t k v role)
   unfolding Machine.bitTaken
-  bit-ending st k v refused s = over st s
-  bit-ending st k v (decoded (Table.spurious r)) s = finished _ (oneMore k) (with-register st r v (acts-bare st s))
-  bit-ending st k v (decoded (Table.load c o r)) s = over st s
-  bit-ending st k v (decoded (Table.store c o a)) s = over st s
-  bit-ending st k v (decoded (Table.storeRegister c o r)) s = over st s
-  bit-ending st k v (decoded (Table.rmw c o f change r)) s = over st s
-  bit-ending st k v (decoded (Table.fence o)) s = over st s
-  bit-ending st k v (decoded (Table.unsyncLoad c r)) s = over st s
-  bit-ending st k v (decoded (Table.exclusive c change r)) s = over st s
-  bit-ending st k v (decoded Table.yield) s = over st s
-  bit-ending st k v (decoded (Table.join target)) s = over st s
-  bit-ending st k v (decoded (Table.jump target)) s = over st s
-  bit-ending st k v (decoded (Table.jumpIf r a target)) s = over st s
-  bit-ending st k v (decoded (Table.jumpUnless r a target)) s = over st s
-  bit-ending st k v (decoded (Table.check r a)) s = over st s
-  bit-ending st k v (decoded Table.critical) s = over st s
-  bit-ending st k v (decoded Table.exploreState) s = over st s
-  bit-ending st k v (decoded Table.skipBranch) s = over st s
-  bit-ending st k v (decoded (Table.plainRead c r)) s = over st s
-  bit-ending st k v (decoded (Table.plainWrite c a)) s = over st s
+  bit-ending st k v (takesBit r) s = finished _ (oneMore k) (with-register st r v (acts-bare st s))
+  bit-ending st k v (loads c o r) s = over st s
+  bit-ending st k v (storesOperand c o a) s = over st s
+  bit-ending st k v (storesRegister c o r) s = over st s
+  bit-ending st k v (modifies c o f change r) s = over st s
+  bit-ending st k v otherwise s = over st s

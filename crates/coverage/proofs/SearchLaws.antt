@@ -1,23 +1,28 @@
 -- Laws for the search of rows: one turn of each loop. Assumes nothing.
 use Prim.Native.Nat.{ℕ, suc, _+_, _-_, _≤_, _<_}
 use mathlib.Core.List.{List, [], _∷_}
-use mathlib.Core.Bool.{Bool, true, false, cond, not}
+use mathlib.Core.Bool.{Bool, true, false, cond, not, _||_}
 use mathlib.Core.Path.{_≡_, refl, ap, sym, _∙_}
 use native.Mathlib.Omega.{arith}
 use native.Mathlib.Nat.{sub-zero, zero-add}
 use borrow.Author.Tests.{lt-ltb, le-ltb}
-use lib.Dec.{ltb}
-use types.Run.{OneOf, miss}
+use mir.Val.{hasKey}
+use lib.Dec.{T, ltb}
+use types.Run.{OneOf}
 use denote.Enum.Declared.{tagOf}
 use Rattle.rules.specs.Table as rules
-use Rattle.rules.specs.Table.{firstNot, shapeOf}
+use Rattle.rules.specs.Table.{firstNot, shapeOf, opcodeOf}
+use Rattle.rules.specs.Machine.{Role, loads, storesOperand, storesRegister, modifies, takesBit, otherwise, roleOf, pendingAs}
+use Rattle.rules.proofs.RoleLaws as role
+use Rattle.rules.proofs.RoleLaws.{Told, missed}
 use Rattle.decode.proofs.Op as Op
+use Rattle.decode.proofs.NumberLaws.{allBut, by-number, no-number}
 use Rattle.decode.specs.declared.Op.{Op}
 use Rattle.decode.specs.declared.Op.the-variants as code
 use Rattle.decode.specs.declared.Decoded.{Decoded}
 use Rattle.decode.specs.declared.Decoded.the-variants.{Refused, Row as Says}
 use Rattle.decode.specs.Ops.{opOf, decodedOf}
-use Rattle.coverage.specs.Covered.{countOf, rowOp, switches, firstIn, firstFrom, firstSwitch, storesTo, oneIf, summed, storesIn, stores}
+use Rattle.coverage.specs.Covered.{countOf, rowOp, switches, firstIn, firstFrom, firstSwitch, storesAs, storesTo, oneIf, summed, storesIn, stores}
 use Rattle.coverage.specs.declared.search.Switch.{Switch}
 use Rattle.coverage.specs.declared.search.Switch.the-variants.{Nowhere, At}
 
@@ -101,29 +106,22 @@ module _ (cell : ℕ) (d : rules.Decoded rules.Op) (r : ℕ) (found : r ≡ oneI
 -- Which rows store
 
 -- all but the store, the store of a register and the RMW
-abbrev pub others : List ℕ
-others = 0 ∷ 4 ∷ 5 ∷ 6 ∷ 7 ∷ 8 ∷ 9 ∷ 10 ∷ 11 ∷ 12 ∷ 13 ∷ 14 ∷ 15 ∷ 16 ∷ 17 ∷ 18 ∷ []
+abbrev others : List ℕ
+others = allBut (1 ∷ 2 ∷ 3 ∷ [])
 
-pub stores-none : (op : Op) (cell : ℕ) → OneOf others (tagOf Op.the-type op) → storesTo cell (rules.decoded (opOf op)) ≡ false
-stores-none (code.Load order c register) cell k = refl
-stores-none (code.Store order c value) cell k = absurd (miss others 1 tt k)
-stores-none (code.StoreRegister order c register) cell k = absurd (miss others 2 tt k)
-stores-none (code.Rmw order c register change failure) cell k = absurd (miss others 3 tt k)
-stores-none (code.Fence order) cell k = refl
-stores-none (code.UnsyncLoad c register) cell k = refl
-stores-none (code.WithMut c register change) cell k = refl
-stores-none code.Yield cell k = refl
-stores-none (code.Join thread) cell k = refl
-stores-none (code.Jump target) cell k = refl
-stores-none (code.JumpIf target register a) cell k = refl
-stores-none (code.JumpUnless target register a) cell k = refl
-stores-none (code.Check register a) cell k = refl
-stores-none code.Critical cell k = refl
-stores-none code.ExploreState cell k = refl
-stores-none code.SkipBranch cell k = refl
-stores-none (code.Spurious register) cell k = refl
-stores-none (code.PlainRead plain register) cell k = refl
-stores-none (code.PlainWrite plain value) cell k = refl
+stores-none : (op : Op) (cell : ℕ) → OneOf others (tagOf Op.the-type op) → storesTo cell (rules.decoded (opOf op)) ≡ false
+stores-none op cell k = by-role (roleOf (opOf op)) (role.told (opOf op))
+  where
+    not-this : (m : rules.Op) → opOf op ≡ m → T (not (hasKey others (opcodeOf m))) → ⊥
+    not-this m e h = missed others (opOf op) m e h (by-number others op k)
+
+    by-role : (role : Role) → Told role (opOf op) → storesAs cell (pendingAs role) ≡ false
+    by-role (loads c o r) e = refl
+    by-role (storesOperand c o a) e = absurd (not-this (rules.store c o a) e tt)
+    by-role (storesRegister c o r) e = absurd (not-this (rules.storeRegister c o r) e tt)
+    by-role (modifies c o f change r) e = absurd (not-this (rules.rmw c o f change r) e tt)
+    by-role (takesBit r) e = refl
+    by-role otherwise e = refl
 
 pub stores-as : (row : Decoded) (op m : Op) (cell r : ℕ) (b : Bool) → row ≡ Says op → op ≡ m → r ≡ oneIf b →
     b ≡ storesTo cell (rules.decoded (opOf m)) → r ≡ oneIf (storesTo cell (decodedOf row))
@@ -155,28 +153,14 @@ module _ (on : Bool) (row : Decoded) (op : Op) (p : row ≡ Says op) where
 
 -- all but `critical`, `explore_state` and `skip_branch`
 abbrev still : List ℕ
-still = 0 ∷ 1 ∷ 2 ∷ 3 ∷ 4 ∷ 5 ∷ 6 ∷ 7 ∷ 8 ∷ 9 ∷ 10 ∷ 11 ∷ 12 ∷ 16 ∷ 17 ∷ 18 ∷ []
+still = allBut (13 ∷ 14 ∷ 15 ∷ [])
 
 never : (on : Bool) (op : Op) → OneOf still (tagOf Op.the-type op) → false ≡ switches on (rules.decoded (opOf op))
-never on (code.Load order c register) k = switches-each (λ (b : Bool). false) _ refl refl on
-never on (code.Store order c value) k = switches-each (λ (b : Bool). false) _ refl refl on
-never on (code.StoreRegister order c register) k = switches-each (λ (b : Bool). false) _ refl refl on
-never on (code.Rmw order c register change failure) k = switches-each (λ (b : Bool). false) _ refl refl on
-never on (code.Fence order) k = switches-each (λ (b : Bool). false) _ refl refl on
-never on (code.UnsyncLoad c register) k = switches-each (λ (b : Bool). false) _ refl refl on
-never on (code.WithMut c register change) k = switches-each (λ (b : Bool). false) _ refl refl on
-never on code.Yield k = switches-each (λ (b : Bool). false) _ refl refl on
-never on (code.Join thread) k = switches-each (λ (b : Bool). false) _ refl refl on
-never on (code.Jump target) k = switches-each (λ (b : Bool). false) _ refl refl on
-never on (code.JumpIf target register a) k = switches-each (λ (b : Bool). false) _ refl refl on
-never on (code.JumpUnless target register a) k = switches-each (λ (b : Bool). false) _ refl refl on
-never on (code.Check register a) k = switches-each (λ (b : Bool). false) _ refl refl on
-never on code.Critical k = absurd (miss still 13 tt k)
-never on code.ExploreState k = absurd (miss still 14 tt k)
-never on code.SkipBranch k = absurd (miss still 15 tt k)
-never on (code.Spurious register) k = switches-each (λ (b : Bool). false) _ refl refl on
-never on (code.PlainRead plain register) k = switches-each (λ (b : Bool). false) _ refl refl on
-never on (code.PlainWrite plain value) k = switches-each (λ (b : Bool). false) _ refl refl on
+never true op k = no-number still op k 14 tt
+never false op k = neither (no-number still op k 13 tt) (no-number still op k 15 tt)
+  where
+    neither : {a b : Bool} → false ≡ a → false ≡ b → false ≡ (a || b)
+    neither p q = rw (← p, ← q)
 
 pub switches-else : (on : Bool) (row : Decoded) (op : Op) → row ≡ Says op → OneOf still (tagOf Op.the-type op) →
     false ≡ switches on (decodedOf row)

@@ -8,9 +8,9 @@ use mathlib.Core.List.{List}
 use mathlib.Core.Bool.{Bool, true, false, cond, not, _&&_, _||_}
 use lib.Dec.{ltb, eqb}
 use lib.ListN.{getD}
-use Rattle.rules.specs.Table.{Op, Decoded, refused, decoded, opcodeIn, opAt, shapeOf, firstNot, maxThreads}
+use Rattle.rules.specs.Table.{Op, Decoded, opcodeIn, opAt, shapeOf, firstNot, maxThreads}
 use Rattle.table.specs.Answers.{roomIn}
-use Rattle.rules.specs.Machine.{Pending, nothing, pends, pendingOf, aLoad}
+use Rattle.rules.specs.Machine.{Pending, nothing, pends, roleIn, pendingAs, aLoad}
 use Rattle.coverage.specs.declared.search.Switch.{Switch}
 use Rattle.coverage.specs.declared.search.Switch.the-variants.{Nowhere, At}
 
@@ -51,8 +51,7 @@ storesAs cell nothing = false
 storesAs cell (pends operation c) = not (eqb operation aLoad) && eqb c cell
 
 abbrev pub storesTo : ℕ → Decoded Op → Bool
-storesTo cell refused = false
-storesTo cell (decoded op) = storesAs cell (pendingOf op)
+storesTo cell row = storesAs cell (pendingAs (roleIn row))
 
 abbrev pub oneIf : Bool → ℕ
 oneIf b = cond b 1 0

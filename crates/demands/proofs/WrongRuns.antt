@@ -82,8 +82,7 @@ cellPending Machine.nothing = 0
 cellPending (Machine.pends operation cell) = cell
 
 abbrev pub cellIn : Table.Decoded Table.Op → ℕ
-cellIn Table.refused = 0
-cellIn (Table.decoded op) = cellPending (Machine.pendingOf op)
+cellIn row = cellPending (Machine.pendingAs (Machine.roleIn row))
 
 abbrev pub slotsIn : Matched → List ℕ
 slotsIn (offers slots) = slotsOf slots

@@ -10,8 +10,7 @@ use Rattle.rules.specs.Event as rules
 use Rattle.rules.specs.Event.{Entry, Matched, Move}
 use Rattle.rules.specs.State.{State, marksOf}
 use Rattle.rules.specs.Cell.{matchedLoad, matchedRmw}
-use Rattle.rules.specs.Machine.{schedules, entry, noSlot, exploringNow}
-use Rattle.rules.specs.Table as Table
+use Rattle.rules.specs.Machine.{Role, loads, storesOperand, storesRegister, modifies, takesBit, otherwise, roleIn, schedules, entry, noSlot, exploringNow}
 use Rattle.rules.specs.Table.{Op, Decoded}
 use Rattle.event.specs.declared.Fault.{Fault}
 use Rattle.event.specs.declared.Fault.the-variants as fault
@@ -32,27 +31,16 @@ faultOf fault.Preempted = rules.preemptions
 faultOf fault.Impossible = rules.impossible
 
 -- what a load or an RMW of a thread is offered; every other row is offered nothing
+abbrev pub offeredAs : State → ℕ → Role → Matched
+offeredAs st t (loads c o r) = matchedLoad (st .clocks) (marksOf (st .marks) c) (st .numbers) t c o
+offeredAs st t (modifies c o f change r) = matchedRmw (st .clocks) (st .numbers) c
+offeredAs st t (storesOperand c o a) = rules.offers []
+offeredAs st t (storesRegister c o r) = rules.offers []
+offeredAs st t (takesBit r) = rules.offers []
+offeredAs st t otherwise = rules.offers []
+
 abbrev pub matchedFor : State → ℕ → Decoded Op → Matched
-matchedFor st t Table.refused = rules.offers []
-matchedFor st t (Table.decoded (Table.load c o r)) = matchedLoad (st .clocks) (marksOf (st .marks) c) (st .numbers) t c o
-matchedFor st t (Table.decoded (Table.rmw c o f change r)) = matchedRmw (st .clocks) (st .numbers) c
-matchedFor st t (Table.decoded (Table.store c o a)) = rules.offers []
-matchedFor st t (Table.decoded (Table.storeRegister c o r)) = rules.offers []
-matchedFor st t (Table.decoded (Table.fence o)) = rules.offers []
-matchedFor st t (Table.decoded (Table.unsyncLoad c r)) = rules.offers []
-matchedFor st t (Table.decoded (Table.exclusive c change r)) = rules.offers []
-matchedFor st t (Table.decoded Table.yield) = rules.offers []
-matchedFor st t (Table.decoded (Table.join target)) = rules.offers []
-matchedFor st t (Table.decoded (Table.jump target)) = rules.offers []
-matchedFor st t (Table.decoded (Table.jumpIf r a target)) = rules.offers []
-matchedFor st t (Table.decoded (Table.jumpUnless r a target)) = rules.offers []
-matchedFor st t (Table.decoded (Table.check r a)) = rules.offers []
-matchedFor st t (Table.decoded Table.critical) = rules.offers []
-matchedFor st t (Table.decoded Table.exploreState) = rules.offers []
-matchedFor st t (Table.decoded Table.skipBranch) = rules.offers []
-matchedFor st t (Table.decoded (Table.spurious r)) = rules.offers []
-matchedFor st t (Table.decoded (Table.plainRead c r)) = rules.offers []
-matchedFor st t (Table.decoded (Table.plainWrite c a)) = rules.offers []
+matchedFor st t row = offeredAs st t (roleIn row)
 
 -- the entry of a row that is complete before it asks, which a yield alone is
 abbrev pub entryIf : Bool → ℕ → ℕ → ℕ → List Entry

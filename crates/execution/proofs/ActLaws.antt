@@ -8,24 +8,26 @@
 use Prim.Native.Nat.{ℕ, _<_}
 use mathlib.Core.List.{List, [], _∷_}
 use mathlib.Core.Bool.{Bool, not}
-use mathlib.Core.Path.{_≡_, refl, ap, _∙_}
-use lib.Dec.{eqb}
+use mathlib.Core.Path.{_≡_, refl, ap, sym, subst, _∙_}
+use mir.Val.{hasKey}
+use lib.Dec.{T, eqb}
 use types.Run.{OneOf, miss}
 use denote.Enum.Declared.{tagOf}
 use Rattle.rules.specs.Event.{Matched, Move, asks, whichBit}
 use Rattle.rules.specs.State.{State}
-use Rattle.rules.specs.Machine.{Program, acts, actsAs, asksSlot, versionRaised, exploringNow, jumps, checks}
+use Rattle.rules.specs.Machine.{Role, loads, storesOperand, storesRegister, modifies, takesBit, otherwise, roleOf, Program, acts, actsAs, asksSlot, versionRaised, exploringNow, jumps, checks}
 use Rattle.rules.specs.Table.{opcodeOf, decoded}
 use Rattle.rules.specs.Table as rules
+use Rattle.rules.proofs.RoleLaws.{Told, told, missed, elsewhere}
 use Rattle.event.specs.declared.Moved.{Moved}
 use Rattle.event.specs.declared.Picked.{Picked}
 use Rattle.event.specs.declared.Picked.the-variants as choice
 use Rattle.event.specs.Moves.{moveOf, matchedFor}
 use Rattle.decode.proofs.Op as Op
+use Rattle.decode.proofs.NumberLaws.{allBut, by-number, narrow}
 use Rattle.decode.specs.declared.Op.{Op}
-use Rattle.decode.specs.declared.Op.the-variants as code
 use Rattle.decode.specs.Ops.{opOf, inRange}
-use Rattle.execution.specs.Alone.{Unsync, Alone}
+use Rattle.execution.specs.Alone.{alone, unsync, Unsync, Alone}
 use Rattle.execution.specs.Answers.{Answers, choiceWithin}
 
 pub op-within : (op m : Op) → op ≡ m → inRange (opOf op) → inRange (opOf m)
@@ -36,55 +38,39 @@ slot-within c slot mask e h = rw e at h
 
 -- the places of the rows that access no cell without synchronisation, among the variants
 abbrev apart : List ℕ
-apart = 0 ∷ 1 ∷ 2 ∷ 3 ∷ 4 ∷ 7 ∷ 8 ∷ 9 ∷ 10 ∷ 11 ∷ 12 ∷ 13 ∷ 14 ∷ 15 ∷ 16 ∷ []
+apart = allBut (5 ∷ 6 ∷ 17 ∷ 18 ∷ [])
 
 pub alone-of : (op : Op) → OneOf apart (tagOf Op.the-type op) → Unsync (opOf op) → Alone (opOf op)
-alone-of (code.Load order cell register) k own = absurd own
-alone-of (code.Store order cell value) k own = absurd own
-alone-of (code.StoreRegister order cell register) k own = absurd own
-alone-of (code.Rmw order cell register change failure) k own = absurd own
-alone-of (code.Fence order) k own = absurd own
-alone-of (code.UnsyncLoad cell register) k own = absurd (miss apart 5 tt k)
-alone-of (code.WithMut cell register change) k own = absurd (miss apart 6 tt k)
-alone-of code.Yield k own = absurd own
-alone-of (code.Join thread) k own = absurd own
-alone-of (code.Jump target) k own = tt
-alone-of (code.JumpIf target register a) k own = tt
-alone-of (code.JumpUnless target register a) k own = tt
-alone-of (code.Check register a) k own = tt
-alone-of code.Critical k own = tt
-alone-of code.ExploreState k own = tt
-alone-of code.SkipBranch k own = tt
-alone-of (code.Spurious register) k own = tt
-alone-of (code.PlainRead plain register) k own = absurd (miss apart 17 tt k)
-alone-of (code.PlainWrite plain value) k own = absurd (miss apart 18 tt k)
+alone-of op k own = narrow apart unsync alone (opcodeOf (opOf op)) tt (by-number apart op k) own
 
 -- and of those that have no arm of their own among those that concern their thread alone
 abbrev rest : List ℕ
-rest = 0 ∷ 1 ∷ 2 ∷ 3 ∷ 4 ∷ 5 ∷ 6 ∷ 7 ∷ 8 ∷ 16 ∷ 17 ∷ 18 ∷ []
+rest = allBut (9 ∷ 10 ∷ 11 ∷ 12 ∷ 13 ∷ 14 ∷ 15 ∷ [])
 
 module _ (p : Program) (st : State) (t k : ℕ) where
-  pub asks-bit : (op : Op) → OneOf rest (tagOf Op.the-type op) → Alone (opOf op) → asks st [] (exploringNow (st .numbers)) whichBit ≡ acts p st t k (opOf op)
+  abbrev asksBit : Move State
+  asksBit = asks st [] (exploringNow (st .numbers)) whichBit
+
+  spurious-asks : (r : ℕ) → asksBit ≡ acts p st t k (rules.spurious r)
   unfolding actsAs
-  asks-bit (code.Load order cell register) k own = absurd own
-  asks-bit (code.Store order cell value) k own = absurd own
-  asks-bit (code.StoreRegister order cell register) k own = absurd own
-  asks-bit (code.Rmw order cell register change failure) k own = absurd own
-  asks-bit (code.Fence order) k own = absurd own
-  asks-bit (code.UnsyncLoad cell register) k own = absurd own
-  asks-bit (code.WithMut cell register change) k own = absurd own
-  asks-bit code.Yield k own = absurd own
-  asks-bit (code.Join thread) k own = absurd own
-  asks-bit (code.Jump target) k own = absurd (miss rest 9 tt k)
-  asks-bit (code.JumpIf target register a) k own = absurd (miss rest 10 tt k)
-  asks-bit (code.JumpUnless target register a) k own = absurd (miss rest 11 tt k)
-  asks-bit (code.Check register a) k own = absurd (miss rest 12 tt k)
-  asks-bit code.Critical k own = absurd (miss rest 13 tt k)
-  asks-bit code.ExploreState k own = absurd (miss rest 14 tt k)
-  asks-bit code.SkipBranch k own = absurd (miss rest 15 tt k)
-  asks-bit (code.Spurious register) k own = refl
-  asks-bit (code.PlainRead plain register) k own = absurd own
-  asks-bit (code.PlainWrite plain value) k own = absurd own
+  spurious-asks r = refl
+
+  pub asks-bit : (op : Op) → OneOf rest (tagOf Op.the-type op) → Alone (opOf op) → asksBit ≡ acts p st t k (opOf op)
+  asks-bit op n own = by-role (roleOf (opOf op)) (told (opOf op))
+    where
+      not-this : (m : rules.Op) → opOf op ≡ m → T (not (hasKey alone (opcodeOf m))) → ⊥
+      not-this m e h = missed alone (opOf op) m e h own
+
+      is-16 : opcodeOf (opOf op) ≡ 16
+      is-16 = narrow rest alone (16 ∷ []) (opcodeOf (opOf op)) tt (by-number rest op n) own
+
+      by-role : (role : Role) → Told role (opOf op) → asksBit ≡ acts p st t k (opOf op)
+      by-role (loads c o r) e = absurd (not-this (rules.load c o r) e tt)
+      by-role (storesOperand c o a) e = absurd (not-this (rules.store c o a) e tt)
+      by-role (storesRegister c o r) e = absurd (not-this (rules.storeRegister c o r) e tt)
+      by-role (modifies c o f change r) e = absurd (not-this (rules.rmw c o f change r) e tt)
+      by-role (takesBit r) e = spurious-asks r ∙ ap (λ (m : rules.Op). acts p st t k m) (sym e)
+      by-role otherwise e = absurd (miss elsewhere 16 tt (subst (λ (m : ℕ). OneOf elsewhere m) is-16 e))
 
 module _ (p : Program) (r : Moved) (st left : State) (t k : ℕ) (op m : Op) (e : op ≡ m) where
   pub act-as : moveOf r t k (opcodeOf (opOf m)) (matchedFor left t (decoded (opOf m))) left ≡ acts p st t k (opOf m) →

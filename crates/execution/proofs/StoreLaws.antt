@@ -4,19 +4,24 @@
 --     storing-of, unsync-of                               the rows that are taken together
 use Prim.Native.Nat.{ℕ, _<_}
 use mathlib.Core.List.{List, [], _∷_}
+use mathlib.Core.Bool.{not}
 use mathlib.Core.Path.{_≡_, refl, ap, sym, subst, _∙_}
-use types.Run.{OneOf, miss}
+use mir.Val.{hasKey}
+use lib.Dec.{T}
+use types.Run.{OneOf, hit}
 use denote.Enum.Declared.{tagOf}
 use Rattle.rules.specs.Event.{Move}
 use Rattle.rules.specs.State.{State, Values, value, ofRegister, registerAt}
-use Rattle.rules.specs.Machine.{Program, acts, actsAs, stores}
+use Rattle.rules.specs.Machine.{Role, loads, storesOperand, storesRegister, modifies, takesBit, otherwise, roleOf, Program, acts, actsAs, stores}
 use Rattle.rules.specs.Table as Table
 use Rattle.rules.specs.Table.{opcodeOf}
+use Rattle.rules.proofs.RoleLaws.{Told, told, missed, elsewhere}
 use Rattle.decode.proofs.Op as Op
+use Rattle.decode.proofs.NumberLaws.{allBut, by-number, narrow}
 use Rattle.decode.specs.declared.Op.{Op}
 use Rattle.decode.specs.declared.Op.the-variants as code
 use Rattle.decode.specs.Ops.{opOf, inRange}
-use Rattle.execution.specs.Alone.{Unsync, Storing}
+use Rattle.execution.specs.Alone.{unsync, storing, Unsync, Storing}
 use Rattle.execution.specs.Stores.{storedOf, storeWithin, Stores}
 use Rattle.execution.specs.declared.Stored.{Stored}
 use Rattle.execution.specs.declared.Stored.the-variants.{Nothing, Of}
@@ -26,43 +31,36 @@ use Rattle.execution.proofs.ActLaws.{op-within}
 
 -- the places of the rows that store nothing, among the variants
 abbrev others : List ℕ
-others = 0 ∷ 3 ∷ 4 ∷ 5 ∷ 6 ∷ 7 ∷ 8 ∷ 9 ∷ 10 ∷ 11 ∷ 12 ∷ 13 ∷ 14 ∷ 15 ∷ 16 ∷ 17 ∷ 18 ∷ []
+others = allBut (1 ∷ 2 ∷ [])
 
 module _ (vs : Values) (t : ℕ) where
-  pub operand-stored : (op : Op) (o c a : ℕ) → op ≡ code.Store o c a → inRange (opOf op) → Stores (Of o c a) vs t (opOf op)
+  pub operand-stored : (op : Op) (o c a : ℕ) → op ≡ code.Store o c a → inRange (opOf op) → Stores (Of o c a) vs t (roleOf (opOf op))
   operand-stored op o c a e h =
-      record { is = sym (ap (λ (p : Op). storedOf vs t (opOf p)) e); within = op-within op _ e h }
+      record { is = sym (ap (λ (p : Op). storedOf vs t (roleOf (opOf p))) e); within = op-within op _ e h }
 
   pub register-stored : (op : Op) (o c r v : ℕ) → op ≡ code.StoreRegister o c r → inRange (opOf op) →
-      v ≡ value vs (ofRegister (registerAt t r)) → Stores (Of o c v) vs t (opOf op)
+      v ≡ value vs (ofRegister (registerAt t r)) → Stores (Of o c v) vs t (roleOf (opOf op))
   register-stored op o c r v e h f =
       record {
-        is = ap (λ (x : ℕ). Of o c x) f ∙ sym (ap (λ (p : Op). storedOf vs t (opOf p)) e);
+        is = ap (λ (x : ℕ). Of o c x) f ∙ sym (ap (λ (p : Op). storedOf vs t (roleOf (opOf p))) e);
         within = op-within op _ e h .0;
       }
 
-  nothing-in : (op : Op) → OneOf others (tagOf Op.the-type op) → Nothing ≡ storedOf vs t (opOf op)
-  nothing-in (code.Load order cell register) k = refl
-  nothing-in (code.Store order cell value) k = absurd (miss others 1 tt k)
-  nothing-in (code.StoreRegister order cell register) k = absurd (miss others 2 tt k)
-  nothing-in (code.Rmw order cell register change failure) k = refl
-  nothing-in (code.Fence order) k = refl
-  nothing-in (code.UnsyncLoad cell register) k = refl
-  nothing-in (code.WithMut cell register change) k = refl
-  nothing-in code.Yield k = refl
-  nothing-in (code.Join thread) k = refl
-  nothing-in (code.Jump target) k = refl
-  nothing-in (code.JumpIf target register a) k = refl
-  nothing-in (code.JumpUnless target register a) k = refl
-  nothing-in (code.Check register a) k = refl
-  nothing-in code.Critical k = refl
-  nothing-in code.ExploreState k = refl
-  nothing-in code.SkipBranch k = refl
-  nothing-in (code.Spurious register) k = refl
-  nothing-in (code.PlainRead plain register) k = refl
-  nothing-in (code.PlainWrite plain value) k = refl
+  nothing-in : (op : Op) → OneOf others (tagOf Op.the-type op) → Nothing ≡ storedOf vs t (roleOf (opOf op))
+  nothing-in op k = by-role (roleOf (opOf op)) (told (opOf op))
+    where
+      not-this : (m : Table.Op) → opOf op ≡ m → T (not (hasKey others (opcodeOf m))) → ⊥
+      not-this m e h = missed others (opOf op) m e h (by-number others op k)
 
-  pub nothing-stored : (op : Op) → OneOf others (tagOf Op.the-type op) → Stores Nothing vs t (opOf op)
+      by-role : (role : Role) → Told role (opOf op) → Nothing ≡ storedOf vs t role
+      by-role (loads c o r) e = refl
+      by-role (storesOperand c o a) e = absurd (not-this (Table.store c o a) e tt)
+      by-role (storesRegister c o r) e = absurd (not-this (Table.storeRegister c o r) e tt)
+      by-role (modifies c o f change r) e = refl
+      by-role (takesBit r) e = refl
+      by-role otherwise e = refl
+
+  pub nothing-stored : (op : Op) → OneOf others (tagOf Op.the-type op) → Stores Nothing vs t (roleOf (opOf op))
   nothing-stored op k = record { is = nothing-in op k; within = tt }
 
 -- A row by what it stores
@@ -76,34 +74,31 @@ storesBy Nothing st t k n other = other
 storesBy (Of o c v) st t k n other = stores st t k n c o v
 
 module _ (p : Program) (st : State) (t k : ℕ) where
-  by-storing : (op : Table.Op) → storesBy (storedOf (st .values) t op) st t k (opcodeOf op) (acts p st t k op) ≡ acts p st t k op
-  unfolding actsAs
-  by-storing (Table.load c o r) = refl
-  by-storing (Table.store c o a) = refl
-  by-storing (Table.storeRegister c o r) = refl
-  by-storing (Table.rmw c o f change r) = refl
-  by-storing (Table.fence o) = refl
-  by-storing (Table.unsyncLoad c r) = refl
-  by-storing (Table.exclusive c change r) = refl
-  by-storing Table.yield = refl
-  by-storing (Table.join target) = refl
-  by-storing (Table.jump target) = refl
-  by-storing (Table.jumpIf r a target) = refl
-  by-storing (Table.jumpUnless r a target) = refl
-  by-storing (Table.check r a) = refl
-  by-storing Table.critical = refl
-  by-storing Table.exploreState = refl
-  by-storing Table.skipBranch = refl
-  by-storing (Table.spurious r) = refl
-  by-storing (Table.plainRead c r) = refl
-  by-storing (Table.plainWrite c a) = refl
+  abbrev By : Role → Table.Op → Type 0
+  By role op = storesBy (storedOf (st .values) t role) st t k (opcodeOf op) (acts p st t k op) ≡ acts p st t k op
 
-  pub stores-as : (op : Op) (s : Stored) → s ≡ storedOf (st .values) t (opOf op) → (o c v : ℕ) → s ≡ Of o c v → (out : Move State) →
+  by-operand : (c o a : ℕ) → By (storesOperand c o a) (Table.store c o a)
+  unfolding actsAs
+  by-operand c o a = refl
+
+  by-register : (c o r : ℕ) → By (storesRegister c o r) (Table.storeRegister c o r)
+  unfolding actsAs
+  by-register c o r = refl
+
+  by-storing : (role : Role) (op : Table.Op) → Told role op → By role op
+  by-storing (loads c o r) op e = refl
+  by-storing (storesOperand c o a) op e = subst (By (storesOperand c o a)) (sym e) (by-operand c o a)
+  by-storing (storesRegister c o r) op e = subst (By (storesRegister c o r)) (sym e) (by-register c o r)
+  by-storing (modifies c o f change r) op e = refl
+  by-storing (takesBit r) op e = refl
+  by-storing otherwise op e = refl
+
+  pub stores-as : (op : Op) (s : Stored) → s ≡ storedOf (st .values) t (roleOf (opOf op)) → (o c v : ℕ) → s ≡ Of o c v → (out : Move State) →
       out ≡ stores st t k (opcodeOf (opOf op)) c o v → out ≡ acts p st t k (opOf op)
   stores-as op s is o c v e out h =
       h
       ∙ ap (λ (x : Stored). storesBy x st t k (opcodeOf (opOf op)) (acts p st t k (opOf op))) (sym e ∙ is)
-      ∙ by-storing (opOf op)
+      ∙ by-storing (roleOf (opOf op)) (opOf op) (told (opOf op))
 
 abbrev Something : Stored → Type 0
 Something Nothing = ⊥
@@ -111,48 +106,20 @@ Something (Of o c v) = Unit
 
 -- a row that stores nothing, among those that store and those without synchronisation
 module _ (vs : Values) (t : ℕ) (s : Stored) (none : s ≡ Nothing) where
-  pub unsync-of : (op : Op) → s ≡ storedOf vs t (opOf op) → Storing (opOf op) → Unsync (opOf op)
-  unsync-of (code.Load order cell register) is own = absurd own
-  unsync-of (code.Store order cell value) is own = absurd (subst (λ (x : Stored). Something x) (sym is ∙ none) tt)
-  unsync-of (code.StoreRegister order cell register) is own = absurd (subst (λ (x : Stored). Something x) (sym is ∙ none) tt)
-  unsync-of (code.Rmw order cell register change failure) is own = absurd own
-  unsync-of (code.Fence order) is own = absurd own
-  unsync-of (code.UnsyncLoad cell register) is own = tt
-  unsync-of (code.WithMut cell register change) is own = tt
-  unsync-of code.Yield is own = absurd own
-  unsync-of (code.Join thread) is own = absurd own
-  unsync-of (code.Jump target) is own = tt
-  unsync-of (code.JumpIf target register a) is own = tt
-  unsync-of (code.JumpUnless target register a) is own = tt
-  unsync-of (code.Check register a) is own = tt
-  unsync-of code.Critical is own = tt
-  unsync-of code.ExploreState is own = tt
-  unsync-of code.SkipBranch is own = tt
-  unsync-of (code.Spurious register) is own = tt
-  unsync-of (code.PlainRead plain register) is own = tt
-  unsync-of (code.PlainWrite plain value) is own = tt
+  pub unsync-of : (op : Op) → s ≡ storedOf vs t (roleOf (opOf op)) → Storing (opOf op) → Unsync (opOf op)
+  unsync-of op is own = by-role (roleOf (opOf op)) (told (opOf op)) is
+    where
+      not-this : (m : Table.Op) → opOf op ≡ m → T (not (hasKey storing (opcodeOf m))) → ⊥
+      not-this m e h = missed storing (opOf op) m e h own
+
+      by-role : (role : Role) → Told role (opOf op) → s ≡ storedOf vs t role → Unsync (opOf op)
+      by-role (loads c o r) e is = absurd (not-this (Table.load c o r) e tt)
+      by-role (storesOperand c o a) e is = absurd (subst (λ (x : Stored). Something x) (sym is ∙ none) tt)
+      by-role (storesRegister c o r) e is = absurd (subst (λ (x : Stored). Something x) (sym is ∙ none) tt)
+      by-role (modifies c o f change r) e is = absurd (not-this (Table.rmw c o f change r) e tt)
+      by-role (takesBit r) e is = subst (λ (m : Table.Op). Unsync m) (sym e) (hit unsync 16 tt)
+      by-role otherwise e is = narrow elsewhere storing unsync (opcodeOf (opOf op)) tt e own
 
 -- the places of the rows without an arm of their own
-abbrev rest : List ℕ
-rest = 1 ∷ 2 ∷ 5 ∷ 6 ∷ 9 ∷ 10 ∷ 11 ∷ 12 ∷ 13 ∷ 14 ∷ 15 ∷ 16 ∷ 17 ∷ 18 ∷ []
-
-pub storing-of : (op : Op) → OneOf rest (tagOf Op.the-type op) → Storing (opOf op)
-storing-of (code.Load order cell register) k = absurd (miss rest 0 tt k)
-storing-of (code.Store order cell value) k = tt
-storing-of (code.StoreRegister order cell register) k = tt
-storing-of (code.Rmw order cell register change failure) k = absurd (miss rest 3 tt k)
-storing-of (code.Fence order) k = absurd (miss rest 4 tt k)
-storing-of (code.UnsyncLoad cell register) k = tt
-storing-of (code.WithMut cell register change) k = tt
-storing-of code.Yield k = absurd (miss rest 7 tt k)
-storing-of (code.Join thread) k = absurd (miss rest 8 tt k)
-storing-of (code.Jump target) k = tt
-storing-of (code.JumpIf target register a) k = tt
-storing-of (code.JumpUnless target register a) k = tt
-storing-of (code.Check register a) k = tt
-storing-of code.Critical k = tt
-storing-of code.ExploreState k = tt
-storing-of code.SkipBranch k = tt
-storing-of (code.Spurious register) k = tt
-storing-of (code.PlainRead plain register) k = tt
-storing-of (code.PlainWrite plain value) k = tt
+pub storing-of : (op : Op) → OneOf storing (tagOf Op.the-type op) → Storing (opOf op)
+storing-of op k = by-number storing op k

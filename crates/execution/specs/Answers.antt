@@ -6,7 +6,7 @@ use Rattle.rules.specs.Event.{Move}
 use Rattle.rules.specs.State.{State}
 use Rattle.rules.specs.Table.{Op, Decoded}
 use Rattle.rules.specs.Vector.{nobody, thread}
-use Rattle.rules.specs.Machine.{scheduled, readFrom, bitTaken}
+use Rattle.rules.specs.Machine.{roleIn, scheduled, readFrom, bitTaken}
 use Rattle.event.specs.declared.Picked.{Picked}
 use Rattle.event.specs.declared.Picked.the-variants as choice
 
@@ -21,5 +21,5 @@ choiceWithin (choice.Bit bit) = Unit
 abbrev pub Answers : Picked → Decoded Op → ℕ → ℕ → State → Move State → Type 0
 Answers (choice.Thread chosen branch) row t k st move = move ≡ scheduled st (thread chosen) branch
 Answers choice.Nobody row t k st move = (at : ℕ) → move ≡ scheduled st nobody at
-Answers (choice.Slot slot mask) row t k st move = move ≡ readFrom st t k slot mask row
-Answers (choice.Bit bit) row t k st move = move ≡ bitTaken st t k (cond bit 1 0) row
+Answers (choice.Slot slot mask) row t k st move = move ≡ readFrom st t k slot mask (roleIn row)
+Answers (choice.Bit bit) row t k st move = move ≡ bitTaken st t k (cond bit 1 0) (roleIn row)

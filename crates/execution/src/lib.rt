@@ -122,7 +122,7 @@ fn act_store(
 // What a row stores: its operand, or what a register holds.
 fn to_store(values: &Values, thread: usize, op: Op) -> Stored
     requires { ⌜ (thread < 5) × inRange (opOf op) ⌝ }
-    ensures { λ r. ⌜ Stores r (now (values .entry)) thread (opOf op) ⌝ }
+    ensures { λ r. ⌜ Stores r (now (values .entry)) thread (machine.roleOf (opOf op)) ⌝ }
 {
     match op {
         Op::Store { cell, order, value } => Stored::Of { order, cell, value },

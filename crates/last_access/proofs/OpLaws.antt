@@ -1,21 +1,23 @@
 -- The laws of the arm of a match that takes all other rows together, where a match asks for the cell or an access. Assumes nothing.
 --     no-cell, no-store    the rows that name no cell and no plain cell, that never store
---     no-number            those that do not have an opcode
 use Prim.Native.Nat.{ℕ}
-use mathlib.Core.Bool.{false, cond, not}
+use mathlib.Core.Bool.{false, not}
 use mathlib.Core.List.{List, [], _∷_}
-use mathlib.Core.Path.{_≡_, refl, sym, subst, _∙_}
+use mathlib.Core.Path.{_≡_, refl}
 use mir.Val.{hasKey}
-use lib.Dec.{T, eqb}
-use borrow.Author.Tests.{ne-eqb}
+use lib.Dec.{T}
 use types.Run.{OneOf, miss}
 use denote.Enum.Declared.{tagOf}
+use Rattle.rules.specs.Table as Table
 use Rattle.rules.specs.Table.{opcodeOf}
+use Rattle.rules.specs.Machine.{Role, loads, storesOperand, storesRegister, modifies, takesBit, otherwise, roleOf}
+use Rattle.rules.proofs.RoleLaws.{Told, told, missed}
+use Rattle.decode.proofs.NumberLaws.{allBut, by-number}
 use Rattle.decode.proofs.Op.{the-type}
 use Rattle.decode.specs.declared.Op.{Op}
 use Rattle.decode.specs.declared.Op.the-variants as code
 use Rattle.decode.specs.Ops.{opOf}
-use Rattle.last_access.specs.Access.{cellIn, storesAfter}
+use Rattle.last_access.specs.Access.{cellIn, storesAs, storesAfter}
 
 -- the places among the variants of the rows that name no cell and no plain cell
 abbrev elsewhere : List ℕ
@@ -44,59 +46,18 @@ no-cell (code.PlainWrite plain value) k = absurd (miss elsewhere 18 tt k)
 
 -- and of those that never store
 abbrev reading : List ℕ
-reading = 0 ∷ 4 ∷ 5 ∷ 6 ∷ 7 ∷ 8 ∷ 9 ∷ 10 ∷ 11 ∷ 12 ∷ 13 ∷ 14 ∷ 15 ∷ 16 ∷ 17 ∷ 18 ∷ []
+reading = allBut (1 ∷ 2 ∷ 3 ∷ [])
 
 pub no-store : (op : Op) (v : ℕ) → OneOf reading (tagOf the-type op) → false ≡ storesAfter v (opOf op)
-no-store (code.Load order cell register) v k = refl
-no-store (code.Store order cell value) v k = absurd (miss reading 1 tt k)
-no-store (code.StoreRegister order cell register) v k = absurd (miss reading 2 tt k)
-no-store (code.Rmw order cell register change failure) v k = absurd (miss reading 3 tt k)
-no-store (code.Fence order) v k = refl
-no-store (code.UnsyncLoad cell register) v k = refl
-no-store (code.WithMut cell register change) v k = refl
-no-store code.Yield v k = refl
-no-store (code.Join thread) v k = refl
-no-store (code.Jump target) v k = refl
-no-store (code.JumpIf target register a) v k = refl
-no-store (code.JumpUnless target register a) v k = refl
-no-store (code.Check register a) v k = refl
-no-store code.Critical v k = refl
-no-store code.ExploreState v k = refl
-no-store code.SkipBranch v k = refl
-no-store (code.Spurious register) v k = refl
-no-store (code.PlainRead plain register) v k = refl
-no-store (code.PlainWrite plain value) v k = refl
+no-store op v k = by-role (roleOf (opOf op)) (told (opOf op))
+  where
+    not-this : (m : Table.Op) → opOf op ≡ m → T (not (hasKey reading (opcodeOf m))) → ⊥
+    not-this m e h = missed reading (opOf op) m e h (by-number reading op k)
 
--- the variants stand in the order of their opcodes
-numbered : (op : Op) → tagOf the-type op ≡ opcodeOf (opOf op)
-numbered (code.Load order cell register) = refl
-numbered (code.Store order cell value) = refl
-numbered (code.StoreRegister order cell register) = refl
-numbered (code.Rmw order cell register change failure) = refl
-numbered (code.Fence order) = refl
-numbered (code.UnsyncLoad cell register) = refl
-numbered (code.WithMut cell register change) = refl
-numbered code.Yield = refl
-numbered (code.Join thread) = refl
-numbered (code.Jump target) = refl
-numbered (code.JumpIf target register a) = refl
-numbered (code.JumpUnless target register a) = refl
-numbered (code.Check register a) = refl
-numbered code.Critical = refl
-numbered code.ExploreState = refl
-numbered code.SkipBranch = refl
-numbered (code.Spurious register) = refl
-numbered (code.PlainRead plain register) = refl
-numbered (code.PlainWrite plain value) = refl
-
--- the places of all but these
-unfoldable pub rest : List ℕ → List ℕ → List ℕ
-rest ks [] = []
-rest ks (x ∷ xs) = cond (hasKey ks x) (rest ks xs) (x ∷ rest ks xs)
-
-abbrev pub allBut : List ℕ → List ℕ
-allBut ks = rest ks (0 ∷ 1 ∷ 2 ∷ 3 ∷ 4 ∷ 5 ∷ 6 ∷ 7 ∷ 8 ∷ 9 ∷ 10 ∷ 11 ∷ 12 ∷ 13 ∷ 14 ∷ 15 ∷ 16 ∷ 17 ∷ 18 ∷ [])
-
-module _ (ks : List ℕ) (op : Op) (p : OneOf ks (tagOf the-type op)) where
-  pub no-number : (k : ℕ) → T (not (hasKey ks k)) → false ≡ eqb (opcodeOf (opOf op)) k
-  no-number k h = sym (ne-eqb (opcodeOf (opOf op)) k (λ e. miss ks k h (subst (λ (n : ℕ). OneOf ks n) (numbered op ∙ e) p)))
+    by-role : (role : Role) → Told role (opOf op) → false ≡ storesAs v role
+    by-role (loads c o r) e = refl
+    by-role (storesOperand c o a) e = absurd (not-this (Table.store c o a) e tt)
+    by-role (storesRegister c o r) e = absurd (not-this (Table.storeRegister c o r) e tt)
+    by-role (modifies c o f change r) e = absurd (not-this (Table.rmw c o f change r) e tt)
+    by-role (takesBit r) e = refl
+    by-role otherwise e = refl

@@ -8,6 +8,7 @@ use lib.Dec.{eqb}
 use Rattle.rules.specs.Change.{Changed, success, failure, applied}
 use Rattle.rules.specs.Event.{Entry}
 use Rattle.rules.specs.Table.{Op, Decoded, refused, decoded, opcodeOf, load, store, storeRegister, rmw, fence, unsyncLoad, exclusive, yield, join, jump, jumpIf, jumpUnless, check, critical, exploreState, skipBranch, spurious, plainRead, plainWrite}
+use Rattle.rules.specs.Machine.{Role, loads, storesOperand, storesRegister, modifies, takesBit, otherwise, roleOf}
 use Rattle.steps.specs.Entries.{entryAt, operationAt}
 use Rattle.last_access.specs.declared.AccessKind.{AccessKind}
 use Rattle.last_access.specs.declared.AccessKind.the-variants.{Load, UnsyncLoad, Store, Exclusive, PlainRead, PlainWrite}
@@ -39,26 +40,16 @@ isSuccess (success v) = true
 isSuccess failure = false
 
 -- whether a row stores to a cell, where it has read this value: a change that fails does not
+abbrev pub storesAs : ℕ → Role → Bool
+storesAs v (loads c o r) = false
+storesAs v (storesOperand c o a) = true
+storesAs v (storesRegister c o r) = true
+storesAs v (modifies c o f change r) = isSuccess (applied change v)
+storesAs v (takesBit r) = false
+storesAs v otherwise = false
+
 abbrev pub storesAfter : ℕ → Op → Bool
-storesAfter v (load c o r) = false
-storesAfter v (store c o a) = true
-storesAfter v (storeRegister c o r) = true
-storesAfter v (rmw c o f change r) = isSuccess (applied change v)
-storesAfter v (fence o) = false
-storesAfter v (unsyncLoad c r) = false
-storesAfter v (exclusive c change r) = false
-storesAfter v yield = false
-storesAfter v (join thread) = false
-storesAfter v (jump target) = false
-storesAfter v (jumpIf r a target) = false
-storesAfter v (jumpUnless r a target) = false
-storesAfter v (check r a) = false
-storesAfter v critical = false
-storesAfter v exploreState = false
-storesAfter v skipBranch = false
-storesAfter v (spurious r) = false
-storesAfter v (plainRead c r) = false
-storesAfter v (plainWrite c a) = false
+storesAfter v op = storesAs v (roleOf op)
 
 -- how a row accesses its cell, by its opcode: 0 and 3 load, 5 loads unsynchronised, 6 is exclusive, 17 and 18 read
 -- and write a plain cell

@@ -17,13 +17,13 @@ use Rattle.rules.specs.State.{State, Clocks, Marks as MarkTable, Values, Number
 use Rattle.rules.specs.Cell as cells
 use Rattle.rules.specs.Table as Table
 use Rattle.decode.specs.Ops.{decodedOf}
-use Rattle.event.specs.Moves.{matchedFor}
+use Rattle.event.specs.Moves.{offeredAs, matchedFor}
 use Rattle.matches.specs.Offers.{Scan, slots, equalMet, scanned, offered}
 use Rattle.matches.specs.declared.Matched.{Matched}
 use Rattle.matches.specs.declared.Matched.the-variants as match
 use Rattle.rules.specs.Path as paths
 use Rattle.rules.specs.Path.{Branch, Added, threadAdded, loadAdded, spuriousAdded, openAt}
-use Rattle.rules.specs.Machine.{exploringNow, initial, standing, everyThread}
+use Rattle.rules.specs.Machine.{Role, loads, storesOperand, storesRegister, modifies, takesBit, otherwise, roleIn, exploringNow, initial, standing, everyThread}
 use Rattle.rules.specs.Explorer as explorer
 use Rattle.rules.specs.Explorer.{Walk, Tick, goes, seedOf, orFault, faults}
 use Rattle.layout.specs.Tables.{state}
@@ -199,27 +199,16 @@ few-rmw : (clocks : Clocks) (numbers : Numbers) (c : ℕ) → FewBy 7 (cells.mat
 unfolding cells.matchedRmw
 few-rmw clocks numbers c = few-seven (cells.liveIn numbers c) (live-seven (number numbers (count c))) (cells.matchedFrom (cells.rmwFate clocks numbers c) (cells.liveIn numbers c) 0) (few-from (cells.rmwFate clocks numbers c) (cells.liveIn numbers c) 0)
 
+few-as : (st : State) (t : ℕ) (role : Role) → FewBy 7 (offeredAs st t role)
+few-as st t (loads c o r) = few-load (st .clocks) (marksOf (st .marks) c) (st .numbers) t c o
+few-as st t (modifies c o f change r) = few-rmw (st .clocks) (st .numbers) c
+few-as st t (storesOperand c o a) = omega arith
+few-as st t (storesRegister c o r) = omega arith
+few-as st t (takesBit r) = omega arith
+few-as st t otherwise = omega arith
+
 few-for : (st : State) (t : ℕ) (row : Table.Decoded Table.Op) → FewBy 7 (matchedFor st t row)
-few-for st t Table.refused = omega arith
-few-for st t (Table.decoded (Table.load c o r)) = few-load (st .clocks) (marksOf (st .marks) c) (st .numbers) t c o
-few-for st t (Table.decoded (Table.rmw c o f change r)) = few-rmw (st .clocks) (st .numbers) c
-few-for st t (Table.decoded (Table.store c o a)) = omega arith
-few-for st t (Table.decoded (Table.storeRegister c o r)) = omega arith
-few-for st t (Table.decoded (Table.fence o)) = omega arith
-few-for st t (Table.decoded (Table.unsyncLoad c r)) = omega arith
-few-for st t (Table.decoded (Table.exclusive c change r)) = omega arith
-few-for st t (Table.decoded Table.yield) = omega arith
-few-for st t (Table.decoded (Table.join target)) = omega arith
-few-for st t (Table.decoded (Table.jump target)) = omega arith
-few-for st t (Table.decoded (Table.jumpIf r a target)) = omega arith
-few-for st t (Table.decoded (Table.jumpUnless r a target)) = omega arith
-few-for st t (Table.decoded (Table.check r a)) = omega arith
-few-for st t (Table.decoded Table.critical) = omega arith
-few-for st t (Table.decoded Table.exploreState) = omega arith
-few-for st t (Table.decoded Table.skipBranch) = omega arith
-few-for st t (Table.decoded (Table.spurious r)) = omega arith
-few-for st t (Table.decoded (Table.plainRead c r)) = omega arith
-few-for st t (Table.decoded (Table.plainWrite c a)) = omega arith
+few-for st t row = few-as st t (roleIn row)
 
 -- the slots that were written are those that are offered
 abbrev ReadBack : ℕ → List ℕ → rules.Matched → Type 0

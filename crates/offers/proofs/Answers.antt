@@ -15,15 +15,15 @@ use Rattle.rules.specs.Vector.{Whom, nobody, thread, oneMore}
 use Rattle.rules.specs.Change.{Change}
 use Rattle.rules.specs.Seen.{unseen}
 use Rattle.rules.specs.Table as Table
-use Rattle.rules.specs.Table.{Op, Decoded, refused, decoded}
+use Rattle.rules.specs.Table.{Op, Decoded, decoded}
 use Rattle.rules.specs.Event.{runThread, readSlot, takeBit, Move, moves, asks, stops, ends}
 use Rattle.rules.specs.State as State
 use Rattle.rules.specs.State.{State, Numbers, number, withNumber, withVector, threads, cells, count, activeThread, accessBranch, nonLoadBranch, lastAccess, lastNonLoad, scheduleOf, operation}
 use Rattle.rules.specs.Cell
 use Rattle.rules.specs.Cell.{AccessResult, raced, read, withClocks}
 use Rattle.rules.specs.Machine
-use Rattle.rules.specs.Machine.{Program, current, activeRow, activeOp, maskOf}
-use Rattle.rules.proofs.MeasureRows.{pick, both-left, RowOnCell, row-on-cell}
+use Rattle.rules.specs.Machine.{Program, Role, loads, storesOperand, storesRegister, modifies, takesBit, otherwise, roleIn, current, activeRow, activeOp, activeRole, maskOf}
+use Rattle.rules.proofs.MeasureRows.{pick, both-left, RoleOnCell, row-on-cell}
 use Rattle.offers.specs.Seen.{Sees}
 use Rattle.offers.proofs.Growing.{schedule-grows, access-grows}
 use Rattle.offers.proofs.Steps.{SameCounts, SoundState, Calm, calm-trans, calm-more, calm-clocks, calm-rest, calm-step, calm-after, sees-calm}
@@ -126,63 +126,35 @@ module _ (t n : ℕ) (below : t < threads) (st : State) (sound : SoundState n st
   reads-after (raced kind other s) c i k opcode r slot mask h = tt
   reads-after (read v s) c i k opcode r slot mask h = sees-calm (kept-calm n s t r v (oneMore k) below) t c i below h
 
-  read-answer : (k slot mask : ℕ) (row : Decoded Op) → RowOnCell row → slot < 7 →
-      AnswerOf t n st (Machine.readFrom st t k slot mask row)
-  unfolding Machine.readFrom RowOnCell
-  read-answer k slot mask refused on l = same n st
-  read-answer k slot mask (decoded (Table.load c o r)) on l =
+  read-answer : (k slot mask : ℕ) (role : Role) → RoleOnCell role → slot < 7 →
+      AnswerOf t n st (Machine.readFrom st t k slot mask role)
+  unfolding Machine.readFrom
+  read-answer k slot mask (loads c o r) on l =
       pick (AnswerOf t n st) (ltb slot (number (st .numbers) (count c)))
       (λ e. reads-answer (Cell.loadDone st t c slot o) k 0 r slot mask (load-accessed t n below st sound c slot on l o))
       (λ e. same n st)
-  read-answer k slot mask (decoded (Table.rmw c o f change r)) on l =
+  read-answer k slot mask (modifies c o f change r) on l =
       pick (AnswerOf t n st) (ltb slot (number (st .numbers) (count c)))
       (λ e. reads-answer (Cell.rmwDone st t c slot change o f) k 3 r slot mask
       (rmw-accessed t n below st sound c slot on l change o f long))
       (λ e. same n st)
-  read-answer k slot mask (decoded (Table.store c o a)) on l = same n st
-  read-answer k slot mask (decoded (Table.storeRegister c o r)) on l = same n st
-  read-answer k slot mask (decoded (Table.fence o)) on l = same n st
-  read-answer k slot mask (decoded (Table.unsyncLoad c r)) on l = same n st
-  read-answer k slot mask (decoded (Table.exclusive c change r)) on l = same n st
-  read-answer k slot mask (decoded Table.yield) on l = same n st
-  read-answer k slot mask (decoded (Table.join target)) on l = same n st
-  read-answer k slot mask (decoded (Table.jump target)) on l = same n st
-  read-answer k slot mask (decoded (Table.jumpIf r a target)) on l = same n st
-  read-answer k slot mask (decoded (Table.jumpUnless r a target)) on l = same n st
-  read-answer k slot mask (decoded (Table.check r a)) on l = same n st
-  read-answer k slot mask (decoded Table.critical) on l = same n st
-  read-answer k slot mask (decoded Table.exploreState) on l = same n st
-  read-answer k slot mask (decoded Table.skipBranch) on l = same n st
-  read-answer k slot mask (decoded (Table.spurious r)) on l = same n st
-  read-answer k slot mask (decoded (Table.plainRead c r)) on l = same n st
-  read-answer k slot mask (decoded (Table.plainWrite c a)) on l = same n st
+  read-answer k slot mask (storesOperand c o a) on l = same n st
+  read-answer k slot mask (storesRegister c o r) on l = same n st
+  read-answer k slot mask (takesBit r) on l = same n st
+  read-answer k slot mask otherwise on l = same n st
 
-  bit-answer : (u k v : ℕ) (row : Decoded Op) → AnswerOf u n st (Machine.bitTaken st t k v row)
+  bit-answer : (u k v : ℕ) (role : Role) → AnswerOf u n st (Machine.bitTaken st t k v role)
   unfolding Machine.bitTaken
-  bit-answer u k v refused = same n st
-  bit-answer u k v (decoded (Table.spurious r)) = (inl (omega arith), calm-step (kept-calm n st t r v (oneMore k) below) sound)
-  bit-answer u k v (decoded (Table.load c o r)) = same n st
-  bit-answer u k v (decoded (Table.store c o a)) = same n st
-  bit-answer u k v (decoded (Table.storeRegister c o r)) = same n st
-  bit-answer u k v (decoded (Table.rmw c o f change r)) = same n st
-  bit-answer u k v (decoded (Table.fence o)) = same n st
-  bit-answer u k v (decoded (Table.unsyncLoad c r)) = same n st
-  bit-answer u k v (decoded (Table.exclusive c change r)) = same n st
-  bit-answer u k v (decoded Table.yield) = same n st
-  bit-answer u k v (decoded (Table.join target)) = same n st
-  bit-answer u k v (decoded (Table.jump target)) = same n st
-  bit-answer u k v (decoded (Table.jumpIf r a target)) = same n st
-  bit-answer u k v (decoded (Table.jumpUnless r a target)) = same n st
-  bit-answer u k v (decoded (Table.check r a)) = same n st
-  bit-answer u k v (decoded Table.critical) = same n st
-  bit-answer u k v (decoded Table.exploreState) = same n st
-  bit-answer u k v (decoded Table.skipBranch) = same n st
-  bit-answer u k v (decoded (Table.plainRead c r)) = same n st
-  bit-answer u k v (decoded (Table.plainWrite c a)) = same n st
+  bit-answer u k v (takesBit r) = (inl (omega arith), calm-step (kept-calm n st t r v (oneMore k) below) sound)
+  bit-answer u k v (loads c o r) = same n st
+  bit-answer u k v (storesOperand c o a) = same n st
+  bit-answer u k v (storesRegister c o r) = same n st
+  bit-answer u k v (modifies c o f change r) = same n st
+  bit-answer u k v otherwise = same n st
 
   -- what it has read
   load-after : (k slot mask c o r : ℕ) → c < 4 → slot < 7 → n < unseen →
-      AfterOf t c slot (Machine.readFrom st t k slot mask (decoded (Table.load c o r)))
+      AfterOf t c slot (Machine.readFrom st t k slot mask (loads c o r))
   unfolding Machine.readFrom
   load-after k slot mask c o r on l few =
       pick (AfterOf t c slot) (ltb slot (number (st .numbers) (count c)))
@@ -190,7 +162,7 @@ module _ (t n : ℕ) (below : t < threads) (st : State) (sound : SoundState n st
       (λ e. tt)
 
   rmw-after : (k slot mask c o f : ℕ) (change : Change) (r : ℕ) → c < 4 → slot < 7 → n < unseen →
-      AfterOf t c slot (Machine.readFrom st t k slot mask (decoded (Table.rmw c o f change r)))
+      AfterOf t c slot (Machine.readFrom st t k slot mask (modifies c o f change r))
   unfolding Machine.readFrom
   rmw-after k slot mask c o f change r on l few =
       pick (AfterOf t c slot) (ltb slot (number (st .numbers) (count c)))
@@ -204,20 +176,20 @@ module _ (p : Program) (n : ℕ) (st : State) (sound : SoundState n st) (long : 
       AnswerOf (current st) n st (Machine.answered p st (readSlot slot offered))
   unfolding Machine.answered
   slot-steps slot offered h =
-      read-answer (current st) n below st sound long (activeRow st) slot (maskOf 0 offered) (activeOp p st)
+      read-answer (current st) n below st sound long (activeRow st) slot (maskOf 0 offered) (activeRole p st)
       (row-on-cell p (current st) (activeRow st)) h
 
   pub bit-steps : (u : ℕ) (bit : Bool) → AnswerOf u n st (Machine.answered p st (takeBit bit))
   unfolding Machine.answered
-  bit-steps u bit = bit-answer (current st) n below st sound long u (activeRow st) (cond bit 1 0) (activeOp p st)
+  bit-steps u bit = bit-answer (current st) n below st sound long u (activeRow st) (cond bit 1 0) (activeRole p st)
 
   module _ (slot : ℕ) (offered : List ℕ) (l : slot < 7) (few : n < unseen) where
-    on-cell : (row : Decoded Op) → activeOp p st ≡ row → RowOnCell row
+    on-cell : (row : Decoded Op) → activeOp p st ≡ row → RoleOnCell (roleIn row)
     on-cell row e = rw e at (row-on-cell p (current st) (activeRow st))
 
     pub load-read : (c o r : ℕ) → activeOp p st ≡ decoded (Table.load c o r) →
         AfterOf (current st) c slot (Machine.answered p st (readSlot slot offered))
-    unfolding Machine.answered RowOnCell
+    unfolding Machine.answered
     load-read c o r e =
         rw e
         (load-after (current st) n below st sound long (activeRow st) slot (maskOf 0 offered) c o r
@@ -225,7 +197,7 @@ module _ (p : Program) (n : ℕ) (st : State) (sound : SoundState n st) (long : 
 
     pub rmw-read : (c o f : ℕ) (change : Change) (r : ℕ) → activeOp p st ≡ decoded (Table.rmw c o f change r) →
         AfterOf (current st) c slot (Machine.answered p st (readSlot slot offered))
-    unfolding Machine.answered RowOnCell
+    unfolding Machine.answered
     rmw-read c o f change r e =
         rw e
         (rmw-after (current st) n below st sound long (activeRow st) slot (maskOf 0 offered) c o f change r

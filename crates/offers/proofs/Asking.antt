@@ -5,7 +5,7 @@
 use Prim.Native.Nat.{ℕ}
 use mathlib.Core.List.{List, []}
 use mathlib.Core.Bool.{Bool, true, false, cond, _&&_}
-use mathlib.Core.Path.{_≡_, refl}
+use mathlib.Core.Path.{_≡_, refl, sym, subst}
 use native.Mathlib.Omega.{arith}
 use lib.Dec.{eqb, ltb, leb}
 use Rattle.rules.specs.Vector.{oneMore}
@@ -18,9 +18,10 @@ use Rattle.rules.specs.State.{State, number, count, marksOf, value, ofStore, st
 use Rattle.rules.specs.Cell.{AccessResult, raced, read, Race, noRace, raceOf, unlessRace, newest, sighted, loadRace, loadSynced, loadDone, byChange, succeeded, rmwDone, unsyncLoadDone, mutDone, matchedLoad, matchedRmw, storeRace, storeTracked, withClocks}
 use Rattle.rules.specs.Plain.{plainReadDone, plainWriteRace, plainWriteDone}
 use Rattle.rules.specs.Machine
-use Rattle.rules.specs.Machine.{Program, Pending, nothing, pends, pendingOf, machine, current, activeRow, activeOp, rowOf, rowCount, versionRaised, maskOf, entry}
+use Rattle.rules.specs.Machine.{Program, Role, loads, storesOperand, storesRegister, modifies, takesBit, otherwise, roleOf, pendingAs, Pending, nothing, pends, pendingOf, machine, current, activeRow, activeOp, rowOf, rowCount, versionRaised, maskOf, entry}
 use Rattle.rules.specs.Explorer.{Limits, Walk, goes, faulted, fits, followed, noted, withState}
 use Rattle.rules.proofs.MeasureRows.{pick}
+use Rattle.rules.proofs.RoleLaws.{Told, told}
 use Rattle.offers.specs.Chosen.{Noted}
 
 -- what a row of a thread asks for
@@ -39,6 +40,23 @@ OfMove st t row (asks s es x (whichSlot m)) = AsksFor st t s es m row
 OfMove st t row (asks s es x whichBit) = Unit {0}
 OfMove st t row (stops s f) = Unit {0}
 OfMove st t row (ends s) = Unit {0}
+
+-- what is no load and no RMW
+abbrev Slotless : Role → Type 0
+Slotless (loads c o r) = ⊥
+Slotless (storesOperand c o a) = Unit
+Slotless (storesRegister c o r) = Unit
+Slotless (modifies c o f change r) = ⊥
+Slotless (takesBit r) = Unit
+Slotless otherwise = Unit
+
+slotless : (role : Role) → pendingAs role ≡ nothing → Slotless role
+slotless (loads c o r) e = let z : _≡_ {A = ℕ} 0 1 = cc in absurd (omega arith)
+slotless (storesOperand c o a) e = tt
+slotless (storesRegister c o r) e = tt
+slotless (modifies c o f change r) e = let z : _≡_ {A = ℕ} 0 1 = cc in absurd (omega arith)
+slotless (takesBit r) e = tt
+slotless otherwise e = tt
 
 -- whatever state a row acts in, what it asks is said of this one
 module _ (p : Program) (st : State) (t k : ℕ) (row : Decoded Op) (s : State) where
@@ -79,13 +97,13 @@ module _ (p : Program) (st : State) (t k : ℕ) (row : Decoded Op) (s : State) w
       pick (OfMove st t row) (Machine.isSkipping (s .numbers)) (λ e. tt)
       (λ e. pick (OfMove st t row) (eqb (number (s .numbers) exploring) (cond on 1 0)) (λ f. tt) (λ f. tt))
 
-  -- a row without a pending operation asks for no slot
-  bare-ask : (op : Op) → pendingOf op ≡ nothing → OfMove st t row (Machine.acts p s t k op)
+  -- a row asks for no slot, where it is no load and no RMW
+  bare-ask : (op : Op) → Slotless (roleOf op) → OfMove st t row (Machine.acts p s t k op)
   unfolding Machine.actsAs
-  bare-ask (Table.load c o r) e = let z : _≡_ {A = ℕ} 0 1 = cc in absurd (omega arith)
+  bare-ask (Table.load c o r) e = absurd e
   bare-ask (Table.store c o a) e = stores-ask 1 c o a
   bare-ask (Table.storeRegister c o r) e = stores-ask 2 c o (Machine.register s t r)
-  bare-ask (Table.rmw c o f change r) e = let z : _≡_ {A = ℕ} 0 1 = cc in absurd (omega arith)
+  bare-ask (Table.rmw c o f change r) e = absurd e
   bare-ask (Table.fence o) e = tt
   bare-ask (Table.unsyncLoad c r) e = reads-ask (unsyncLoadDone s t c) 5 r (newest (number (s .numbers) (count c))) 0
   bare-ask (Table.exclusive c change r) e = leaves-ask (mutDone s t c change) 6 c r
@@ -104,7 +122,7 @@ module _ (p : Program) (st : State) (t k : ℕ) (row : Decoded Op) (s : State) w
   bare-ask (Table.plainWrite c a) e = writes-ask (plainWriteRace (s .clocks) t c) s (plainWriteDone s t c a) 18 a
 
   begun-ask : (op : Op) (x : Pending) → pendingOf op ≡ x → OfMove st t row (Machine.begunAs p s t k op x)
-  begun-ask op nothing e = bare-ask op e
+  begun-ask op nothing e = bare-ask op (slotless (roleOf op) e)
   begun-ask op (pends action c) e = schedules-ask (Machine.withOperation s t action c) []
 
 module _ (p : Program) (st : State) (t k : ℕ) where
@@ -114,30 +132,31 @@ module _ (p : Program) (st : State) (t k : ℕ) where
       pick (OfMove st t row) (leb (p .operations) (number (st .numbers) begun)) (λ e. tt)
       (λ e. begun-ask p st t k row (Machine.rowBegun st t) op (pendingOf op) refl)
 
-  acts-ask : (op : Op) → OfMove st t (decoded op) (Machine.acts p st t k op)
+  load-asks : (c o r : ℕ) → OfMove st t (decoded (Table.load c o r)) (Machine.acts p st t k (Table.load c o r))
   unfolding Machine.actsAs
-  acts-ask (Table.load c o r) = ofLoad refl refl refl
-  acts-ask (Table.store c o a) = stores-ask p st t k (decoded (Table.store c o a)) st 1 c o a
-  acts-ask (Table.storeRegister c o r) =
-      stores-ask p st t k (decoded (Table.storeRegister c o r)) st 2 c o (Machine.register st t r)
-  acts-ask (Table.rmw c o f change r) = ofRmw refl refl refl
-  acts-ask (Table.fence o) = bare-ask p st t k (decoded (Table.fence o)) st (Table.fence o) refl
-  acts-ask (Table.unsyncLoad c r) = bare-ask p st t k (decoded (Table.unsyncLoad c r)) st (Table.unsyncLoad c r) refl
-  acts-ask (Table.exclusive c change r) =
-      bare-ask p st t k (decoded (Table.exclusive c change r)) st (Table.exclusive c change r) refl
-  acts-ask Table.yield = bare-ask p st t k (decoded Table.yield) st Table.yield refl
-  acts-ask (Table.join target) = bare-ask p st t k (decoded (Table.join target)) st (Table.join target) refl
-  acts-ask (Table.jump target) = bare-ask p st t k (decoded (Table.jump target)) st (Table.jump target) refl
-  acts-ask (Table.jumpIf r a target) = bare-ask p st t k (decoded (Table.jumpIf r a target)) st (Table.jumpIf r a target) refl
-  acts-ask (Table.jumpUnless r a target) =
-      bare-ask p st t k (decoded (Table.jumpUnless r a target)) st (Table.jumpUnless r a target) refl
-  acts-ask (Table.check r a) = bare-ask p st t k (decoded (Table.check r a)) st (Table.check r a) refl
-  acts-ask Table.critical = bare-ask p st t k (decoded Table.critical) st Table.critical refl
-  acts-ask Table.exploreState = bare-ask p st t k (decoded Table.exploreState) st Table.exploreState refl
-  acts-ask Table.skipBranch = bare-ask p st t k (decoded Table.skipBranch) st Table.skipBranch refl
-  acts-ask (Table.spurious r) = bare-ask p st t k (decoded (Table.spurious r)) st (Table.spurious r) refl
-  acts-ask (Table.plainRead c r) = bare-ask p st t k (decoded (Table.plainRead c r)) st (Table.plainRead c r) refl
-  acts-ask (Table.plainWrite c a) = bare-ask p st t k (decoded (Table.plainWrite c a)) st (Table.plainWrite c a) refl
+  load-asks c o r = ofLoad refl refl refl
+
+  rmw-asks : (c o f : ℕ) (change : Change) (r : ℕ) →
+      OfMove st t (decoded (Table.rmw c o f change r)) (Machine.acts p st t k (Table.rmw c o f change r))
+  unfolding Machine.actsAs
+  rmw-asks c o f change r = ofRmw refl refl refl
+
+  abbrev Asks : Op → Type 0
+  Asks op = OfMove st t (decoded op) (Machine.acts p st t k op)
+
+  acts-ask : (op : Op) → Asks op
+  acts-ask op = by-role (roleOf op) refl (told op)
+    where
+      bare : (role : Role) → roleOf op ≡ role → Slotless role → Asks op
+      bare role e n = bare-ask p st t k (decoded op) st op (subst Slotless (sym e) n)
+
+      by-role : (role : Role) → roleOf op ≡ role → Told role op → Asks op
+      by-role (loads c o r) e is = subst Asks (sym is) (load-asks c o r)
+      by-role (storesOperand c o a) e is = bare _ e tt
+      by-role (storesRegister c o r) e is = bare _ e tt
+      by-role (modifies c o f change r) e is = subst Asks (sym is) (rmw-asks c o f change r)
+      by-role (takesBit r) e is = bare _ e tt
+      by-role otherwise e is = bare _ e tt
 
   row-asks : (row : Decoded Op) → OfMove st t row (Machine.ofRow p st t k row)
   row-asks refused = tt

@@ -6,7 +6,6 @@ pub mod Counted
 pub mod Examples
 pub mod Following
 pub mod Growing
-pub mod Joined
 pub mod Moves
 pub mod Noting
 pub mod Offered

@@ -23,8 +23,7 @@ use Rattle.rules.specs.Plain.{plainReadDone, plainWriteRace, plainWriteDone}
 use Rattle.rules.specs.Machine
 use Rattle.rules.specs.Machine.{Program, Pending, nothing, pends, pendingOf, current, activeRow, rowOf, rowCount, completed, versionRaised, forThreads, entry, noSlot}
 use Rattle.rules.proofs.StateLaws.{number-other, number-kept}
-use Rattle.rules.proofs.MeasureRows.{pick, OnCell, RowOnCell, row-on-cell}
-use Rattle.offers.proofs.Joined.{targetOf, RowJoins, row-joins}
+use Rattle.rules.proofs.MeasureRows.{pick, Names, RowNames, widest, row-in-place}
 use Rattle.offers.proofs.Growing.{low, Grows, grows-trans, join-grows, raise-grows, schedule-flows, fenced-grows, recorded-grows, Small}
 use Rattle.offers.proofs.Steps.{SameCounts, SoundState, Quiet, quiet-trans, Calm, Steps, calm-trans, calm-more, calm-clocks, calm-rest, calm-step, calm-before, calm-after, store-steps}
 use Rattle.offers.proofs.Accessing.{Accessed, unsync-accessed, mut-accessed, plain-read-accessed, plain-write-calm}
@@ -246,37 +245,37 @@ module _ (t n : ℕ) (below : t < threads) (st : State) (sound : SoundState n st
       done-next (plainWriteDone st t c v) (oneMore k) (entry t k opcode noSlot 0 v)
       (λ m h. calm-trans (more m h) (plain-write-calm t m below st c v))
 
-  acts-next : (p : Program) (k : ℕ) (op : Op) → OnCell (pendingOf op) → targetOf op < 5 → NextOf t n st (Machine.acts p st t k op)
+  acts-next : (p : Program) (k : ℕ) (op : Op) → Names (widest (rowCount p t) k) op → NextOf t n st (Machine.acts p st t k op)
   unfolding Machine.actsAs
-  acts-next p k (Table.load c o r) on l = raised-calm
-  acts-next p k (Table.store c o a) on l = stores-next k 1 c o a on
-  acts-next p k (Table.storeRegister c o r) on l = stores-next k 2 c o (Machine.register st t r) on
-  acts-next p k (Table.rmw c o f change r) on l = raised-calm
-  acts-next p k (Table.fence o) on l = fence-next p (oneMore k) o (entry t k 4 noSlot 0 0) (omega arith)
-  acts-next p k (Table.unsyncLoad c r) on l =
+  acts-next p k (Table.load c o r) h = raised-calm
+  acts-next p k (Table.store c o a) h = stores-next k 1 c o a h
+  acts-next p k (Table.storeRegister c o r) h = stores-next k 2 c o (Machine.register st t r) h
+  acts-next p k (Table.rmw c o f change r) h = raised-calm
+  acts-next p k (Table.fence o) h = fence-next p (oneMore k) o (entry t k 4 noSlot 0 0) (omega arith)
+  acts-next p k (Table.unsyncLoad c r) h =
       reads-next (Cell.unsyncLoadDone st t c) k 5 r (Cell.newest (number (st .numbers) (count c))) 0
       (λ m h. unsync-accessed t m below st (more m h .sound sound) c)
-  acts-next p k (Table.exclusive c change r) on l =
+  acts-next p k (Table.exclusive c change r) h =
       leaves-next (Cell.mutDone st t c change) k 6 c r (λ m h. mut-accessed t m below st (more m h .sound sound) c change)
-  acts-next p k Table.yield on l =
+  acts-next p k Table.yield h =
       schedules-next (completed (Machine.yieldDone st t) t (oneMore k)) (entry t k 7 noSlot 0 0)
       (λ m h. yield-calm (oneMore k) m (omega arith))
-  acts-next p k (Table.join target) on l = joins-next k 8 target l
-  acts-next p k (Table.jump target) on l = done-next st target (entry t k 9 noSlot 0 0) more
-  acts-next p k (Table.jumpIf r a target) on l =
+  acts-next p k (Table.join target) h = joins-next k 8 target h
+  acts-next p k (Table.jump target) h = done-next st target (entry t k 9 noSlot 0 0) more
+  acts-next p k (Table.jumpIf r a target) h =
       done-next st (cond (eqb (Machine.register st t r) a) target (oneMore k)) (entry t k 10 noSlot 0 0) more
-  acts-next p k (Table.jumpUnless r a target) on l =
+  acts-next p k (Table.jumpUnless r a target) h =
       done-next st (cond (not (eqb (Machine.register st t r) a)) target (oneMore k)) (entry t k 11 noSlot 0 0) more
-  acts-next p k (Table.check r a) on l =
+  acts-next p k (Table.check r a) h =
       pick (NextOf t n st) (eqb (Machine.register st t r) a) (λ e. done-next st (oneMore k) (entry t k 12 noSlot 0 0) more)
       (λ e m h. more m (omega arith))
-  acts-next p k Table.critical on l = explores-next k 13 false
-  acts-next p k Table.exploreState on l = explores-next k 14 true
-  acts-next p k Table.skipBranch on l = done-next (Machine.skipped st) (oneMore k) (entry t k 15 noSlot 0 0) skipped-calm
-  acts-next p k (Table.spurious r) on l = λ m h. more m (omega arith)
-  acts-next p k (Table.plainRead c r) on l =
+  acts-next p k Table.critical h = explores-next k 13 false
+  acts-next p k Table.exploreState h = explores-next k 14 true
+  acts-next p k Table.skipBranch h = done-next (Machine.skipped st) (oneMore k) (entry t k 15 noSlot 0 0) skipped-calm
+  acts-next p k (Table.spurious r) h = λ m h. more m (omega arith)
+  acts-next p k (Table.plainRead c r) h =
       reads-next (plainReadDone st t c) k 17 r noSlot 0 (λ m h. plain-read-accessed t m below st (more m h .sound sound) c)
-  acts-next p k (Table.plainWrite c a) on l = writes-next (plainWriteRace (st .clocks) t c) k 18 c a
+  acts-next p k (Table.plainWrite c a) h = writes-next (plainWriteRace (st .clocks) t c) k 18 c a
 
   -- A row begins, or a thread ends
 
@@ -297,10 +296,10 @@ module _ (t n : ℕ) (below : t < threads) (st : State) (sound : SoundState n st
       (calm-rest m s (s .values) (Machine.withOperation s t op c .numbers)
       (counts-then a (withNumber a (operation t) op) s1 (operatesOn t) c (omega arith)))
 
-  begun-next : (p : Program) (k : ℕ) (op : Op) (x : Pending) → OnCell (pendingOf op) → targetOf op < 5 →
+  begun-next : (p : Program) (k : ℕ) (op : Op) (x : Pending) → Names (widest (rowCount p t) k) op →
       NextOf t n st (Machine.begunAs p st t k op x)
-  begun-next p k op nothing on l = acts-next p k op on l
-  begun-next p k op (pends action c) on l =
+  begun-next p k op nothing h = acts-next p k op h
+  begun-next p k op (pends action c) h =
       schedules-next (Machine.withOperation st t action c) [] (λ m h. pending-calm st action c m (more m (omega arith)))
 
   ended-calm : (m : ℕ) → n ≤ m → Calm n m st (Machine.threadEnded st t)
@@ -346,20 +345,20 @@ module _ (t n : ℕ) (below : t < threads) (st : State) (sound : SoundState n st
         number-kept a2 (phase t) Machine.toAct,
       )
 
-  begins-next : (p : Program) (k : ℕ) (op : Op) → OnCell (pendingOf op) → targetOf op < 5 →
+  begins-next : (p : Program) (k : ℕ) (op : Op) → Names (widest (rowCount p t) k) op →
       NextOf t n st (Machine.begins p st t k op)
   unfolding Machine.begins
-  begins-next p k op on l =
+  begins-next p k op named =
       let calm = begun-calm t n below st sound long n (omega arith) in
       pick (NextOf t n st) (leb (p .operations) (number (st .numbers) begun)) (λ e m h. calm-more n m st (omega arith))
       (λ e. before-next t n below calm (Machine.begunAs p (Machine.rowBegun st t) t k op (pendingOf op))
-      (begun-next t n below (Machine.rowBegun st t) (calm .sound sound) begun-long p k op (pendingOf op) on l))
+      (begun-next t n below (Machine.rowBegun st t) (calm .sound sound) begun-long p k op (pendingOf op) named))
 
-  row-next : (p : Program) (k : ℕ) (row : Decoded Op) → RowOnCell row → RowJoins row → NextOf t n st (Machine.ofRow p st t k row)
-  unfolding RowOnCell RowJoins
-  row-next p k refused on l = λ m h. calm-more n m st (omega arith)
-  row-next p k (decoded op) on l =
-      pick (NextOf t n st) (Machine.isToBegin st t) (λ e. begins-next p k op on l) (λ e. acts-next t n below st sound long p k op on l)
+  row-next : (p : Program) (k : ℕ) (row : Decoded Op) → RowNames (widest (rowCount p t) k) row → NextOf t n st (Machine.ofRow p st t k row)
+  unfolding RowNames
+  row-next p k refused named = λ m h. calm-more n m st (omega arith)
+  row-next p k (decoded op) named =
+      pick (NextOf t n st) (Machine.isToBegin st t) (λ e. begins-next p k op named) (λ e. acts-next t n below st sound long p k op named)
 
   at-next : (p : Program) (k : ℕ) → NextOf t n st (Machine.nextAt p st t k)
   unfolding Machine.nextAt
@@ -367,7 +366,7 @@ module _ (t n : ℕ) (below : t < threads) (st : State) (sound : SoundState n st
       pick (NextOf t n st) (Machine.isToBegin st t && leb (rowCount p t) k)
       (λ e. schedules-next t n below st sound long (Machine.threadEnded st t) []
       (λ m h. ended-calm t n below st sound long m (omega arith)))
-      (λ e. row-next p k (rowOf p t k) (row-on-cell p t k) (row-joins p t k))
+      (λ e. row-next p k (rowOf p t k) (row-in-place p t k))
 
 pub next-steps : (p : Program) (n : ℕ) (st : State) → SoundState n st → 44 ≤ length (st .numbers) →
     NextOf (current st) n st (Machine.next p st .move)

@@ -18,7 +18,7 @@ use Rattle.rules.specs.Cell
 use Rattle.rules.specs.Cell.{AccessResult, raced, read, Race, noRace, raceOf, withClocks}
 use Rattle.rules.specs.Plain.{plainReadDone, plainWriteRace, plainWriteDone}
 use Rattle.rules.specs.Machine
-use Rattle.rules.specs.Machine.{Program, Pending, nothing, pends, pendingOf, machine, current, activeRow, activeOp, rowOf, rowCount, versionRaised, entry, noSlot}
+use Rattle.rules.specs.Machine.{Program, Role, loads, storesOperand, storesRegister, modifies, takesBit, otherwise, Pending, nothing, pends, pendingOf, machine, current, activeRow, activeRole, rowOf, rowCount, versionRaised, entry, noSlot}
 use Rattle.rules.specs.Explorer.{Limits, Walk, goes, tick}
 use Rattle.rules.proofs.MeasureRows.{pick}
 use Rattle.ledger.specs.History.{Every}
@@ -127,28 +127,14 @@ module _ (st : State) (t k : ℕ) where
       pick EntriesOf (Machine.isToBegin st t && leb (rowCount p t) k) (λ e. schedules-entries st t k (Machine.threadEnded st t) [] tt)
       (λ e. row-entries p (rowOf p t k))
 
-  bit-entries : (v : ℕ) (row : Decoded Op) → EntriesOf (Machine.bitTaken st t k v row)
+  bit-entries : (v : ℕ) (role : Role) → EntriesOf (Machine.bitTaken st t k v role)
   unfolding Machine.bitTaken
-  bit-entries v refused = tt
-  bit-entries v (decoded (Table.spurious r)) = one-entry t k 16 noSlot 0 v (omega arith) (omega arith)
-  bit-entries v (decoded (Table.load c o r)) = tt
-  bit-entries v (decoded (Table.store c o a)) = tt
-  bit-entries v (decoded (Table.storeRegister c o r)) = tt
-  bit-entries v (decoded (Table.rmw c o f change r)) = tt
-  bit-entries v (decoded (Table.fence o)) = tt
-  bit-entries v (decoded (Table.unsyncLoad c r)) = tt
-  bit-entries v (decoded (Table.exclusive c change r)) = tt
-  bit-entries v (decoded Table.yield) = tt
-  bit-entries v (decoded (Table.join target)) = tt
-  bit-entries v (decoded (Table.jump target)) = tt
-  bit-entries v (decoded (Table.jumpIf r a target)) = tt
-  bit-entries v (decoded (Table.jumpUnless r a target)) = tt
-  bit-entries v (decoded (Table.check r a)) = tt
-  bit-entries v (decoded Table.critical) = tt
-  bit-entries v (decoded Table.exploreState) = tt
-  bit-entries v (decoded Table.skipBranch) = tt
-  bit-entries v (decoded (Table.plainRead c r)) = tt
-  bit-entries v (decoded (Table.plainWrite c a)) = tt
+  bit-entries v (takesBit r) = one-entry t k 16 noSlot 0 v (omega arith) (omega arith)
+  bit-entries v (loads c o r) = tt
+  bit-entries v (storesOperand c o a) = tt
+  bit-entries v (storesRegister c o r) = tt
+  bit-entries v (modifies c o f change r) = tt
+  bit-entries v otherwise = tt
 
 next-entries : (p : Program) (st : State) → EntriesOf (Machine.next p st .move)
 unfolding Machine.next
@@ -174,7 +160,7 @@ answer-entries : (p : Program) (s : State) (q : Question) (a : Pick) → NoSlot 
 unfolding Machine.answered
 answer-entries p s (whichThread points initial standings) a n (whom, at, e) = rw e (thread-entries s whom at)
 answer-entries p s (whichSlot m) a n r = absurd n
-answer-entries p s whichBit a n (bit, e) = rw e (bit-entries s (current s) (activeRow s) (cond bit 1 0) (activeOp p s))
+answer-entries p s whichBit a n (bit, e) = rw e (bit-entries s (current s) (activeRow s) (cond bit 1 0) (activeRole p s))
 
 -- Ticks
 

@@ -11,12 +11,13 @@
 use Prim.Native.Nat.{ℕ, _+_, _*_, _≤_, _<_}
 use mathlib.Core.List.{List, [], _∷_}
 use mathlib.Core.Bool.{Bool, true, false, cond, not}
-use lib.Dec.{leb}
+use lib.Dec.{T, leb}
 use mathlib.Core.Path.{_≡_, refl, ap, sym, _∙_}
 use mathlib.Core.Logic.{_≢_}
 use lib.ListN.{getD, set}
 use borrow.Author.Tests.{le-leb, lt-leb, eq-eqb, ne-eqb, not-true, not-false}
-use types.Run.{OneOf, miss}
+use mir.Val.{hasKey}
+use types.Run.{OneOf}
 use denote.Enum.Declared.{tagOf}
 use Rattle.rules.specs.Event as Event
 use Rattle.rules.specs.Event.{Move, moves, stops}
@@ -24,12 +25,14 @@ use Rattle.rules.specs.Cell.{fenced}
 use Rattle.rules.specs.State as State
 use Rattle.rules.specs.State.{State, Clocks, Marks, Values, Numbers, number, withNumber, begun, rowsOf, phase, operation, operatesOn, exploring, skipping}
 use Rattle.rules.specs.Machine as machine
-use Rattle.rules.specs.Machine.{Program, begins, begunAs, rowBegun, withOperation, pendingOf, done, completed, entry, noSlot, versionRaised, fences, yieldDone, schedules, joins, joinedWith, blockedOn, jumps, checks, explores, bitTaken, isIn, ended, withNumbers}
-use Rattle.rules.specs.Table.{cellsOf, opcodeIn}
+use Rattle.rules.specs.Machine.{Role, loads, storesOperand, storesRegister, modifies, takesBit, otherwise, roleOf, roleIn, pendingAs, Program, begins, begunAs, rowBegun, withOperation, pendingOf, done, completed, entry, noSlot, versionRaised, fences, yieldDone, schedules, joins, joinedWith, blockedOn, jumps, checks, explores, bitTaken, isIn, ended, withNumbers}
+use Rattle.rules.specs.Table.{cellsOf, opcodeOf, opcodeIn}
 use Rattle.rules.specs.Table as rules
 use Rattle.rules.specs.Vector.{oneMore, joined}
 use Rattle.layout.specs.Tables.{state}
+use Rattle.rules.proofs.RoleLaws.{Told, told, missed}
 use Rattle.decode.proofs.Op as Op
+use Rattle.decode.proofs.NumberLaws.{allBut, by-number}
 use Rattle.decode.specs.declared.Op.{Op}
 use Rattle.decode.specs.declared.Op.the-variants as code
 use Rattle.decode.specs.declared.Decoded.{Decoded}
@@ -41,29 +44,22 @@ use Rattle.rows.specs.Begins.{pendingSet, begunTo, thenActs}
 use Rattle.rows.specs.Pendings.{Pends}
 
 -- the rows that set no operation
-abbrev pub others : List ℕ
-others = 4 ∷ 5 ∷ 6 ∷ 7 ∷ 8 ∷ 9 ∷ 10 ∷ 11 ∷ 12 ∷ 13 ∷ 14 ∷ 15 ∷ 16 ∷ 17 ∷ 18 ∷ []
+abbrev others : List ℕ
+others = allBut (0 ∷ 1 ∷ 2 ∷ 3 ∷ [])
 
 pub pends-none : (op : Op) → OneOf others (tagOf Op.the-type op) → Pends pending.Nothing (pendingOf (opOf op))
-pends-none (code.Load order cell register) k = absurd (miss others 0 tt k)
-pends-none (code.Store order cell value) k = absurd (miss others 1 tt k)
-pends-none (code.StoreRegister order cell register) k = absurd (miss others 2 tt k)
-pends-none (code.Rmw order cell register change failure) k = absurd (miss others 3 tt k)
-pends-none (code.Fence order) k = record { is = refl; within = tt }
-pends-none (code.UnsyncLoad cell register) k = record { is = refl; within = tt }
-pends-none (code.WithMut cell register change) k = record { is = refl; within = tt }
-pends-none code.Yield k = record { is = refl; within = tt }
-pends-none (code.Join thread) k = record { is = refl; within = tt }
-pends-none (code.Jump target) k = record { is = refl; within = tt }
-pends-none (code.JumpIf target register a) k = record { is = refl; within = tt }
-pends-none (code.JumpUnless target register a) k = record { is = refl; within = tt }
-pends-none (code.Check register a) k = record { is = refl; within = tt }
-pends-none code.Critical k = record { is = refl; within = tt }
-pends-none code.ExploreState k = record { is = refl; within = tt }
-pends-none code.SkipBranch k = record { is = refl; within = tt }
-pends-none (code.Spurious register) k = record { is = refl; within = tt }
-pends-none (code.PlainRead plain register) k = record { is = refl; within = tt }
-pends-none (code.PlainWrite plain value) k = record { is = refl; within = tt }
+pends-none op k = by-role (roleOf (opOf op)) (told (opOf op))
+  where
+    not-this : (m : rules.Op) → opOf op ≡ m → T (not (hasKey others (opcodeOf m))) → ⊥
+    not-this m e h = missed others (opOf op) m e h (by-number others op k)
+
+    by-role : (role : Role) → Told role (opOf op) → Pends pending.Nothing (pendingAs role)
+    by-role (loads c o r) e = absurd (not-this (rules.load c o r) e tt)
+    by-role (storesOperand c o a) e = absurd (not-this (rules.store c o a) e tt)
+    by-role (storesRegister c o r) e = absurd (not-this (rules.storeRegister c o r) e tt)
+    by-role (modifies c o f change r) e = absurd (not-this (rules.rmw c o f change r) e tt)
+    by-role (takesBit r) e = record { is = refl; within = tt }
+    by-role otherwise e = record { is = refl; within = tt }
 
 pub pends-as : (op m : Op) (r s : Pending) → op ≡ m → r ≡ s → inRange (opOf op) → (inRange (opOf m) → Pends s (pendingOf (opOf m))) → Pends r (pendingOf (opOf op))
 pends-as op m r s e f within g = rw (e, f) (g (rw e at within))
@@ -191,37 +187,27 @@ flag-false b n e f = rw (e, f)
 -- The bit
 
 -- the rows that are given none
-abbrev pub all-others : List ℕ
-all-others = 0 ∷ 1 ∷ 2 ∷ 3 ∷ 4 ∷ 5 ∷ 6 ∷ 7 ∷ 8 ∷ 9 ∷ 10 ∷ 11 ∷ 12 ∷ 13 ∷ 14 ∷ 15 ∷ 17 ∷ 18 ∷ []
+abbrev bitless : List ℕ
+bitless = allBut (16 ∷ [])
 
 module _ (st : State) (t k v : ℕ) where
-  pub bit-refused : (row : Decoded) → row ≡ Refused → stops st Event.impossible ≡ bitTaken st t k v (decodedOf row)
+  pub bit-refused : (row : Decoded) → row ≡ Refused → stops st Event.impossible ≡ bitTaken st t k v (roleIn (decodedOf row))
   unfolding bitTaken
   bit-refused row e = rw e
 
-  bit-none : (op : Op) → OneOf all-others (tagOf Op.the-type op) → stops st Event.impossible ≡ bitTaken st t k v (rules.decoded (opOf op))
+  bit-none : (op : Op) → OneOf bitless (tagOf Op.the-type op) → stops st Event.impossible ≡ bitTaken st t k v (roleOf (opOf op))
   unfolding bitTaken
-  bit-none (code.Load order cell register) h = refl
-  bit-none (code.Store order cell value) h = refl
-  bit-none (code.StoreRegister order cell register) h = refl
-  bit-none (code.Rmw order cell register change failure) h = refl
-  bit-none (code.Fence order) h = refl
-  bit-none (code.UnsyncLoad cell register) h = refl
-  bit-none (code.WithMut cell register change) h = refl
-  bit-none code.Yield h = refl
-  bit-none (code.Join thread) h = refl
-  bit-none (code.Jump target) h = refl
-  bit-none (code.JumpIf target register a) h = refl
-  bit-none (code.JumpUnless target register a) h = refl
-  bit-none (code.Check register a) h = refl
-  bit-none code.Critical h = refl
-  bit-none code.ExploreState h = refl
-  bit-none code.SkipBranch h = refl
-  bit-none (code.Spurious register) h = absurd (miss all-others 16 tt h)
-  bit-none (code.PlainRead plain register) h = refl
-  bit-none (code.PlainWrite plain value) h = refl
+  bit-none op h = by-role (roleOf (opOf op)) (told (opOf op))
+    where
+      by-role : (role : Role) → Told role (opOf op) → stops st Event.impossible ≡ bitTaken st t k v role
+      by-role (loads c o r) e = refl
+      by-role (storesOperand c o a) e = refl
+      by-role (storesRegister c o r) e = refl
+      by-role (modifies c o f change r) e = refl
+      by-role (takesBit r) e = absurd (missed bitless (opOf op) (rules.spurious r) e tt (by-number bitless op h))
+      by-role otherwise e = refl
 
-  pub bit-other : (row : Decoded) (op : Op) → row ≡ Says op → OneOf all-others (tagOf Op.the-type op) → stops st Event.impossible ≡ bitTaken st t k v (decodedOf row)
+  pub bit-other : (row : Decoded) (op : Op) → row ≡ Says op → OneOf bitless (tagOf Op.the-type op) → stops st Event.impossible ≡ bitTaken st t k v (roleIn (decodedOf row))
   bit-other row op e h = rw e (bit-none op h)
 
 -- the register of a row that takes a bit
@@ -232,7 +218,7 @@ pub bit-taken : (clocks : Clocks) (marks : Marks) (values : Values) (numbers lef
     row ≡ Says op → op ≡ code.Spurious register → at ≡ 4 * t + register → v ≡ n → next ≡ oneMore k →
     state clocks marks (set values (28 + at) v) left ≡ completed (state clocks marks (set values (28 + at) v) numbers) t next →
     moves (state clocks marks (set values (28 + at) v) left) (entry t k (opcodeIn (decodedOf row)) noSlot 0 v)
-    ≡ bitTaken (state clocks marks values numbers) t k n (decodedOf row)
+    ≡ bitTaken (state clocks marks values numbers) t k n (roleIn (decodedOf row))
 unfolding bitTaken
 bit-taken clocks marks values numbers left t k row op register at v n next e f a b c d =
     let whole : row ≡ Says (code.Spurious register) = e ∙ ap Says f in

@@ -210,7 +210,7 @@ pub fn take_bit(
     bit: bool,
 ) -> Moved
     requires { ⌜ (site .thread < 5) × opWithin row ⌝ }
-    ensures { λ r. ⌜ ((clocks : rules.Clocks) (marks : rules.Marks) (m : Matched) → moveOf r (site .thread) (site .row) (opcodeIn (decodedOf row)) m (state clocks marks (now (values .exit)) (now (numbers .exit))) ≡ machine.bitTaken (state clocks marks (now (values .entry)) (now (numbers .entry))) (site .thread) (site .row) (cond bit 1 0) (decodedOf row)) ⌝ }
+    ensures { λ r. ⌜ ((clocks : rules.Clocks) (marks : rules.Marks) (m : Matched) → moveOf r (site .thread) (site .row) (opcodeIn (decodedOf row)) m (state clocks marks (now (values .exit)) (now (numbers .exit))) ≡ machine.bitTaken (state clocks marks (now (values .entry)) (now (numbers .entry))) (site .thread) (site .row) (cond bit 1 0) (machine.roleIn (decodedOf row))) ⌝ }
 {
     let thread = site.thread;
     let Decoded::Row(op) = row else {

@@ -14,6 +14,7 @@ pub mod MeasureTicks
 pub mod MeasureWalk
 pub mod NumberLaws
 pub mod RecordLaws
+pub mod RoleLaws
 pub mod SlotLaws
 pub mod StateLaws
 pub mod VectorLaws

@@ -7,7 +7,7 @@
 use Prim.Native.Nat.{ℕ, _+_, _≤_, _<_}
 use mathlib.Core.List.{List}
 use mathlib.Core.Bool.{Bool, true, false, cond, _&&_, false≢true, and-eq-true-iff}
-use mathlib.Core.Path.{_≡_, refl}
+use mathlib.Core.Path.{_≡_, refl, subst}
 use mathlib.Core.Logic.{_↔_}
 use native.Mathlib.Omega.{arith}
 use lib.Dec.{ltb, leb, eqb}
@@ -17,7 +17,8 @@ use Rattle.rules.specs.Change.{Change}
 use Rattle.rules.specs.Table as Table
 use Rattle.rules.specs.Table.{Op, Row, Room, Decoded, refused, decoded, onlyIf, rowDecoded, rowAt, opAt}
 use Rattle.rules.specs.State.{threads, cells, plains}
-use Rattle.rules.specs.Machine.{Program, Pending, nothing, pends, pendingOf, rowCount, rowOf}
+use Rattle.rules.specs.Machine.{Program, Pending, nothing, pends, Role, loads, storesOperand, storesRegister, modifies, takesBit, otherwise, roleOf, roleIn, pendingAs, pendingOf, rowCount, rowOf}
+use Rattle.rules.proofs.RoleLaws.{Told, told}
 
 -- what holds of both sides of a test holds of what it picks
 pub pick : {A : Type 0} (P : A → Type 0) (c : Bool) {x y : A} → (c ≡ true → P x) → (c ≡ false → P y) → P (cond c x y)
@@ -198,35 +199,28 @@ abbrev pub OnCell : Pending → Type 0
 OnCell nothing = Unit
 OnCell (pends operation cell) = cell < cells
 
-unfoldable pub RowOnCell : Decoded Op → Type 0
-RowOnCell refused = Unit
-RowOnCell (decoded op) = OnCell (pendingOf op)
+-- of a row that is to the path what this role says
+abbrev pub RoleOnCell : Role → Type 0
+RoleOnCell role = OnCell (pendingAs role)
 
 pub on-cell : (count row : ℕ) (op : Op) → Names (widest count row) op → OnCell (pendingOf op)
-on-cell count row (Table.load c o r) h = h
-on-cell count row (Table.store c o a) h = h
-on-cell count row (Table.storeRegister c o r) h = h
-on-cell count row (Table.rmw c o f change r) h = h
-on-cell count row (Table.fence o) h = tt
-on-cell count row (Table.unsyncLoad c r) h = tt
-on-cell count row (Table.exclusive c change r) h = tt
-on-cell count row Table.yield h = tt
-on-cell count row (Table.join target) h = tt
-on-cell count row (Table.jump target) h = tt
-on-cell count row (Table.jumpIf r a target) h = tt
-on-cell count row (Table.jumpUnless r a target) h = tt
-on-cell count row (Table.check r a) h = tt
-on-cell count row Table.critical h = tt
-on-cell count row Table.exploreState h = tt
-on-cell count row Table.skipBranch h = tt
-on-cell count row (Table.spurious r) h = tt
-on-cell count row (Table.plainRead c r) h = tt
-on-cell count row (Table.plainWrite c a) h = tt
+on-cell count row op h = by-role (roleOf op) (told op)
+  where
+    named : (m : Op) → op ≡ m → Names (widest count row) m
+    named m e = subst (Names (widest count row)) e h
 
-row-on : (count row : ℕ) (d : Decoded Op) → RowNames (widest count row) d → RowOnCell d
-unfolding RowOnCell RowNames
+    by-role : (role : Role) → Told role op → RoleOnCell role
+    by-role (loads c o r) e = named (Table.load c o r) e
+    by-role (storesOperand c o a) e = named (Table.store c o a) e
+    by-role (storesRegister c o r) e = named (Table.storeRegister c o r) e
+    by-role (modifies c o f change r) e = named (Table.rmw c o f change r) e
+    by-role (takesBit r) e = tt
+    by-role otherwise e = tt
+
+row-on : (count row : ℕ) (d : Decoded Op) → RowNames (widest count row) d → RoleOnCell (roleIn d)
+unfolding RowNames
 row-on count row refused h = tt
 row-on count row (decoded op) h = on-cell count row op h
 
-pub row-on-cell : (p : Program) (t k : ℕ) → RowOnCell (rowOf p t k)
+pub row-on-cell : (p : Program) (t k : ℕ) → RoleOnCell (roleIn (rowOf p t k))
 row-on-cell p t k = row-on (rowCount p t) k (rowOf p t k) (row-in-place p t k)

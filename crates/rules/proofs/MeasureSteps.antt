@@ -11,7 +11,7 @@ use native.Mathlib.Omega.{arith}
 use lib.Dec.{eqb, ltb}
 use Rattle.rules.specs.Vector.{oneMore}
 use Rattle.rules.specs.Table as Table
-use Rattle.rules.specs.Table.{Op, Decoded, refused, decoded}
+use Rattle.rules.specs.Table.{Op}
 use Rattle.rules.specs.Event as Event
 use Rattle.rules.specs.Event.{Entry, Question, whichThread, whichSlot, whichBit, moves, asks, stops, ends}
 use Rattle.rules.specs.State as State
@@ -19,11 +19,11 @@ use Rattle.rules.specs.State.{State, number, withNumber, threads, cells,
 use Rattle.rules.specs.Cell.{version, storeDone, slotOf, AccessResult, raced, read, Race, noRace, raceOf, loadDone, rmwDone, unsyncLoadDone, mutDone, storeRace, storeTracked, withClocks}
 use Rattle.rules.specs.Plain.{plainReadDone, plainWriteRace, plainWriteDone}
 use Rattle.rules.specs.Machine
-use Rattle.rules.specs.Machine.{Program, pendingOf, current, blocked, yielded, ended, toBegin, toAct, completed}
+use Rattle.rules.specs.Machine.{Program, Role, loads, storesOperand, storesRegister, modifies, takesBit, otherwise, pendingOf, current, blocked, yielded, ended, toBegin, toAct, completed}
 use Rattle.rules.specs.Measure.{ticksLeft, ticksLeftOf, measure, Whole, CanAct, Ready}
 use Rattle.rules.proofs.Measure.{Is, aside, toState, toPhase, seen, otherWork, has-part}
 use Rattle.rules.proofs.MeasureLoops.{acts-same}
-use Rattle.rules.proofs.MeasureRows.{pick, OnCell, RowOnCell}
+use Rattle.rules.proofs.MeasureRows.{pick, OnCell, RoleOnCell}
 use Rattle.rules.proofs.AccessLaws.{Leaves, isRead, load-leaves, rmw-leaves, unsync-leaves, mut-leaves, plain-leaves}
 
 -- the active thread's row is to act
@@ -190,54 +190,26 @@ module _ (p : Program) (t s ph b m n : ℕ) (below : t < threads) (can : CanAct 
   acts-lower st k (Table.plainWrite c a) h is = writes-unless (plainWriteRace (st .clocks) t c) st k 18 c a is
 
   -- a load or an RMW reads its slot
-  pub read-lower : (st : State) (k slot mask : ℕ) (row : Decoded Op) → RowOnCell row → At st →
-      Lower p n (Machine.readFrom st t k slot mask row)
-  unfolding Machine.readFrom RowOnCell
-  read-lower st k slot mask refused h is = stopping
-  read-lower st k slot mask (decoded (Table.load c o r)) h is =
+  pub read-lower : (st : State) (k slot mask : ℕ) (role : Role) → RoleOnCell role → At st →
+      Lower p n (Machine.readFrom st t k slot mask role)
+  unfolding Machine.readFrom
+  read-lower st k slot mask (loads c o r) h is =
       pick (Lower p n) (ltb slot (number (st .numbers) (count c)))
       (λ e. reads-lower (loadDone st t c slot o) k 0 r slot mask (load-leaves (Is t s ph b m) st t c slot o is)) (λ e. stopping)
-  read-lower st k slot mask (decoded (Table.rmw c o f change r)) h is =
+  read-lower st k slot mask (modifies c o f change r) h is =
       pick (Lower p n) (ltb slot (number (st .numbers) (count c)))
       (λ e. reads-lower (rmwDone st t c slot change o f) k 3 r slot mask (rmw-leaves (Is t s ph b m) cells store-at st t c slot change o f h is)) (λ e. stopping)
-  read-lower st k slot mask (decoded (Table.store c o a)) h is = stopping
-  read-lower st k slot mask (decoded (Table.storeRegister c o r)) h is = stopping
-  read-lower st k slot mask (decoded (Table.fence o)) h is = stopping
-  read-lower st k slot mask (decoded (Table.unsyncLoad c r)) h is = stopping
-  read-lower st k slot mask (decoded (Table.exclusive c change r)) h is = stopping
-  read-lower st k slot mask (decoded Table.yield) h is = stopping
-  read-lower st k slot mask (decoded (Table.join target)) h is = stopping
-  read-lower st k slot mask (decoded (Table.jump target)) h is = stopping
-  read-lower st k slot mask (decoded (Table.jumpIf r a target)) h is = stopping
-  read-lower st k slot mask (decoded (Table.jumpUnless r a target)) h is = stopping
-  read-lower st k slot mask (decoded (Table.check r a)) h is = stopping
-  read-lower st k slot mask (decoded Table.critical) h is = stopping
-  read-lower st k slot mask (decoded Table.exploreState) h is = stopping
-  read-lower st k slot mask (decoded Table.skipBranch) h is = stopping
-  read-lower st k slot mask (decoded (Table.spurious r)) h is = stopping
-  read-lower st k slot mask (decoded (Table.plainRead c r)) h is = stopping
-  read-lower st k slot mask (decoded (Table.plainWrite c a)) h is = stopping
+  read-lower st k slot mask (storesOperand c o a) h is = stopping
+  read-lower st k slot mask (storesRegister c o r) h is = stopping
+  read-lower st k slot mask (takesBit r) h is = stopping
+  read-lower st k slot mask otherwise h is = stopping
 
   -- "16 `branch_spurious` into register (0 or 1)"
-  pub bit-lower : (st : State) (k v : ℕ) (row : Decoded Op) → At st → Lower p n (Machine.bitTaken st t k v row)
+  pub bit-lower : (st : State) (k v : ℕ) (role : Role) → At st → Lower p n (Machine.bitTaken st t k v role)
   unfolding Machine.bitTaken
-  bit-lower st k v refused is = stopping
-  bit-lower st k v (decoded (Table.spurious r)) is = finished (Machine.withRegister st t r v) (oneMore k) _ is
-  bit-lower st k v (decoded (Table.load c o r)) is = stopping
-  bit-lower st k v (decoded (Table.store c o a)) is = stopping
-  bit-lower st k v (decoded (Table.storeRegister c o r)) is = stopping
-  bit-lower st k v (decoded (Table.rmw c o f change r)) is = stopping
-  bit-lower st k v (decoded (Table.fence o)) is = stopping
-  bit-lower st k v (decoded (Table.unsyncLoad c r)) is = stopping
-  bit-lower st k v (decoded (Table.exclusive c change r)) is = stopping
-  bit-lower st k v (decoded Table.yield) is = stopping
-  bit-lower st k v (decoded (Table.join target)) is = stopping
-  bit-lower st k v (decoded (Table.jump target)) is = stopping
-  bit-lower st k v (decoded (Table.jumpIf r a target)) is = stopping
-  bit-lower st k v (decoded (Table.jumpUnless r a target)) is = stopping
-  bit-lower st k v (decoded (Table.check r a)) is = stopping
-  bit-lower st k v (decoded Table.critical) is = stopping
-  bit-lower st k v (decoded Table.exploreState) is = stopping
-  bit-lower st k v (decoded Table.skipBranch) is = stopping
-  bit-lower st k v (decoded (Table.plainRead c r)) is = stopping
-  bit-lower st k v (decoded (Table.plainWrite c a)) is = stopping
+  bit-lower st k v (takesBit r) is = finished (Machine.withRegister st t r v) (oneMore k) _ is
+  bit-lower st k v (loads c o r) is = stopping
+  bit-lower st k v (storesOperand c o a) is = stopping
+  bit-lower st k v (storesRegister c o r) is = stopping
+  bit-lower st k v (modifies c o f change r) is = stopping
+  bit-lower st k v otherwise is = stopping

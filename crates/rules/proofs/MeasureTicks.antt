@@ -15,12 +15,12 @@ use Rattle.rules.specs.Event.{Event, runThread, readSlot, takeBit, moves
 use Rattle.rules.specs.State as State
 use Rattle.rules.specs.State.{State, Numbers, number, withNumber, threads, phase, begun, activeThread, rowsOf, operation, accessBranch, nonLoadBranch}
 use Rattle.rules.specs.Machine
-use Rattle.rules.specs.Machine.{Program, Pending, nothing, pends, pendingOf, current, activeRow, activeOp, rowOf, rowCount, runnable, yielded, ended, toBegin, toAct, noOperation}
+use Rattle.rules.specs.Machine.{Program, Pending, nothing, pends, roleIn, pendingOf, current, activeRow, activeRole, rowOf, rowCount, runnable, yielded, ended, toBegin, toAct, noOperation}
 use Rattle.rules.specs.Measure.{measure, Whole, CanAct, Ready}
 use Rattle.rules.proofs.NumberLaws.{more-below}
 use Rattle.rules.proofs.Measure.{Is, aside, toState, toPhase, toBegun, toCell, seen, toActive, otherWork}
 use Rattle.rules.proofs.MeasureLoops.{awake-all, freed-all}
-use Rattle.rules.proofs.MeasureRows.{pick, both-left, both-right, OnCell, RowOnCell, row-on-cell}
+use Rattle.rules.proofs.MeasureRows.{pick, both-left, both-right, OnCell, RoleOnCell, row-on-cell}
 use Rattle.rules.proofs.AccessLaws.{access-kept}
 use Rattle.rules.proofs.MeasureSteps.{Acting, Lower, lowered, asking, stopping, ending, measure-is, ready-is, at-begin, measure-part, acting-is, acting-most, acts-lower, read-lower, bit-lower}
 
@@ -115,13 +115,13 @@ module _ (p : Program) (n : ℕ) where
   unfolding Machine.answered
   slot-lower st slot offered h =
       read-lower p (current st) _ _ _ _ n (h .ready .below) (h .ready .runs) (h .acts) (acting-most p n st h) st (activeRow st)
-      slot (Machine.maskOf 0 offered) (activeOp p st) (row-on-cell p (current st) (activeRow st)) (acting-is p n st h)
+      slot (Machine.maskOf 0 offered) (activeRole p st) (row-on-cell p (current st) (activeRow st)) (acting-is p n st h)
 
   pub spurious-lower : (st : State) (bit : Bool) → Acting p n st → Lower p n (Machine.answered p st (takeBit bit))
   unfolding Machine.answered
   spurious-lower st bit h =
       bit-lower p (current st) _ _ _ _ n (h .ready .below) (h .ready .runs) (h .acts) (acting-most p n st h) st (activeRow st)
-      (cond bit 1 0) (activeOp p st) (acting-is p n st h)
+      (cond bit 1 0) (activeRole p st) (acting-is p n st h)
 
 -- What the active thread does next
 module _ (p : Program) (limited : p .operations ≤ largest) (st : State) (r : Ready st) where
@@ -134,8 +134,7 @@ module _ (p : Program) (limited : p .operations ≤ largest) (st : State) (r : R
       3 * (p .operations - number (st .numbers) begun) + (otherWork (st .numbers) (current st) + 5) ≤ measure p st
   begin-most e = omega (arith, measure-is p st (begin-is e), at-begin (r .runs))
 
-  row-lower : (k : ℕ) (row : Decoded Op) → RowOnCell row → Lower p (measure p st) (Machine.ofRow p st (current st) k row)
-  unfolding RowOnCell
+  row-lower : (k : ℕ) (row : Decoded Op) → RoleOnCell (roleIn row) → Lower p (measure p st) (Machine.ofRow p st (current st) k row)
   row-lower k refused h = stopping
   row-lower k (decoded op) h =
       pick (Lower p (measure p st)) (Machine.isToBegin st (current st))

@@ -14,6 +14,7 @@ use Rattle.rules.specs.Vector.{zeros, joined, atMost, raised, oneMore, W
 use Rattle.rules.specs.Seen.{unseens}
 use Rattle.rules.specs.Table as Table
 use Rattle.rules.specs.Table.{Op, Decoded, refused, decoded, opAt, opcodeOf, roomOf, startValue, threadsOf, cellsOf, plainsOf, countsOf, firstRows}
+use Rattle.rules.specs.Change.{Change}
 use Rattle.rules.specs.Condition.{holds}
 use Rattle.rules.specs.Event as Event
 use Rattle.rules.specs.Event.{Entry, Matched, Point, nowhere, branch, Standing, whichThread, whichSlot, whichBit, Pick, runThread, readSlot, takeBit, noSite, Move, Machine, moves, asks, stops, ends}
@@ -420,32 +421,58 @@ acts p st t k op = actsAs p st t k (opcodeOf op) op
 
 -- A row begins
 
--- the pending operation of a row of opcodes 0 to 3, and its cell; other rows have none. "Neither schedules nor raises the version."
--- (document 02, §5)
+-- What a row is to the path. "Scheduling is called before opcodes 0, 1, 2, 3 act (pending operation set first)", and of these a load
+-- and an RMW then ask for a slot; "16 `branch_spurious`" asks for a bit. Every other row sets no operation, and neither a slot nor
+-- a bit is for it: of plain ones "Neither schedules nor raises the version." (document 02, §5)
+pub data Role : Type 0 where
+  loads : (cell order register : ℕ) → Role
+  storesOperand : (cell order a : ℕ) → Role
+  storesRegister : (cell order register : ℕ) → Role
+  modifies : (cell order failure : ℕ) (change : Change) (register : ℕ) → Role
+  takesBit : (register : ℕ) → Role
+  otherwise : Role
+
+abbrev pub roleOf : Op → Role
+roleOf (Table.load c o r) = loads c o r
+roleOf (Table.store c o a) = storesOperand c o a
+roleOf (Table.storeRegister c o r) = storesRegister c o r
+roleOf (Table.rmw c o f change r) = modifies c o f change r
+roleOf (Table.fence o) = otherwise
+roleOf (Table.unsyncLoad c r) = otherwise
+roleOf (Table.exclusive c change r) = otherwise
+roleOf Table.yield = otherwise
+roleOf (Table.join target) = otherwise
+roleOf (Table.jump target) = otherwise
+roleOf (Table.jumpIf r a target) = otherwise
+roleOf (Table.jumpUnless r a target) = otherwise
+roleOf (Table.check r a) = otherwise
+roleOf Table.critical = otherwise
+roleOf Table.exploreState = otherwise
+roleOf Table.skipBranch = otherwise
+roleOf (Table.spurious r) = takesBit r
+roleOf (Table.plainRead c r) = otherwise
+roleOf (Table.plainWrite c a) = otherwise
+
+-- a row that is refused is nothing to it
+abbrev pub roleIn : Decoded Op → Role
+roleIn refused = otherwise
+roleIn (decoded op) = roleOf op
+
+-- the pending operation of a row of opcodes 0 to 3, and its cell; other rows have none
 pub data Pending : Type 0 where
   nothing : Pending
   pends : (operation cell : ℕ) → Pending
 
+abbrev pub pendingAs : Role → Pending
+pendingAs (loads c o r) = pends aLoad c
+pendingAs (storesOperand c o a) = pends aStore c
+pendingAs (storesRegister c o r) = pends aStore c
+pendingAs (modifies c o f change r) = pends anRmw c
+pendingAs (takesBit r) = nothing
+pendingAs otherwise = nothing
+
 abbrev pub pendingOf : Op → Pending
-pendingOf (Table.load c o r) = pends aLoad c
-pendingOf (Table.store c o a) = pends aStore c
-pendingOf (Table.storeRegister c o r) = pends aStore c
-pendingOf (Table.rmw c o f change r) = pends anRmw c
-pendingOf (Table.fence o) = nothing
-pendingOf (Table.unsyncLoad c r) = nothing
-pendingOf (Table.exclusive c change r) = nothing
-pendingOf Table.yield = nothing
-pendingOf (Table.join target) = nothing
-pendingOf (Table.jump target) = nothing
-pendingOf (Table.jumpIf r a target) = nothing
-pendingOf (Table.jumpUnless r a target) = nothing
-pendingOf (Table.check r a) = nothing
-pendingOf Table.critical = nothing
-pendingOf Table.exploreState = nothing
-pendingOf Table.skipBranch = nothing
-pendingOf (Table.spurious r) = nothing
-pendingOf (Table.plainRead c r) = nothing
-pendingOf (Table.plainWrite c a) = nothing
+pendingOf op = pendingAs (roleOf op)
 
 -- "rows begun is a counted number"
 abbrev pub rowBegun : State → ℕ → State
@@ -520,61 +547,34 @@ abbrev pub ifLive : State → ℕ → ℕ → Move State → Move State
 ifLive st c slot m = cond (ltb slot (number (st .numbers) (count c))) m (stops st Event.impossible)
 
 -- a load or an RMW goes on with a slot; no other row is given one
-unfoldable pub readFrom : State → ℕ → ℕ → ℕ → ℕ → Decoded Op → Move State
-readFrom st t k slot mask refused = stops st Event.impossible
-readFrom st t k slot mask (decoded (Table.load c o r)) =
-    ifLive st c slot (reads (loadDone st t c slot o) t k 0 r slot mask)
-readFrom st t k slot mask (decoded (Table.rmw c o f change r)) =
-    ifLive st c slot (reads (rmwDone st t c slot change o f) t k 3 r slot mask)
-readFrom st t k slot mask (decoded (Table.store c o a)) = stops st Event.impossible
-readFrom st t k slot mask (decoded (Table.storeRegister c o r)) = stops st Event.impossible
-readFrom st t k slot mask (decoded (Table.fence o)) = stops st Event.impossible
-readFrom st t k slot mask (decoded (Table.unsyncLoad c r)) = stops st Event.impossible
-readFrom st t k slot mask (decoded (Table.exclusive c change r)) = stops st Event.impossible
-readFrom st t k slot mask (decoded Table.yield) = stops st Event.impossible
-readFrom st t k slot mask (decoded (Table.join target)) = stops st Event.impossible
-readFrom st t k slot mask (decoded (Table.jump target)) = stops st Event.impossible
-readFrom st t k slot mask (decoded (Table.jumpIf r a target)) = stops st Event.impossible
-readFrom st t k slot mask (decoded (Table.jumpUnless r a target)) = stops st Event.impossible
-readFrom st t k slot mask (decoded (Table.check r a)) = stops st Event.impossible
-readFrom st t k slot mask (decoded Table.critical) = stops st Event.impossible
-readFrom st t k slot mask (decoded Table.exploreState) = stops st Event.impossible
-readFrom st t k slot mask (decoded Table.skipBranch) = stops st Event.impossible
-readFrom st t k slot mask (decoded (Table.spurious r)) = stops st Event.impossible
-readFrom st t k slot mask (decoded (Table.plainRead c r)) = stops st Event.impossible
-readFrom st t k slot mask (decoded (Table.plainWrite c a)) = stops st Event.impossible
+unfoldable pub readFrom : State → ℕ → ℕ → ℕ → ℕ → Role → Move State
+readFrom st t k slot mask (loads c o r) = ifLive st c slot (reads (loadDone st t c slot o) t k 0 r slot mask)
+readFrom st t k slot mask (modifies c o f change r) = ifLive st c slot (reads (rmwDone st t c slot change o f) t k 3 r slot mask)
+readFrom st t k slot mask (storesOperand c o a) = stops st Event.impossible
+readFrom st t k slot mask (storesRegister c o r) = stops st Event.impossible
+readFrom st t k slot mask (takesBit r) = stops st Event.impossible
+readFrom st t k slot mask otherwise = stops st Event.impossible
 
 -- "16 `branch_spurious` into register (0 or 1)"; no other row is given a bit
-unfoldable pub bitTaken : State → ℕ → ℕ → ℕ → Decoded Op → Move State
-bitTaken st t k v refused = stops st Event.impossible
-bitTaken st t k v (decoded (Table.spurious r)) = moves (completed (withRegister st t r v) t (oneMore k)) (entry t k 16 noSlot 0 v)
-bitTaken st t k v (decoded (Table.load c o r)) = stops st Event.impossible
-bitTaken st t k v (decoded (Table.store c o a)) = stops st Event.impossible
-bitTaken st t k v (decoded (Table.storeRegister c o r)) = stops st Event.impossible
-bitTaken st t k v (decoded (Table.rmw c o f change r)) = stops st Event.impossible
-bitTaken st t k v (decoded (Table.fence o)) = stops st Event.impossible
-bitTaken st t k v (decoded (Table.unsyncLoad c r)) = stops st Event.impossible
-bitTaken st t k v (decoded (Table.exclusive c change r)) = stops st Event.impossible
-bitTaken st t k v (decoded Table.yield) = stops st Event.impossible
-bitTaken st t k v (decoded (Table.join target)) = stops st Event.impossible
-bitTaken st t k v (decoded (Table.jump target)) = stops st Event.impossible
-bitTaken st t k v (decoded (Table.jumpIf r a target)) = stops st Event.impossible
-bitTaken st t k v (decoded (Table.jumpUnless r a target)) = stops st Event.impossible
-bitTaken st t k v (decoded (Table.check r a)) = stops st Event.impossible
-bitTaken st t k v (decoded Table.critical) = stops st Event.impossible
-bitTaken st t k v (decoded Table.exploreState) = stops st Event.impossible
-bitTaken st t k v (decoded Table.skipBranch) = stops st Event.impossible
-bitTaken st t k v (decoded (Table.plainRead c r)) = stops st Event.impossible
-bitTaken st t k v (decoded (Table.plainWrite c a)) = stops st Event.impossible
+unfoldable pub bitTaken : State → ℕ → ℕ → ℕ → Role → Move State
+bitTaken st t k v (takesBit r) = moves (completed (withRegister st t r v) t (oneMore k)) (entry t k 16 noSlot 0 v)
+bitTaken st t k v (loads c o r) = stops st Event.impossible
+bitTaken st t k v (storesOperand c o a) = stops st Event.impossible
+bitTaken st t k v (storesRegister c o r) = stops st Event.impossible
+bitTaken st t k v (modifies c o f change r) = stops st Event.impossible
+bitTaken st t k v otherwise = stops st Event.impossible
 
--- what the active thread's row does
+-- what the active thread's row does, and what it is to the path
 abbrev pub activeOp : Program → State → Decoded Op
 activeOp p st = rowOf p (current st) (activeRow st)
 
+abbrev pub activeRole : Program → State → Role
+activeRole p st = roleIn (activeOp p st)
+
 unfoldable pub answered : Program → State → Pick → Move State
 answered p st (runThread whom at) = scheduled st whom at
-answered p st (readSlot slot offered) = readFrom st (current st) (activeRow st) slot (maskOf 0 offered) (activeOp p st)
-answered p st (takeBit bit) = bitTaken st (current st) (activeRow st) (cond bit 1 0) (activeOp p st)
+answered p st (readSlot slot offered) = readFrom st (current st) (activeRow st) slot (maskOf 0 offered) (activeRole p st)
+answered p st (takeBit bit) = bitTaken st (current st) (activeRow st) (cond bit 1 0) (activeRole p st)
 
 -- "The condition is judged when all threads have ended": by their registers there
 unfoldable pub final : Program → State → Bool

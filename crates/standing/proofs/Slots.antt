@@ -13,7 +13,7 @@ use Rattle.rules.specs.State as State
 use Rattle.rules.specs.State.{State, Numbers, number, marksOf, threads, cells, phase, begun, nextRow, awaits, count}
 use Rattle.rules.specs.Cell.{matchedLoad, matchedRmw, liveIn}
 use Rattle.rules.specs.Machine as Machine
-use Rattle.rules.specs.Machine.{Program, current, activeOp, rowCount, toAct}
+use Rattle.rules.specs.Machine.{Program, current, activeOp, activeRole, rowCount, toAct}
 use Rattle.rules.proofs.NumberLaws.{five-has}
 use Rattle.rules.proofs.SlotLaws.{Long, matched-long, offered-long, live-most}
 use Rattle.rules.proofs.MeasureRows.{Names}
@@ -106,7 +106,7 @@ module _ (p : Program) (held : cellsOf (p .table) ≤ cells) (few : threadsOf (p
   }
 
   read-after : (m : Matched) → Reading p st m → (slot mask : ℕ) (values : List ℕ) → FittingSlot m slot values →
-      After p n (Machine.readFrom st t k slot mask (activeOp p st))
+      After p n (Machine.readFrom st t k slot mask (activeRole p st))
   read-after m (ofLoad c o r e f) slot mask values fit =
       rw e
       (Steps.load-after p held few t s k w b (otherWork a t) q n (stands .runs) (holds .ready) own sum (stands .limited) st c o r slot mask

@@ -211,20 +211,20 @@ module _ (p : Program) (held : cellsOf (p .table) ≤ cells) (few : threadsOf (p
 
   -- a load or an RMW reads its slot, which is live
   pub load-after : (st : State) (c o r slot mask : ℕ) → slot < number (st .numbers) (count c) → At st →
-      After p n (Machine.readFrom st t k slot mask (decoded (Table.load c o r)))
+      After p n (Machine.readFrom st t k slot mask (Machine.loads c o r))
   unfolding Machine.readFrom
   load-after st c o r slot mask h at =
       rw (lt-ltb slot (number (st .numbers) (count c)) h) (reads-after (loadDone st t c slot o) 0 r slot mask (load-leaves On st t c slot o at))
 
   pub rmw-after : (st : State) (c o f : ℕ) (change : Change) (r slot mask : ℕ) → c < cellsOf (p .table) →
-      slot < number (st .numbers) (count c) → At st → After p n (Machine.readFrom st t k slot mask (decoded (Table.rmw c o f change r)))
+      slot < number (st .numbers) (count c) → At st → After p n (Machine.readFrom st t k slot mask (Machine.modifies c o f change r))
   unfolding Machine.readFrom
   rmw-after st c o f change r slot mask named h at =
       rw (lt-ltb slot (number (st .numbers) (count c)) h)
       (reads-after (rmwDone st t c slot change o f) 3 r slot mask (rmw-leaves On (cellsOf (p .table)) store-at st t c slot change o f named at))
 
   -- "16 `branch_spurious` into register (0 or 1)"
-  pub bit-after : (st : State) (r v : ℕ) → At st → After p n (Machine.bitTaken st t k v (decoded (Table.spurious r)))
+  pub bit-after : (st : State) (r v : ℕ) → At st → After p n (Machine.bitTaken st t k v (Machine.takesBit r))
   unfolding Machine.bitTaken
   bit-after st r v at = finished (Machine.withRegister st t r v) (oneMore k) _ next-row at
 

@@ -20,7 +20,7 @@ use Rattle.rules.specs.Measure.{CanAct}
 use Rattle.rules.proofs.NumberLaws.{five-has, more-below}
 use Rattle.rules.proofs.Measure.{Is, aside, toState, toPhase, toBegun, toCell, seen, otherWork}
 use Rattle.rules.proofs.MeasureLoops.{freed-all}
-use Rattle.rules.proofs.MeasureRows.{pick, both-left, both-right, Names, OnCell, RowOnCell, row-on-cell}
+use Rattle.rules.proofs.MeasureRows.{pick, both-left, both-right, Names, OnCell, row-on-cell}
 use Rattle.standing.specs.Standing.{Thread, Over, Holds, Schedules, underWay}
 use Rattle.standing.proofs.Facts.{acts-so, Facts, keep, begunOne, freed-facts, freed-none, opened, closed, holding}
 use Rattle.standing.proofs.Rows.{accepted-row}
@@ -158,7 +158,6 @@ module _ (p : Program) (held : cellsOf (p .table) ≤ cells) (few : threadsOf (p
         (omega (arith, stands .entries, phase-in)) (stands .limited) st op row names (record { is = is; facts = facts })
 
     on-cell : (op : Op) → rowOf p t k ≡ decoded op → OnCell (pendingOf op)
-    unfolding RowOnCell
     on-cell op e = rw e at (row-on-cell p t k)
 
     module _ (accepted : judged (p .table) ≡ good) where

@@ -21,7 +21,7 @@ use Rattle.rules.specs.State.{State, Clocks, Marks as MarkTable, Values, Number
 use Rattle.rules.specs.Table.{Op, Decoded}
 use Rattle.rules.specs.Path as paths
 use Rattle.rules.specs.Path.{Branch, noBranch, positions}
-use Rattle.rules.specs.Machine.{Program, machine, scheduled, readFrom, bitTaken, maskOf, current, activeRow, rowOf, answered, exploringNow}
+use Rattle.rules.specs.Machine.{Program, machine, roleIn, scheduled, readFrom, bitTaken, maskOf, current, activeRow, rowOf, answered, exploringNow}
 use Rattle.rules.specs.Explorer as explorer
 use Rattle.rules.specs.Explorer.{Walk, Tick, goes, over, faulted, pushes, faults, says, unexpected}
 use Rattle.layout.specs.Tables.{state}
@@ -126,22 +126,22 @@ module _ (p : Program) (h : Here) (st : State) (move : rules.Move State) (is-row
   row-there : AtRow st h → rowOf p (current st) (activeRow st) ≡ decodedOf (h .row)
   row-there a = ap (λ (t : ℕ). rowOf p t (activeRow st)) (a .who) ∙ ap (λ (k : ℕ). rowOf p (h .site .thread) k) (a .row) ∙ is-row
 
-  slot-is : (slot mask : ℕ) (values : List ℕ) → AtRow st h → mask ≡ maskOf 0 values → move ≡ readFrom st (h .site .thread) (h .site .row) slot mask (decodedOf (h .row)) → move ≡ answered p st (rules.readSlot slot values)
+  slot-is : (slot mask : ℕ) (values : List ℕ) → AtRow st h → mask ≡ maskOf 0 values → move ≡ readFrom st (h .site .thread) (h .site .row) slot mask (roleIn (decodedOf (h .row))) → move ≡ answered p st (rules.readSlot slot values)
   unfolding answered
   slot-is slot mask values a m e =
       e
-      ∙ ap (λ (k : ℕ). readFrom st (h .site .thread) (h .site .row) slot k (decodedOf (h .row))) m
-      ∙ ap (λ (d : Decoded Op). readFrom st (h .site .thread) (h .site .row) slot (maskOf 0 values) d) (sym (row-there a))
-      ∙ ap (λ (t : ℕ). readFrom st t (h .site .row) slot (maskOf 0 values) (rowOf p (current st) (activeRow st))) (sym (a .who))
-      ∙ ap (λ (k : ℕ). readFrom st (current st) k slot (maskOf 0 values) (rowOf p (current st) (activeRow st))) (sym (a .row))
+      ∙ ap (λ (k : ℕ). readFrom st (h .site .thread) (h .site .row) slot k (roleIn (decodedOf (h .row)))) m
+      ∙ ap (λ (d : Decoded Op). readFrom st (h .site .thread) (h .site .row) slot (maskOf 0 values) (roleIn d)) (sym (row-there a))
+      ∙ ap (λ (t : ℕ). readFrom st t (h .site .row) slot (maskOf 0 values) (roleIn (rowOf p (current st) (activeRow st)))) (sym (a .who))
+      ∙ ap (λ (k : ℕ). readFrom st (current st) k slot (maskOf 0 values) (roleIn (rowOf p (current st) (activeRow st)))) (sym (a .row))
 
-  bit-is : (bit : Bool) → AtRow st h → move ≡ bitTaken st (h .site .thread) (h .site .row) (cond bit 1 0) (decodedOf (h .row)) → move ≡ answered p st (rules.takeBit bit)
+  bit-is : (bit : Bool) → AtRow st h → move ≡ bitTaken st (h .site .thread) (h .site .row) (cond bit 1 0) (roleIn (decodedOf (h .row))) → move ≡ answered p st (rules.takeBit bit)
   unfolding answered
   bit-is bit a e =
       e
-      ∙ ap (λ (d : Decoded Op). bitTaken st (h .site .thread) (h .site .row) (cond bit 1 0) d) (sym (row-there a))
-      ∙ ap (λ (t : ℕ). bitTaken st t (h .site .row) (cond bit 1 0) (rowOf p (current st) (activeRow st))) (sym (a .who))
-      ∙ ap (λ (k : ℕ). bitTaken st (current st) k (cond bit 1 0) (rowOf p (current st) (activeRow st))) (sym (a .row))
+      ∙ ap (λ (d : Decoded Op). bitTaken st (h .site .thread) (h .site .row) (cond bit 1 0) (roleIn d)) (sym (row-there a))
+      ∙ ap (λ (t : ℕ). bitTaken st t (h .site .row) (cond bit 1 0) (roleIn (rowOf p (current st) (activeRow st)))) (sym (a .who))
+      ∙ ap (λ (k : ℕ). bitTaken st (current st) k (cond bit 1 0) (roleIn (rowOf p (current st) (activeRow st)))) (sym (a .row))
 
   thread-is : (chosen branch : ℕ) → move ≡ scheduled st (thread chosen) branch → move ≡ answered p st (rules.runThread (thread chosen) branch)
   unfolding answered

@@ -3,7 +3,7 @@ use mathlib.Core.Path.{refl}
 use Rattle.last_access.specs.Access.{accesses}
 use Rattle.last_access.specs.declared.AccessKind.the-variants.{Load}
 use Rattle.steps.proofs.OpLaws.{op-as}
-use Rattle.last_access.proofs.OpLaws.{rest, allBut, no-number}
+use Rattle.decode.proofs.NumberLaws.{allBut, no-number}
 use borrow.Author.Needs.{needs}
 use Rattle.last_access.proofs.loads.Statement.{statement}
 use Rattle.last_access.proofs.loads.Tie as tie
@@ -21,7 +21,6 @@ returns-2 : tie.Need-returns-2
 returns-2 c read = op-as (accesses Load read) (c .enum-told2 .given .1) refl
 
 returns-3 : tie.Need-returns-3
-unfolding rest
 returns-3 c read =
     let other = no-number (allBut (0 ∷ 3 ∷ [])) (c .before .args .op) (c .match .keys3) in
     rw (← other 0 tt, ← other 3 tt)
