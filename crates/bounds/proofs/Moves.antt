@@ -18,7 +18,7 @@ use Rattle.rules.specs.Event as Event
 use Rattle.rules.specs.Event.{runThread, readSlot, takeBit}
 use Rattle.rules.specs.State as State
 use Rattle.rules.specs.State.{State, Numbers, vector, withVector, number, withNumber, threads, cells, history}
-use Rattle.rules.specs.State.{scheduleOf, lastAccess, lastNonLoad, rowsOf, operation, operatesOn, phase, accessBranch, nonLoadBranch, activeThread, begun}
+use Rattle.rules.specs.State.{scheduleOf, lastAccess, lastNonLoad, rowsOf, operation, operatesOn, phase, accessBranch, nonLoadBranch, activeThread, rowsBegun}
 use Rattle.rules.specs.Cell.{version, withClocks}
 use Rattle.rules.specs.Machine
 use Rattle.rules.specs.Machine.{Program, Pending, nothing, pends, pendingOf, current, activeRow, activeRole, rowOf, rowCount, forThreads, runnable, ended, toAct, noOperation}
@@ -99,13 +99,13 @@ module _ (p : Program) (fits : Fits p) (t n : ℕ) (rows owing waits least : ℕ
             given-own t 0 waits,
           ))
 
-  begun-at : (st : State) → number (st .numbers) begun < p .operations → Idle st → Begun st (Machine.rowBegun st t)
+  begun-at : (st : State) → number (st .numbers) rowsBegun < p .operations → Idle st → Begun st (Machine.rowBegun st t)
   begun-at st some s =
       let a = st .numbers in
       let v = oneMore (number (counted a) (rowsOf t)) in
       let e : v ≡ rows t + 1 =
       one-row a (s .tally) t below idle (omega (arith, fits .limited)) some ∙ ap (λ (x : ℕ). x + 1) (s .links .begunRows t below) in
-      let l1 = aside-links a (s .links) begun (oneMore (number a begun)) (omega arith) (omega arith) in
+      let l1 = aside-links a (s .links) rowsBegun (oneMore (number a rowsBegun)) (omega arith) (omega arith) in
       record {
         sound = eased-at st (begun-part st e) s .sound;
         tally = aside (moreRows a t) (begins a (s .tally) t below idle (omega (arith, fits .limited)) some) (phase t) toAct
@@ -150,7 +150,7 @@ module _ (p : Program) (fits : Fits p) (t n : ℕ) (rows owing waits least : ℕ
       Going p n (Machine.begins p st t k op)
   unfolding Machine.begins
   begins-going st k op h v s =
-      pick (Going p n) (leb (p .operations) (number (st .numbers) begun)) (λ e. over st s)
+      pick (Going p n) (leb (p .operations) (number (st .numbers) rowsBegun)) (λ e. over st s)
       (λ e. begun-going st (Machine.rowBegun st t) k op (pendingOf op) h v (begun-at st (leb-false _ _ e) s))
 
   -- "Past its last row a thread ends"

@@ -18,7 +18,7 @@ use lib.ListN.{length}
 use borrow.Author.Tests.{eq-eqb, ne-eqb}
 use Rattle.rules.specs.Vector.{oneMore, largest}
 use Rattle.rules.specs.State.{Numbers, Number, number, withNumber, numberAt, numbersHeld, threads, cells}
-use Rattle.rules.specs.State.{rowsOf, yields, lastYield, operation, phase, count, activeThread, begun}
+use Rattle.rules.specs.State.{rowsOf, yields, lastYield, operation, phase, count, activeThread, rowsBegun}
 use Rattle.rules.specs.Machine.{Program, toBegin, noOperation}
 use Rattle.rules.proofs.StateLaws.{number-same, number-other, number-kept}
 use Rattle.rules.proofs.NumberLaws.{five-one, five-has, five-same, after, more-some, more-below}
@@ -51,7 +51,7 @@ ofAll-given f t v h = omega (arith, five-one f (given t v f) t h (λ u b d. give
 
 -- rows begun are one more, those of thread t too
 abbrev pub counted : Numbers → Numbers
-counted a = withNumber a begun (oneMore (number a begun))
+counted a = withNumber a rowsBegun (oneMore (number a rowsBegun))
 
 abbrev pub moreRows : Numbers → ℕ → Numbers
 moreRows a t = withNumber (counted a) (rowsOf t) (oneMore (number (counted a) (rowsOf t)))
@@ -67,7 +67,7 @@ abbrev NoRows : Number → Type 0
 NoRows k =
     (numberAt k < numbersHeld)
     × (numberAt activeThread ≢ numberAt k)
-    × (numberAt begun ≢ numberAt k)
+    × (numberAt rowsBegun ≢ numberAt k)
     × ((u : ℕ) → u < threads → numberAt (rowsOf u) ≢ numberAt k)
 
 -- names that a tally does not read
@@ -79,13 +79,13 @@ Apart k =
 
 module _ {p : Program} {n : ℕ} {owing most : ℕ → ℕ} (a : Numbers) (s : Tally p n owing most a) where
   -- a write of no rows, and what is owed with it
-  wrote : (k : Number) (v : ℕ) {m : ℕ} {owing′ most′ : ℕ → ℕ} → NoRows k → m + ofAll owing′ ≡ number a begun →
-      ((c : ℕ) → c < cells → Becomes a k v (count c) (λ (x : ℕ). x + ofAll owing′ ≤ 1 + number a begun)) →
+  wrote : (k : Number) (v : ℕ) {m : ℕ} {owing′ most′ : ℕ → ℕ} → NoRows k → m + ofAll owing′ ≡ number a rowsBegun →
+      ((c : ℕ) → c < cells → Becomes a k v (count c) (λ (x : ℕ). x + ofAll owing′ ≤ 1 + number a rowsBegun)) →
       ((u : ℕ) → u < threads → Becomes a k v (yields u) (λ (x : ℕ). x + owing′ u ≤ rowsIn a u)) →
       ((u : ℕ) → u < threads → Becomes a k v (lastYield u) (NoneOr (most′ u))) → Tally p m owing′ most′ (withNumber a k v)
   wrote k v {m} {owing′} {most′} d e f g i =
       let h : numberAt k < length a = omega (arith, s .held, d .0) in
-      let began = number-other a k begun v (d .2) in
+      let began = number-other a k rowsBegun v (d .2) in
       let rows : (u : ℕ) → u < threads → rowsIn (withNumber a k v) u ≡ rowsIn a u =
       λ u b. number-other a k (rowsOf u) v (d .3 u b) in
       record {
@@ -94,7 +94,7 @@ module _ {p : Program} {n : ℕ} {owing most : ℕ → ℕ} (a : Numbers) (s : T
         rows = five-same (rowsIn a) (rowsIn (withNumber a k v)) rows ∙ s .rows ∙ sym began;
         limit = rw began (s .limit);
         entries = e ∙ sym began;
-        counts = λ c b. rw began (after (λ (x : ℕ). x + ofAll owing′ ≤ 1 + number a begun) a k (count c) v h (f c b .0) (f c b .1));
+        counts = λ c b. rw began (after (λ (x : ℕ). x + ofAll owing′ ≤ 1 + number a rowsBegun) a k (count c) v h (f c b .0) (f c b .1));
         yielded = λ u b. rw (rows u b) (after (λ (x : ℕ). x + owing′ u ≤ rowsIn a u) a k (yields u) v h (g u b .0) (g u b .1));
         lasts = λ u b. after (NoneOr (most′ u)) a k (lastYield u) v h (i u b .0) (i u b .1);
       }
@@ -112,7 +112,7 @@ module _ {p : Program} {n : ℕ} {owing most : ℕ → ℕ} (a : Numbers) (s : T
       (λ u h. (λ e. let q : u ≡ t = omega arith in rw q l, λ e. s .lasts u h))
 
   -- so much is owed, and versions have come so far
-  pub re-owed : {m : ℕ} (owing′ most′ : ℕ → ℕ) → m + ofAll owing′ ≡ number a begun →
+  pub re-owed : {m : ℕ} (owing′ most′ : ℕ → ℕ) → m + ofAll owing′ ≡ number a rowsBegun →
       ((u : ℕ) → u < threads → owing′ u ≤ owing u) → ((u : ℕ) → u < threads → most u ≤ most′ u) → Tally p m owing′ most′ a
   re-owed owing′ most′ e f g = record {
     held = s .held;
@@ -139,7 +139,7 @@ module _ {p : Program} {n : ℕ} {owing most : ℕ → ℕ} (a : Numbers) (s : T
       let k = activeThread in
       let rows : (u : ℕ) → u < threads → rowsIn (withNumber a k t) u ≡ rowsIn a u =
       λ u h. number-other a k (rowsOf u) t (omega arith) in
-      let began = number-other a k begun t (omega arith) in
+      let began = number-other a k rowsBegun t (omega arith) in
       record {
         held = number-kept a k t ∙ s .held;
         runs = rw (number-same a k t (omega (arith, s .held))) b;
@@ -153,7 +153,7 @@ module _ {p : Program} {n : ℕ} {owing most : ℕ → ℕ} (a : Numbers) (s : T
 
   -- The row of a thread acts, which owes one no longer
   module _ (t : ℕ) (below : t < threads) (owes : owing t ≡ 1) where
-    less-owed : n + 1 + ofAll (but t owing) ≡ number a begun
+    less-owed : n + 1 + ofAll (but t owing) ≡ number a rowsBegun
     less-owed = omega (arith, s .entries, ofAll-given owing t 0 below)
 
     pub acted : Tally p (n + 1) (but t owing) most a
@@ -181,25 +181,25 @@ module _ {p : Program} {n : ℕ} {owing most : ℕ → ℕ} (a : Numbers) (s : T
 
   -- A row begins: its thread owes one, and has one row more
   module _ (t : ℕ) (below : t < threads) (owes : owing t ≡ 0) (limited : p .operations ≤ largest)
-      (some : number a begun < p .operations) where
-    pub began : number (moreRows a t) begun ≡ number a begun + 1
+      (some : number a rowsBegun < p .operations) where
+    pub began : number (moreRows a t) rowsBegun ≡ number a rowsBegun + 1
     began =
-        number-other (counted a) (rowsOf t) begun _ (omega arith)
-        ∙ number-same a begun _ (omega (arith, s .held))
-        ∙ more-below (number a begun) (omega arith)
+        number-other (counted a) (rowsOf t) rowsBegun _ (omega arith)
+        ∙ number-same a rowsBegun _ (omega (arith, s .held))
+        ∙ more-below (number a rowsBegun) (omega arith)
 
     pub one-row : oneMore (number (counted a) (rowsOf t)) ≡ rowsIn a t + 1
     one-row =
-        ap oneMore (number-other a begun (rowsOf t) _ (omega arith))
+        ap oneMore (number-other a rowsBegun (rowsOf t) _ (omega arith))
         ∙ more-below (rowsIn a t) (omega (arith, five-has (rowsIn a) t below, s .rows))
 
     own-rows : rowsIn (moreRows a t) t ≡ rowsIn a t + 1
     own-rows =
-        number-same (counted a) (rowsOf t) _ (omega (arith, s .held, number-kept a begun (oneMore (number a begun)))) ∙ one-row
+        number-same (counted a) (rowsOf t) _ (omega (arith, s .held, number-kept a rowsBegun (oneMore (number a rowsBegun)))) ∙ one-row
 
     -- what is under another name stays
-    stays : (j : Number) → numberAt j ≢ numberAt begun → numberAt j ≢ numberAt (rowsOf t) → number (moreRows a t) j ≡ number a j
-    stays j d e = number-other (counted a) (rowsOf t) j _ e ∙ number-other a begun j _ d
+    stays : (j : Number) → numberAt j ≢ numberAt rowsBegun → numberAt j ≢ numberAt (rowsOf t) → number (moreRows a t) j ≡ number a j
+    stays j d e = number-other (counted a) (rowsOf t) j _ e ∙ number-other a rowsBegun j _ d
 
     pub other-rows : (u : ℕ) → u < threads → u ≢ t → rowsIn (moreRows a t) u ≡ rowsIn a u
     other-rows u h d = stays (rowsOf u) (omega arith) (omega arith)
@@ -219,7 +219,7 @@ module _ {p : Program} {n : ℕ} {owing most : ℕ → ℕ} (a : Numbers) (s : T
         }
       where
         kept : length (moreRows a t) ≡ length a
-        kept = number-kept (counted a) (rowsOf t) _ ∙ number-kept a begun _
+        kept = number-kept (counted a) (rowsOf t) _ ∙ number-kept a rowsBegun _
 
         yielded-now : (u : ℕ) → u < threads → number a (yields u) + given t 1 owing u ≤ rowsIn (moreRows a t) u
         yielded-now u h =

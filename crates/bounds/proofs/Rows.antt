@@ -351,7 +351,7 @@ module _ (p : Program) (fits : Fits p) (t n : ℕ) (rows owing waits least : ℕ
       let slot = Cell.newest (number (st .numbers) (count c)) in
       ending-going p n (Machine.reads (unsyncLoadDone st t c) t k 5 r slot 0)
       (reads-ending (unsyncLoadDone st t c) k 5 r slot 0 (unsync-at st c h (not-raised st s)))
-  acts-going st k (Table.exclusive c change r) h v s =
+  acts-going st k (Table.withMut c change r) h v s =
       ending-going p n (Machine.leavesIn (mutDone st t c change) t k 6 c r)
       (leaves-ending (mutDone st t c change) k 6 c r (mut-at st c change h (not-raised st s)))
   acts-going st k Table.yield h v s = yield-going st (oneMore k) _ v s

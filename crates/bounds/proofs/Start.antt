@@ -15,7 +15,7 @@ use Rattle.rules.specs.Vector.{zeros}
 use Rattle.rules.specs.Seen.{unseens}
 use Rattle.rules.specs.Table.{threadsOf, cellsOf, plainsOf}
 use Rattle.rules.specs.State.{State, Vector, vector, withVector, vectorAt, number, vectorsHeld, threads, cells, plains, history, none}
-use Rattle.rules.specs.State.{causality, mutated, rowsOf, yields, lastYield, operation, phase, count, activeThread, begun, exploring}
+use Rattle.rules.specs.State.{causality, mutated, rowsOf, yields, lastYield, operation, phase, count, activeThread, rowsBegun, exploring}
 use Rattle.rules.specs.Cell.{version, joinInto, withClocks}
 use Rattle.rules.specs.Plain.{plainWriteDone}
 use Rattle.rules.specs.Machine
@@ -166,8 +166,8 @@ module _ (p : Program) (fits : Fits p) where
   is-new : New (cellsOf (p .table)) (threadsOf (p .table)) (start p .numbers)
   is-new = start-new p (fits .few) (fits .held)
 
-  begun-none : number (start p .numbers) begun ≡ 0
-  begun-none = is-new .nothing begun (omega arith)
+  begun-none : number (start p .numbers) rowsBegun ≡ 0
+  begun-none = is-new .nothing rowsBegun (omega arith)
 
   rows-none : (u : ℕ) → u < threads → number (start p .numbers) (rowsOf u) ≡ 0
   rows-none u h = is-new .nothing (rowsOf u) (omega arith)

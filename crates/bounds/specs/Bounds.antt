@@ -20,7 +20,7 @@ use Rattle.rules.specs.Table.{threadsOf, cellsOf, plainsOf}
 use Rattle.rules.specs.Event.{offers, Question, whichThread, whichSlot, whichBit}
 use Rattle.rules.specs.State as State
 use Rattle.rules.specs.State.{State, Clocks, Numbers, Vector, vector, number, marksOf, vectorsHeld, numbersHeld, threads, cells, plains, history}
-use Rattle.rules.specs.State.{rowsOf, yields, lastYield, operation, phase, count, activeThread, begun}
+use Rattle.rules.specs.State.{rowsOf, yields, lastYield, operation, phase, count, activeThread, rowsBegun}
 use Rattle.rules.specs.Cell.{version, liveIn}
 use Rattle.rules.specs.Machine.{Program, toBegin, noOperation, current}
 use Rattle.rules.proofs.StateLaws.{inVectors}
@@ -111,12 +111,12 @@ pub record Tally (p : Program) (n : ℕ) (owing most : ℕ → ℕ) (a : Numbers
   -- one of the five threads is active
   pub runs : number a activeThread < threads
   -- rows begun are those that the threads began, and at most L
-  pub rows : ofAll (rowsIn a) ≡ number a begun
-  pub limit : number a begun ≤ p .operations
+  pub rows : ofAll (rowsIn a) ≡ number a rowsBegun
+  pub limit : number a rowsBegun ≤ p .operations
   -- each has its entry, or is still to act
-  pub entries : n + ofAll owing ≡ number a begun
+  pub entries : n + ofAll owing ≡ number a rowsBegun
   -- a cell has the store that it was made with, and at most one from each row that has acted
-  pub counts : (c : ℕ) → c < cells → number a (count c) + ofAll owing ≤ 1 + number a begun
+  pub counts : (c : ℕ) → c < cells → number a (count c) + ofAll owing ≤ 1 + number a rowsBegun
   -- a thread yields at most once for each row that it began
   pub yielded : (u : ℕ) → u < threads → number a (yields u) + owing u ≤ number a (rowsOf u)
   -- its last yield is none, or a version that it has reached

@@ -12,7 +12,7 @@ use condition::AT_LEAST;
 use condition::COMPARISON;
 use condition::CONDITION_BYTES;
 use condition::EQUALS;
-use condition::Extent as Judged;
+use condition::Extent;
 use layout::REGISTERS;
 use token::Found;
 
@@ -53,8 +53,8 @@ pub fn concluded(text: &[u8], at: usize, lines: usize, threads: usize) -> Conclu
     let bytes = all.bytes;
     let length = all.length;
     match condition::first_bad(token::part(&bytes, 0, length), threads) {
-        Judged::Bad(stop) => refused(text, at, lines, stop),
-        Judged::Ends(stop) => {
+        Extent::Bad(stop) => refused(text, at, lines, stop),
+        Extent::Ends(stop) => {
             if stop != length {
                 return refused(text, at, lines, stop);
             }

@@ -15,7 +15,7 @@ use Rattle.rules.specs.Change as rules
 use Rattle.decode.specs.declared.Op as code
 use Rattle.decode.specs.declared.fields.ChangeDecoded.{ChangeDecoded}
 use Rattle.decode.specs.Ops.{opOf, changeDecodedOf}
-use Rattle.rules.specs.Table.{Row, Room, Op, Decoded, refused, decoded, onlyIf, rowDecoded, changeDecoded, loadRow, storeRow, storeRegisterRow, rmwRow, fenceRow, unsyncLoadRow, exclusiveRow, opcodeOf, isFine, bareRow, joinRow, jumpRow, jumpOnRow, checkRow, spuriousRow, plainReadRow, plainWriteRow, anyOrder, isLoadOrder, isStoreOrder, isFenceOrder, isFailureOrder, isRegister, load, store, storeRegister, rmw, fence, unsyncLoad, exclusive, join, jump, check, spurious, plainRead, plainWrite}
+use Rattle.rules.specs.Table.{Row, Room, Op, Decoded, refused, decoded, onlyIf, rowDecoded, changeDecoded, loadRow, storeRow, storeRegisterRow, rmwRow, fenceRow, unsyncLoadRow, withMutRow, opcodeOf, isFine, bareRow, joinRow, jumpRow, jumpOnRow, checkRow, spuriousRow, plainReadRow, plainWriteRow, anyOrder, isLoadOrder, isStoreOrder, isFenceOrder, isFailureOrder, isRegister, load, store, storeRegister, rmw, fence, unsyncLoad, withMut, join, jump, check, spurious, plainRead, plainWrite}
 
 -- what the last arm of a match knows of x, that it is none of the numbers below n, in the form that a match hands over
 abbrev pub NoneBelow : ℕ → ℕ → Type 0
@@ -53,9 +53,9 @@ module _ (room : Room) (r : Row) where
   unfolding rowDecoded
   rmw-arm d e h = rw e (rw e at h)
 
-  pub exclusive-arm : (d : Decoded Op) → r .opcode ≡ 6 → d ≡ exclusiveRow (room .cells) r (changeDecoded (r .kind) (r .a) (r .b)) → d ≡ rowDecoded room r
+  pub with-mut-arm : (d : Decoded Op) → r .opcode ≡ 6 → d ≡ withMutRow (room .cells) r (changeDecoded (r .kind) (r .a) (r .b)) → d ≡ rowDecoded room r
   unfolding rowDecoded
-  exclusive-arm d e h = rw e (rw e at h)
+  with-mut-arm d e h = rw e (rw e at h)
 
   -- the arm of refusals
   pub beyond : 19 ≤ r .opcode → refused ≡ rowDecoded room r
@@ -145,14 +145,14 @@ pub unsync-load-made : (cells : ℕ) (r : Row) {n g p q : Bool} {cell register :
     d ≡ unsyncLoadRow cells r
 unsync-load-made cells r h e0 e1 e2 e3 e4 e5 = h ∙ rw (e0, e1, e2, e3, e4, e5) (simp (and-assoc, and-true))
 
-pub exclusive-made : (cells : ℕ) (r : Row) {n g : Bool} {cell register : ℕ} {d : Decoded Op} {w : Decoded rules.Change} {change : rules.Change} →
-    d ≡ onlyIf (n && g && eqb (r .order) 0 && eqb (r .failure) 0 && eqb (r .target) 0) (exclusive cell change register) →
+pub with-mut-made : (cells : ℕ) (r : Row) {n g : Bool} {cell register : ℕ} {d : Decoded Op} {w : Decoded rules.Change} {change : rules.Change} →
+    d ≡ onlyIf (n && g && eqb (r .order) 0 && eqb (r .failure) 0 && eqb (r .target) 0) (withMut cell change register) →
     decoded change ≡ w → n ≡ ltb (r .object) cells → g ≡ isRegister (r .register) → cell ≡ r .object → register ≡ r .register →
-    d ≡ exclusiveRow cells r w
-exclusive-made cells r h w e0 e1 e2 e3 = h ∙ rw (e0, e1, e2, e3, ← w) (simp (and-assoc, and-true))
+    d ≡ withMutRow cells r w
+with-mut-made cells r h w e0 e1 e2 e3 = h ∙ rw (e0, e1, e2, e3, ← w) (simp (and-assoc, and-true))
 
-pub exclusive-refused : (cells : ℕ) (r : Row) {w : Decoded rules.Change} → refused ≡ w → refused ≡ exclusiveRow cells r w
-exclusive-refused cells r w = rw (← w)
+pub with-mut-refused : (cells : ℕ) (r : Row) {w : Decoded rules.Change} → refused ≡ w → refused ≡ withMutRow cells r w
+with-mut-refused cells r w = rw (← w)
 
 pub fence-made : (r : Row) {p q : Bool} {d : Decoded Op} →
     d ≡ onlyIf (isFenceOrder (r .order) && eqb (r .object) 0 && p && eqb (r .register) 0 && eqb (r .target) 0 && q) (fence (r .order)) →

@@ -351,7 +351,7 @@ fn unsync_load_row(row: Row, cells: usize) -> Decoded
 
 // An exclusive change uses cell, change kind and register, and the operands of its change.
 fn with_mut_row(row: Row, cells: usize) -> Decoded
-    ensures { λ r. ⌜ decodedOf r ≡ rules.exclusiveRow cells (rowMeant row) (rules.changeDecoded (row .kind) (row .a) (row .b)) ⌝ }
+    ensures { λ r. ⌜ decodedOf r ≡ rules.withMutRow cells (rowMeant row) (rules.changeDecoded (row .kind) (row .a) (row .b)) ⌝ }
 {
     let ChangeDecoded::Change(change) = change_of(row.kind, row.a, row.b) else {
         return Decoded::Refused;

@@ -311,12 +311,12 @@ pub record Computed : Type 0 where
   pub no-ticks : length (madeBy Wrong.oneTick oneLoad (settings 3 1 1)) ≡ 1
   pub no-tick : faultIn (courseAt Wrong.oneTick oneLoad (settings 3 1 1) 0 .outcome) ≡ Event.impossible
   pub rows-there : There Wrong.oneRowMore twoLoads (settings 5 1 1) 0 3
-  pub rows-begun : number (walkAt Wrong.oneRowMore twoLoads (settings 5 1 1) 0 3 .state .numbers) State.begun ≡ 2
+  pub rows-begun : number (walkAt Wrong.oneRowMore twoLoads (settings 5 1 1) 0 3 .state .numbers) State.rowsBegun ≡ 2
   pub asleep-there : There Wrong.forgettingOne yieldAndLoad (settings 5 2 1) 0 2
   pub asleep-active : current (walkAt Wrong.forgettingOne yieldAndLoad (settings 5 2 1) 0 2 .state) ≡ 1
   pub asleep : number (walkAt Wrong.forgettingOne yieldAndLoad (settings 5 2 1) 0 2 .state .numbers) (State.state 0) ≡ Machine.yielded
   pub refused-made : length (madeBy Wrong.countingRefused twoLoads (settings 5 1 1)) ≡ 1
-  pub refused-begun : number (end (courseAt Wrong.countingRefused twoLoads (settings 5 1 1) 0) .state .numbers) State.begun ≡ 2
+  pub refused-begun : number (end (courseAt Wrong.countingRefused twoLoads (settings 5 1 1) 0) .state .numbers) State.rowsBegun ≡ 2
   pub raised-there : There Wrong.raising oneLoad (settings 3 1 1) 0 2
   pub raised-version : getD (vector (walkAt Wrong.raising oneLoad (settings 3 1 1) 0 2 .state .clocks) (State.causality 0)) 0 0 ≡ 4
   pub raised-rows : number (walkAt Wrong.raising oneLoad (settings 3 1 1) 0 2 .state .numbers) (State.rowsOf 0) ≡ 1

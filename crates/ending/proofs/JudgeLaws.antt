@@ -36,7 +36,7 @@ use Rattle.meeting.specs.Stands.{Lent, Stands, Comes, siteOf}
 use Rattle.meeting.specs.declared.Cursor.{Cursor}
 use Rattle.meeting.specs.declared.Outcome.{Outcome}
 use Rattle.meeting.specs.declared.Outcome.the-variants as code
-use Rattle.ending.specs.Ends.{metBy, nowhere, endedAs, judgedAs, Judges}
+use Rattle.ending.specs.Ends.{metBy, atNoSite, endedAs, judgedAs, Judges}
 use Rattle.ending.specs.declared.After.{After}
 use Rattle.ending.specs.declared.After.the-variants as afterwards
 
@@ -161,7 +161,7 @@ module _ (final : State → Bool) (x : Lent) (c : Cursor) (last : Bool) (past : 
         verdict = explorer.stopped events.impossible noSite;
         walk = w;
         is = refl;
-        fits = rw (answers-same a (answer.Stopped fault.Impossible nowhere) e) refl;
+        fits = rw (answers-same a (answer.Stopped fault.Impossible atNoSite) e) refl;
         stands = h;
         left = refl;
       }
@@ -184,7 +184,7 @@ module _ (final : State → Bool) (x : Lent) (c : Cursor) (last : Bool) (past : 
 
   pub goes-with : (o : Outcome) (t : Tick State) → Comes o c x t
       → afterwards.GoesOn ≡ judgedAs met o (openIn (leftBy t .ledger .path)) last → GoesWith final x c last past t
-  goes-with code.Goes (goes w) h e = absurd (answers-not (answer.Stopped fault.Impossible nowhere) (sym e))
+  goes-with code.Goes (goes w) h e = absurd (answers-not (answer.Stopped fault.Impossible atNoSite) (sym e))
   goes-with code.Goes (over w) h e = absurd h
   goes-with code.Goes (faulted g s w) h e = absurd h
   goes-with code.Ends (goes w) h e = absurd h

@@ -1,6 +1,6 @@
 -- What an execution that is over says of the run. Assumes nothing.
 --     metBy               whether the final condition holds at the end of an execution
---     nowhere             no thread and no row
+--     atNoSite             no thread and no row
 --     endedAs, judgedAs, Continues, Judges      what it says of the run
 --     Finished            the report of a run that stops
 use Prim.Native.Nat.{ℕ}
@@ -34,8 +34,8 @@ abbrev pub metBy : List ℕ → List ℕ → Values → Bool
 metBy table condition values = claims.holds (threadsOf table) (registerIn values) condition
 
 -- the site of a fault that no thread meets
-abbrev pub nowhere : Site
-nowhere = record { thread = noSite .thread; row = noSite .row }
+abbrev pub atNoSite : Site
+atNoSite = record { thread = noSite .thread; row = noSite .row }
 
 -- with so many choices open
 abbrev pub endedAs : Bool → ℕ → Bool → After
@@ -45,7 +45,7 @@ endedAs met n last =
 
 -- case by case as the definition's `after`: one that would still go on is the impossible outcome
 abbrev pub judgedAs : Bool → Outcome → ℕ → Bool → After
-judgedAs met outcome.Goes n last = afterwards.Answers (answer.Stopped fault.Impossible nowhere)
+judgedAs met outcome.Goes n last = afterwards.Answers (answer.Stopped fault.Impossible atNoSite)
 judgedAs met outcome.Ends n last = endedAs met n last
 judgedAs met (outcome.Stops f site) n last = afterwards.Answers (answer.Stopped f site)
 

@@ -10,6 +10,7 @@ use layout::wide8;
 use report::Answer;
 use report::Counts;
 use report::Report;
+use table::limits::THREAD_COUNT;
 use walk::Cursor;
 use walk::Outcome;
 use walk::Ticked;
@@ -37,7 +38,7 @@ pub fn judge_end(
         Outcome::Goes => {
             return After::Answers(Answer::Stopped {
                 fault: Fault::Impossible,
-                site: walk::nowhere(),
+                site: walk::no_site(),
             });
         }
         Outcome::Ends => {}
@@ -65,7 +66,7 @@ pub fn threads_of(table: &[u8]) -> usize
     if table.len() == 0 {
         return 0;
     }
-    wide8(table[0])
+    wide8(table[THREAD_COUNT])
 }
 
 // The report of a run that stops here.

@@ -21,6 +21,12 @@ pub struct Site {
     pub row: u16,
 }
 
+// A pending operation, what a thread is about to do and to which cell: the one that a row sets, or that a thread has.
+pub enum Pending {
+    Nothing,
+    On { action: u16, cell: usize },
+}
+
 // What is asked: which thread runs, which store is read, whether `branch_spurious` is set.
 pub enum Question {
     Thread,

@@ -68,7 +68,7 @@ pub fn next(
         return Moved::Stops(Fault::Impossible);
     };
     if to_begin {
-        let event = rows::begin(numbers, thread, limit, op);
+        let event = rows::begin(numbers, limit, thread, op);
         let Moved::Moves = event else {
             return event;
         };

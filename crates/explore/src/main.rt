@@ -7,8 +7,8 @@ use libc::STDOUT_FILENO;
 use options::Asked;
 use options::Options;
 use options::Task;
-use reader::ReadText;
 use reader::TABLE_BYTES;
+use reader::TextAnswer;
 use source::ROOM;
 
 mod file;
@@ -84,9 +84,9 @@ fn take(name: &[u8], bytes: &[u8], options: Options) {
     let mut table = [0u8; TABLE_BYTES];
     let mut condition = [0u8; CONDITION_BYTES];
     match reader::read(bytes, &mut table, &mut condition) {
-        ReadText::NoRoom => {}
-        ReadText::Refused(line, column) => tell::print_refusal(name, bytes, line, column),
-        ReadText::Taken(n, claimed) => perform(
+        TextAnswer::NoRoom => {}
+        TextAnswer::Refused(line, column) => tell::print_refusal(name, bytes, line, column),
+        TextAnswer::Taken(n, claimed) => perform(
             token::part(&table, 0, n),
             token::part(&condition, 0, claimed),
             options,

@@ -9,8 +9,8 @@ use borrow.Author.Tests.{eq-eqb, ne-eqb}
 use Rattle.rules.specs.Text.{readInto}
 use Rattle.rules.specs.Writer.{writtenInto}
 use Rattle.reader.specs.Lines.{answerOf, readOf}
-use Rattle.reader.specs.declared.ReadText.{ReadText}
-use Rattle.writer.specs.Answers.{writtenOf, answered}
+use Rattle.reader.specs.declared.TextAnswer.{TextAnswer}
+use Rattle.writer.specs.Answers.{writtenOf, withText}
 use Rattle.writer.specs.declared.Written.{Written}
 use Rattle.exports.specs.Texts.{readNumbers, readLeft, readBy, readEntered, writtenNumbers, writtenLeft, writtenBy, writtenEntered}
 
@@ -23,7 +23,7 @@ module _ (text table condition numbers : List ℕ) where
   unfolding readEntered
   read-so n = rw (eq-eqb (length numbers) 5 n) refl
 
-  pub read-made : length numbers ≡ 5 → (r : ReadText) (five : List ℕ) {exitTable exitCondition left : List ℕ}
+  pub read-made : length numbers ≡ 5 → (r : TextAnswer) (five : List ℕ) {exitTable exitCondition left : List ℕ}
       → readOf r exitTable exitCondition ≡ readInto text table condition
       → five ≡ readNumbers (answerOf r) → left ≡ five
       → readLeft (getD five 0 0) exitTable exitCondition left ≡ readEntered text table condition numbers
@@ -39,7 +39,7 @@ module _ (table condition text numbers : List ℕ) where
   written-so n = rw (eq-eqb (length numbers) 2 n) refl
 
   pub written-made : length numbers ≡ 2 → (r : Written) (two : List ℕ) {exitText left : List ℕ}
-      → answered r exitText ≡ writtenInto table condition text
+      → withText r exitText ≡ writtenInto table condition text
       → two ≡ writtenNumbers (writtenOf r) → left ≡ two
       → writtenLeft (getD two 0 0) exitText left ≡ writtenEntered table condition text numbers
   written-made n r two e f g = rw (g, f) (ap writtenBy e ∙ sym (written-so n))

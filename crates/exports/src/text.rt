@@ -6,14 +6,21 @@ ghost use Rattle.exports.specs.Texts.{readNumbers, writtenNumbers, readL
 use crate::NO_RUN;
 use crate::write_numbers;
 use condition::CONDITION_BYTES;
-use reader::ReadText;
 use reader::TABLE_BYTES;
+use reader::TextAnswer;
 use writer::Written;
 
 // How many numbers the two entries write.
 pub const READ_NUMBERS: usize = 5;
 
 pub const WRITE_NUMBERS: usize = 2;
+
+// What became of a text that was to be read or written, as the header for C has it.
+const DONE: u64 = 0;
+
+const REFUSED: u64 = 1;
+
+const NO_ROOM: u64 = 2;
 
 // Reads a text into a table and a condition. `numbers` takes exactly 5: 0 read, 1 refused, 2 a buffer too small; the lengths of table
 // and condition, or those that the buffers need; line and column of a refusal. Answers the first; with another length of `numbers`
@@ -55,13 +62,13 @@ pub extern "C" fn chjirvollu_write(
 }
 
 // The reader's answer as numbers.
-fn read_numbers(read: ReadText) -> [u64; READ_NUMBERS]
+fn read_numbers(read: TextAnswer) -> [u64; READ_NUMBERS]
     ensures { λ r. ⌜ r ≡ readNumbers (answerOf read) ⌝ }
 {
     match read {
-        ReadText::NoRoom => [2, TABLE_BYTES as u64, CONDITION_BYTES as u64, 0, 0],
-        ReadText::Refused(line, column) => [1, 0, 0, line as u64, column as u64],
-        ReadText::Taken(bytes, claimed) => [0, bytes as u64, claimed as u64, 0, 0],
+        TextAnswer::NoRoom => [NO_ROOM, TABLE_BYTES as u64, CONDITION_BYTES as u64, 0, 0],
+        TextAnswer::Refused(line, column) => [REFUSED, 0, 0, line as u64, column as u64],
+        TextAnswer::Taken(bytes, claimed) => [DONE, bytes as u64, claimed as u64, 0, 0],
     }
 }
 
@@ -70,8 +77,8 @@ fn written_numbers(written: Written) -> [u64; WRITE_NUMBERS]
     ensures { λ r. ⌜ r ≡ writtenNumbers (writtenOf written) ⌝ }
 {
     match written {
-        Written::Unfit => [1, 0],
-        Written::Short(needed) => [2, needed as u64],
-        Written::Text(length) => [0, length as u64],
+        Written::Unfit => [REFUSED, 0],
+        Written::Short(needed) => [NO_ROOM, needed as u64],
+        Written::Text(length) => [DONE, length as u64],
     }
 }

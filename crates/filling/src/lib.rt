@@ -17,9 +17,11 @@ use layout::MAX_CELLS;
 use layout::MAX_PLAINS;
 use layout::MAX_THREADS;
 use table::limits::CELL_COUNT;
+use table::limits::COUNT_OF_LAST;
 use table::limits::MAX_ROWS;
 use table::limits::PLAIN_COUNT;
 use table::limits::ROW_BYTES;
+use table::limits::THREAD_COUNT;
 use table::limits::VALUE_BYTES;
 use token::Found;
 
@@ -47,7 +49,7 @@ pub fn line_of(
 {
     let here = token::past_blanks(text, from);
     if text.len() <= here {
-        if table[0] == 0 {
+        if table[THREAD_COUNT] == 0 {
             return Line::Refused(here);
         }
         return Line::Ended;
@@ -97,7 +99,7 @@ fn a_thread(
     requires { ⌜ Holds (now table) length ⌝ }
     ensures { λ r. ⌜ Steps (now (text .entry)) (now (table .entry)) (now (table .exit)) length r (λ m. threadLine lines m (drop here (now (text .entry))) (drop to (now (text .entry)))) ⌝ }
 {
-    let threads = table[0] as usize;
+    let threads = table[THREAD_COUNT] as usize;
     if MAX_THREADS <= threads {
         return Line::Refused(here);
     }
@@ -119,11 +121,11 @@ fn a_row(
     requires { ⌜ Holds (now table) length ⌝ }
     ensures { λ r. ⌜ Steps (now (text .entry)) (now (table .entry)) (now (table .exit)) length r (λ m. rowLine all rows m (drop from (now (text .entry))) (drop here (now (text .entry)))) ⌝ }
 {
-    let threads = table[0] as usize;
+    let threads = table[THREAD_COUNT] as usize;
     if threads == 0 {
         return Line::Refused(here);
     }
-    let before = table[1 + threads] as usize;
+    let before = table[COUNT_OF_LAST + threads] as usize;
     if MAX_ROWS <= before {
         return Line::Refused(here);
     }
@@ -148,7 +150,7 @@ fn is_plain_line(text: &[u8], table: &[u8], here: usize, to: usize) -> bool
     requires { ⌜ headerBytes ≤ length (now table) ⌝ }
     ensures { λ r. ⌜ r ≡ isPlains (now (table .entry)) (part here to (now (text .entry))) ⌝ }
 {
-    if 0 < table[0] {
+    if 0 < table[THREAD_COUNT] {
         return false;
     }
     if 0 < table[PLAIN_COUNT] {
@@ -216,8 +218,8 @@ fn add_thread(table: &mut [u8], length: usize)
     requires { ⌜ Holds (now table) length × (getD (now table) 0 0 < 5) ⌝ }
     ensures { λ _. ⌜ Grows (now (table .entry)) (now (table .exit)) length length rules.withThread ⌝ }
 {
-    let threads = table[0];
-    table[0] = threads + 1;
+    let threads = table[THREAD_COUNT];
+    table[THREAD_COUNT] = threads + 1;
 }
 
 // One row more, in the thread that was begun last.
@@ -227,9 +229,9 @@ fn add_row(table: &mut [u8], length: usize, fields: Fields)
 {
     let bytes = form::row_bytes(fields);
     append(table, length, &bytes);
-    let thread = table[0] as usize;
-    let rows = table[1 + thread];
-    table[1 + thread] = rows + 1;
+    let thread = table[THREAD_COUNT] as usize;
+    let rows = table[COUNT_OF_LAST + thread];
+    table[COUNT_OF_LAST + thread] = rows + 1;
 }
 
 // Puts bytes into the buffer from a place on.

@@ -51,7 +51,7 @@ fn put_parts(page: &mut Page, at: usize, condition: &[u8], held: &Held, threads:
     ensures { λ r. ⌜ ended (now (page .exit)) r ≡ putParts (length (now (condition .entry))) (ended (now (page .entry)) at) (now (condition .entry)) threads (now (held .entry)) (nextFrom (now (condition .entry)) 0) ⌝ }
 {
     let mut to = at;
-    let mut from = unmet::next(condition, 0);
+    let mut from = unmet::next_comparison(condition, 0);
     let mut left = condition.len();
     while 0 < left {
         if condition.len() < COMPARISON {
@@ -62,7 +62,7 @@ fn put_parts(page: &mut Page, at: usize, condition: &[u8], held: &Held, threads:
         }
         let part = unmet::part_at(condition, held, from);
         to = put_comparison(page, to, &condition[from..from + COMPARISON], threads, part);
-        from = unmet::next(condition, from + COMPARISON);
+        from = unmet::next_comparison(condition, from + COMPARISON);
         left -= 1;
     }
     to

@@ -99,7 +99,7 @@ pub const FORMS: [u8; 904] = *b"\
 pub fn row_in(text: &[u8], at: usize, room: Room) -> RowRead
     ensures { λ r. ⌜ Reads (now (text .entry)) at (rowIn (roomOf room) (drop at (now (text .entry)))) r ⌝ }
 {
-    tried(&FORMS, text, at, room)
+    tried(text, &FORMS, at, room)
 }
 
 // A row's bytes: opcode, cell or thread, order, failure order, change kind, register, the jump target's two, and eight of each operand.
@@ -157,7 +157,7 @@ pub fn low_bytes(value: u64) -> [u8; 8]
 }
 
 // Tries one form after the other, and keeps the furthest place.
-fn tried(forms: &[u8], text: &[u8], at: usize, room: Room) -> RowRead
+fn tried(text: &[u8], forms: &[u8], at: usize, room: Room) -> RowRead
     requires { ⌜ now forms ≡ coded Form.forms ⌝ }
     ensures { λ r. ⌜ Reads (now (text .entry)) at (rowIn (roomOf room) (drop at (now (text .entry)))) r ⌝ }
 {
@@ -166,7 +166,7 @@ fn tried(forms: &[u8], text: &[u8], at: usize, room: Room) -> RowRead
     while from < forms.len() {
         let to = token::next_line(forms, from + 2);
         let words = token::part(forms, from + 2, to - 1);
-        let row = followed(words, text, blank(forms[from], forms[from + 1]), at, room);
+        let row = followed(text, words, blank(forms[from], forms[from + 1]), at, room);
         if row.fits {
             return row;
         }
@@ -198,7 +198,7 @@ fn blank(opcode: u8, kind: u8) -> Fields
 }
 
 // Follows a form along the line, word by word.
-fn followed(words: &[u8], text: &[u8], blank: Fields, at: usize, room: Room) -> RowRead
+fn followed(text: &[u8], words: &[u8], blank: Fields, at: usize, room: Room) -> RowRead
     ensures { λ r. ⌜ Follows (now (text .entry)) at (follow mostWords (roomOf room) (now (words .entry)) blank (drop at (now (text .entry)))) r ⌝ }
 {
     let mut fields = blank;
@@ -214,7 +214,7 @@ fn followed(words: &[u8], text: &[u8], blank: Fields, at: usize, room: Room) -> 
         from = token::token_end(words, start);
         to = token::token_end(text, here);
         let piece = token::part(words, start, from);
-        let Found::Value(value) = value_of(piece, text, room, here, to) else {
+        let Found::Value(value) = value_of(text, piece, here, to, room) else {
             return stuck(here);
         };
         let more = with_field(piece, fields, value);
@@ -249,11 +249,11 @@ fn stuck(at: usize) -> RowRead
 }
 
 // What a token stands for where a form has this piece: a letter alone stands for a field, every other word for itself.
-fn value_of(piece: &[u8], text: &[u8], room: Room, at: usize, to: usize) -> Found
+fn value_of(text: &[u8], piece: &[u8], at: usize, to: usize, room: Room) -> Found
     ensures { λ r. ⌜ foundOf r ≡ valueOf (roomOf room) (now (piece .entry)) (part at to (now (text .entry))) ⌝ }
 {
     if field_in(piece) < FIELDS {
-        return letter_in(text, room, piece[0], at, to);
+        return letter_in(text, piece[0], at, to, room);
     }
     if token::is_word(text, piece, at, to) {
         return Found::Value(0);
@@ -300,13 +300,13 @@ pub fn field_of(letter: u8) -> usize
 }
 
 // What a word stands for where a form has this letter.
-fn letter_in(text: &[u8], room: Room, letter: u8, at: usize, to: usize) -> Found
+fn letter_in(text: &[u8], letter: u8, at: usize, to: usize, room: Room) -> Found
     ensures { λ r. ⌜ foundOf r ≡ letterIn (roomOf room) letter (part at to (now (text .entry))) ⌝ }
 {
     let Found::Value(value) = kind_in(text, letter, at, to) else {
         return Found::Nothing;
     };
-    if may_be(room, letter, value) {
+    if may_be(letter, value, room) {
         return Found::Value(value);
     }
     Found::Nothing
@@ -335,7 +335,7 @@ fn kind_in(text: &[u8], letter: u8, at: usize, to: usize) -> Found
 }
 
 // Whether the field may have this value.
-fn may_be(room: Room, letter: u8, value: u64) -> bool
+fn may_be(letter: u8, value: u64, room: Room) -> bool
     ensures { λ r. ⌜ r ≡ mayBe (roomOf room) letter value ⌝ }
 {
     match letter {

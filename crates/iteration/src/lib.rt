@@ -102,7 +102,7 @@ fn walked(
         let next = ticked.cursor;
         now = next;
     }
-    walk::stops(Fault::Impossible, walk::nowhere(), now)
+    walk::stops(Fault::Impossible, walk::no_site(), now)
 }
 
 // More ticks than an execution of so many rows can take: one more than the definition's measure of its start.

@@ -7,7 +7,7 @@ use mathlib.Core.Bool.{Bool, true, false, cond, _&&_, _||_}
 use lib.Dec.{eqb}
 use Rattle.rules.specs.Change.{Changed, success, failure, applied}
 use Rattle.rules.specs.Event.{Entry}
-use Rattle.rules.specs.Table.{Op, Decoded, refused, decoded, opcodeOf, load, store, storeRegister, rmw, fence, unsyncLoad, exclusive, yield, join, jump, jumpIf, jumpUnless, check, critical, exploreState, skipBranch, spurious, plainRead, plainWrite}
+use Rattle.rules.specs.Table.{Op, Decoded, refused, decoded, opcodeOf, load, store, storeRegister, rmw, fence, unsyncLoad, withMut, yield, join, jump, jumpIf, jumpUnless, check, critical, exploreState, skipBranch, spurious, plainRead, plainWrite}
 use Rattle.rules.specs.Machine.{Role, loads, storesOperand, storesRegister, modifies, takesBit, otherwise, roleOf}
 use Rattle.steps.specs.Entries.{entryAt, operationAt}
 use Rattle.last_access.specs.declared.AccessKind.{AccessKind}
@@ -21,7 +21,7 @@ cellIn (storeRegister c o r) = c
 cellIn (rmw c o f change r) = c
 cellIn (fence o) = 255
 cellIn (unsyncLoad c r) = c
-cellIn (exclusive c change r) = c
+cellIn (withMut c change r) = c
 cellIn yield = 255
 cellIn (join thread) = 255
 cellIn (jump target) = 255

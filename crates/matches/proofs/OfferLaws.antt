@@ -21,37 +21,19 @@ use Rattle.rules.specs.Cell.{allSeqCst, fateFrom, loadFate, liveIn, matchedFrom
 use Rattle.rules.specs.Event as Event
 use Rattle.rules.specs.Event.{slotsFrom}
 use Rattle.vv.specs.declared.Ordering.{Ordering}
-use Rattle.vv.specs.declared.Ordering.the-variants as Orderings
-use Rattle.vv.specs.Compared as vv
-use Rattle.matches.specs.declared.Order.{Order}
-use Rattle.matches.specs.declared.Order.the-variants as Orders
+use Rattle.vv.specs.declared.Ordering.the-variants as Orders
+use Rattle.vv.specs.Compared.{compared}
 use Rattle.matches.specs.declared.Fate.{Fate}
 use Rattle.matches.specs.declared.Fate.the-variants as Fates
-use Rattle.matches.specs.Offers.{compared, fateOf, drops, Scan, slots, equalMet, offered}
+use Rattle.matches.specs.Offers.{fateOf, drops, Scan, slots, equalMet, offered}
 use Rattle.synchronize.proofs.SeenLaws.{seenSlots-at}
 
 -- Two stores, as they were read
 
--- what each answer about two vectors says of the orders
-abbrev orderFor : Ordering → Order
-orderFor Orderings.Less = Orders.Less
-orderFor Orderings.Equal = Orders.Equal
-orderFor Orderings.Neither = Orders.Other
-
-order-for : (same below : Bool) →
-    orderFor (cond same Orderings.Equal (cond below Orderings.Less Orderings.Neither)) ≡ cond same Orders.Equal (cond below Orders.Less Orders.Other)
-order-for true below = refl
-order-for false true = refl
-order-for false false = refl
-
 -- an answer about the two orders that were read is one about those of the stores
-pub compared-told : (clocks : Clocks) (c i j first second : ℕ) → first ≡ storeAt c i → second ≡ storeAt c j →
-    (r s : Ordering) → r ≡ vv.compared (vector clocks (order first)) (vector clocks (order second)) → r ≡ s →
-    orderFor s ≡ compared (orderOf clocks c i) (orderOf clocks c j)
-compared-told clocks c i j first second at by r s e told =
-    let a = orderOf clocks c i in
-    let b = orderOf clocks c j in
-    rw (← told, e, at, by) (order-for (Vectors.equal a b) (Vectors.less a b))
+pub compared-told : (clocks : Clocks) (c i j first second : ℕ) → first ≡ storeAt c i → second ≡ storeAt c j → (r : Ordering) →
+    r ≡ compared (vector clocks (order first)) (vector clocks (order second)) → r ≡ compared (orderOf clocks c i) (orderOf clocks c j)
+compared-told clocks c i j first second at by r e = rw (← at, ← by) e
 
 pub all-seq-cst : (numbers : Numbers) (c i j o first second : ℕ) → first ≡ storeAt c i → second ≡ storeAt c j →
     eqb o 4 && eqb (number numbers (isSeqCst first)) 1 && eqb (number numbers (isSeqCst second)) 1 ≡ allSeqCst numbers c i j o
@@ -60,14 +42,14 @@ all-seq-cst numbers c i j o first second e f = rw (e, f)
 -- A store's fate
 
 -- a store that is not the one judged: the scan ends at it, or goes on with the rest
-abbrev met : Order → Bool → rules.Fate → rules.Fate
+abbrev met : Ordering → Bool → rules.Fate → rules.Fate
 met Orders.Equal drop rest = rules.equalMet
 met Orders.Less drop rest = cond drop rules.dropped rest
-met Orders.Other drop rest = rest
+met Orders.Neither drop rest = rest
 
 -- the same, by the definition's tests
 by-tests : (same below drop : Bool) (rest : rules.Fate) →
-    met (cond same Orders.Equal (cond below Orders.Less Orders.Other)) drop rest
+    met (cond same Orders.Equal (cond below Orders.Less Orders.Neither)) drop rest
     ≡ elim same [ true ↦ rules.equalMet | false ↦ elim (below && drop) [ true ↦ rules.dropped | false ↦ rest ] ]
 by-tests true below drop rest = refl
 by-tests false true true rest = refl
@@ -97,13 +79,13 @@ module _ (clocks : Clocks) (c i : ℕ) (d : ℕ → Bool) (l j : ℕ) (whole : r
     unfolding fateFrom
     fate-own e = sym (fate-here clocks c i d l j h ∙ rw (eq-eqb j i e, fateFrom)) ∙ left
 
-    module _ (n : j ≢ i) (r s : Order) (e : r ≡ compared (orderOf clocks c i) (orderOf clocks c j)) (told : r ≡ s) where
+    module _ (n : j ≢ i) (r s : Ordering) (e : r ≡ compared (orderOf clocks c i) (orderOf clocks c j)) (told : r ≡ s) where
       pub fate-told : met s (d j) (fateFrom clocks c i d (l - (j + 1)) (j + 1)) ≡ whole
       fate-told =
-          ap (λ (o : Order). met o (d j) (fateFrom clocks c i d (l - (j + 1)) (j + 1))) (sym told ∙ e)
+          ap (λ (o : Ordering). met o (d j) (fateFrom clocks c i d (l - (j + 1)) (j + 1))) (sym told ∙ e)
           ∙ (sym (fate-met clocks c i d l j h n) ∙ left)
 
-    module _ (n : j ≢ i) (r : Order) (e : r ≡ compared (orderOf clocks c i) (orderOf clocks c j)) (told : r ≡ Orders.Less) where
+    module _ (n : j ≢ i) (r : Ordering) (e : r ≡ compared (orderOf clocks c i) (orderOf clocks c j)) (told : r ≡ Orders.Less) where
       pub fate-dropped : d j ≡ true → rules.dropped ≡ whole
       fate-dropped f = rw f at (fate-told n r Orders.Less e told)
 

@@ -1,5 +1,4 @@
 -- What the answers of a scan of a cell's stores stand for. Assumes nothing.
---     compared              how two orders compare
 --     fateOf, drops         what a scan says of a store, and which stores drop it
 --     scanned, offered      the slots that are written where no equal orders are met
 use Prim.Native.Nat.{ℕ}
@@ -7,21 +6,14 @@ use mathlib.Core.List.{List}
 use mathlib.Core.Bool.{Bool, false, cond, _||_}
 use lib.ListN.{length, getD}
 use lib.Seq.{sets}
-use Rattle.rules.specs.Vector as Vectors
 use Rattle.rules.specs.Cell as rules
 use Rattle.rules.specs.Event as Event
 use Rattle.rules.specs.Event.{slotsOf}
 use Rattle.rules.specs.State.{Numbers}
-use Rattle.matches.specs.declared.Order.{Order}
-use Rattle.matches.specs.declared.Order.the-variants as Orders
 use Rattle.matches.specs.declared.Fate.{Fate}
 use Rattle.matches.specs.declared.Fate.the-variants as Fates
 use Rattle.matches.specs.declared.Matched.{Matched}
 use Rattle.matches.specs.declared.Matched.the-variants as Answers
-
--- the first order against the second
-abbrev pub compared : List ℕ → List ℕ → Order
-compared a b = cond (Vectors.equal a b) Orders.Equal (cond (Vectors.less a b) Orders.Less Orders.Other)
 
 abbrev pub fateOf : Fate → rules.Fate
 fateOf Fates.Kept = rules.kept

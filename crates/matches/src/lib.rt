@@ -2,7 +2,8 @@
 ghost use mathlib.Core.Path.{_≡_};
 ghost use Prim.Native.Nat.{_<_};
 ghost use Rattle.rules.specs.Cell.{allSeqCst, fateFrom, liveIn, rmwFate, matchedLoad, matchedRmw, orderOf};
-ghost use Rattle.matches.specs.Offers.{compared, fateOf, drops, scanned, offered};
+ghost use Rattle.vv.specs.Compared.{compared};
+ghost use Rattle.matches.specs.Offers.{fateOf, drops, scanned, offered};
 use layout::Access;
 use layout::Clocks;
 use layout::MAX_ATOMIC_HISTORY;
@@ -33,13 +34,6 @@ pub enum Fate {
     Kept,
     Dropped,
     Equal,
-}
-
-// How the orders of two stores of a cell compare.
-pub enum Order {
-    Less,
-    Equal,
-    Other,
 }
 
 // Find all stores that could be returned by an atomic load: their slots, rising, at the start of `dst`. A store is offered
@@ -100,13 +94,13 @@ fn load_fate(
     while j < live {
         if j != i {
             match compare_orders(clocks, cell, i, j) {
-                Order::Equal => return Fate::Equal,
-                Order::Less => {
+                Ordering::Equal => return Fate::Equal,
+                Ordering::Less => {
                     if seen[j] || before_yield || all_seq_cst(numbers, cell, i, j, order) {
                         return Fate::Dropped;
                     }
                 }
-                Order::Other => {}
+                Ordering::Neither => {}
             }
         }
         j += 1;
@@ -151,9 +145,9 @@ fn rmw_fate(clocks: &Clocks, numbers: &Numbers, cell: usize, i: usize) -> Fate
     while j < live {
         if j != i {
             match compare_orders(clocks, cell, i, j) {
-                Order::Equal => return Fate::Equal,
-                Order::Less => return Fate::Dropped,
-                Order::Other => {}
+                Ordering::Equal => return Fate::Equal,
+                Ordering::Less => return Fate::Dropped,
+                Ordering::Neither => {}
             }
         }
         j += 1;
@@ -162,7 +156,7 @@ fn rmw_fate(clocks: &Clocks, numbers: &Numbers, cell: usize, i: usize) -> Fate
 }
 
 // Store i against store j in modification order.
-fn compare_orders(clocks: &Clocks, cell: usize, i: usize, j: usize) -> Order
+fn compare_orders(clocks: &Clocks, cell: usize, i: usize, j: usize) -> Ordering
     requires { ⌜ (cell < 4) × (i < 7) × (j < 7) ⌝ }
     ensures { λ r. ⌜ r ≡ compared (orderOf (now (clocks .entry)) cell i) (orderOf (now (clocks .entry)) cell j) ⌝ }
 {
@@ -170,11 +164,7 @@ fn compare_orders(clocks: &Clocks, cell: usize, i: usize, j: usize) -> Order
     let b = clocks[MODIFICATION_ORDER + store_at(cell, j)];
     let first = VersionVec { versions: a };
     let second = VersionVec { versions: b };
-    match first.partial_cmp(second) {
-        Ordering::Less => Order::Less,
-        Ordering::Equal => Order::Equal,
-        Ordering::Neither => Order::Other,
-    }
+    first.partial_cmp(second)
 }
 
 // Whether the load and both stores are SeqCst.

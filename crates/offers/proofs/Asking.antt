@@ -14,7 +14,7 @@ use Rattle.rules.specs.Table as Table
 use Rattle.rules.specs.Table.{Op, Decoded, refused, decoded}
 use Rattle.rules.specs.Event as Event
 use Rattle.rules.specs.Event.{Entry, Matched, Site, whichThread, whichSlot, whichBit, readSlot, Move, moves, asks, stops, ends}
-use Rattle.rules.specs.State.{State, number, count, marksOf, value, ofStore, storeAt, threads, begun, exploring}
+use Rattle.rules.specs.State.{State, number, count, marksOf, value, ofStore, storeAt, threads, rowsBegun, exploring}
 use Rattle.rules.specs.Cell.{AccessResult, raced, read, Race, noRace, raceOf, unlessRace, newest, sighted, loadRace, loadSynced, loadDone, byChange, succeeded, rmwDone, unsyncLoadDone, mutDone, matchedLoad, matchedRmw, storeRace, storeTracked, withClocks}
 use Rattle.rules.specs.Plain.{plainReadDone, plainWriteRace, plainWriteDone}
 use Rattle.rules.specs.Machine
@@ -106,7 +106,7 @@ module _ (p : Program) (st : State) (t k : ℕ) (row : Decoded Op) (s : State) w
   bare-ask (Table.rmw c o f change r) e = absurd e
   bare-ask (Table.fence o) e = tt
   bare-ask (Table.unsyncLoad c r) e = reads-ask (unsyncLoadDone s t c) 5 r (newest (number (s .numbers) (count c))) 0
-  bare-ask (Table.exclusive c change r) e = leaves-ask (mutDone s t c change) 6 c r
+  bare-ask (Table.withMut c change r) e = leaves-ask (mutDone s t c change) 6 c r
   bare-ask Table.yield e =
       schedules-ask (Machine.completed (Machine.yieldDone s t) t (oneMore k)) (entry t k 7 Machine.noSlot 0 0)
   bare-ask (Table.join target) e = joins-ask 8 target
@@ -129,7 +129,7 @@ module _ (p : Program) (st : State) (t k : ℕ) where
   begins-ask : (row : Decoded Op) (op : Op) → OfMove st t row (Machine.begins p st t k op)
   unfolding Machine.begins
   begins-ask row op =
-      pick (OfMove st t row) (leb (p .operations) (number (st .numbers) begun)) (λ e. tt)
+      pick (OfMove st t row) (leb (p .operations) (number (st .numbers) rowsBegun)) (λ e. tt)
       (λ e. begun-ask p st t k row (Machine.rowBegun st t) op (pendingOf op) refl)
 
   load-asks : (c o r : ℕ) → OfMove st t (decoded (Table.load c o r)) (Machine.acts p st t k (Table.load c o r))

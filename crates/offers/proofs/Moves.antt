@@ -16,7 +16,7 @@ use Rattle.rules.specs.Table.{Op, Decoded, refused, decoded}
 use Rattle.rules.specs.Event as Event
 use Rattle.rules.specs.Event.{Entry, whichThread, whichSlot, whichBit, Move, moves, asks, stops, ends}
 use Rattle.rules.specs.State as State
-use Rattle.rules.specs.State.{State, Numbers, Number, number, withNumber, numberAt, threads, count, causality, scheduleOf, stored, phase, nextRow, operation, operatesOn, begun, rowsOf, yields, lastYield, awaits, exploring, skipping}
+use Rattle.rules.specs.State.{State, Numbers, Number, number, withNumber, numberAt, threads, count, causality, scheduleOf, stored, phase, nextRow, operation, operatesOn, rowsBegun, rowsOf, yields, lastYield, awaits, exploring, skipping}
 use Rattle.rules.specs.Cell
 use Rattle.rules.specs.Cell.{AccessResult, raced, read, Race, noRace, raceOf, withClocks, joinInto}
 use Rattle.rules.specs.Plain.{plainReadDone, plainWriteRace, plainWriteDone}
@@ -255,7 +255,7 @@ module _ (t n : ℕ) (below : t < threads) (st : State) (sound : SoundState n st
   acts-next p k (Table.unsyncLoad c r) h =
       reads-next (Cell.unsyncLoadDone st t c) k 5 r (Cell.newest (number (st .numbers) (count c))) 0
       (λ m h. unsync-accessed t m below st (more m h .sound sound) c)
-  acts-next p k (Table.exclusive c change r) h =
+  acts-next p k (Table.withMut c change r) h =
       leaves-next (Cell.mutDone st t c change) k 6 c r (λ m h. mut-accessed t m below st (more m h .sound sound) c change)
   acts-next p k Table.yield h =
       schedules-next (completed (Machine.yieldDone st t) t (oneMore k)) (entry t k 7 noSlot 0 0)
@@ -282,9 +282,9 @@ module _ (t n : ℕ) (below : t < threads) (st : State) (sound : SoundState n st
   begun-calm : (m : ℕ) → n ≤ m → Calm n m st (Machine.rowBegun st t)
   begun-calm m h =
       let a = st .numbers in
-      let a1 = withNumber a begun (oneMore (number a begun)) in
+      let a1 = withNumber a rowsBegun (oneMore (number a rowsBegun)) in
       let a2 = withNumber a1 (rowsOf t) (oneMore (number a1 (rowsOf t))) in
-      let s1 : SameCounts a a1 = counts-then a a (none-counted a) begun (oneMore (number a begun)) (omega arith) in
+      let s1 : SameCounts a a1 = counts-then a a (none-counted a) rowsBegun (oneMore (number a rowsBegun)) (omega arith) in
       let s2 : SameCounts a a2 = counts-then a a1 s1 (rowsOf t) (oneMore (number a1 (rowsOf t))) (omega arith) in
       rest (Machine.rowBegun st t .numbers) (counts-then a a2 s2 (phase t) Machine.toAct (omega arith)) m h
 
@@ -336,11 +336,11 @@ module _ (t n : ℕ) (below : t < threads) (st : State) (sound : SoundState n st
   begun-long : 44 ≤ length (Machine.rowBegun st t .numbers)
   begun-long =
       let a = st .numbers in
-      let a1 = withNumber a begun (oneMore (number a begun)) in
+      let a1 = withNumber a rowsBegun (oneMore (number a rowsBegun)) in
       let a2 = withNumber a1 (rowsOf t) (oneMore (number a1 (rowsOf t))) in
       omega (
         arith,
-        number-kept a begun (oneMore (number a begun)),
+        number-kept a rowsBegun (oneMore (number a rowsBegun)),
         number-kept a1 (rowsOf t) (oneMore (number a1 (rowsOf t))),
         number-kept a2 (phase t) Machine.toAct,
       )
@@ -350,7 +350,7 @@ module _ (t n : ℕ) (below : t < threads) (st : State) (sound : SoundState n st
   unfolding Machine.begins
   begins-next p k op named =
       let calm = begun-calm t n below st sound long n (omega arith) in
-      pick (NextOf t n st) (leb (p .operations) (number (st .numbers) begun)) (λ e m h. calm-more n m st (omega arith))
+      pick (NextOf t n st) (leb (p .operations) (number (st .numbers) rowsBegun)) (λ e m h. calm-more n m st (omega arith))
       (λ e. before-next t n below calm (Machine.begunAs p (Machine.rowBegun st t) t k op (pendingOf op))
       (begun-next t n below (Machine.rowBegun st t) (calm .sound sound) begun-long p k op (pendingOf op) named))
 

@@ -13,7 +13,7 @@ use Rattle.rules.specs.Table as Table
 use Rattle.rules.specs.Table.{Op, Decoded, refused, decoded}
 use Rattle.rules.specs.Event as Event
 use Rattle.rules.specs.Event.{Entry, Matched, Question, whichThread, whichSlot, whichBit, Pick, Move, moves, asks, stops, ends}
-use Rattle.rules.specs.State.{State, number, threads, begun, count, exploring}
+use Rattle.rules.specs.State.{State, number, threads, rowsBegun, count, exploring}
 use Rattle.rules.specs.Cell
 use Rattle.rules.specs.Cell.{AccessResult, raced, read, Race, noRace, raceOf, withClocks}
 use Rattle.rules.specs.Plain.{plainReadDone, plainWriteRace, plainWriteDone}
@@ -88,7 +88,7 @@ module _ (st : State) (t k : ℕ) where
   acts-entries p (Table.fence o) = bare t k 4 (omega arith) (omega arith)
   acts-entries p (Table.unsyncLoad c r) =
       reads-entries (Cell.unsyncLoadDone st t c) 5 r (Cell.newest (number (st .numbers) (count c))) 0 (omega arith) (omega arith)
-  acts-entries p (Table.exclusive c change r) = leaves-entries (Cell.mutDone st t c change) 6 c r (omega arith) (omega arith)
+  acts-entries p (Table.withMut c change r) = leaves-entries (Cell.mutDone st t c change) 6 c r (omega arith) (omega arith)
   acts-entries p Table.yield =
       schedules-entries (Machine.completed (Machine.yieldDone st t) t (oneMore k)) (entry t k 7 noSlot 0 0)
       (bare t k 7 (omega arith) (omega arith))
@@ -114,7 +114,7 @@ module _ (st : State) (t k : ℕ) where
   begins-entries : (p : Program) (op : Op) → EntriesOf (Machine.begins p st t k op)
   unfolding Machine.begins
   begins-entries p op =
-      pick EntriesOf (leb (p .operations) (number (st .numbers) begun)) (λ e. tt)
+      pick EntriesOf (leb (p .operations) (number (st .numbers) rowsBegun)) (λ e. tt)
       (λ e. begun-entries (Machine.rowBegun st t) t k p op (pendingOf op))
 
   row-entries : (p : Program) (row : Decoded Op) → EntriesOf (Machine.ofRow p st t k row)

@@ -16,7 +16,7 @@ ghost use Rattle.path.specs.Steps.{AnyOpen, OpenIn, Steps};
 ghost use Rattle.path.specs.Walks.{LastOf, PreemptionsBefore, ExploringFrom, SwitchFrom, MarksAt, MarksBefore, Backtracks};
 use layout::MAX_ATOMIC_HISTORY;
 use layout::MAX_THREADS;
-pub use record::Offered;
+use record::Offered;
 use record::fields;
 use record::fields::RECORD;
 use record::fields::field;

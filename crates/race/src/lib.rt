@@ -22,15 +22,15 @@ pub fn put(
     ensures { λ r. ⌜ ended (now (page .exit)) r ≡ putRace (ended (now (page .entry)) at) (now (table .entry)) (now (trace .entry)) thread row kind other ⌝ }
 {
     let cell = cell_at(table, thread, row);
-    let to = put_met(page, at, cell, met(kind), thread, row);
-    put_before(page, to, table, trace, cell, against(kind), other)
+    let to = put_met(page, at, thread, row, cell, met(kind));
+    put_before(page, to, table, trace, other, cell, against(kind))
 }
 
 // The access that met the race, of the row at fault.
-fn put_met(page: &mut Page, at: usize, cell: u64, kind: AccessKind, thread: u64, row: u64) -> usize
+fn put_met(page: &mut Page, at: usize, thread: u64, row: u64, cell: u64, kind: AccessKind) -> usize
     ensures { λ r. ⌜ ended (now (page .exit)) r ≡ putMet (ended (now (page .entry)) at) cell kind thread row ⌝ }
 {
-    let to = put_where(page, at, kind, cell);
+    let to = put_where(page, at, cell, kind);
     let to = put_kind(page, to, kind);
     page::fill(page, to, b" of thread #, row #, against ", thread, row, 0)
 }
@@ -41,9 +41,9 @@ fn put_before(
     at: usize,
     table: &[u8],
     trace: &[u8],
+    other: u64,
     cell: u64,
     kind: AccessKind,
-    other: u64,
 ) -> usize
     ensures { λ r. ⌜ ended (now (page .exit)) r ≡ putBefore (ended (now (page .entry)) at) (now (table .entry)) (now (trace .entry)) cell kind other ⌝ }
 {
@@ -53,7 +53,7 @@ fn put_before(
 }
 
 // That it is a race on a cell, or on a plain cell.
-fn put_where(page: &mut Page, at: usize, met: AccessKind, cell: u64) -> usize
+fn put_where(page: &mut Page, at: usize, cell: u64, met: AccessKind) -> usize
     ensures { λ r. ⌜ ended (now (page .exit)) r ≡ putWhere (ended (now (page .entry)) at) met cell ⌝ }
 {
     match met {

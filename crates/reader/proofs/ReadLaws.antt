@@ -18,7 +18,7 @@ use Rattle.filling.specs.Tables.{Cleared, Blank}
 use Rattle.reader.specs.Lines.{Answers, Answered, Took, readOf}
 use Rattle.reader.specs.declared.Lines.{Lines}
 use Rattle.reader.specs.declared.Lines.the-variants as lines
-use Rattle.reader.specs.declared.ReadText.the-variants.{NoRoom, Refused, Taken}
+use Rattle.reader.specs.declared.TextAnswer.the-variants.{NoRoom, Refused, Taken}
 use Rattle.reader.proofs.WholeLaws.{blank-filled}
 
 pub cleared-blank : (least : ℕ) (entry exit : List ℕ) → Cleared entry exit → least ≤ length entry → Blank least exit

@@ -10,8 +10,8 @@ use Rattle.rules.specs.Text.{Draft}
 use Rattle.filling.specs.Tables.{Held}
 use Rattle.reader.specs.declared.Lines.{Lines}
 use Rattle.reader.specs.declared.Lines.the-variants as lines
-use Rattle.reader.specs.declared.ReadText.{ReadText}
-use Rattle.reader.specs.declared.ReadText.the-variants as reads
+use Rattle.reader.specs.declared.TextAnswer.{TextAnswer}
+use Rattle.reader.specs.declared.TextAnswer.the-variants as reads
 
 -- a whole text: the place where it is refused; or its bytes in both buffers
 pub record Took (table condition : List ℕ) (bytes claimed : ℕ) (read : rules.TextRead) : Type 0 where
@@ -34,11 +34,11 @@ pub record Answers (text table condition : List ℕ) (r : Lines) (read : rules.T
 pub record Closes (text table condition : List ℕ) (n : ℕ) (r : Lines) (read : Draft → rules.TextRead) : Type 0 where
   pub is : (m : Draft) → Held table n m → Answered text table condition r (read m)
 
-abbrev pub answerOf : ReadText → rules.TextAnswer
+abbrev pub answerOf : TextAnswer → rules.TextAnswer
 answerOf reads.NoRoom = rules.noRoom
 answerOf (reads.Refused line column) = rules.refused line column
 answerOf (reads.Taken bytes claimed) = rules.taken bytes claimed
 
 -- with what is left in both buffers
-abbrev pub readOf : ReadText → List ℕ → List ℕ → rules.ReadInto
+abbrev pub readOf : TextAnswer → List ℕ → List ℕ → rules.ReadInto
 readOf r table condition = record { answer = answerOf r; table = table; condition = condition }

@@ -10,10 +10,11 @@ use condition::CONDITION_BYTES;
 use filling::Line;
 use table::limits::HEADER_BYTES;
 pub use table::limits::TABLE_BYTES;
+use table::limits::THREAD_COUNT;
 
 // How a text was read: a buffer was too short; refused at a line and column, both from 1; or taken, with the lengths of its table and
 // its condition.
-pub enum ReadText {
+pub enum TextAnswer {
     NoRoom,
     Refused(usize, usize),
     Taken(usize, usize),
@@ -27,14 +28,14 @@ enum Lines {
 
 // Reads a text. A refusal leaves zeros in both buffers, and a text that is taken zeros behind its bytes; without room they stay as they
 // are.
-pub fn read(text: &[u8], table: &mut [u8], condition: &mut [u8]) -> ReadText
+pub fn read(text: &[u8], table: &mut [u8], condition: &mut [u8]) -> TextAnswer
     ensures { λ r. ⌜ readOf r (now (table .exit)) (now (condition .exit)) ≡ rules.readInto (now (text .entry)) (now (table .entry)) (now (condition .entry)) ⌝ }
 {
     if table.len() < TABLE_BYTES {
-        return ReadText::NoRoom;
+        return TextAnswer::NoRoom;
     }
     if condition.len() < CONDITION_BYTES {
-        return ReadText::NoRoom;
+        return TextAnswer::NoRoom;
     }
     filling::clear_all(table);
     filling::clear_all(condition);
@@ -43,9 +44,9 @@ pub fn read(text: &[u8], table: &mut [u8], condition: &mut [u8]) -> ReadText
             filling::clear_all(table);
             filling::clear_all(condition);
             let place = ahead::place_of(text, at);
-            ReadText::Refused(place.line, place.column)
+            TextAnswer::Refused(place.line, place.column)
         }
-        Lines::Taken(bytes, claimed) => ReadText::Taken(bytes, claimed),
+        Lines::Taken(bytes, claimed) => TextAnswer::Taken(bytes, claimed),
     }
 }
 
@@ -88,7 +89,7 @@ fn concluded(
     requires { ⌜ Holds (now table) length × Blank conditionBytes (now condition) ⌝ }
     ensures { λ r. ⌜ Closes (now (text .entry)) (now (table .entry)) (now (condition .exit)) length r (λ m. rules.concluded lines m (drop at (now (text .entry)))) ⌝ }
 {
-    let threads = table[0] as usize;
+    let threads = table[THREAD_COUNT] as usize;
     let end = claims::concluded(text, at, lines, threads);
     if !end.taken {
         return Lines::Refused(end.at);

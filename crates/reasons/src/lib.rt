@@ -24,6 +24,8 @@ use decode::opcodes::STORE;
 use decode::opcodes::STORE_REGISTER;
 use decode::opcodes::UNSYNC_LOAD;
 use decode::opcodes::WITH_MUT;
+use layout::order::RELAXED;
+use layout::order::RELEASE;
 
 // The fields of a row, in the order in which they are judged.
 pub enum Field {
@@ -129,7 +131,7 @@ fn first_fields(row: Row, own: usize, n: usize) -> Row
 fn blank_order(opcode: u8) -> u8
     ensures { λ r. ⌜ r ≡ blankOrder opcode ⌝ }
 {
-    byte_if(opcode == FENCE, 1, 0)
+    byte_if(opcode == FENCE, RELEASE, RELAXED)
 }
 
 // A jump may not lead to its own row, and at row 0 that is where a target of 0 leads.

@@ -11,7 +11,6 @@ use layout::MAX_THREADS;
 use layout::wide8;
 use layout::wide16;
 use page::Page;
-use table::COUNTS;
 use table::LAST_COUNT;
 use table::LAST_FIRST;
 use table::limits::CELL_COUNT;
@@ -19,6 +18,8 @@ use table::limits::HEADER_BYTES;
 use table::limits::MAX_ROWS;
 use table::limits::PLAIN_COUNT;
 use table::limits::ROW_BYTES;
+use table::limits::ROW_COUNTS;
+use table::limits::THREAD_COUNT;
 use table::limits::VALUE_BYTES;
 
 // Puts what is wrong first, in one line.
@@ -35,7 +36,7 @@ pub fn put(page: &mut Page, at: usize, table: &[u8]) -> usize
             0,
         );
     }
-    let threads = wide8(table[0]);
+    let threads = wide8(table[THREAD_COUNT]);
     if !is_count(threads, MAX_THREADS) {
         return page::fill(
             page,
@@ -74,7 +75,7 @@ fn put_behind(page: &mut Page, at: usize, table: &[u8], threads: usize) -> usize
 {
     let thread = bad_count(table, threads);
     if thread < MAX_THREADS {
-        let count = wide8(table[COUNTS + thread]);
+        let count = wide8(table[ROW_COUNTS + thread]);
         return put_rows(page, at, threads, thread, count);
     }
     let plains = wide8(table[PLAIN_COUNT]);
@@ -116,23 +117,13 @@ fn bad_count(table: &[u8], threads: usize) -> usize
 {
     let mut thread = 0;
     while thread < MAX_THREADS {
-        let count = wide8(table[COUNTS + thread]);
-        if !count_fine(threads, thread, count) {
+        let count = wide8(table[ROW_COUNTS + thread]);
+        if !table::count_fine(threads, thread, count) {
             return thread;
         }
         thread += 1;
     }
     MAX_THREADS
-}
-
-// Whether a thread may have so many rows: none where it is past the threads.
-fn count_fine(threads: usize, thread: usize, count: usize) -> bool
-    ensures { λ r. ⌜ r ≡ countFine threads thread count ⌝ }
-{
-    if thread < threads {
-        return count <= MAX_ROWS;
-    }
-    count == 0
 }
 
 // A thread has more rows than there may be.
@@ -144,7 +135,7 @@ fn put_rows(page: &mut Page, at: usize, threads: usize, thread: usize, count: us
         page,
         at,
         b"answer 5: refused: byte # says that thread # has # rows",
-        (COUNTS + thread) as u64,
+        (ROW_COUNTS + thread) as u64,
         thread as u64,
         count as u64,
     );

@@ -38,7 +38,7 @@ pub const PATH_LEFT: usize = 41;
 pub const TRACE_LEFT: usize = 42;
 
 // Where a case has a condition, it stands behind the answer.
-pub const CONDITION: usize = 43;
+pub const CONDITION: usize = FIELDS;
 
 // The longest table that a line may hold, longer than any that is accepted.
 pub const MOST_TABLE: usize = 8192;

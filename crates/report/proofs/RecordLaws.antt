@@ -10,7 +10,7 @@ use lib.ListN.{getD}
 use Rattle.rules.specs.Explored as explored
 use Rattle.rules.specs.Explored.{Summary, summary}
 use Rattle.rules.specs.Machine.{everyThread}
-use Rattle.rules.specs.State.{State, Clocks, Marks, Values, Numbers, begun, number}
+use Rattle.rules.specs.State.{State, Clocks, Marks, Values, Numbers, rowsBegun, number}
 use Rattle.rules.specs.Cell.{version}
 use Rattle.layout.specs.Tables.{state}
 use Rattle.report.specs.declared.Answer.{Answer}
@@ -52,7 +52,7 @@ refused-so a r s = cc
 
 pub finished-so :
     (a : Answer) (executions opened stillOpen rows : ℕ) (rs : List ThreadRecord) (st : State)
-    → rows ≡ number (st .numbers) begun
+    → rows ≡ number (st .numbers) rowsBegun
     → summariesOf rs ≡ map (summary st) everyThread
     → reportOf (record { answer = a; begun = executions; opened = opened; «open» = stillOpen; rows = rows; threads = rs })
     ≡ ranReport a executions opened stillOpen st

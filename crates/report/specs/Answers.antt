@@ -13,7 +13,7 @@ use Rattle.rules.specs.Explorer.{Verdict}
 use Rattle.rules.specs.Explored as explored
 use Rattle.rules.specs.Explored.{Summary, Report, verdictNumber, verdictKind, verdictOther, verdictSite, refused, summary}
 use Rattle.rules.specs.Machine.{everyThread}
-use Rattle.rules.specs.State.{State, number, begun}
+use Rattle.rules.specs.State.{State, number, rowsBegun}
 use lib.ListN.{replicate}
 use Rattle.event.specs.Moves.{faultOf}
 use Rattle.event.specs.declared.Site.{Site}
@@ -124,7 +124,7 @@ ranReport a executions opened stillOpen st = record {
   begun = executions;
   opened = opened;
   stillOpen = stillOpen;
-  rows = number (st .numbers) begun;
+  rows = number (st .numbers) rowsBegun;
   thread = threadAtFault a;
   row = rowAtFault a;
   kind = kindOf a;

@@ -69,7 +69,7 @@ pub fn absent() -> ThreadRecord
     ensures { λ r. ⌜ summaryOf r ≡ rules.noSummary ⌝ }
 {
     ThreadRecord {
-        state: 0,
+        state: thread::ABSENT,
         rows: 0,
         yields: 0,
         version: 0,

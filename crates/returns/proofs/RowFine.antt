@@ -16,7 +16,7 @@ use lib.Seq.{getD-drop}
 use borrow.Author.Tests.{eqb-true, ltb-true, ltb-false, eq-eqb, ne-eqb, not-true}
 use Rattle.rules.specs.Change as Change
 use Rattle.rules.specs.Change.{Change}
-use Rattle.rules.specs.Table.{Room, Row, Op, refused, onlyIf, isFine, rowDecoded, changeDecoded, rmwRow, exclusiveRow, isRegister, isLoadOrder, isStoreOrder, isFenceOrder, anyOrder, isFailureOrder, unused}
+use Rattle.rules.specs.Table.{Room, Row, Op, refused, onlyIf, isFine, rowDecoded, changeDecoded, rmwRow, withMutRow, isRegister, isLoadOrder, isStoreOrder, isFenceOrder, anyOrder, isFailureOrder, unused}
 use Rattle.rules.specs.Token.{bytesOf}
 use Rattle.rules.specs.Form.{Form, forms, fieldOf, blankFields}
 use Rattle.rules.specs.Writer.{formIn, fieldsOf}
@@ -159,7 +159,7 @@ module _ (room : Room) (ob or fa re t a b : ℕ) where
   rmw-only k true c = only-fine _ _
   rmw-only k false c = refl
 
-  mut-only : (k : ℕ) (x : Bool) (c : Change) → isFine (exclusiveRow (room .cells) (rowOf 6 ob or fa k re t a b) (onlyIf x c)) ≡
+  mut-only : (k : ℕ) (x : Bool) (c : Change) → isFine (withMutRow (room .cells) (rowOf 6 ob or fa k re t a b) (onlyIf x c)) ≡
       (x && (ltb ob (room .cells) && isRegister re && (eqb or 0 && (eqb fa 0 && (eqb t 0 && true)))))
   mut-only k true c = only-fine _ _
   mut-only k false c = refl
@@ -191,7 +191,7 @@ module _ (room : Room) (ob or fa re t a b : ℕ) where
       ▸ (rmw-only 12 (eqb a 0 && eqb b 0) Change.decrement
       ∙ rmw-decrement (ltb ob (room .cells)) (anyOrder or) (isFailureOrder 12 fa) (isRegister re) (eqb t 0) (eqb a 0) (eqb b 0))
 
-  mut-simple : (k : ℕ) (c : Change) → isFine (exclusiveRow (room .cells) (rowOf 6 ob or fa k re t a b) (onlyIf (eqb b 0) c)) ≡
+  mut-simple : (k : ℕ) (c : Change) → isFine (withMutRow (room .cells) (rowOf 6 ob or fa k re t a b) (onlyIf (eqb b 0) c)) ≡
       ((isRegister re && (ltb ob (room .cells) && true)) && (eqb or 0 && (eqb fa 0 && (eqb t 0 && (eqb b 0 && true)))))
   mut-simple k c = mut-only k (eqb b 0) c ∙ mut-plain (ltb ob (room .cells)) (isRegister re) (eqb or 0) (eqb fa 0) (eqb t 0) (eqb b 0)
 

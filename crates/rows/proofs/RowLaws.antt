@@ -23,7 +23,7 @@ use Rattle.rules.specs.Event as Event
 use Rattle.rules.specs.Event.{Move, moves, stops}
 use Rattle.rules.specs.Cell.{fenced}
 use Rattle.rules.specs.State as State
-use Rattle.rules.specs.State.{State, Clocks, Marks, Values, Numbers, number, withNumber, begun, rowsOf, phase, operation, operatesOn, exploring, skipping}
+use Rattle.rules.specs.State.{State, Clocks, Marks, Values, Numbers, number, withNumber, rowsBegun, rowsOf, phase, operation, operatesOn, exploring, skipping}
 use Rattle.rules.specs.Machine as machine
 use Rattle.rules.specs.Machine.{Role, loads, storesOperand, storesRegister, modifies, takesBit, otherwise, roleOf, roleIn, pendingAs, Program, begins, begunAs, rowBegun, withOperation, pendingOf, done, completed, entry, noSlot, versionRaised, fences, yieldDone, schedules, joins, joinedWith, blockedOn, jumps, checks, explores, bitTaken, isIn, ended, withNumbers}
 use Rattle.rules.specs.Table.{cellsOf, opcodeOf, opcodeIn}
@@ -38,8 +38,8 @@ use Rattle.decode.specs.declared.Op.the-variants as code
 use Rattle.decode.specs.declared.Decoded.{Decoded}
 use Rattle.decode.specs.declared.Decoded.the-variants.{Refused, Row as Says}
 use Rattle.decode.specs.Ops.{opOf, decodedOf, inRange, opWithin}
-use Rattle.rows.specs.declared.Pending.{Pending}
-use Rattle.rows.specs.declared.Pending.the-variants as pending
+use Rattle.event.specs.declared.Pending.{Pending}
+use Rattle.event.specs.declared.Pending.the-variants as pending
 use Rattle.rows.specs.Begins.{pendingSet, begunTo, thenActs}
 use Rattle.rows.specs.Pendings.{Pends}
 
@@ -77,25 +77,25 @@ module _ (r : Pending) (op : rules.Op) (means : Pends r (pendingOf op)) where
 
 -- A row begins
 
-pub begun-not : (st : State) (t limit : ℕ) (op : rules.Op) → limit ≤ number (st .numbers) begun → stops st Event.rows ≡ begunTo limit st t op
-begun-not st t limit op h = rw (le-leb limit (number (st .numbers) begun) h)
+pub begun-not : (st : State) (t limit : ℕ) (op : rules.Op) → limit ≤ number (st .numbers) rowsBegun → stops st Event.rows ≡ begunTo limit st t op
+begun-not st t limit op h = rw (le-leb limit (number (st .numbers) rowsBegun) h)
 
 module _ (clocks : Clocks) (marks : Marks) (values : Values) (numbers : Numbers) (t all own limit : ℕ) (op : rules.Op)
-    (counted : all ≡ oneMore (number numbers begun)) (mine : own ≡ oneMore (number (withNumber numbers begun all) (rowsOf t)))
-    (fewer : number numbers begun < limit) where
-  begun-as : state clocks marks values (withNumber (withNumber (withNumber numbers begun all) (rowsOf t) own) (phase t) machine.toAct) ≡ rowBegun (state clocks marks values numbers) t
+    (counted : all ≡ oneMore (number numbers rowsBegun)) (mine : own ≡ oneMore (number (withNumber numbers rowsBegun all) (rowsOf t)))
+    (fewer : number numbers rowsBegun < limit) where
+  begun-as : state clocks marks values (withNumber (withNumber (withNumber numbers rowsBegun all) (rowsOf t) own) (phase t) machine.toAct) ≡ rowBegun (state clocks marks values numbers) t
   begun-as = rw (mine, counted)
 
-  may-begin : leb limit (number numbers begun) ≡ false
-  may-begin = lt-leb limit (number numbers begun) fewer
+  may-begin : leb limit (number numbers rowsBegun) ≡ false
+  may-begin = lt-leb limit (number numbers rowsBegun) fewer
 
   pub begun-bare : pendingOf op ≡ machine.nothing →
-      moves (state clocks marks values (withNumber (withNumber (withNumber numbers begun all) (rowsOf t) own) (phase t) machine.toAct)) []
+      moves (state clocks marks values (withNumber (withNumber (withNumber numbers rowsBegun all) (rowsOf t) own) (phase t) machine.toAct)) []
       ≡ begunTo limit (state clocks marks values numbers) t op
   begun-bare n = rw (may-begin, n) (ap (λ (st : State). moves st []) begun-as)
 
   pub begun-asking : (action cell : ℕ) → pendingOf op ≡ machine.pends action cell →
-      schedules (state clocks marks values (withNumber (withNumber (withNumber (withNumber (withNumber numbers begun all) (rowsOf t) own) (phase t) machine.toAct) (operation t) action) (operatesOn t) cell)) []
+      schedules (state clocks marks values (withNumber (withNumber (withNumber (withNumber (withNumber numbers rowsBegun all) (rowsOf t) own) (phase t) machine.toAct) (operation t) action) (operatesOn t) cell)) []
       ≡ begunTo limit (state clocks marks values numbers) t op
   begun-asking action cell n = rw (may-begin, n) (ap (λ (st : State). schedules (withOperation st t action cell) []) begun-as)
 
@@ -111,7 +111,7 @@ module _ (p : Program) (t k : ℕ) (op : rules.Op) where
 
   pub begins-to : (st : State) → begins p st t k op ≡ thenActs p t k op (begunTo (p .operations) st t op)
   unfolding begins
-  begins-to st = unless (leb (p .operations) (number (st .numbers) begun)) st _ _ (set-acts (rowBegun st t) (pendingOf op))
+  begins-to st = unless (leb (p .operations) (number (st .numbers) rowsBegun)) st _ _ (set-acts (rowBegun st t) (pendingOf op))
 
 -- Rows that leave neither slot nor value
 

@@ -7,7 +7,7 @@ use mathlib.Core.Bool.{cond}
 use lib.Dec.{leb}
 use Rattle.rules.specs.Event as Event
 use Rattle.rules.specs.Event.{Move, moves, asks, stops, ends}
-use Rattle.rules.specs.State.{State, number, begun}
+use Rattle.rules.specs.State.{State, number, rowsBegun}
 use Rattle.rules.specs.Table.{Op}
 use Rattle.rules.specs.Machine.{Program, Pending, nothing, pends, pendingOf, rowBegun, withOperation, schedules, acts}
 
@@ -19,7 +19,7 @@ pendingSet st t (pends action c) = schedules (withOperation st t action c) []
 -- "12 a row is to begin with L begun", and is then counted nowhere
 abbrev pub begunTo : ℕ → State → ℕ → Op → Move State
 begunTo limit st t op =
-    cond (leb limit (number (st .numbers) begun)) (stops st Event.rows) (pendingSet (rowBegun st t) t (pendingOf op))
+    cond (leb limit (number (st .numbers) rowsBegun)) (stops st Event.rows) (pendingSet (rowBegun st t) t (pendingOf op))
 
 -- the definition's `begins` is this of `begunTo` (`begins-to` in proofs/RowLaws)
 abbrev pub thenActs : Program → ℕ → ℕ → Op → Move State → Move State

@@ -2,8 +2,8 @@
 use Prim.Native.Nat.{ℕ, _<_}
 use mathlib.Core.Path.{_≡_}
 use Rattle.rules.specs.Machine as rules
-use Rattle.rows.specs.declared.Pending.{Pending}
-use Rattle.rows.specs.declared.Pending.the-variants as code
+use Rattle.event.specs.declared.Pending.{Pending}
+use Rattle.event.specs.declared.Pending.the-variants as code
 
 abbrev pub pendingMeant : Pending → rules.Pending
 pendingMeant code.Nothing = rules.nothing

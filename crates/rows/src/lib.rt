@@ -17,6 +17,7 @@ use decode::Op;
 use event::Fault;
 use event::Moved;
 use event::NO_SLOT;
+use event::Pending;
 use event::Question;
 use event::Site;
 use layout::Clocks;
@@ -37,15 +38,9 @@ use layout::register_at;
 use synchronize::join_into;
 use track::access;
 
-// The pending operation that a row sets, with its cell; a row of opcodes from 4 on sets none.
-pub enum Pending {
-    Nothing,
-    On { action: u16, cell: usize },
-}
-
 // Begins a row, if fewer than the limit have begun. Opcodes 0 to 3 set their operation and call the scheduling first; where the
 // event is that it moves, the row is to act at once.
-pub fn begin(numbers: &mut Numbers, thread: usize, limit: u16, op: Op) -> Moved
+pub fn begin(numbers: &mut Numbers, limit: u16, thread: usize, op: Op) -> Moved
     requires { ⌜ (thread < 5) × inRange (opOf op) ⌝ }
     ensures { λ r. ⌜ ((clocks : rules.Clocks) (marks : rules.Marks) (values : rules.Values) (k opcode : ℕ) (m : Matched) → moveOf r thread k opcode m (state clocks marks values (now (numbers .exit))) ≡ begunTo limit (state clocks marks values (now (numbers .entry))) thread (opOf op)) ⌝ }
 {
@@ -66,6 +61,7 @@ pub fn begin(numbers: &mut Numbers, thread: usize, limit: u16, op: Op) -> Moved
     }
 }
 
+// The pending operation that a row sets, with its cell; a row of opcodes from 4 on sets none.
 fn pending_of(op: Op) -> Pending
     requires { ⌜ inRange (opOf op) ⌝ }
     ensures { λ r. ⌜ Pends r (machine.pendingOf (opOf op)) ⌝ }

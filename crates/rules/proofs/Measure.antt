@@ -9,7 +9,7 @@ use mathlib.Core.Logic.{_≢_}
 use native.Mathlib.Omega.{arith}
 use lib.ListN.{length}
 use Rattle.rules.specs.State as State
-use Rattle.rules.specs.State.{State, Numbers, Number, number, withNumber, numberAt, numbersHeld, threads, cells, operatesOn, phase, activeThread, begun}
+use Rattle.rules.specs.State.{State, Numbers, Number, number, withNumber, numberAt, numbersHeld, threads, cells, operatesOn, phase, activeThread, rowsBegun}
 use Rattle.rules.specs.Measure.{ticksLeft, ticksLeftOf, work, Whole}
 use Rattle.rules.proofs.StateLaws.{number-same, number-other, number-kept}
 use Rattle.rules.proofs.NumberLaws.{five-one, five-has, after}
@@ -20,7 +20,7 @@ pub record Is (t s ph b m : ℕ) (a : Numbers) : Type 0 where
   pub runs : number a activeThread ≡ t
   pub stands : number a (State.state t) ≡ s
   pub inPhase : number a (phase t) ≡ ph
-  pub rows : number a begun ≡ b
+  pub rows : number a rowsBegun ≡ b
   pub worth : work a ≡ m + ticksLeft s ph
 
 -- the number of this name was x; it is y after the write
@@ -34,7 +34,7 @@ Writes k v t s ph b s′ ph′ b′ =
     × (numberAt activeThread ≢ numberAt k)
     × Becomes k v (State.state t) s s′
     × Becomes k v (phase t) ph ph′
-    × Becomes k v begun b b′
+    × Becomes k v rowsBegun b b′
     × ((i : ℕ) → i < threads → numberAt (operatesOn i) ≡ numberAt k → v < cells)
 
 -- and it leaves the other threads' states and phases alone
@@ -59,7 +59,7 @@ module _ {t s ph b m : ℕ} {a : Numbers} (below : t < threads) (is : Is t s ph 
         runs = number-other a k activeThread v (w .1) ∙ is .runs;
         stands = stands;
         inPhase = inPhase;
-        rows = now begun b b′ (is .rows) (w .4);
+        rows = now rowsBegun b b′ (is .rows) (w .4);
         worth = e (ap₂ ticksLeft stands inPhase);
       }
 
@@ -84,8 +84,8 @@ module _ {t s ph b m : ℕ} {a : Numbers} (below : t < threads) (is : Is t s ph 
   pub toPhase : (v : ℕ) → Is t s v b m (withNumber a (phase t) v)
   toPhase v = write (phase t) v (omega arith)
 
-  pub toBegun : (v : ℕ) → Is t s ph v m (withNumber a begun v)
-  toBegun v = write begun v (omega arith)
+  pub toBegun : (v : ℕ) → Is t s ph v m (withNumber a rowsBegun v)
+  toBegun v = write rowsBegun v (omega arith)
 
   pub toCell : (v : ℕ) → v < cells → Is t s ph b m (withNumber a (operatesOn t) v)
   toCell v h = write (operatesOn t) v (omega arith)
@@ -116,10 +116,10 @@ module _ (a : Numbers) (t : ℕ) (below : t < threads) (whole : Whole a) where
   has-part = omega (arith, five-has (ticksLeftOf a) t below)
 
   pub seen : {s ph : ℕ} → number a activeThread ≡ t → number a (State.state t) ≡ s → number a (phase t) ≡ ph →
-      Is t s ph (number a begun) (otherWork a t) a
+      Is t s ph (number a rowsBegun) (otherWork a t) a
   seen e f g = record { whole = whole; runs = e; stands = f; inPhase = g; rows = refl; worth = omega (arith, has-part, ap₂ ticksLeft f g) }
 
-  pub toActive : Is t (number a (State.state t)) (number a (phase t)) (number a begun) (otherWork a t) (withNumber a activeThread t)
+  pub toActive : Is t (number a (State.state t)) (number a (phase t)) (number a rowsBegun) (otherWork a t) (withNumber a activeThread t)
   toActive =
       let k = activeThread in
       let stood : (i : ℕ) → i < threads → number (withNumber a k t) (State.state i) ≡ number a (State.state i) =
@@ -134,7 +134,7 @@ module _ (a : Numbers) (t : ℕ) (below : t < threads) (whole : Whole a) where
         runs = number-same a k t (omega (arith, whole .long));
         stands = stood t below;
         inPhase = phased t below;
-        rows = number-other a k begun t (omega arith);
+        rows = number-other a k rowsBegun t (omega arith);
         worth = omega (
           arith,
           has-part,

@@ -42,7 +42,7 @@ Names room (Table.storeRegister c o r) = c < room .cells
 Names room (Table.rmw c o f change r) = c < room .cells
 Names room (Table.fence o) = Unit
 Names room (Table.unsyncLoad c r) = c < room .cells
-Names room (Table.exclusive c change r) = c < room .cells
+Names room (Table.withMut c change r) = c < room .cells
 Names room Table.yield = Unit
 Names room (Table.join target) = target < room .threads
 Names room (Table.jump target) = target ≤ room .rows
@@ -95,9 +95,9 @@ module _ (room : Room) where
     unsync-names : RowNames (Table.unsyncLoadRow (room .cells) r)
     unsync-names = simp (only-names, and-eq-true-iff) (omega (arith, ltb-true))
 
-    exclusive-names : (change : Decoded Change) → RowNames (Table.exclusiveRow (room .cells) r change)
-    exclusive-names refused = none
-    exclusive-names (decoded change) = simp (only-names, and-eq-true-iff) (omega (arith, ltb-true))
+    with-mut-names : (change : Decoded Change) → RowNames (Table.withMutRow (room .cells) r change)
+    with-mut-names refused = none
+    with-mut-names (decoded change) = simp (only-names, and-eq-true-iff) (omega (arith, ltb-true))
 
     join-names : RowNames (Table.joinRow (room .threads) r)
     join-names = simp (only-names, and-eq-true-iff) (omega (arith, ltb-true))
@@ -126,7 +126,7 @@ module _ (room : Room) where
         (λ e. pick RowNames (eqb (r .opcode) 3) (λ e. rmw-names (Table.changeDecoded (r .kind) (r .a) (r .b)))
         (λ e. pick RowNames (eqb (r .opcode) 4) (λ e. simp only-names (λ e. tt))
         (λ e. pick RowNames (eqb (r .opcode) 5) (λ e. unsync-names)
-        (λ e. pick RowNames (eqb (r .opcode) 6) (λ e. exclusive-names (Table.changeDecoded (r .kind) (r .a) (r .b)))
+        (λ e. pick RowNames (eqb (r .opcode) 6) (λ e. with-mut-names (Table.changeDecoded (r .kind) (r .a) (r .b)))
         (λ e. pick RowNames (eqb (r .opcode) 7) (λ e. bare Table.yield tt)
         (λ e. pick RowNames (eqb (r .opcode) 8) (λ e. join-names)
         (λ e. pick RowNames (eqb (r .opcode) 9) (λ e. jump-names)
@@ -162,7 +162,7 @@ module _ (room : Room) (few : room .threads ≤ threads) (held : room .cells ≤
   names-more (Table.rmw c o f change r) h = omega arith
   names-more (Table.fence o) h = h
   names-more (Table.unsyncLoad c r) h = omega arith
-  names-more (Table.exclusive c change r) h = omega arith
+  names-more (Table.withMut c change r) h = omega arith
   names-more Table.yield h = h
   names-more (Table.join target) h = omega arith
   names-more (Table.jump target) h = h

@@ -15,7 +15,7 @@ use Rattle.rules.specs.Table.{Op}
 use Rattle.rules.specs.Event as Event
 use Rattle.rules.specs.Event.{Entry, Question, whichThread, whichSlot, whichBit, moves, asks, stops, ends}
 use Rattle.rules.specs.State as State
-use Rattle.rules.specs.State.{State, number, withNumber, threads, cells, phase, begun, nextRow, yields, lastYield, operation, awaits, count, isSeqCst, exploring, skipping, storeAt}
+use Rattle.rules.specs.State.{State, number, withNumber, threads, cells, phase, rowsBegun, nextRow, yields, lastYield, operation, awaits, count, isSeqCst, exploring, skipping, storeAt}
 use Rattle.rules.specs.Cell.{version, storeDone, slotOf, AccessResult, raced, read, Race, noRace, raceOf, loadDone, rmwDone, unsyncLoadDone, mutDone, storeRace, storeTracked, withClocks}
 use Rattle.rules.specs.Plain.{plainReadDone, plainWriteRace, plainWriteDone}
 use Rattle.rules.specs.Machine
@@ -52,7 +52,7 @@ unfolding measure
 measure-is p st is = omega (arith, is .worth, ap (λ (x : ℕ). 3 * (p .operations - x)) (is .rows))
 
 pub measure-part : (p : Program) (st : State) (t : ℕ) → t < threads → Whole (st .numbers) →
-    measure p st ≡ 3 * (p .operations - number (st .numbers) begun) + (otherWork (st .numbers) t + ticksLeftOf (st .numbers) t)
+    measure p st ≡ 3 * (p .operations - number (st .numbers) rowsBegun) + (otherWork (st .numbers) t + ticksLeftOf (st .numbers) t)
 unfolding measure
 measure-part p st t below whole = omega (arith, has-part (st .numbers) t below whole)
 
@@ -72,10 +72,10 @@ at-act can row e = (acts-same row can ∙ rw e refl, rw e refl)
 -- the active thread, where its row is to act
 module _ (p : Program) (n : ℕ) (st : State) (h : Acting p n st) where
   pub acting-is : Is (current st) (number (st .numbers) (State.state (current st))) (number (st .numbers) (phase (current st)))
-      (number (st .numbers) begun) (otherWork (st .numbers) (current st)) (st .numbers)
+      (number (st .numbers) rowsBegun) (otherWork (st .numbers) (current st)) (st .numbers)
   acting-is = seen (st .numbers) (current st) (h .ready .below) (h .ready .whole) refl refl refl
 
-  pub acting-most : 3 * (p .operations - number (st .numbers) begun) + (otherWork (st .numbers) (current st) + 7) ≤ n
+  pub acting-most : 3 * (p .operations - number (st .numbers) rowsBegun) + (otherWork (st .numbers) (current st) + 7) ≤ n
   acting-most = omega (arith, h .most, measure-is p st acting-is, at-act (h .ready .runs) (number (st .numbers) (phase (current st))) (h .acts))
 
 -- What a row that is to act does
@@ -173,7 +173,7 @@ module _ (p : Program) (t s ph b m n : ℕ) (below : t < threads) (can : CanAct 
   acts-lower st k (Table.rmw c o f change r) h is = asking (acting (Machine.versionRaised st t) is)
   acts-lower st k (Table.fence o) h is = finished (Machine.fences p st t o) (oneMore k) _ is
   acts-lower st k (Table.unsyncLoad c r) h is = reads-lower (unsyncLoadDone st t c) k 5 r _ 0 (unsync-leaves (Is t s ph b m) st t c is)
-  acts-lower st k (Table.exclusive c change r) h is = leaves-lower (mutDone st t c change) k 6 c r (mut-leaves (Is t s ph b m) st t c change is)
+  acts-lower st k (Table.withMut c change r) h is = leaves-lower (mutDone st t c change) k 6 c r (mut-leaves (Is t s ph b m) st t c change is)
   acts-lower st k Table.yield h is = yield-lower st (oneMore k) _ is
   acts-lower st k (Table.join target) h is = joins-lower st k 8 target is
   acts-lower st k (Table.jump target) h is = finished st _ _ is

@@ -13,7 +13,7 @@ use Rattle.rules.specs.Vector.{Whom, nobody, thread, largest, oneMore}
 use Rattle.rules.specs.Table.{Op, Decoded, refused, decoded}
 use Rattle.rules.specs.Event.{Event, runThread, readSlot, takeBit, moves}
 use Rattle.rules.specs.State as State
-use Rattle.rules.specs.State.{State, Numbers, number, withNumber, threads, phase, begun, activeThread, rowsOf, operation, accessBranch, nonLoadBranch}
+use Rattle.rules.specs.State.{State, Numbers, number, withNumber, threads, phase, rowsBegun, activeThread, rowsOf, operation, accessBranch, nonLoadBranch}
 use Rattle.rules.specs.Machine
 use Rattle.rules.specs.Machine.{Program, Pending, nothing, pends, roleIn, pendingOf, current, activeRow, activeRole, rowOf, rowCount, runnable, yielded, ended, toBegin, toAct, noOperation}
 use Rattle.rules.specs.Measure.{measure, Whole, CanAct, Ready}
@@ -32,11 +32,11 @@ module _ (p : Program) (limited : p .operations ≤ largest) (t s b m n : ℕ) (
 
   begun-is : (st : State) → At st → b < p .operations → Is t s toAct (b + 1) m (Machine.rowBegun st t .numbers)
   begun-is st is h =
-      let numbers = withNumber (st .numbers) begun (oneMore (number (st .numbers) begun)) in
-      let e : oneMore (number (st .numbers) begun) ≡ b + 1 = ap oneMore (is .rows) ∙ more-below b (omega arith) in
+      let numbers = withNumber (st .numbers) rowsBegun (oneMore (number (st .numbers) rowsBegun)) in
+      let e : oneMore (number (st .numbers) rowsBegun) ≡ b + 1 = ap oneMore (is .rows) ∙ more-below b (omega arith) in
       subst (λ (x : ℕ). Is t s toAct x m (Machine.rowBegun st t .numbers)) e
       (toPhase below
-      (aside below (toBegun below is (oneMore (number (st .numbers) begun))) (rowsOf t) (oneMore (number numbers (rowsOf t))) (omega arith))
+      (aside below (toBegun below is (oneMore (number (st .numbers) rowsBegun))) (rowsOf t) (oneMore (number numbers (rowsOf t))) (omega arith))
       toAct)
 
   begun-lower : (st : State) (k : ℕ) (op : Op) (pending : Pending) → OnCell (pendingOf op) → OnCell pending →
@@ -52,7 +52,7 @@ module _ (p : Program) (limited : p .operations ≤ largest) (t s b m n : ℕ) (
   begins-lower : (st : State) (k : ℕ) (op : Op) → OnCell (pendingOf op) → At st → Lower p n (Machine.begins p st t k op)
   unfolding Machine.begins
   begins-lower st k op h is =
-      pick (Lower p n) (leb (p .operations) (number (st .numbers) begun)) (λ e. stopping)
+      pick (Lower p n) (leb (p .operations) (number (st .numbers) rowsBegun)) (λ e. stopping)
       (λ e.
       let less : b < p .operations = omega (arith, leb-false, is .rows) in
       begun-lower (Machine.rowBegun st t) k op (pendingOf op) h h (begun-is st is less) less)
@@ -126,12 +126,12 @@ module _ (p : Program) (n : ℕ) where
 -- What the active thread does next
 module _ (p : Program) (limited : p .operations ≤ largest) (st : State) (r : Ready st) where
   begin-is : eqb (number (st .numbers) (phase (current st))) toBegin ≡ true →
-      Is (current st) (number (st .numbers) (State.state (current st))) toBegin (number (st .numbers) begun)
+      Is (current st) (number (st .numbers) (State.state (current st))) toBegin (number (st .numbers) rowsBegun)
       (otherWork (st .numbers) (current st)) (st .numbers)
   begin-is e = seen (st .numbers) (current st) (r .below) (r .whole) refl refl (eqb-true _ _ e)
 
   begin-most : eqb (number (st .numbers) (phase (current st))) toBegin ≡ true →
-      3 * (p .operations - number (st .numbers) begun) + (otherWork (st .numbers) (current st) + 5) ≤ measure p st
+      3 * (p .operations - number (st .numbers) rowsBegun) + (otherWork (st .numbers) (current st) + 5) ≤ measure p st
   begin-most e = omega (arith, measure-is p st (begin-is e), at-begin (r .runs))
 
   row-lower : (k : ℕ) (row : Decoded Op) → RoleOnCell (roleIn row) → Lower p (measure p st) (Machine.ofRow p st (current st) k row)

@@ -161,7 +161,7 @@ inNumbers (State.accessBranch c) = c < 4
 inNumbers (State.nonLoadBranch c) = c < 4
 inNumbers (State.isSeqCst s) = s < 28
 inNumbers State.activeThread = Unit
-inNumbers State.begun = Unit
+inNumbers State.rowsBegun = Unit
 inNumbers State.exploring = Unit
 inNumbers State.skipping = Unit
 inNumbers (State.awaits t) = t < 5
@@ -181,7 +181,7 @@ numberNamed n =
     (cond (ltb n 52) (State.nonLoadBranch (n - 48))
     (cond (ltb n 80) (State.isSeqCst (n - 52))
     (cond (ltb n 81) State.activeThread
-    (cond (ltb n 82) State.begun
+    (cond (ltb n 82) State.rowsBegun
     (cond (ltb n 83) State.exploring
     (cond (ltb n 84) State.skipping
     (State.awaits (n - 84)))))))))))))))))
@@ -201,7 +201,7 @@ number-found (State.accessBranch c) h = rw (past (44 + c) 5 (omega arith), past 
 number-found (State.nonLoadBranch c) h = rw (past (48 + c) 5 (omega arith), past (48 + c) 10 (omega arith), past (48 + c) 15 (omega arith), past (48 + c) 20 (omega arith), past (48 + c) 25 (omega arith), past (48 + c) 30 (omega arith), past (48 + c) 35 (omega arith), past (48 + c) 40 (omega arith), past (48 + c) 44 (omega arith), past (48 + c) 48 (omega arith), lt-ltb (48 + c) 52 (omega arith), within 48 c)
 number-found (State.isSeqCst s) h = rw (past (52 + s) 5 (omega arith), past (52 + s) 10 (omega arith), past (52 + s) 15 (omega arith), past (52 + s) 20 (omega arith), past (52 + s) 25 (omega arith), past (52 + s) 30 (omega arith), past (52 + s) 35 (omega arith), past (52 + s) 40 (omega arith), past (52 + s) 44 (omega arith), past (52 + s) 48 (omega arith), past (52 + s) 52 (omega arith), lt-ltb (52 + s) 80 (omega arith), within 52 s)
 number-found State.activeThread h = refl
-number-found State.begun h = refl
+number-found State.rowsBegun h = refl
 number-found State.exploring h = refl
 number-found State.skipping h = refl
 number-found (State.awaits t) h = rw (past (84 + t) 5 (omega arith), past (84 + t) 10 (omega arith), past (84 + t) 15 (omega arith), past (84 + t) 20 (omega arith), past (84 + t) 25 (omega arith), past (84 + t) 30 (omega arith), past (84 + t) 35 (omega arith), past (84 + t) 40 (omega arith), past (84 + t) 44 (omega arith), past (84 + t) 48 (omega arith), past (84 + t) 52 (omega arith), past (84 + t) 80 (omega arith), past (84 + t) 81 (omega arith), past (84 + t) 82 (omega arith), past (84 + t) 83 (omega arith), past (84 + t) 84 (omega arith), within 84 t)
@@ -246,7 +246,7 @@ numberAt-within (State.accessBranch c) h = omega arith
 numberAt-within (State.nonLoadBranch c) h = omega arith
 numberAt-within (State.isSeqCst s) h = omega arith
 numberAt-within State.activeThread h = omega arith
-numberAt-within State.begun h = omega arith
+numberAt-within State.rowsBegun h = omega arith
 numberAt-within State.exploring h = omega arith
 numberAt-within State.skipping h = omega arith
 numberAt-within (State.awaits t) h = omega arith

@@ -10,7 +10,7 @@ use Rattle.rules.specs.Table.{judged, good, badHeader, badRow, threadsOf
 use Rattle.rules.specs.Condition.{isCondition}
 use Rattle.rules.specs.Event.{Site, noSite, Entry, entryBytes, faultNumber, raceKind, otherThread}
 use Rattle.rules.specs.State as State
-use Rattle.rules.specs.State.{State, number, rowsOf, yields, begun}
+use Rattle.rules.specs.State.{State, number, rowsOf, yields, rowsBegun}
 use Rattle.rules.specs.Cell.{version}
 use Rattle.rules.specs.Machine.{Program, machine, absent, isIn, everyThread}
 use Rattle.rules.specs.Explorer.{Limits, Stop, Verdict, exhausted, spent, unmet, stopped, run}
@@ -117,7 +117,7 @@ reported r = record {
   begun = r .walk .ledger .begun;
   opened = r .walk .ledger .opened;
   stillOpen = openIn (r .walk .ledger .path);
-  rows = number (r .walk .state .numbers) begun;
+  rows = number (r .walk .state .numbers) rowsBegun;
   thread = verdictSite (r .verdict) .thread;
   row = verdictSite (r .verdict) .row;
   kind = verdictKind (r .verdict);

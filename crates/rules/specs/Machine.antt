@@ -20,7 +20,7 @@ use Rattle.rules.specs.Event as Event
 use Rattle.rules.specs.Event.{Entry, Matched, Point, nowhere, branch, Standing, whichThread, whichSlot, whichBit, Pick, runThread, readSlot, takeBit, noSite, Move, Machine, moves, asks, stops, ends}
 use Rattle.rules.specs.State as State
 use Rattle.rules.specs.State.{State, Clocks, Numbers, vector, withVector, value, withValue, number, withNumber, marksOf, registerAt, vectorsHeld, valuesHeld, numbersHeld, threads, cells, history, none}
-use Rattle.rules.specs.State.{causality, scheduleOf, mutated, lastAccess, lastNonLoad, ofRegister, ofStore, nextRow, rowsOf, yields, lastYield, operation, operatesOn, phase, awaits, count, accessBranch, nonLoadBranch, activeThread, begun, exploring, skipping}
+use Rattle.rules.specs.State.{causality, scheduleOf, mutated, lastAccess, lastNonLoad, ofRegister, ofStore, nextRow, rowsOf, yields, lastYield, operation, operatesOn, phase, awaits, count, accessBranch, nonLoadBranch, activeThread, rowsBegun, exploring, skipping}
 use Rattle.rules.specs.Plain.{plainReadDone, plainWriteRace, plainWriteDone}
 use Rattle.rules.specs.Cell.{joinInto, version, slotOf, newest, storeDone, storeRace, storeTracked, loadDone, rmwDone, unsyncLoadDone, mutDone, newestOf, fenced, matchedLoad, matchedRmw, AccessResult, raced, read, Race, noRace, raceOf, withClocks, withValues}
 
@@ -402,7 +402,7 @@ actsAs p st t k n (Table.rmw c o f change r) =
 actsAs p st t k n (Table.fence o) = done (fences p st t o) t k n
 actsAs p st t k n (Table.unsyncLoad c r) =
     reads (unsyncLoadDone st t c) t k n r (newest (number (st .numbers) (count c))) 0
-actsAs p st t k n (Table.exclusive c change r) = leavesIn (mutDone st t c change) t k n c r
+actsAs p st t k n (Table.withMut c change r) = leavesIn (mutDone st t c change) t k n c r
 actsAs p st t k n Table.yield = schedules (completed (yieldDone st t) t (oneMore k)) (entry t k n noSlot 0 0)
 actsAs p st t k n (Table.join target) = joins st t k n target
 actsAs p st t k n (Table.jump target) = jumps st t k n true target
@@ -439,7 +439,7 @@ roleOf (Table.storeRegister c o r) = storesRegister c o r
 roleOf (Table.rmw c o f change r) = modifies c o f change r
 roleOf (Table.fence o) = otherwise
 roleOf (Table.unsyncLoad c r) = otherwise
-roleOf (Table.exclusive c change r) = otherwise
+roleOf (Table.withMut c change r) = otherwise
 roleOf Table.yield = otherwise
 roleOf (Table.join target) = otherwise
 roleOf (Table.jump target) = otherwise
@@ -477,7 +477,7 @@ pendingOf op = pendingAs (roleOf op)
 -- "rows begun is a counted number"
 abbrev pub rowBegun : State → ℕ → State
 rowBegun st t =
-    let numbers = withNumber (st .numbers) begun (oneMore (number (st .numbers) begun)) in
+    let numbers = withNumber (st .numbers) rowsBegun (oneMore (number (st .numbers) rowsBegun)) in
     let numbers = withNumber numbers (rowsOf t) (oneMore (number numbers (rowsOf t))) in
     withNumbers st (withNumber numbers (phase t) toAct)
 
@@ -493,7 +493,7 @@ begunAs p st t k op (pends action c) = schedules (withOperation st t action c) [
 -- "12 a row is to begin with L begun" [Q1], and is then counted nowhere [Q2]
 unfoldable pub begins : Program → State → ℕ → ℕ → Op → Move State
 begins p st t k op =
-    cond (leb (p .operations) (number (st .numbers) begun)) (stops st Event.rows)
+    cond (leb (p .operations) (number (st .numbers) rowsBegun)) (stops st Event.rows)
     (begunAs p (rowBegun st t) t k op (pendingOf op))
 
 -- "Past its last row a thread ends, its pending operation none; only then are other threads' joins on it free.": "until the

@@ -9,7 +9,7 @@ use mathlib.Core.Logic.{_⊎_}
 use lib.Dec.{eqb}
 use lib.ListN.{length}
 use Rattle.rules.specs.State as State
-use Rattle.rules.specs.State.{State, Numbers, number, numbersHeld, threads, cells, operatesOn, phase, begun}
+use Rattle.rules.specs.State.{State, Numbers, number, numbersHeld, threads, cells, operatesOn, phase, rowsBegun}
 use Rattle.rules.specs.Machine.{Program, current, runnable, blocked, yielded, ended, toBegin}
 
 -- what a thread in this state, with its row to begin or to act, may still take: no tick for a row that is to begin, one for a
@@ -27,7 +27,7 @@ work numbers = ticksLeftOf numbers 0 + ticksLeftOf numbers 1 + ticksLeftOf numbe
 
 -- "12 a row is to begin with L begun": so many rows may still begin, and each takes at most three ticks
 unfoldable pub measure : Program → State → ℕ
-measure p st = 3 * (p .operations - number (st .numbers) begun) + work (st .numbers)
+measure p st = 3 * (p .operations - number (st .numbers) rowsBegun) + work (st .numbers)
 
 -- the numbers are all there, and every pending operation is on a cell: the access that a scheduling records is then among
 -- that cell's numbers

@@ -140,7 +140,7 @@ pub data Number : Type 0 where
   isSeqCst : ℕ → Number
   -- one each
   activeThread : Number
-  begun : Number
+  rowsBegun : Number
   exploring : Number
   skipping : Number
   -- of a thread
@@ -160,7 +160,7 @@ numberAt (accessBranch c) = 44 + c
 numberAt (nonLoadBranch c) = 48 + c
 numberAt (isSeqCst s) = 52 + s
 numberAt activeThread = 80
-numberAt begun = 81
+numberAt rowsBegun = 81
 numberAt exploring = 82
 numberAt skipping = 83
 numberAt (awaits t) = 84 + t

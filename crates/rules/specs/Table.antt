@@ -194,7 +194,7 @@ pub data Op : Type 0 where
   rmw : (cell order failure : ℕ) (change : Change) (register : ℕ) → Op
   fence : (order : ℕ) → Op
   unsyncLoad : (cell register : ℕ) → Op
-  exclusive : (cell : ℕ) (change : Change) (register : ℕ) → Op
+  withMut : (cell : ℕ) (change : Change) (register : ℕ) → Op
   yield : Op
   join : (thread : ℕ) → Op
   jump : (target : ℕ) → Op
@@ -216,7 +216,7 @@ opcodeOf (storeRegister cell order register) = 2
 opcodeOf (rmw cell order failure change register) = 3
 opcodeOf (fence order) = 4
 opcodeOf (unsyncLoad cell register) = 5
-opcodeOf (exclusive cell change register) = 6
+opcodeOf (withMut cell change register) = 6
 opcodeOf yield = 7
 opcodeOf (join thread) = 8
 opcodeOf (jump target) = 9
@@ -343,12 +343,12 @@ unsyncLoadRow cells r =
     && unused (r .order ∷ r .failure ∷ r .kind ∷ r .target ∷ r .a ∷ r .b ∷ []))
     (unsyncLoad (r .object) (r .register))
 
-abbrev pub exclusiveRow : ℕ → Row → Decoded Change → Decoded Op
-exclusiveRow cells r refused = refused
-exclusiveRow cells r (decoded change) =
+abbrev pub withMutRow : ℕ → Row → Decoded Change → Decoded Op
+withMutRow cells r refused = refused
+withMutRow cells r (decoded change) =
     onlyIf
     (ltb (r .object) cells && isRegister (r .register) && unused (r .order ∷ r .failure ∷ r .target ∷ []))
-    (exclusive (r .object) change (r .register))
+    (withMut (r .object) change (r .register))
 
 -- yield, `critical`, `explore_state`, `skip_branch`
 abbrev pub bareRow : Op → Row → Decoded Op
@@ -416,7 +416,7 @@ rowDecoded room r =
     (cond (eqb (r .opcode) 3) (rmwRow (room .cells) r (changeDecoded (r .kind) (r .a) (r .b)))
     (cond (eqb (r .opcode) 4) (fenceRow r)
     (cond (eqb (r .opcode) 5) (unsyncLoadRow (room .cells) r)
-    (cond (eqb (r .opcode) 6) (exclusiveRow (room .cells) r (changeDecoded (r .kind) (r .a) (r .b)))
+    (cond (eqb (r .opcode) 6) (withMutRow (room .cells) r (changeDecoded (r .kind) (r .a) (r .b)))
     (cond (eqb (r .opcode) 7) (bareRow yield r)
     (cond (eqb (r .opcode) 8) (joinRow (room .threads) r)
     (cond (eqb (r .opcode) 9) (jumpRow (room .rows) (room .row) r)

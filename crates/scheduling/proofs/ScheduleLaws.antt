@@ -27,8 +27,8 @@ use Rattle.layout.specs.Tables.{state}
 use Rattle.track.specs.LastAccess.{grown, accessed}
 use Rattle.thread.proofs.ThreadLaws.{one-left, none-left}
 use Rattle.scheduling.specs.Schedules.{On, operationMeans, orFive}
-use Rattle.scheduling.specs.declared.Operation.{Operation}
-use Rattle.scheduling.specs.declared.Operation.the-variants as answer
+use Rattle.event.specs.declared.Pending.{Pending}
+use Rattle.event.specs.declared.Pending.the-variants as answer
 
 -- A thread's pending operation
 
@@ -50,7 +50,7 @@ module _ (clocks : Clocks) (marks : Marks) (values : Values) (numbers : Numbers)
   pub operation-some : c < 4 → number numbers (operation t) ≢ noOperation → On here t (number numbers (operation t)) c
   operation-some h n = record { is = rw (← on, lt-ltb c 4 h); some = n; on = sym on; within = h }
 
-module _ (r : Operation) (st : State) (t : ℕ) (means : operationMeans r st t) where
+module _ (r : Pending) (st : State) (t : ℕ) (means : operationMeans r st t) where
   pub means-none : r ≡ answer.Nothing → operationOf st t ≡ noOperation
   means-none e = rw e at means
 

@@ -11,8 +11,8 @@ use Rattle.rules.specs.Vector.{Whom, nobody, thread}
 use Rattle.rules.specs.Machine.{operationOf, cellOf, noOperation}
 use Rattle.scheduling.specs.declared.Point.{Point}
 use Rattle.scheduling.specs.declared.Point.the-variants as place
-use Rattle.scheduling.specs.declared.Operation.{Operation}
-use Rattle.scheduling.specs.declared.Operation.the-variants as operation
+use Rattle.event.specs.declared.Pending.{Pending}
+use Rattle.event.specs.declared.Pending.the-variants as operation
 
 abbrev pub pointOf : Point → rules.Point
 pointOf place.Nowhere = rules.nowhere
@@ -25,7 +25,7 @@ pub record On (st : State) (t action cell : ℕ) : Type 0 where
   pub on : cellOf st t ≡ cell
   pub within : cell < 4
 
-abbrev pub operationMeans : Operation → State → ℕ → Type 0
+abbrev pub operationMeans : Pending → State → ℕ → Type 0
 operationMeans operation.Nothing st t = operationOf st t ≡ noOperation
 operationMeans (operation.On action cell) st t = On st t action cell
 

@@ -15,6 +15,7 @@ ghost use Rattle.event.specs.Moves.{moveOf};
 ghost use Rattle.scheduling.specs.Schedules.{pointOf, operationMeans, orFive};
 use event::Fault;
 use event::Moved;
+use event::Pending;
 use layout::Clocks;
 use layout::MAX_CELLS;
 use layout::MAX_THREADS;
@@ -38,26 +39,20 @@ pub enum Point {
     Branch(u16),
 }
 
-// What a thread is about to do, and to which cell.
-pub enum Operation {
-    Nothing,
-    On { action: u16, cell: usize },
-}
-
 // A thread's pending operation. One on a cell that is none, which no row sets, counts as none.
-pub fn pending_operation(numbers: &Numbers, thread: usize) -> Operation
+pub fn pending_operation(numbers: &Numbers, thread: usize) -> Pending
     requires { ⌜ thread < 5 ⌝ }
     ensures { λ r. ⌜ ((clocks : rules.Clocks) (marks : rules.Marks) (values : rules.Values) → operationMeans r (state clocks marks values (now (numbers .entry))) thread) ⌝ }
 {
     let action = numbers[OPERATION + thread];
     if action == NO_OPERATION {
-        return Operation::Nothing;
+        return Pending::Nothing;
     }
     let cell = wide16(numbers[OBJECT + thread]);
     if MAX_CELLS <= cell {
-        return Operation::Nothing;
+        return Pending::Nothing;
     }
-    Operation::On { action, cell }
+    Pending::On { action, cell }
 }
 
 // Rule (a): the branch of the access that a thread's pending operation is concurrent with. That branch is to be backtracked
@@ -66,7 +61,7 @@ pub fn conflict(clocks: &Clocks, numbers: &Numbers, thread: usize) -> Point
     requires { ⌜ thread < 5 ⌝ }
     ensures { λ r. ⌜ ((marks : rules.Marks) (values : rules.Values) → pointOf r ≡ machine.conflict (state (now (clocks .entry)) marks values (now (numbers .entry))) thread) ⌝ }
 {
-    let Operation::On { action, cell } = pending_operation(numbers, thread) else {
+    let Pending::On { action, cell } = pending_operation(numbers, thread) else {
         return Point::Nowhere;
     };
     if access::is_concurrent(clocks, numbers, thread, action, cell) {
@@ -152,7 +147,7 @@ fn choose(clocks: &mut Clocks, numbers: &mut Numbers, chosen: usize, branch: u16
     ensures { λ _. ⌜ ((marks : rules.Marks) (values : rules.Values) → state (now (clocks .exit)) marks values (now (numbers .exit)) ≡ machine.switched (state (now (clocks .entry)) marks values (now (numbers .entry))) chosen branch) ⌝ }
 {
     numbers[ACTIVE_THREAD] = chosen as u16;
-    if let Operation::On { action, cell } = pending_operation(numbers, chosen) {
+    if let Pending::On { action, cell } = pending_operation(numbers, chosen) {
         access::set_last_access(clocks, numbers, chosen, action, cell, branch);
     }
     thread::reactivate(numbers, chosen);

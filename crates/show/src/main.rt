@@ -4,8 +4,8 @@ use condition::CONDITION_BYTES;
 use libc::STDERR_FILENO;
 use libc::STDIN_FILENO;
 use path::Bound;
-use reader::ReadText;
 use reader::TABLE_BYTES;
+use reader::TextAnswer;
 use settings::MAX_BRANCHES;
 use settings::MAX_EXECUTIONS;
 use settings::MAX_OPERATIONS;
@@ -37,9 +37,9 @@ fn take(bytes: &[u8]) {
     let mut table = [0u8; TABLE_BYTES];
     let mut condition = [0u8; CONDITION_BYTES];
     match reader::read(bytes, &mut table, &mut condition) {
-        ReadText::NoRoom => {}
-        ReadText::Refused(line, column) => tell::print_refusal(b"", bytes, line, column),
-        ReadText::Taken(n, claimed) => show(
+        TextAnswer::NoRoom => {}
+        TextAnswer::Refused(line, column) => tell::print_refusal(b"", bytes, line, column),
+        TextAnswer::Taken(n, claimed) => show(
             token::part(&table, 0, n),
             token::part(&condition, 0, claimed),
         ),

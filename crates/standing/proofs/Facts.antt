@@ -15,7 +15,7 @@ use lib.ListN.{length}
 use borrow.Author.Tests.{eqb-true, eq-eqb, ne-eqb}
 use Rattle.rules.specs.Table.{threadsOf, cellsOf}
 use Rattle.rules.specs.State as State
-use Rattle.rules.specs.State.{State, Numbers, Number, number, withNumber, numberAt, numbersHeld, threads, cells, nextRow, rowsOf, phase, count, begun, awaits}
+use Rattle.rules.specs.State.{State, Numbers, Number, number, withNumber, numberAt, numbersHeld, threads, cells, nextRow, rowsOf, phase, count, rowsBegun, awaits}
 use Rattle.rules.specs.Machine.{Program, forThreads, awake, freed, isIn, absent, runnable, blocked, yielded, ended, current}
 use Rattle.rules.specs.Measure.{CanAct}
 use Rattle.rules.proofs.StateLaws.{number-same, number-other, number-kept}
@@ -264,7 +264,7 @@ module _ (p : Program) (held : cellsOf (p .table) ≤ cells) (few : threadsOf (p
 
   -- What stands in a state, with this thread apart: the active one, or another
   pub opened : (st : State) (n u : ℕ) → (u ≢ 0 → t ≡ current st) → Over p st n →
-      Facts p t (number (st .numbers) (nextRow t)) (underWay (st .numbers) - number (st .numbers) (phase t)) (number (st .numbers) begun) u
+      Facts p t (number (st .numbers) (nextRow t)) (underWay (st .numbers) - number (st .numbers) (phase t)) (number (st .numbers) rowsBegun) u
       (st .numbers)
   opened st n u same h = record {
     long = h .whole .long;

@@ -10,7 +10,7 @@ use Rattle.rules.specs.Table as Table
 use Rattle.rules.specs.Table.{Op, decoded, roomOf, threadsOf, cellsOf, judged, good}
 use Rattle.rules.specs.Event.{Matched, readSlot, takeBit}
 use Rattle.rules.specs.State as State
-use Rattle.rules.specs.State.{State, Numbers, number, marksOf, threads, cells, phase, begun, nextRow, awaits, count}
+use Rattle.rules.specs.State.{State, Numbers, number, marksOf, threads, cells, phase, rowsBegun, nextRow, awaits, count}
 use Rattle.rules.specs.Cell.{matchedLoad, matchedRmw, liveIn}
 use Rattle.rules.specs.Machine as Machine
 use Rattle.rules.specs.Machine.{Program, current, activeOp, activeRole, rowCount, toAct}
@@ -64,7 +64,7 @@ module _ (p : Program) (held : cellsOf (p .table) ≤ cells) (few : threadsOf (p
   w = number a (awaits t)
 
   abbrev b : ℕ
-  b = number a begun
+  b = number a rowsBegun
 
   abbrev q : ℕ
   q = underWay a - number a (phase t)

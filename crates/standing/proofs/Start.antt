@@ -6,7 +6,7 @@ use native.Mathlib.Omega.{arith}
 use native.Mathlib.Decide.{decLt}
 use Rattle.rules.specs.Table.{threadsOf, cellsOf}
 use Rattle.rules.specs.State as State
-use Rattle.rules.specs.State.{number, threads, cells, nextRow, rowsOf, phase, activeThread, begun}
+use Rattle.rules.specs.State.{number, threads, cells, nextRow, rowsOf, phase, activeThread, rowsBegun}
 use Rattle.rules.specs.Machine.{Program, start, runnable}
 use Rattle.rules.proofs.NumberLaws.{five-same}
 use Rattle.rules.proofs.MeasureStart.{New, start-new, start-ready}
@@ -28,8 +28,8 @@ module _ (p : Program) (some : 1 ≤ threadsOf (p .table)) (few : threadsOf (p .
       (number (start p .numbers) (nextRow i) ≡ 0) × (number (start p .numbers) (phase i) ≡ 0) × (number (start p .numbers) (rowsOf i) ≡ 0)
   rows i h = (is-new .nothing (nextRow i) (omega arith), is-new .nothing (phase i) (omega arith), is-new .nothing (rowsOf i) (omega arith))
 
-  none : number (start p .numbers) begun ≡ 0
-  none = is-new .nothing begun (omega arith)
+  none : number (start p .numbers) rowsBegun ≡ 0
+  none = is-new .nothing rowsBegun (omega arith)
 
   stands : (i : ℕ) → i < threads → ThreadIn p (start p .numbers) i
   stands i h =

@@ -281,7 +281,7 @@ module _ (p : Program) (held : cellsOf (p .table) ≤ cells) (few : threadsOf (p
       moving (finished (Machine.fences p st t o) (oneMore k) _ next-row at)
   acts-good st (Table.unsyncLoad c r) e h at =
       moving (reads-after (unsyncLoadDone st t c) 5 r _ 0 (unsync-leaves On st t c at))
-  acts-good st (Table.exclusive c change r) e h at =
+  acts-good st (Table.withMut c change r) e h at =
       moving (leaves-after (mutDone st t c change) 6 c r (mut-leaves On st t c change at))
   acts-good st Table.yield e h at = yield-good st _ at
   acts-good st (Table.join target) e h at = joins-good st 8 target e h at

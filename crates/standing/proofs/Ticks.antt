@@ -13,7 +13,7 @@ use Rattle.rules.specs.Vector.{oneMore, largest}
 use Rattle.rules.specs.Table.{Op, decoded, roomOf, threadsOf, cellsOf, judged, good}
 use Rattle.rules.specs.Event as Event
 use Rattle.rules.specs.State as State
-use Rattle.rules.specs.State.{State, Numbers, number, withNumber, threads, cells, phase, begun, rowsOf, operation, operatesOn, nextRow, awaits}
+use Rattle.rules.specs.State.{State, Numbers, number, withNumber, threads, cells, phase, rowsBegun, rowsOf, operation, operatesOn, nextRow, awaits}
 use Rattle.rules.specs.Machine as Machine
 use Rattle.rules.specs.Machine.{Program, Pending, nothing, pends, pendingOf, current, rowOf, rowCount, forThreads, freed, ended, toBegin, toAct, noOperation}
 use Rattle.rules.specs.Measure.{CanAct}
@@ -77,11 +77,11 @@ module _ (p : Program) (held : cellsOf (p .table) ≤ cells) (few : threadsOf (p
     own : Thread p t s k (number a (phase t)) (number a (awaits t))
     own = stands .each t below
 
-    facts : Facts p t k q (number a begun) threads a
+    facts : Facts p t k q (number a rowsBegun) threads a
     facts = opened p held few t below st n threads (λ d. refl) stands
 
     module _ (e : number a (phase t) ≡ toBegin) where
-      is-begin : Is t s toBegin (number a begun) (otherWork a t) a
+      is-begin : Is t s toBegin (number a rowsBegun) (otherWork a t) a
       is-begin = seen a t below (stands .whole) refl refl e
 
       -- "12 a row is to begin with L begun"
@@ -89,20 +89,20 @@ module _ (p : Program) (held : cellsOf (p .table) ≤ cells) (few : threadsOf (p
           OnCell (pendingOf op) → Good p n (Machine.begins p st t k op)
       unfolding Machine.begins
       begins-good op row is-row names onCell =
-          pick (Good p n) (leb (p .operations) (number a begun))
+          pick (Good p n) (leb (p .operations) (number a rowsBegun))
           (λ f. moving (stops-at st Event.rows (omega arith) stands))
           (λ f. begin (leb-false _ _ f))
         where
-          begin : number a begun < p .operations → Good p n (Machine.begunAs p (Machine.rowBegun st t) t k op (pendingOf op))
+          begin : number a rowsBegun < p .operations → Good p n (Machine.begunAs p (Machine.rowBegun st t) t k op (pendingOf op))
           begin less =
               let small : t < threads = below in
-              let b = number a begun in
+              let b = number a rowsBegun in
               let more : oneMore b ≡ b + 1 = more-below b (omega arith) in
-              let numbers = withNumber a begun (oneMore b) in
+              let numbers = withNumber a rowsBegun (oneMore b) in
               let begun-is : Is t s toAct (b + 1) (otherWork a t) (Machine.rowBegun st t .numbers) =
               subst (λ (x : ℕ). Is t s toAct x (otherWork a t) (Machine.rowBegun st t .numbers)) more
               (toPhase below (aside below (toBegun below is-begin (oneMore b)) (rowsOf t) (oneMore (number numbers (rowsOf t))) (omega arith)) toAct) in
-              let f1 = keep p held few t below facts begun (oneMore b) (omega arith) in
+              let f1 = keep p held few t below facts rowsBegun (oneMore b) (omega arith) in
               let fewer : number numbers (rowsOf t) ≤ b = omega (arith, five-has (λ (i : ℕ). number numbers (rowsOf i)) t below, f1 .rows) in
               let f2 = begunOne p held few t below f1 (oneMore (number numbers (rowsOf t))) (more-below _ (omega arith)) in
               let f3 = keep p held few t below f2 (phase t) toAct (omega arith) in
@@ -153,8 +153,8 @@ module _ (p : Program) (held : cellsOf (p .table) ≤ cells) (few : threadsOf (p
     acts-next : (op : Op) → number a (phase t) ≡ toAct → rowOf p t k ≡ decoded op →
         Names (roomOf (p .table) (rowCount p t) k) op → Good p n (Machine.acts p st t k op)
     acts-next op e row names =
-        let is : Is t s toAct (number a begun) (otherWork a t) a = seen a t below (stands .whole) refl refl e in
-        acts-good p held few t s k (number a (awaits t)) (number a begun) (otherWork a t) q n (stands .runs) (holds .ready) (rw e at own)
+        let is : Is t s toAct (number a rowsBegun) (otherWork a t) a = seen a t below (stands .whole) refl refl e in
+        acts-good p held few t s k (number a (awaits t)) (number a rowsBegun) (otherWork a t) q n (stands .runs) (holds .ready) (rw e at own)
         (omega (arith, stands .entries, phase-in)) (stands .limited) st op row names (record { is = is; facts = facts })
 
     on-cell : (op : Op) → rowOf p t k ≡ decoded op → OnCell (pendingOf op)

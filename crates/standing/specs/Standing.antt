@@ -18,7 +18,7 @@ use Rattle.rules.specs.Table as Table
 use Rattle.rules.specs.Table.{decoded, threadsOf, cellsOf}
 use Rattle.rules.specs.Event.{Standing, Matched, offers, slotsOf, Question, whichThread, whichSlot, whichBit}
 use Rattle.rules.specs.State as State
-use Rattle.rules.specs.State.{State, Clocks, Numbers, number, marksOf, threads, nextRow, rowsOf, phase, awaits, count, begun}
+use Rattle.rules.specs.State.{State, Clocks, Numbers, number, marksOf, threads, nextRow, rowsOf, phase, awaits, count, rowsBegun}
 use Rattle.rules.specs.Cell.{matchedLoad, matchedRmw}
 use Rattle.rules.specs.Machine as Machine
 use Rattle.rules.specs.Machine.{Program, rowCount, rowOf, absent, runnable, blocked, yielded, ended, toBegin, toAct, current, activeOp, everyThread}
@@ -69,10 +69,10 @@ pub record Over (p : Program) (st : State) (n : ℕ) : Type 0 where
   -- "cells take a Release store of their start value": every cell has a store
   pub counted : (c : ℕ) → c < cellsOf (p .table) → 1 ≤ number (st .numbers) (count c)
   -- a row that has begun is to act, or has its entry
-  pub entries : n + underWay (st .numbers) ≡ number (st .numbers) begun
+  pub entries : n + underWay (st .numbers) ≡ number (st .numbers) rowsBegun
   -- "rows begun is a counted number .., equal to the definition's begun rows, never above L"
-  pub shared : begunBy (st .numbers) ≡ number (st .numbers) begun
-  pub limited : number (st .numbers) begun ≤ p .operations
+  pub shared : begunBy (st .numbers) ≡ number (st .numbers) rowsBegun
+  pub limited : number (st .numbers) rowsBegun ≤ p .operations
 
 -- between ticks the active thread is one that can act: runnable, or yielded and chosen nevertheless; where a scheduling is asked for,
 -- and where an execution has stopped or ended, it may be blocked or have ended

@@ -13,7 +13,7 @@ use Rattle.rules.specs.Cell as cell
 use Rattle.rules.specs.Change.{Change, Changed, success, failure, applied}
 use Rattle.rules.specs.Event.{Entry}
 use Rattle.rules.specs.State.{storeAt, registerAt, threads, cells, plains, history}
-use Rattle.rules.specs.Table.{Op, Decoded, refused, decoded, startValue, registers, load, store, storeRegister, rmw, fence, unsyncLoad, exclusive, yield, join, jump, jumpIf, jumpUnless, check, critical, exploreState, skipBranch, spurious, plainRead, plainWrite}
+use Rattle.rules.specs.Table.{Op, Decoded, refused, decoded, startValue, registers, load, store, storeRegister, rmw, fence, unsyncLoad, withMut, yield, join, jump, jumpIf, jumpUnless, check, critical, exploreState, skipBranch, spurious, plainRead, plainWrite}
 use Rattle.rules.specs.Vector.{oneMore}
 use Rattle.steps.specs.Entries.{entryAt, operationAt}
 
@@ -93,7 +93,7 @@ acted h t v step (storeRegister c o r) = stored h c v step
 acted h t v step (rmw c o f change r) = rmwDone h t r c change v step
 acted h t v step (fence o) = h
 acted h t v step (unsyncLoad c r) = withHeld h (register t r) v
-acted h t v step (exclusive c change r) = exclusiveDone h t r c change step
+acted h t v step (withMut c change r) = exclusiveDone h t r c change step
 acted h t v step yield = h
 acted h t v step (join thread) = h
 acted h t v step (jump target) = h
@@ -115,7 +115,7 @@ nextOf h t k (storeRegister c o r) = k + 1
 nextOf h t k (rmw c o f change r) = k + 1
 nextOf h t k (fence o) = k + 1
 nextOf h t k (unsyncLoad c r) = k + 1
-nextOf h t k (exclusive c change r) = k + 1
+nextOf h t k (withMut c change r) = k + 1
 nextOf h t k yield = k + 1
 nextOf h t k (join thread) = k + 1
 nextOf h t k (jump target) = target

@@ -6,6 +6,7 @@ ghost use Rattle.rules.specs.Machine.{rowCount};
 ghost use Rattle.decode.specs.Ops.{decodedOf};
 ghost use Rattle.steps.specs.Entries.{byteAt, entryAt, isEntry, entries, program, rowSays, operationAt};
 use decode::Decoded;
+use decode::opcodes::LOAD;
 use layout::MAX_THREADS;
 use layout::short8;
 use layout::wide8;
@@ -46,7 +47,7 @@ pub fn count(trace: &[u8]) -> usize
 fn is_entry(trace: &[u8], i: usize) -> bool
     ensures { λ r. ⌜ r ≡ isEntry (entryAt (now (trace .entry)) i) ⌝ }
 {
-    (opcode(trace, i) != 0) | (mask(trace, i) != 0)
+    (opcode(trace, i) != LOAD) | (mask(trace, i) != 0)
 }
 
 // What entry `i` says.

@@ -8,7 +8,7 @@ use lib.Dec.{ltb, leb, eqb}
 use lib.ListN.{length}
 use borrow.Author.Tests.{ltb-true, leb-true}
 use Rattle.rules.specs.Change.{Change}
-use Rattle.rules.specs.Table.{maxThreads, maxCells, maxPlains, Row, Room, Op, Decoded, refused, decoded, onlyIf, isRegister, isFenceOrder, load, store, storeRegister, rmw, fence, unsyncLoad, exclusive, yield, join, jump, jumpIf, jumpUnless, check, critical, exploreState, skipBranch, spurious, plainRead, plainWrite, loadRow, storeRow, storeRegisterRow, rmwRow, fenceRow, unsyncLoadRow, exclusiveRow, bareRow, joinRow, jumpRow, jumpOnRow, checkRow, spuriousRow, plainReadRow, plainWriteRow, changeDecoded, rowDecoded, rowAt, opAt}
+use Rattle.rules.specs.Table.{maxThreads, maxCells, maxPlains, Row, Room, Op, Decoded, refused, decoded, onlyIf, isRegister, isFenceOrder, load, store, storeRegister, rmw, fence, unsyncLoad, withMut, yield, join, jump, jumpIf, jumpUnless, check, critical, exploreState, skipBranch, spurious, plainRead, plainWrite, loadRow, storeRow, storeRegisterRow, rmwRow, fenceRow, unsyncLoadRow, withMutRow, bareRow, joinRow, jumpRow, jumpOnRow, checkRow, spuriousRow, plainReadRow, plainWriteRow, changeDecoded, rowDecoded, rowAt, opAt}
 use Rattle.decode.specs.declared.Decoded as row
 use Rattle.decode.specs.declared.Decoded.the-variants as rows
 use Rattle.decode.specs.declared.Op as code
@@ -64,10 +64,10 @@ module _ (room : Room) (r : Row) (few : room .threads ≤ 5) (small : room .cell
   rmw-in (decoded change) =
       only (ltb (r .object) (room .cells) && _ && _ && isRegister (r .register) && _) (rmw (r .object) (r .order) (r .failure) change (r .register)) (λ e. last (room .cells) (r .object) (r .register) small _ _ _ e)
 
-  exclusive-in : (d : Decoded Change) → In (exclusiveRow (room .cells) r d)
-  exclusive-in refused = none
-  exclusive-in (decoded change) =
-      only (ltb (r .object) (room .cells) && isRegister (r .register) && _) (exclusive (r .object) change (r .register)) (λ e. next (room .cells) (r .object) (r .register) small _ e)
+  with-mut-in : (d : Decoded Change) → In (withMutRow (room .cells) r d)
+  with-mut-in refused = none
+  with-mut-in (decoded change) =
+      only (ltb (r .object) (room .cells) && isRegister (r .register) && _) (withMut (r .object) change (r .register)) (λ e. next (room .cells) (r .object) (r .register) small _ e)
 
   load-in : In (loadRow (room .cells) r)
   load-in = only (ltb (r .object) (room .cells) && _ && isRegister (r .register) && _) (load (r .object) (r .order) (r .register)) (λ e. later (room .cells) (r .object) (r .register) small _ _ e)
@@ -118,7 +118,7 @@ module _ (room : Room) (r : Row) (few : room .threads ≤ 5) (small : room .cell
       (pick (eqb (r .opcode) 3) (rmw-in (changeDecoded (r .kind) (r .a) (r .b)))
       (pick (eqb (r .opcode) 4) fence-in
       (pick (eqb (r .opcode) 5) unsync-load-in
-      (pick (eqb (r .opcode) 6) (exclusive-in (changeDecoded (r .kind) (r .a) (r .b)))
+      (pick (eqb (r .opcode) 6) (with-mut-in (changeDecoded (r .kind) (r .a) (r .b)))
       (pick (eqb (r .opcode) 7) (bare-in yield tt)
       (pick (eqb (r .opcode) 8) join-in
       (pick (eqb (r .opcode) 9) jump-in

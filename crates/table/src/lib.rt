@@ -11,10 +11,9 @@ ghost use Rattle.table.specs.Answers.{judgedOf, roomIn, OpAt, PlaceOf};
 pub mod limits;
 pub mod little;
 
-pub use decode::Decoded;
-pub use decode::Op;
+use decode::Decoded;
 use decode::Room;
-pub use decode::Row;
+use decode::Row;
 use decode::is_row;
 pub use decode::opcode;
 use decode::opcodes::NO_OPCODE;
@@ -26,11 +25,14 @@ use layout::short8;
 use layout::wide8;
 use layout::wide16;
 use limits::ALL_ROWS;
+use limits::CELL_COUNT;
 use limits::HEADER_BYTES;
 use limits::MAX_ROWS;
 use limits::MAX_VALUES;
 use limits::PLAIN_COUNT;
 use limits::ROW_BYTES;
+use limits::ROW_COUNTS;
+use limits::THREAD_COUNT;
 use limits::VALUE_BYTES;
 
 // A table's shape: threads, cells, the five row counts, the number of each thread's first row among all rows, and plain cells. Its
@@ -39,11 +41,11 @@ pub type Shape = [u16; SHAPE];
 
 pub const SHAPE: usize = 13;
 
-pub const THREADS: usize = 0;
+pub const THREADS: usize = THREAD_COUNT;
 
-pub const CELLS: usize = 1;
+pub const CELLS: usize = CELL_COUNT;
 
-pub const COUNTS: usize = 2;
+pub const COUNTS: usize = ROW_COUNTS;
 
 pub const FIRSTS: usize = 7;
 
@@ -77,7 +79,7 @@ pub fn judge(table: &[u8]) -> Judged
     let mut thread = 0;
     let mut first = 0;
     while thread < MAX_THREADS {
-        let count = wide8(table[COUNTS + thread]);
+        let count = wide8(table[ROW_COUNTS + thread]);
         let row = first_bad(table, first, count);
         if row < count {
             return Judged::Row { thread, row };
@@ -95,8 +97,8 @@ pub fn shape(table: &[u8]) -> Shape
     if table.len() < HEADER_BYTES {
         return [0; SHAPE];
     }
-    let threads = short8(table[0]);
-    let cells = short8(table[1]);
+    let threads = short8(table[THREAD_COUNT]);
+    let cells = short8(table[CELL_COUNT]);
     let n0 = short8(table[2]);
     let n1 = short8(table[3]);
     let n2 = short8(table[4]);
@@ -250,8 +252,8 @@ fn header_fine(table: &[u8]) -> bool
     if table.len() < HEADER_BYTES {
         return false;
     }
-    let threads = wide8(table[0]);
-    let cells = wide8(table[1]);
+    let threads = wide8(table[THREAD_COUNT]);
+    let cells = wide8(table[CELL_COUNT]);
     let plains = wide8(table[PLAIN_COUNT]);
     let s = shape(table);
     let rows = wide16(s[LAST_COUNT]) + wide16(s[LAST_FIRST]);
@@ -270,8 +272,8 @@ fn counts_fine(table: &[u8], threads: usize) -> bool
 {
     let mut thread = 0;
     while thread < MAX_THREADS {
-        let count = wide8(table[COUNTS + thread]);
-        if !count_fine(thread, threads, count) {
+        let count = wide8(table[ROW_COUNTS + thread]);
+        if !count_fine(threads, thread, count) {
             return false;
         }
         thread += 1;
@@ -280,7 +282,7 @@ fn counts_fine(table: &[u8], threads: usize) -> bool
 }
 
 // Whether one thread has not too many rows, and none where it is past the threads.
-fn count_fine(thread: usize, threads: usize, count: usize) -> bool
+pub fn count_fine(threads: usize, thread: usize, count: usize) -> bool
     ensures { λ r. ⌜ r ≡ countFine threads thread count ⌝ }
 {
     if thread < threads {
@@ -312,8 +314,8 @@ fn room_of(table: &[u8], rows: usize, row: usize) -> Room
     ensures { λ r. ⌜ roomOf r ≡ rules.roomOf (now (table .entry)) rows row ⌝ }
 {
     Room {
-        threads: wide8(table[0]),
-        cells: wide8(table[1]),
+        threads: wide8(table[THREAD_COUNT]),
+        cells: wide8(table[CELL_COUNT]),
         plains: wide8(table[PLAIN_COUNT]),
         rows,
         row,

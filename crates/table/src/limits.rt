@@ -11,8 +11,15 @@ pub const MAX_ROWS: usize = 64;
 
 pub const ALL_ROWS: usize = MAX_THREADS * MAX_ROWS;
 
-// Where the header counts the cells, and the plain cells.
+// Where the header counts the threads, the cells, the rows of each thread, and the plain cells.
+pub const THREAD_COUNT: usize = 0;
+
 pub const CELL_COUNT: usize = 1;
+
+pub const ROW_COUNTS: usize = 2;
+
+// With the number of threads added: where it counts the rows of the last.
+pub const COUNT_OF_LAST: usize = ROW_COUNTS - 1;
 
 pub const PLAIN_COUNT: usize = 7;
 

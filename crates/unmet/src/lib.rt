@@ -32,7 +32,7 @@ pub struct Part {
 }
 
 // The place of the first comparison from this place on; the condition's end where there is none.
-pub fn next(condition: &[u8], from: usize) -> usize
+pub fn next_comparison(condition: &[u8], from: usize) -> usize
     ensures { λ r. ⌜ r ≡ nextFrom (now (condition .entry)) from ⌝ }
 {
     let mut i = from;

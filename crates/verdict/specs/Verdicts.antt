@@ -12,7 +12,7 @@ use lib.Dec.{eqb}
 use lib.ListN.{length}
 use Rattle.rules.specs.Token.{bytesOf}
 use Rattle.rules.specs.Explored.{Settings, Report, isRefusal}
-use Rattle.rules.specs.Table.{Op, Decoded, refused, decoded, load, store, storeRegister, rmw, fence, unsyncLoad, exclusive, yield, join, jump, jumpIf, jumpUnless, check, critical, exploreState, skipBranch, spurious, plainRead, plainWrite}
+use Rattle.rules.specs.Table.{Op, Decoded, refused, decoded, load, store, storeRegister, rmw, fence, unsyncLoad, withMut, yield, join, jump, jumpIf, jumpUnless, check, critical, exploreState, skipBranch, spurious, plainRead, plainWrite}
 use Rattle.page.specs.Pages.{Page, putText, filled}
 use Rattle.steps.specs.Entries.{entries, rowSays}
 use Rattle.steps.specs.Holds.{held, heldAfter, register}
@@ -45,7 +45,7 @@ putWants p holds (decoded (storeRegister c o r)) = p
 putWants p holds (decoded (rmw c o f change r)) = p
 putWants p holds (decoded (fence o)) = p
 putWants p holds (decoded (unsyncLoad c r)) = p
-putWants p holds (decoded (exclusive c change r)) = p
+putWants p holds (decoded (withMut c change r)) = p
 putWants p holds (decoded yield) = p
 putWants p holds (decoded (join thread)) = p
 putWants p holds (decoded (jump target)) = p

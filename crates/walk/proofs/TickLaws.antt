@@ -65,9 +65,9 @@ begun-same t st below = record {
   row = kept (names.nextRow t) (omega arith) (omega arith) (omega arith);
 }
   where
-    kept : (n : names.Number) → names.numberAt n ≢ names.numberAt names.begun → names.numberAt n ≢ names.numberAt (names.rowsOf t) →
+    kept : (n : names.Number) → names.numberAt n ≢ names.numberAt names.rowsBegun → names.numberAt n ≢ names.numberAt (names.rowsOf t) →
         names.numberAt n ≢ names.numberAt (names.phase t) → number (rowBegun st t .numbers) n ≡ number (st .numbers) n
-    kept n a b c = rw (number-other _ (names.phase t) n _ c, number-other _ (names.rowsOf t) n _ b, number-other _ names.begun n _ a)
+    kept n a b c = rw (number-other _ (names.phase t) n _ c, number-other _ (names.rowsOf t) n _ b, number-other _ names.rowsBegun n _ a)
 
 module _ (t : ℕ) (st s : State) (same : Same t st s) where
   keeps-by : (u : State) (q : rules.Question) → KeepsBy t s u q → KeepsBy t st u q
@@ -130,7 +130,7 @@ module _ (t : ℕ) (st : State) where
   acts-keep p k n (Table.rmw c o f change r) = record { is = record { who = refl; row = refl } }
   acts-keep p k n (Table.fence o) = record { is = tt }
   acts-keep p k n (Table.unsyncLoad c r) = reads-keep (cells.unsyncLoadDone st t c) k n r (cells.newest (number (st .numbers) (names.count c))) 0
-  acts-keep p k n (Table.exclusive c change r) = leaves-keep (cells.mutDone st t c change) k n c r
+  acts-keep p k n (Table.withMut c change r) = leaves-keep (cells.mutDone st t c change) k n c r
   acts-keep p k n Table.yield = schedules-keep (machines.completed (machines.yieldDone st t) t (oneMore k)) (machines.entry t k n machines.noSlot 0 0)
   acts-keep p k n (Table.join target) = joins-keep k n target
   acts-keep p k n (Table.jump target) = record { is = tt }
@@ -153,7 +153,7 @@ module _ (t : ℕ) (below : t < 5) (st : State) where
   begins-keep : (p : Program) (k : ℕ) (op : Table.Op) → AskKeeps t st (begins p st t k op)
   unfolding begins
   begins-keep p k op =
-      by-test t st (leb (p .operations) (number (st .numbers) names.begun)) (stops st rules.rows) (begunAs p (rowBegun st t) t k op (pendingOf op))
+      by-test t st (leb (p .operations) (number (st .numbers) names.rowsBegun)) (stops st rules.rows) (begunAs p (rowBegun st t) t k op (pendingOf op))
       (record { is = tt }) (begun-keeps p k op (pendingOf op))
 
   row-keeps : (p : Program) (k : ℕ) (row : Table.Decoded Table.Op) → AskKeeps t st (machines.ofRow p st t k row)

@@ -60,7 +60,7 @@ pub fn tick(
 {
     let thread = wide16(numbers[ACTIVE_THREAD]);
     if MAX_THREADS <= thread {
-        return stops(Fault::Impossible, nowhere(), cursor);
+        return stops(Fault::Impossible, no_site(), cursor);
     }
     let number = numbers[NEXT_ROW + thread];
     let row = table::row_of(table, shape, thread, number);
@@ -197,7 +197,7 @@ fn passed(mut cursor: Cursor) -> Cursor
 }
 
 // The thread and the row of a fault that no machine meets.
-pub fn nowhere() -> Site
+pub fn no_site() -> Site
     ensures { λ r. ⌜ siteOf r ≡ noSite ⌝ }
 {
     Site {

@@ -22,7 +22,7 @@ use Rattle.table.specs.declared.Judged.the-variants.{Header, Row}
 use Rattle.table.specs.Answers.{judgedOf}
 use Rattle.put.specs.Puts.{last, upToLast, Puts}
 use Rattle.claim.proofs.FineLaws.{fine-claim}
-use Rattle.writer.specs.Answers.{answered, Fit}
+use Rattle.writer.specs.Answers.{withText, Fit}
 use Rattle.writer.specs.declared.Written.the-variants.{Unfit, Short, Text}
 use Rattle.writer.proofs.LengthLaws.{text-short}
 
@@ -65,17 +65,17 @@ module _ (t c text : List ℕ) where
   unfolding writtenInto
   into-all = refl
 
-  pub into-header : (r : Judged) → judgedOf r ≡ judged t → r ≡ Header → answered Unfit text ≡ writtenInto t c text
+  pub into-header : (r : Judged) → judgedOf r ≡ judged t → r ≡ Header → withText Unfit text ≡ writtenInto t c text
   into-header r e h = sym (into-all ∙ ap into (sym e ∙ ap judgedOf h))
 
-  pub into-row : (r : Judged) (k n : ℕ) → judgedOf r ≡ judged t → r ≡ Row k n → answered Unfit text ≡ writtenInto t c text
+  pub into-row : (r : Judged) (k n : ℕ) → judgedOf r ≡ judged t → r ≡ Row k n → withText Unfit text ≡ writtenInto t c text
   into-row r k n e h = sym (into-all ∙ ap into (sym e ∙ ap judgedOf h))
 
   module _ (accepted : judged t ≡ good) where
     to-claim : (s : Bool) → isCondition (threadsOf t) c ≡ s → into-claim s ≡ writtenInto t c text
     to-claim s e = ap into-claim (sym e) ∙ sym (into-all ∙ ap into accepted)
 
-    pub into-condition : isCondition (threadsOf t) c ≡ false → answered Unfit text ≡ writtenInto t c text
+    pub into-condition : isCondition (threadsOf t) c ≡ false → withText Unfit text ≡ writtenInto t c text
     into-condition e = to-claim false e
 
     module _ (claims : isCondition (threadsOf t) c ≡ true) where
@@ -91,17 +91,17 @@ module _ (t c text : List ℕ) where
             let low : upToLast (length (writtenText t c)) ≡ length (writtenText t c) = rw (le-leb (length (writtenText t c)) last h) in
             counted .behind ∙ ap upToLast e ∙ low
 
-        pub into-short : length text < n → answered (Short n) text ≡ writtenInto t c text
+        pub into-short : length text < n → withText (Short n) text ≡ writtenInto t c text
         into-short h =
-            ap (λ (k : ℕ). answered (Short k) text) count-is
+            ap (λ (k : ℕ). withText (Short k) text) count-is
             ∙ to-fit false (lt-leb (length (writtenText t c)) (length text) (omega (arith, count-is)))
 
-        pub into-written : n ≤ length text → (put left : List ℕ) (r : ℕ) → Puts text put 0 (writtenText t c) r → left ≡ filled (length put) (take n put) → answered (Text n) left ≡ writtenInto t c text
+        pub into-written : n ≤ length text → (put left : List ℕ) (r : ℕ) → Puts text put 0 (writtenText t c) r → left ≡ filled (length put) (take n put) → withText (Text n) left ≡ writtenInto t c text
         into-written h put left r p e =
             let z : 0 + length (writtenText t c) ≡ length (writtenText t c) = omega arith in
             let all : put ≡ writtenText t c ++ drop (0 + length (writtenText t c)) text = p .left ∙ sets-eq (writtenText t c) text 0 (omega (arith, count-is)) in
             let front : take n put ≡ writtenText t c = ap (λ (k : ℕ). take k put) count-is ∙ ap (take (length (writtenText t c))) all ∙ take-append-seam (writtenText t c) (drop (0 + length (writtenText t c)) text) in
             let long : length put ≡ length text = ap length (p .left) ∙ length-sets text 0 (writtenText t c) in
-            ap (λ (k : ℕ). answered (Text k) left) count-is
-            ∙ ap (answered (Text (length (writtenText t c)))) (e ∙ ap (λ (k : ℕ). filled k (take n put)) long ∙ ap (filled (length text)) front)
+            ap (λ (k : ℕ). withText (Text k) left) count-is
+            ∙ ap (withText (Text (length (writtenText t c)))) (e ∙ ap (λ (k : ℕ). filled k (take n put)) long ∙ ap (filled (length text)) front)
             ∙ to-fit true (le-leb (length (writtenText t c)) (length text) (omega (arith, count-is)))

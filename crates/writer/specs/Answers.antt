@@ -13,8 +13,8 @@ writtenOf (Short needed) = rules.short needed
 writtenOf (Text length) = rules.written length
 
 -- the answer with what is left in the buffer
-abbrev pub answered : Written → List ℕ → rules.WrittenInto
-answered r text = record { answer = writtenOf r; text = text }
+abbrev pub withText : Written → List ℕ → rules.WrittenInto
+withText r text = record { answer = writtenOf r; text = text }
 
 pub record Fit (table : List ℕ) : Type 0 where
   pub header : headerBytes ≤ length table

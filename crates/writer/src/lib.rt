@@ -7,7 +7,7 @@ ghost use Rattle.rules.specs.Text.{filled};
 ghost use Rattle.rules.specs.Writer.{rowsShown, threadsShown, valuesShown, plainsShown, writtenText, writtenInto};
 ghost use Rattle.put.specs.Puts.{Puts};
 ghost use Rattle.claim.specs.Units.{Units};
-ghost use Rattle.writer.specs.Answers.{Fit, answered};
+ghost use Rattle.writer.specs.Answers.{Fit, withText};
 use claim::put_condition;
 use layout::wide8;
 use layout::wide16;
@@ -20,6 +20,7 @@ use table::FIRSTS;
 use table::Judged;
 use table::limits::CELL_COUNT;
 use table::limits::PLAIN_COUNT;
+use table::limits::THREAD_COUNT;
 
 // What became of it: a table or a condition that is none; too small a buffer, with the bytes that are needed; or the text's length.
 pub enum Written {
@@ -30,7 +31,7 @@ pub enum Written {
 
 // Writes the text, and zeros behind it. Otherwise the buffer is left as it is.
 pub fn write(table: &[u8], condition: &[u8], text: &mut [u8]) -> Written
-    ensures { λ r. ⌜ answered r (now (text .exit)) ≡ writtenInto (now (table .entry)) (now (condition .entry)) (now (text .entry)) ⌝ }
+    ensures { λ r. ⌜ withText r (now (text .exit)) ≡ writtenInto (now (table .entry)) (now (condition .entry)) (now (text .entry)) ⌝ }
 {
     match table::judge(table) {
         Judged::Accepted => write_fit(table, condition, text),
@@ -42,9 +43,9 @@ pub fn write(table: &[u8], condition: &[u8], text: &mut [u8]) -> Written
 // The same for a table that is one. A first run into a buffer of one byte counts.
 fn write_fit(table: &[u8], condition: &[u8], text: &mut [u8]) -> Written
     requires { ⌜ judged (now table) ≡ good ⌝ }
-    ensures { λ r. ⌜ answered r (now (text .exit)) ≡ writtenInto (now (table .entry)) (now (condition .entry)) (now (text .entry)) ⌝ }
+    ensures { λ r. ⌜ withText r (now (text .exit)) ≡ writtenInto (now (table .entry)) (now (condition .entry)) (now (text .entry)) ⌝ }
 {
-    if !condition::is_condition(condition, wide8(table[0])) {
+    if !condition::is_condition(condition, wide8(table[THREAD_COUNT])) {
         return Written::Unfit;
     }
     let mut none = [0; 1];
@@ -122,7 +123,7 @@ fn put_threads(text: &mut [u8], at: usize, table: &[u8]) -> usize
     let shape = table::shape(table);
     let mut to = at;
     let mut thread = 0;
-    let mut left = wide8(table[0]);
+    let mut left = wide8(table[THREAD_COUNT]);
     while 0 < left {
         let behind = put_bytes(text, to, b"thread\n");
         let first = wide16(shape[FIRSTS + thread]);

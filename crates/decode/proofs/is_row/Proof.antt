@@ -1,4 +1,4 @@
-use Rattle.decode.proofs.RowLaws.{arm, rmw-arm, exclusive-arm, beyond, none-below, fine}
+use Rattle.decode.proofs.RowLaws.{arm, rmw-arm, with-mut-arm, beyond, none-below, fine}
 use Rattle.decode.specs.Ops.{rowMeant, roomOf}
 use Rattle.rules.specs.Table.{rowDecoded}
 use mathlib.Core.Path.{refl}
@@ -156,7 +156,7 @@ returns-6 c =
     (arm (roomOf (g .room)) (rowMeant (g .row)) 5 _ (c .before .before .match .keys6) (c .before .unsync-load-row .ensures))
 
 returns-7 : tie.Need-returns-7
-returns-7 c = fine (c .is-decoded6 .ensures) (exclusive-arm _ _ _ (c .before .before .match .keys7) (c .before .with-mut-row .ensures))
+returns-7 c = fine (c .is-decoded6 .ensures) (with-mut-arm _ _ _ (c .before .before .match .keys7) (c .before .with-mut-row .ensures))
 
 returns-8 : tie.Need-returns-8
 unfolding rowDecoded

@@ -1,4 +1,4 @@
-use Rattle.decode.proofs.RowLaws.{arm, rmw-arm, exclusive-arm, beyond, none-below}
+use Rattle.decode.proofs.RowLaws.{arm, rmw-arm, with-mut-arm, beyond, none-below}
 use Rattle.decode.specs.Ops.{rowMeant, roomOf}
 use Rattle.rules.specs.Table.{rowDecoded}
 use borrow.Author.Needs.{needs}
@@ -86,7 +86,7 @@ unfolding rowDecoded
 returns-6 c = let g = c .before .before .args in arm (roomOf (g .room)) (rowMeant (g .row)) 5 _ (c .before .match .keys6) (c .unsync-load-row .ensures)
 
 returns-7 : tie.Need-returns-7
-returns-7 c = exclusive-arm _ _ _ (c .before .match .keys7) (c .with-mut-row .ensures)
+returns-7 c = with-mut-arm _ _ _ (c .before .match .keys7) (c .with-mut-row .ensures)
 
 returns-8 : tie.Need-returns-8
 unfolding rowDecoded

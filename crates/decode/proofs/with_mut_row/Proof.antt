@@ -1,4 +1,4 @@
-use Rattle.decode.proofs.RowLaws.{meant, exclusive-made, exclusive-refused}
+use Rattle.decode.proofs.RowLaws.{meant, with-mut-made, with-mut-refused}
 use borrow.Author.Needs.{needs}
 use Rattle.decode.proofs.with_mut_row.Statement.{statement}
 use Rattle.decode.proofs.with_mut_row.Tie as tie
@@ -13,7 +13,7 @@ enum-told : tie.Need-enum-told
 enum-told c = search needs
 
 returns : tie.Need-returns
-returns c = exclusive-refused _ _ (meant (c .enum-told .given .1) (c .before .before .change-of .ensures))
+returns c = with-mut-refused _ _ (meant (c .enum-told .given .1) (c .before .before .change-of .ensures))
 
 named-requires : tie.Need-named-requires
 named-requires c κs = search needs
@@ -31,7 +31,7 @@ only-if-requires : tie.Need-only-if-requires
 only-if-requires c κs = search needs
 
 returns-2 : tie.Need-returns-2
-returns-2 c = exclusive-made _ _ (c .only-if .ensures) (meant (c .before .before .before .before .before .before .before .before .before .change .given .1) (c .before .before .before .before .before .before .before .before .before .before .before .change-of .ensures)) (c .before .before .before .before .before .before .before .named .ensures) (c .before .before .before .before .before .before .is-register .ensures) (c .before .before .wide8 .ensures .same) (c .before .wide82 .ensures .same)
+returns-2 c = with-mut-made _ _ (c .only-if .ensures) (meant (c .before .before .before .before .before .before .before .before .before .change .given .1) (c .before .before .before .before .before .before .before .before .before .before .before .change-of .ensures)) (c .before .before .before .before .before .before .before .named .ensures) (c .before .before .before .before .before .before .is-register .ensures) (c .before .before .wide8 .ensures .same) (c .before .wide82 .ensures .same)
 
 pub with-mut-row-spec : {M : Type 1} → statement M
 with-mut-row-spec =

@@ -9,11 +9,11 @@ use Rattle.ending.proofs.judge_end.Tie as tie
 enum-told : tie.Need-enum-told
 enum-told c = search needs
 
-nowhere-requires : tie.Need-nowhere-requires
-nowhere-requires c κs = search needs
+no-site-requires : tie.Need-no-site-requires
+no-site-requires c κs = search needs
 
 returns : tie.Need-returns
-returns c = judge-goes _ _ _ _ _ (c .before .enum-told .given .1) (c .nowhere .ensures)
+returns c = judge-goes _ _ _ _ _ (c .before .enum-told .given .1) (c .no-site .ensures)
 
 enum-told-2 : tie.Need-enum-told-2
 enum-told-2 c = search needs
@@ -63,7 +63,7 @@ judge-end-spec =
     tie.close
     (tie.spec
     enum-told
-    nowhere-requires
+    no-site-requires
     returns
     enum-told-2
     enum-known-outcome

@@ -18,11 +18,11 @@ Inv-loop page₀ at condition held threads to₀ from₀ left₀ page to from le
 abbrev μ-loop : tie.MeasureT-loop
 μ-loop page₀ at condition held threads to₀ from₀ left₀ page to from left = left
 
-next-requires : tie.Need-next-requires Inv-loop μ-loop
-next-requires c κs = search needs
+next-comparison-requires : tie.Need-next-comparison-requires Inv-loop μ-loop
+next-comparison-requires c κs = search needs
 
 loop-holds : tie.Need-loop-holds Inv-loop μ-loop
-loop-holds c = (search needs, ap (putParts _ _ _ _ _) (c .next .ensures))
+loop-holds c = (search needs, ap (putParts _ _ _ _ _) (c .next-comparison .ensures))
 
 returns : tie.Need-returns Inv-loop μ-loop
 returns c =
@@ -55,11 +55,11 @@ part-put-comparison-end c = search needs
 put-comparison-requires : tie.Need-put-comparison-requires Inv-loop μ-loop
 put-comparison-requires c κs = search needs
 
-add-next : tie.Need-add-next Inv-loop μ-loop
-add-next c = search needs
+add-next-comparison : tie.Need-add-next-comparison Inv-loop μ-loop
+add-next-comparison c = search needs
 
-next-requires-2 : tie.Need-next-requires-2 Inv-loop μ-loop
-next-requires-2 c κs = search needs
+next-comparison-requires-2 : tie.Need-next-comparison-requires-2 Inv-loop μ-loop
+next-comparison-requires-2 c κs = search needs
 
 sub-left : tie.Need-sub-left Inv-loop μ-loop
 sub-left c = search needs
@@ -73,7 +73,7 @@ loop-again c =
     let part = said .before .before .before in
     let turn = part .before .before .before in (
       search needs,
-      parts-on _ _ _ _ _ _ _ (turn .before .loop .inv .1) (turn .loop-test .taken) (omega arith) _ _ _ (part .part-at .ensures) (said .put-comparison .ensures) (c .next2 .ensures),
+      parts-on _ _ _ _ _ _ _ (turn .before .loop .inv .1) (turn .loop-test .taken) (omega arith) _ _ _ (part .part-at .ensures) (said .put-comparison .ensures) (c .next-comparison2 .ensures),
     )
 
 returns-3 : tie.Need-returns-3 Inv-loop μ-loop
@@ -85,7 +85,7 @@ put-parts-spec =
     (tie.spec
     Inv-loop
     μ-loop
-    next-requires
+    next-comparison-requires
     loop-holds
     returns
     sub-if2
@@ -96,8 +96,8 @@ put-parts-spec =
     part-put-comparison-start
     part-put-comparison-end
     put-comparison-requires
-    add-next
-    next-requires-2
+    add-next-comparison
+    next-comparison-requires-2
     sub-left
     loop-less
     loop-again

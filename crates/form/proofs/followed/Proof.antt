@@ -15,10 +15,10 @@ use Rattle.form.proofs.followed.Statement.{statement}
 use Rattle.form.proofs.followed.Tie as tie
 
 abbrev Inv-loop : tie.InvT-loop
-Inv-loop words text at room fields₀ from₀ to₀ left₀ fields from to left = (follow left (roomOf room) (drop from words) fields (drop to text) ≡ follow mostWords (roomOf room) words fields₀ (drop at text)) × Between text at to
+Inv-loop text words at room fields₀ from₀ to₀ left₀ fields from to left = (follow left (roomOf room) (drop from words) fields (drop to text) ≡ follow mostWords (roomOf room) words fields₀ (drop at text)) × Between text at to
 
 abbrev μ-loop : tie.MeasureT-loop
-μ-loop words text at room fields₀ from₀ to₀ left₀ fields from to left = left
+μ-loop text words at room fields₀ from₀ to₀ left₀ fields from to left = left
 
 -- the places of a turn's words
 left-words : (c : tie.After-past-blanks2 Inv-loop μ-loop) → drop (c .before .past-blanks .result) (c .before .before .before .before .before .before .args .words .now) ≡ pastBlanks (drop (c .before .before .before .loop .from) (c .before .before .before .before .before .before .args .words .now))

@@ -14,10 +14,10 @@ use Rattle.form.proofs.tried.Statement.{statement}
 use Rattle.form.proofs.tried.Tie as tie
 
 abbrev Inv-loop : tie.InvT-loop
-Inv-loop forms text at room best₀ from₀ best from = Trying (roomOf room) forms text at from best
+Inv-loop text forms at room best₀ from₀ best from = Trying (roomOf room) forms text at from best
 
 abbrev μ-loop : tie.MeasureT-loop
-μ-loop forms text at room best₀ from₀ best from = length forms - from
+μ-loop text forms at room best₀ from₀ best from = length forms - from
 
 -- a turn, and its form
 abbrev line : tie.After-followed Inv-loop μ-loop → tie.After-next-line Inv-loop μ-loop

@@ -72,8 +72,8 @@ loop-again c =
           (omega (arith, tick .tick .kept)) (omega (arith, tick .tick .kept)),
     )
 
-nowhere-requires : tie.Need-nowhere-requires Inv-loop μ-loop
-nowhere-requires c κs = search needs
+no-site-requires : tie.Need-no-site-requires Inv-loop μ-loop
+no-site-requires c κs = search needs
 
 stops-requires : tie.Need-stops-requires Inv-loop μ-loop
 stops-requires c κs = search needs
@@ -89,7 +89,7 @@ returns-2 c =
     let loop = c .before .before .before in
     walks-spent _ _ _ _ _ (loop .loop .inv .1)
     (omega (arith, loop .loop .inv .0, c .before .before .loop-test .left, loop .before .ticks .ensures .is)) (omega (arith, loop .loop .inv .0, loop .before .ticks .ensures .few))
-    (c .before .nowhere .result) (c .before .nowhere .ensures) (c .stops .result) (c .stops .ensures)
+    (c .before .no-site .result) (c .before .no-site .ensures) (c .stops .result) (c .stops .ensures)
 
 pub walked-spec : {M : Type 1} → statement M
 walked-spec =
@@ -107,7 +107,7 @@ walked-spec =
     add-counter
     loop-less
     loop-again
-    nowhere-requires
+    no-site-requires
     stops-requires
     same-length-3
     same-length-4

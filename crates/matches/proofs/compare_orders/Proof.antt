@@ -30,32 +30,10 @@ element-copy-out-b c = search needs
 partial-cmp-requires : tie.Need-partial-cmp-requires
 partial-cmp-requires c κs = search needs
 
-enum-told : tie.Need-enum-told
-enum-told c = search needs
-
-enum-told-2 : tie.Need-enum-told-2
-enum-told-2 c = search needs
-
-enum-told-3 : tie.Need-enum-told-3
-enum-told-3 c = search needs
-
 returns : tie.Need-returns
 returns c =
-    let call = c .before .before in
-    let at2 = call .before .before in
-    compared-told (at2 .before .before .before .args .clocks .now) _ _ _ _ _ (at2 .before .before .store-at .ensures) (at2 .store-at2 .ensures) _ _ (call .partial-cmp .ensures) (c .enum-told .given .1)
-
-returns-2 : tie.Need-returns-2
-returns-2 c =
-    let call = c .before .before in
-    let at2 = call .before .before in
-    compared-told (at2 .before .before .before .args .clocks .now) _ _ _ _ _ (at2 .before .before .store-at .ensures) (at2 .store-at2 .ensures) _ _ (call .partial-cmp .ensures) (c .enum-told2 .given .1)
-
-returns-3 : tie.Need-returns-3
-returns-3 c =
-    let call = c .before .before in
-    let at2 = call .before .before in
-    compared-told (at2 .before .before .before .args .clocks .now) _ _ _ _ _ (at2 .before .before .store-at .ensures) (at2 .store-at2 .ensures) _ _ (call .partial-cmp .ensures) (c .enum-told3 .given .1)
+    let at2 = c .before .before in
+    compared-told (at2 .before .before .before .args .clocks .now) _ _ _ _ _ (at2 .before .before .store-at .ensures) (at2 .store-at2 .ensures) _ (c .partial-cmp .ensures)
 
 pub compare-orders-spec : {M : Type 1} → statement M
 compare-orders-spec =
@@ -70,9 +48,4 @@ compare-orders-spec =
     mul-b
     element-copy-out-b
     partial-cmp-requires
-    enum-told
-    enum-told-2
-    enum-told-3
-    returns
-    returns-2
-    returns-3)
+    returns)

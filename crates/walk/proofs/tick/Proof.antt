@@ -11,8 +11,8 @@ element-copy-out-wide16 c = search needs
 wide16-requires : tie.Need-wide16-requires
 wide16-requires c κs = search needs
 
-nowhere-requires : tie.Need-nowhere-requires
-nowhere-requires c κs = search needs
+no-site-requires : tie.Need-no-site-requires
+no-site-requires c κs = search needs
 
 stops-requires : tie.Need-stops-requires
 stops-requires c κs = search needs
@@ -22,7 +22,7 @@ returns c =
     let wide = c .before .before .before in
     let start = c .before .before .before .before .before .before .before .before in
     tick-nobody (start .args .table .now) (start .args .shape .now) (start .args .limits) (start .args .cursor) (c .stops .result) (start .args .clocks .now) (start .args .marks .now) (start .args .values .now) (start .args .numbers .now) (start .args .path .now) (start .args .trace .now)
-    (c .before .nowhere .result) (start .pre .1) (subst (λ (n : ℕ). 5 ≤ n) (wide .wide16 .ensures .same) (c .before .before .if1 .taken)) (c .before .nowhere .ensures) (c .stops .ensures)
+    (c .before .no-site .result) (start .pre .1) (subst (λ (n : ℕ). 5 ≤ n) (wide .wide16 .ensures .same) (c .before .before .if1 .taken)) (c .before .no-site .ensures) (c .stops .ensures)
 
 add-number : tie.Need-add-number
 add-number c = search needs
@@ -60,7 +60,7 @@ tick-spec =
     (tie.spec
     element-copy-out-wide16
     wide16-requires
-    nowhere-requires
+    no-site-requires
     stops-requires
     returns
     add-number

@@ -4,8 +4,8 @@ use lib.ListN.{length}
 use Rattle.unmet.specs.Parts.{nextFrom}
 use Rattle.unmet.proofs.PartLaws.{nextLeft, next-all, next-on, next-found, next-none}
 use borrow.Author.Needs.{needs}
-use Rattle.unmet.proofs.next.Statement.{statement}
-use Rattle.unmet.proofs.next.Tie as tie
+use Rattle.unmet.proofs.next_comparison.Statement.{statement}
+use Rattle.unmet.proofs.next_comparison.Tie as tie
 
 abbrev Inv-loop : tie.InvT-loop
 Inv-loop condition from i₀ i = nextLeft condition i ≡ nextFrom condition from
@@ -41,8 +41,8 @@ loop-again c =
 returns-2 : tie.Need-returns-2 Inv-loop μ-loop
 returns-2 c = sym (next-none (c .before .before .before .args .condition .now) _ (c .loop-test .left)) ∙ c .before .loop .inv
 
-pub next-spec : {M : Type 1} → statement M
-next-spec =
+pub next-comparison-spec : {M : Type 1} → statement M
+next-comparison-spec =
     tie.close
     (tie.spec
     Inv-loop
