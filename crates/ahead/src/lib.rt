@@ -70,7 +70,7 @@ pub fn threads_ahead(text: &[u8], at: usize, lines: usize) -> usize
     threads
 }
 
-// One, where the token says "thread".
+// One, where the token says `thread`.
 fn thread_here(text: &[u8], at: usize, to: usize) -> usize
     ensures { λ r. ⌜ Counts r 1 (threadHere at to (now (text .entry))) ⌝ }
 {

@@ -17,13 +17,13 @@ use Rattle.rules.specs.State as State
 use Rattle.rules.specs.State.{marksOf, withMarks, threads, cells, history}
 use Rattle.rules.proofs.StateLaws.{marks-same, marks-other, marks-kept}
 use Rattle.rules.proofs.MeasureRows.{pick}
-use Rattle.bounds.specs.Bounds.{NoneOr, Sights}
+use Rattle.bounds.specs.Bounds.{Or, Sights}
 
 pub record Row (most : ℕ → ℕ) (xs : List ℕ) : Type 0 where
   pub five : length xs ≡ threads
-  pub each : (u : ℕ) → u < threads → NoneOr (most u) (markOf xs u)
+  pub each : (u : ℕ) → u < threads → Or unseen (most u) (markOf xs u)
 
-pub none-later : {m k x : ℕ} → m ≤ k → NoneOr m x → NoneOr k x
+pub none-later : {absent m k x : ℕ} → m ≤ k → Or absent m x → Or absent k x
 none-later h (inl e) = inl e
 none-later h (inr l) = inr (omega arith)
 

@@ -17,13 +17,13 @@ use lib.Dec.{eqb}
 use lib.ListN.{length}
 use borrow.Author.Tests.{eq-eqb, ne-eqb}
 use Rattle.rules.specs.Vector.{oneMore, largest}
-use Rattle.rules.specs.State.{Numbers, Number, number, withNumber, numberAt, numbersHeld, threads, cells}
+use Rattle.rules.specs.State.{Numbers, Number, number, withNumber, numberAt, numbersHeld, threads, cells, none}
 use Rattle.rules.specs.State.{rowsOf, yields, lastYield, operation, phase, count, activeThread, rowsBegun}
 use Rattle.rules.specs.Machine.{Program, toBegin, noOperation}
 use Rattle.rules.proofs.StateLaws.{number-same, number-other, number-kept}
 use Rattle.rules.proofs.NumberLaws.{five-one, five-has, five-same, after, more-some, more-below}
 use Rattle.rules.proofs.MeasureRows.{pick}
-use Rattle.bounds.specs.Bounds.{ofAll, given, but, rowsIn, owed, waiting, NoneOr, Tally}
+use Rattle.bounds.specs.Bounds.{ofAll, given, but, rowsIn, owed, waiting, Or, Tally}
 use Rattle.bounds.proofs.Marks.{none-later}
 
 -- So much of one thread
@@ -82,7 +82,7 @@ module _ {p : Program} {n : ℕ} {owing most : ℕ → ℕ} (a : Numbers) (s : T
   wrote : (k : Number) (v : ℕ) {m : ℕ} {owing′ most′ : ℕ → ℕ} → NoRows k → m + ofAll owing′ ≡ number a rowsBegun →
       ((c : ℕ) → c < cells → Becomes a k v (count c) (λ (x : ℕ). x + ofAll owing′ ≤ 1 + number a rowsBegun)) →
       ((u : ℕ) → u < threads → Becomes a k v (yields u) (λ (x : ℕ). x + owing′ u ≤ rowsIn a u)) →
-      ((u : ℕ) → u < threads → Becomes a k v (lastYield u) (NoneOr (most′ u))) → Tally p m owing′ most′ (withNumber a k v)
+      ((u : ℕ) → u < threads → Becomes a k v (lastYield u) (Or none (most′ u))) → Tally p m owing′ most′ (withNumber a k v)
   wrote k v {m} {owing′} {most′} d e f g i =
       let h : numberAt k < length a = omega (arith, s .held, d .0) in
       let began = number-other a k rowsBegun v (d .2) in
@@ -96,7 +96,7 @@ module _ {p : Program} {n : ℕ} {owing most : ℕ → ℕ} (a : Numbers) (s : T
         entries = e ∙ sym began;
         counts = λ c b. rw began (after (λ (x : ℕ). x + ofAll owing′ ≤ 1 + number a rowsBegun) a k (count c) v h (f c b .0) (f c b .1));
         yielded = λ u b. rw (rows u b) (after (λ (x : ℕ). x + owing′ u ≤ rowsIn a u) a k (yields u) v h (g u b .0) (g u b .1));
-        lasts = λ u b. after (NoneOr (most′ u)) a k (lastYield u) v h (i u b .0) (i u b .1);
+        lasts = λ u b. after (Or none (most′ u)) a k (lastYield u) v h (i u b .0) (i u b .1);
       }
 
   pub aside : (k : Number) (v : ℕ) → Apart k → Tally p n owing most (withNumber a k v)
@@ -105,7 +105,7 @@ module _ {p : Program} {n : ℕ} {owing most : ℕ → ℕ} (a : Numbers) (s : T
       (λ u b. (λ e. absurd (d .1 u b .0 e), λ e. s .yielded u b)) (λ u b. (λ e. absurd (d .1 u b .1 e), λ e. s .lasts u b))
 
   -- a thread's last yield
-  pub last-yield : (t v : ℕ) → t < threads → NoneOr (most t) v → Tally p n owing most (withNumber a (lastYield t) v)
+  pub last-yield : (t v : ℕ) → t < threads → Or none (most t) v → Tally p n owing most (withNumber a (lastYield t) v)
   last-yield t v b l =
       wrote (lastYield t) v (omega arith) (s .entries) (λ c h. (omega arith, λ e. s .counts c h))
       (λ u h. (omega arith, λ e. s .yielded u h))

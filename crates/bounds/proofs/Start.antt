@@ -24,7 +24,7 @@ use Rattle.rules.proofs.StateLaws.{inVectors, vectorAt-within, vector-same}
 use Rattle.rules.proofs.NumberLaws.{five-same}
 use Rattle.rules.proofs.MeasureStart.{New, start-new}
 use Rattle.rules.proofs.MeasureRows.{pick}
-use Rattle.bounds.specs.Bounds.{Fits, Kind, ofVersions, ofChoices, kindOf, given, nothing, rowsIn, Part, NoneOr, Sights, Tally, Holds}
+use Rattle.bounds.specs.Bounds.{Fits, Kind, ofVersions, ofChoices, kindOf, given, nothing, rowsIn, Part, Or, Sights, Tally, Holds}
 use Rattle.bounds.proofs.Parts.{Fit, set-fit, zeros-fit, Since, put, join-into, eased}
 use Rattle.bounds.proofs.Marks.{Row, unseen-row, later}
 use Rattle.bounds.proofs.Accesses.{Sound, with-clocks, stored-sound, plain-write-tracked}
@@ -181,7 +181,7 @@ module _ (p : Program) (fits : Fits p) where
       ]
 
   last-none : (u : ℕ) → (number (start p .numbers) (lastYield u) ≡ none) ⊎ (number (start p .numbers) (lastYield u) ≡ 0) →
-      NoneOr (first u) (number (start p .numbers) (lastYield u))
+      Or none (first u) (number (start p .numbers) (lastYield u))
   last-none u (inl e) = inl e
   last-none u (inr e) = inr (omega arith)
 

@@ -93,9 +93,9 @@ pub record Vectors (P : Kind → ℕ → ℕ → Type 0) (clocks : Clocks) : Typ
   pub five : (v : Vector) → inVectors v → length (vector clocks v) ≡ threads
   pub parts : (v : Vector) → inVectors v → (u : ℕ) → u < threads → P (kindOf v) u (getD (vector clocks v) u 0)
 
--- none, or at most this
-abbrev pub NoneOr : ℕ → ℕ → Type 0
-NoneOr most x = (x ≡ unseen) ⊎ (x ≤ most)
+-- the number that stands for none, or at most this: marks have one, last yields another
+abbrev pub Or : ℕ → ℕ → ℕ → Type 0
+Or absent most x = (x ≡ absent) ⊎ (x ≤ most)
 
 -- "Marks form seven rows of five numbers": each is unseen, or a version that its thread has reached
 pub record Sights (most : ℕ → ℕ) (marks : State.Marks) : Type 0 where
@@ -103,7 +103,7 @@ pub record Sights (most : ℕ → ℕ) (marks : State.Marks) : Type 0 where
   pub seven : (c : ℕ) → c < cells → length (marksOf marks c) ≡ history
   pub five : (c slot : ℕ) → c < cells → slot < history → length (getD (marksOf marks c) slot []) ≡ threads
   pub marked : (c slot u : ℕ) → c < cells → slot < history → u < threads →
-      NoneOr (most u) (markOf (getD (marksOf marks c) slot []) u)
+      Or unseen (most u) (markOf (getD (marksOf marks c) slot []) u)
 
 -- with n entries in the trace
 pub record Tally (p : Program) (n : ℕ) (owing most : ℕ → ℕ) (a : Numbers) : Type 0 where
@@ -120,7 +120,7 @@ pub record Tally (p : Program) (n : ℕ) (owing most : ℕ → ℕ) (a : Numbers
   -- a thread yields at most once for each row that it began
   pub yielded : (u : ℕ) → u < threads → number a (yields u) + owing u ≤ number a (rowsOf u)
   -- its last yield is none, or a version that it has reached
-  pub lasts : (u : ℕ) → u < threads → NoneOr (most u) (number a (lastYield u))
+  pub lasts : (u : ℕ) → u < threads → Or State.none (most u) (number a (lastYield u))
 
 -- a state, where threads owe so much to their versions and so much to their choices
 pub record Bounded (p : Program) (owing waits : ℕ → ℕ) (st : State) (n : ℕ) : Type 0 where
@@ -158,6 +158,6 @@ pub record InRange (st : State) : Type 0 where
   pub live : (c : ℕ) → c < cells → liveIn (st .numbers) c ≤ history
   -- a mark that is not unseen is at most its thread's version, which is less than unseen
   pub marks : (c slot u : ℕ) → c < cells → slot < history → u < threads →
-      NoneOr (version (st .clocks) u) (markOf (getD (marksOf (st .marks) c) slot []) u)
+      Or unseen (version (st .clocks) u) (markOf (getD (marksOf (st .marks) c) slot []) u)
   pub yielded : (u : ℕ) → u < threads → number (st .numbers) (yields u) < largest
   pub rows : (u : ℕ) → u < threads → number (st .numbers) (rowsOf u) < largest

@@ -1,6 +1,6 @@
 -- What stands at a place of a condition. Assumes nothing.
 --     place-bounds, register-most     a word's place in a list, and a thread's register
---     mark-..          a bracket, "and" or "or"
+--     mark-..          a bracket, `and` or `or`
 --     number-.., sign-..     behind a thread's register
 --     unit-..          the whole unit
 use Prim.Native.Nat.{ℕ, suc, _+_, _-_, _*_, _≤_, _<_}
@@ -71,7 +71,7 @@ register-most word v e =
     let last : getD word 3 0 ≤ 51 = between-most 48 51 _ (and-second (a && b && c && d) f t) in
     omega arith
 
--- A bracket, "and" or "or"
+-- A bracket, `and` or `or`
 
 abbrev notSign : ℕ → Bool
 notSign b = not (isSign b)

@@ -1,7 +1,7 @@
 -- What the answers of this crate stand for in the definition. Assumes nothing.
 --     mostClaimed     the longest condition, and a comparison that broke off behind it
 --     Stands          what stands at a place
---     markAt          a bracket, "and" or "or"
+--     markAt          a bracket, `and` or `or`
 --     Claims          what was read of a condition
 --     Concludes       a text's condition, taken or refused
 use Prim.Native.Nat.{ℕ, _+_, _≤_, _<_}

@@ -167,7 +167,7 @@ fn unit_at(text: &[u8], at: usize, lines: usize) -> Unit
     sign_behind(text, to, lines, register)
 }
 
-// A bracket, "and" or "or".
+// A bracket, `and` or `or`.
 fn mark_at(text: &[u8], at: usize, to: usize) -> Unit
     ensures { λ r. ⌜ Stands (now (text .entry)) (markAt at to (now (text .entry))) r ⌝ }
 {
@@ -196,7 +196,7 @@ fn none(at: usize) -> Unit
     }
 }
 
-// Behind "THREAD.rREGISTER".
+// Behind `THREAD.rREGISTER`.
 fn sign_behind(text: &[u8], from: usize, lines: usize, register: u64) -> Unit
     requires { ⌜ register < 20 ⌝ }
     ensures { λ r. ⌜ Stands (now (text .entry)) (rules.signBehind lines register (drop from (now (text .entry)))) r ⌝ }
@@ -212,7 +212,7 @@ fn sign_behind(text: &[u8], from: usize, lines: usize, register: u64) -> Unit
     number_behind(text, to, lines, register, sign)
 }
 
-// Behind "THREAD.rREGISTER SIGN".
+// Behind `THREAD.rREGISTER SIGN`.
 fn number_behind(text: &[u8], from: usize, lines: usize, register: u64, sign: u64) -> Unit
     requires { ⌜ (register < 20) × (sign ≤ 6) ⌝ }
     ensures { λ r. ⌜ Stands (now (text .entry)) (rules.numberBehind lines register sign (drop from (now (text .entry)))) r ⌝ }

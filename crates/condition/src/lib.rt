@@ -1,5 +1,5 @@
 // The final condition, read from its bytes: a comparison of a thread's register with a number, or a bracketed group of conditions
-// joined by "and" or "or", groups in each other at most eight deep. Each promise is an equation with the definition in rules
+// joined by `and` or `or`, groups in each other at most eight deep. Each promise is an equation with the definition in rules
 // (Condition).
 ghost use mathlib.Core.Path.{_≡_};
 ghost use Prim.Native.Nat.{ℕ, _≤_};

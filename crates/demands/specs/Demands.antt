@@ -1,6 +1,7 @@
 -- The demands, sentence by sentence, of the definition's `explored`, which is what `explore` returns and leaves in the buffers,
 -- for all bytes, settings and buffers. What is looked at is named first, so that the same sentences can be said of an explorer
--- that is wrong (Wrong); they are demanded of the right one. Assumes nothing.
+-- that is wrong (Wrong); they are demanded of the right one. A quotation stands in document 01, in document 02, or in the demands
+-- themselves. Assumes nothing.
 --     Explorer, right             what is looked at, and the definition's own
 --     Answered                    demand 1: one of document 01's answers or 18, refusals exactly when, and what is left
 --     Balances, Apart, Turns      demand 3: the ledger, the tree, the turning points

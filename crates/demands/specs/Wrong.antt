@@ -58,7 +58,7 @@ p3 N = settings 5 2 N
 -- a table whose only row has an opcode that there is not; one thread that stores, then loads; one that loads twice; a thread that
 -- yields beside one that loads
 abbrev pub noSuchRow : List ℕ
-noSuchRow = table (7 ∷ []) ((row 17 0 0 0 0 0 ∷ []) ∷ [])
+noSuchRow = table (7 ∷ []) ((row 19 0 0 0 0 0 ∷ []) ∷ [])
 
 abbrev pub storeThenLoad : List ℕ
 storeThenLoad = table (0 ∷ []) ((store 1 ∷ Worked.load 0 ∷ []) ∷ [])

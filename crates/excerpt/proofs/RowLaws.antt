@@ -1,5 +1,5 @@
 -- The rows of a thread before a line, line by line. Assumes nothing.
---     with-.., line-adds     one line more: bare, "thread", a row
+--     with-.., line-adds     one line more: bare, `thread`, a row
 --     rows-..                a line passed over; none left
 use Prim.Native.Nat.{ℕ, suc, _+_, _-_, _≤_, _<_}
 use mathlib.Core.List.{List, [], _∷_}

@@ -26,7 +26,7 @@ behind (suc n) bs = lineLength bs + behind n (nextLine bs)
 abbrev pub beginOf : ℕ → List ℕ → ℕ
 beginOf line text = behind (line - 1) text
 
--- with one line more: each with a token is a row, and "thread" begins anew
+-- with one line more: each with a token is a row, and `thread` begins anew
 abbrev pub withLine : ℕ → List ℕ → ℕ
 withLine rows bs = cond (endsLine (pastBlanks bs)) rows (cond (equal (token (pastBlanks bs)) (bytesOf "thread")) 0 (rows + 1))
 

@@ -57,7 +57,7 @@ pub fn rows_before(text: &[u8], line: usize) -> usize
     rows
 }
 
-// The rows of a thread with the line that begins here: one more where it has a token, and none where that says "thread".
+// The rows of a thread with the line that begins here: one more where it has a token, and none where that says `thread`.
 fn with_line(text: &[u8], at: usize, rows: usize) -> usize
     requires { ⌜ rows + 1 < 2 ^ 64 ⌝ }
     ensures { λ r. ⌜ r ≡ withLine rows (drop at (now (text .entry))) ⌝ }

@@ -36,7 +36,7 @@ Bare text from rows more r = (table : List ℕ) (n : ℕ) (m : Draft) → Held t
 abbrev pub isPlains : List ℕ → List ℕ → Bool
 isPlains table word = eqb (getD table 0 0) 0 && eqb (getD table 7 0) 0 && equal word (bytesOf "plain")
 
--- "thread", by what is left at its place and behind it
+-- `thread`, by what is left at its place and behind it
 abbrev pub threadLine : ℕ → Draft → List ℕ → List ℕ → rules.Line
 threadLine lines m here past =
     cond (ltb (m .threads) maxThreads) (rules.bareThen (rules.rowsAhead lines (nextLine here)) (rules.withThread m) past) (rules.refusedLine here)

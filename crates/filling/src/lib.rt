@@ -76,7 +76,7 @@ pub fn line_of(
     a_row(text, table, from, here, all, rows, length)
 }
 
-// "finally", once there is a thread.
+// `finally`, once there is a thread.
 fn the_condition(header: &[u8], here: usize, to: usize) -> Line
     requires { ⌜ 1 ≤ length (now header) ⌝ }
     ensures { λ r. ⌜ r ≡ cond (ltb 0 (getD (now (header .entry)) 0 0)) (Line.Concludes to) (Line.Refused here) ⌝ }
@@ -87,7 +87,7 @@ fn the_condition(header: &[u8], here: usize, to: usize) -> Line
     Line::Refused(here)
 }
 
-// "thread", and its rows.
+// `thread`, and its rows.
 fn a_thread(
     text: &[u8],
     table: &mut [u8],

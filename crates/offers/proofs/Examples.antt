@@ -7,7 +7,7 @@ use mathlib.Core.Path.{_≡_, refl}
 use lib.ListN.{replicate}
 use Rattle.rules.specs.Vector as Vectors
 use Rattle.rules.specs.Vector.{zeros, less, atMost}
-use Rattle.rules.specs.Seen.{unseens, seen, seenThrough, seenBeforeYield}
+use Rattle.rules.specs.Seen.{unseen, unseens, seen, seenThrough, seenBeforeYield}
 use Rattle.rules.specs.Event.{offers}
 use Rattle.rules.specs.State.{Clocks, Numbers, withVector, withNumber, causality, order, storeAt, count, lastYield, none}
 use Rattle.rules.specs.Cell.{matchedLoad, matchedRmw, matchedFrom, loadFate, rmwFate, fateFrom}
@@ -23,7 +23,7 @@ clocks =
     (order (storeAt 0 1)) (2 ∷ 0 ∷ 0 ∷ 0 ∷ 0 ∷ [])
 
 rows : List (List ℕ)
-rows = (1 ∷ 65535 ∷ 65535 ∷ 65535 ∷ 65535 ∷ []) ∷ (2 ∷ 65535 ∷ 65535 ∷ 65535 ∷ 65535 ∷ []) ∷ replicate 5 (unseens 5)
+rows = (1 ∷ unseen ∷ unseen ∷ unseen ∷ unseen ∷ []) ∷ (2 ∷ unseen ∷ unseen ∷ unseen ∷ unseen ∷ []) ∷ replicate 5 (unseens 5)
 
 numbers : Numbers
 numbers = withNumber (withNumber (withNumber (replicate 89 0) (count 0) 2) (lastYield 0) none) (lastYield 1) none

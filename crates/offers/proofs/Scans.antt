@@ -1,5 +1,5 @@
 -- A scan of a cell's stores. Assumes nothing.
---     less-irrefl, less-trans      "less" is a strict order, over vectors of any length
+--     less-irrefl, less-trans      `less` is a strict order, over vectors of any length
 --     dropped-by                   a store that is dropped has been below one that drops it
 --     kept-below                   a store that is kept is below none that would drop it
 --     judged-at                    what is offered is what is kept, where no equal orders were met

@@ -72,8 +72,8 @@ pub fn preemptions(path: &[u8], at: usize) -> usize
 }
 
 // The schedule record before this one. One that does not lie below counts as none, so that a walk
-// always ends: NO_PREV lies below no record. One that is no schedule, which no push_thread has
-// written, counts as none too.
+// always ends: NO_PREV lies below no record of a path. One that is no schedule, which no push_thread
+// has written, counts as none too.
 pub fn prev(path: &[u8], at: usize) -> ScheduleAt
     requires { ⌜ 16 * at + 16 ≤ length (now path) ⌝ }
     ensures { λ r. ⌜ PrevOf (now (path .entry)) at r ⌝ }

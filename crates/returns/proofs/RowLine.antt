@@ -1,6 +1,6 @@
 -- A row's line among the lines of a text. Assumes nothing.
 --     small-row     a row's fields are numbers below 2^64
---     PlainLine     a line that says neither "thread" nor `finally`, and the next line follows it
+--     PlainLine     a line that says neither `thread` nor `finally`, and the next line follows it
 --     RowLine       one that is a row
 --     row-line      a row that document 01 accepts is written as one
 use Prim.Native.Nat.{ℕ, zero, suc, _+_, _≤_}
@@ -41,7 +41,7 @@ small-row t h at (suc (suc (suc (suc (suc (suc (suc (suc (suc i))))))))) = omega
 
 -- A row's line
 
--- a line that says something, but neither "thread" nor `finally`
+-- a line that says something, but neither `thread` nor `finally`
 pub record PlainLine (line : List ℕ) : Type 0 where
   pub some : (rest : List ℕ) → isEmpty (pastBlanks (line ++ rest)) ≡ false
   pub full : (rest : List ℕ) → endsLine (pastBlanks (line ++ rest)) ≡ false

@@ -241,7 +241,7 @@ module _ (l allThreads : ℕ) where
     some-cells : eqb (m .cells) 0 ≡ false → 1 ≤ m .cells
     some-cells e = let d = eqb-false (m .cells) 0 e in omega arith
 
-    -- a line that says "thread" does not say `finally`
+    -- a line that says `thread` does not say `finally`
     thread-silent : says "thread" bs ≡ true → says "finally" bs ≡ false
     unfolding bytesOf equal
     thread-silent e = rw (equal-true (token (pastBlanks bs)) (bytesOf "thread") e) refl

@@ -1,7 +1,7 @@
 -- The laws of vectors, each over every length. Assumes nothing.
---     atMost-refl, atMost-trans, atMost-antisym   "at most" is a partial order
---     equal-refl, equal-true, equal-false         "all equal" is equality
---     less-true, less-made                        "less" is at most and not equal
+--     atMost-refl, atMost-trans, atMost-antisym   `atMost` is a partial order
+--     equal-refl, equal-true, equal-false         `equal` is equality
+--     less-true, less-made                        `less` is at most and not equal
 --     joined-left, joined-right, joined-least     the join is an upper bound, and the least
 --     joined-comm, joined-idem                    it commutes and is idempotent
 --     ahead-nobody, nobody-ahead                  nobody is ahead exactly where the other is at most this

@@ -78,8 +78,8 @@ pub data Fate : Type 0 where
   equalMet : Fate
 
 -- "slot i is dropped at the first live j with order i < order j and (j seen, or ..)"; "13 exactly if some row i meets an equal
--- order at j before being dropped". Here are the n slots from j on, i itself passed over [Q25]; what stands in the brackets is a
--- test of j
+-- order at j before being dropped": there loom asserts that the orders differ, with the remark that this sometimes fails. Here
+-- are the n slots from j on, i itself passed over [Q25]; what stands in the brackets is a test of j
 unfoldable pub fateFrom : Clocks → ℕ → ℕ → (ℕ → Bool) → ℕ → ℕ → Fate
 fateFrom clocks c i drops zero j = kept
 fateFrom clocks c i drops (suc n) j =
@@ -94,7 +94,8 @@ fateFrom clocks c i drops (suc n) j =
       ]
     ]
 
--- "(j seen, or i seen by this thread no later than its last yield, or order, i and j all SeqCst)"
+-- "(j seen, or i seen by this thread no later than its last yield, or order, i and j all SeqCst)": what was seen before the
+-- yield is not read again where there is a newer store, so that a loop that waits for it comes to an end
 abbrev pub loadDrops : Clocks → List (List ℕ) → Numbers → ℕ → ℕ → ℕ → ℕ → ℕ → Bool
 loadDrops clocks rows numbers t c o i j =
     seenBy clocks rows t j
@@ -187,7 +188,8 @@ mutTracked clocks t c = recorded (mutRace clocks t c) clocks (mutated c) t
 
 -- Coherence and touch
 
--- the other stores that the thread has seen or that happened before it (atomic.rs: apply_load_coherence)
+-- the other stores that the thread has seen (read-read coherence) or that happened before it (write-read coherence) (atomic.rs:
+-- apply_load_coherence)
 abbrev pub coheres : Clocks → List (List ℕ) → ℕ → ℕ → ℕ → ℕ → Bool
 coheres clocks rows t c slot i =
     not (eqb i slot)
@@ -223,8 +225,8 @@ slotOf n = n % history
 abbrev pub newest : ℕ → ℕ
 newest n = (n % history + 6) % history
 
--- "A new store joins the orders of all seen slots, the one it replaces included.", here of the n slots from i on. It starts from
--- the causality (atomic.rs: State::store)
+-- "A new store joins the orders of all seen slots, the one it replaces included.", here of the n slots from i on: read-write
+-- coherence. It starts from the causality: write-write coherence (atomic.rs: State::store)
 unfoldable pub storeOrderFrom : Clocks → List (List ℕ) → ℕ → ℕ → List ℕ → ℕ → ℕ → List ℕ
 storeOrderFrom clocks rows t c so zero i = so
 storeOrderFrom clocks rows t c so (suc n) i =
@@ -331,7 +333,7 @@ unsyncLoadDone st t c =
     unlessRace (unsyncLoadRace (st .clocks) t c) st
     (read (value (st .values) (ofStore (newestOf (st .numbers) c))) (withClocks st (unsyncLoadTracked (st .clocks) t c)))
 
--- the value that a change leaves: "also on failure"
+-- the value that a change leaves in the cell, a failing one too [Q18]
 abbrev pub leaves : Changed → ℕ → ℕ
 leaves (success new) v = new
 leaves failure v = v
@@ -379,7 +381,8 @@ fenceReleased clocks t = withVector clocks (released t) (vector clocks (causalit
 unfoldable pub fenceSeqCst : Clocks → ℕ → Clocks
 fenceSeqCst clocks t = joinInto (joinInto clocks (causality t) seqCst) seqCst (causality t)
 
--- "Orders: .. 1 Release, 2 Acquire, 3 AcqRel, 4 SeqCst.": AcqRel is acquire, then release [Q29]
+-- "Orders: .. 1 Release, 2 Acquire, 3 AcqRel, 4 SeqCst.": AcqRel is acquire, then release [Q29]. Another order, which no accepted
+-- table has, does nothing
 unfoldable pub fenced : Clocks → Marks → Numbers → ℕ → ℕ → ℕ → Clocks
 fenced clocks marks numbers t cells o =
     cond (eqb o 1) (fenceReleased clocks t)

@@ -24,7 +24,7 @@ pub data Fault : Type 0 where
   flags : Fault
   -- "17 a new schedule branch's preemptions would pass 255"
   preemptions : Fault
-  -- a number that is out of range where the rules read it back; no run of an accepted table meets it (docs/DECISIONS.md, 37, 51)
+  -- what no run of an accepted table meets: the cases of docs/DECISIONS.md, 51 (37)
   impossible : Fault
 
 -- the fault's number; 20 is none of document 01's
@@ -76,7 +76,9 @@ unfoldable pub little : ℕ → ℕ → List ℕ
 little zero v = []
 little (suc n) v = v % 256 ∷ little n (v / 256)
 
--- "thread, row, opcode, slot .., offer mask .., three zeros, u64 value": a byte each, and eight
+-- "thread, row, opcode, slot .., offer mask .., three zeros, u64 value": a byte each, and eight. Thread and row are numbers of
+-- the state, u16 in the code, of which the lower byte is taken; opcode, slot and mask are bytes by what makes them: an Op's
+-- number, a slot below seven (of a record too, by Explorer's slotSaid) or 255, and a bit for each of seven slots
 unfoldable pub entryBytes : Entry → List ℕ
 entryBytes e = e .thread % 256 ∷ e .row % 256 ∷ e .opcode ∷ e .slot ∷ e .mask ∷ 0 ∷ 0 ∷ 0 ∷ little 8 (e .value)
 

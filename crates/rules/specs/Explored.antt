@@ -16,7 +16,7 @@ use Rattle.rules.specs.Machine.{Program, machine, absent, isIn, everyThr
 use Rattle.rules.specs.Explorer.{Limits, Stop, Verdict, exhausted, spent, unmet, stopped, run}
 
 -- "Branch limit B ..; operation limit L ..; execution budget N ..; preemption bound none or 0..255; exploring on start yes or
--- no.": a bound is a byte, so that one above 255 cannot be given
+-- no.": in the code a bound is a byte, so that one above 255 cannot be given; here such a bound would be taken as it stands
 pub record Settings : Type 0 where
   pub branches : ℕ
   pub operations : ℕ

@@ -243,7 +243,7 @@ empty = record { path = []; opened = 0; begun = 0 }
 
 -- "The condition is judged when all threads have ended; a false one is answer 18, ahead of 0 and 1 .., and the run stops there."
 -- "0 an execution ended, no choice open": also at the Nth [Q8]. "After answer 0 or 1 no `step` is made.", nor after 18, "leaving
--- what 0 leaves"
+-- what 0 leaves". An execution that would still go on is not over (docs/DECISIONS.md, 51)
 unfoldable pub after : {S : Type 0} → (S → Bool) → Bool → List Execution → Tick S → After S
 after final last past (goes w) = stopsHere (stop (stopped Event.impossible noSite) w past)
 after final last past (over w) =

@@ -186,7 +186,8 @@ fewestFrom numbers best zero t = best
 fewestFrom numbers best (suc n) t =
     fewestFrom numbers (cond (isIn numbers runnable t && yieldsLess numbers t best) (thread t) best) n (t + 1)
 
--- "(b) initial is the current thread if runnable, else the runnable thread with fewest yields, lowest number on a tie"
+-- "(b) initial is the current thread if runnable, else the runnable thread with fewest yields, lowest number on a tie": so a
+-- thread that can go on is not preempted unless a mark asks for it. An active thread that is none counts as not runnable
 unfoldable pub initial : Numbers → Whom
 initial numbers =
     let now = number numbers activeThread in

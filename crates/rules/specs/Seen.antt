@@ -1,4 +1,4 @@
--- When each thread first saw a store, and what counts as seen: document 01, "FirstSeen". Marks and vectors are lists of
+-- When each thread first saw a store, and what counts as seen: document 01, "`FirstSeen`". Marks and vectors are lists of
 -- any length. Assumes nothing.
 use Prim.Native.Nat.{ℕ}
 use mathlib.Core.List.{List, [], _∷_, map}

@@ -201,14 +201,14 @@ valuesLine more many (suc n) m bs =
       | nothing ↦ cond (leb 1 (many m)) (bareThen 0 m bs) (refusedLine (pastBlanks bs))
     ]
 
--- the first line that says anything: "cells" and one to four start values
+-- the first line that says anything: `cells` and one to four start values
 abbrev pub firstLine : Draft → List ℕ → Line
 firstLine m bs =
     cond (says "cells" bs)
     (valuesLine withCell (λ (made : Draft). made .cells) maxCells m (pastToken (pastBlanks bs)))
     (refusedLine (pastBlanks bs))
 
--- "plain" and one to four start values: behind the cells, ahead of the threads, once
+-- `plain` and one to four start values: behind the cells, ahead of the threads, once
 abbrev pub isPlainLine : Draft → List ℕ → Bool
 isPlainLine m bs = eqb (m .threads) 0 && eqb (m .plains) 0 && says "plain" bs
 
@@ -226,7 +226,7 @@ aRow all rows m bs =
     (rowLine rows m (rowIn (record { threads = all; cells = m .cells; plains = m .plains; rows = rows; row = rowsSoFar m }) bs))
     (refusedLine (pastBlanks bs))
 
--- "thread", and its rows
+-- `thread`, and its rows
 abbrev pub aThread : ℕ → Draft → List ℕ → Line
 aThread lines m bs =
     cond (ltb (m .threads) maxThreads)

@@ -45,7 +45,8 @@ abbrev pub oneUp : Whom → Whom
 oneUp nobody = nobody
 oneUp (thread t) = thread (t + 1)
 
--- "`ahead`: the lowest thread whose part in the other vector is greater."
+-- "`ahead`: the lowest thread whose part in the other vector is greater.", or whose part is missing in this one
+-- (docs/DECISIONS.md, 35)
 unfoldable pub ahead : List ℕ → List ℕ → Whom
 ahead xs [] = nobody
 ahead [] (y ∷ ys) = thread 0

@@ -77,7 +77,7 @@ plainsShown table =
       | false ↦ []
     ]
 
--- a condition's bytes as text: a blank before each word, but not behind "(" and not before ")"
+-- a condition's bytes as text: a blank before each word, but not behind `(` and not before `)`
 abbrev pub blankBefore : Bool → ℕ → List ℕ
 blankBefore opened b = cond (opened || eqb b closes) [] (space ∷ [])
 

@@ -31,7 +31,7 @@ placeShown name line column =
 abbrev pub says : List ℕ → String → Bool
 says word s = equal word (bytesOf s)
 
--- a plain cell stands behind "read", and behind "to" in a line that begins with "write"
+-- a plain cell stands behind `read`, and behind `to` in a line that begins with `write`
 abbrev pub namesPlain : List ℕ → List ℕ → Bool
 namesPlain first before = says before "read" || (says first "write" && says before "to")
 

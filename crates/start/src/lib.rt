@@ -97,7 +97,9 @@ fn make_cells(
     }
 }
 
-// A cell takes thread 0's vector as its exclusive one, and a Release store of its start value.
+// A cell takes thread 0's vector as its exclusive one, so that every access must come after its making, and a Release store of
+// its start value. Which order that store has should not matter: who accesses the cell has its making in its causality. Both are
+// as in loom's State::new.
 fn make_cell(
     table: &[u8],
     clocks: &mut Clocks,
