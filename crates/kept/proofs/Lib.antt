@@ -4,6 +4,7 @@ pub mod Courses
 pub mod Held
 pub mod Both
 pub mod Possible
+pub mod Preemptions
 pub mod RecordRules
 pub mod Rules
 pub mod Example

@@ -10,7 +10,6 @@ use Rattle.rules.specs.Event.{Machine, Move, moves, asks, stops, ends, Question
 use Rattle.rules.specs.Explorer.{Limits, Ledger, Walk, Tick, goes, over, faulted, noted, withState, fits, followed, tick, execution, Verdict, nextLedger, empty, run}
 use Rattle.ledger.specs.History.{Every, Course, ticksFrom, starting, courseOf, courses, leftBy, Made, Real}
 use Rattle.ledger.proofs.Lists.{every-map}
-use Rattle.ledger.proofs.Marking.{firstMarked-marks}
 use Rattle.ledger.proofs.Runs.{Known}
 use Rattle.ledger.proofs.Balance.{stops-left}
 use Rattle.ledger.proofs.History.{real}
@@ -20,12 +19,12 @@ use Rattle.kept.specs.Rules.{PathRules, RuledIn, Ruled}
 use Rattle.kept.proofs.Ticked.{Expected, expected, marksMade, Met, known, new, Ticked, alone, crowded, refused, answered, passer}
 use Rattle.kept.proofs.Courses.{After, walk-by, every-course}
 use Rattle.kept.proofs.Held.{next-asks, Later, tick-cases, tick-holds}
-use Rattle.kept.proofs.RecordRules.{Obeys, obeys-rules, obeys-none, obeys-marking, obeys-added, obeys-stepped}
+use Rattle.kept.proofs.RecordRules.{Obeys, obeys-rules, obeys-none, obeys-marks, obeys-added, obeys-stepped}
 
 module _ (M : Machine) (limits : Limits) (Holds : Holding M) (Asked : Asking M) (Over : Holding M)
     (keeps : Keeps M Holds Asked Over) (can : (s : M .State) (n : ℕ) (q : Question) → Asked s n q → Answerable q) where
   abbrev PathObeys : Walk (M .State) → Type 0
-  PathObeys w = Obeys (limits .branches) (w .ledger .path)
+  PathObeys w = Obeys limits (w .ledger .path)
 
   -- A tick
 
@@ -40,21 +39,16 @@ module _ (M : Machine) (limits : Limits) (Holds : Holding M) (Asked : Asking M) 
   followed-obeys site w (stops s f) o = o
   followed-obeys site w (ends s) o = o
 
-  marks-obey : (w : Walk (M .State)) (q : Question) → PathObeys w → Obeys (limits .branches) (marksMade M limits w q .path)
-  marks-obey w q o =
-      obeys-marking (limits .branches) (w .ledger .path) (marksMade M limits w q .path)
-      (firstMarked-marks (limits .bound) (w .ledger) q) o
-
   met-obeys : (w : Walk (M .State)) (x : Bool) (q : Question) (l : Ledger) → Answerable q → PathObeys w → Met M limits w x q l →
-      Obeys (limits .branches) (l .path)
-  met-obeys w x q l a o known = marks-obey w q o
-  met-obeys w x q l a o (new b e) = obeys-added (limits .branches) (marksMade M limits w q .path) x q b a e (marks-obey w q o)
+      Obeys limits (l .path)
+  met-obeys w x q l a o known = obeys-marks limits (w .ledger) q o
+  met-obeys w x q l a o (new b e) = obeys-added limits (marksMade M limits w q .path) x q b a e (obeys-marks limits (w .ledger) q o)
 
   ticked-obeys : (w : Walk (M .State)) (t : Tick (M .State)) → HoldsAt M Holds w → PathObeys w → Ticked M limits w t →
       PathObeys (leftBy t)
   ticked-obeys w t h o (alone e p a) = followed-obeys _ w e o
   ticked-obeys w t h o (crowded s es x q p f) = o
-  ticked-obeys w t h o (refused s es x q f p r) = marks-obey w q o
+  ticked-obeys w t h o (refused s es x q f p r) = obeys-marks limits (w .ledger) q o
   ticked-obeys w t h o (answered s es x q l a p m g) =
       followed-obeys _ (passer M limits w s es l) (M .answered s a)
       (met-obeys w x q l (can s _ q (next-asks M Holds Asked Over keeps w h s es x q p)) o m)
@@ -72,7 +66,7 @@ module _ (M : Machine) (limits : Limits) (Holds : Holding M) (Asked : Asking M) 
   on-obeys (over w) h o = o
   on-obeys (faulted f s w) h o = o
 
-  course-obeys : (l : Ledger) → Known M limits (l .path) → Obeys (limits .branches) (l .path) →
+  course-obeys : (l : Ledger) → Known M limits (l .path) → Obeys limits (l .path) →
       Every PathObeys (ticksFrom M limits (limits .ticks) (starting M limits l)) × PathObeys (leftBy (execution M limits l))
   unfolding execution
   course-obeys l k o =
@@ -81,43 +75,43 @@ module _ (M : Machine) (limits : Limits) (Holds : Holding M) (Asked : Asking M) 
       (λ w p. p .1)
       (limits .ticks) (starting M limits l) (expected M limits l k) (keeps .at-start, o)
 
-  course-ruled : (l : Ledger) → Known M limits (l .path) → Obeys (limits .branches) (l .path) →
-      RuledIn M (limits .branches) (courseOf M limits l)
+  course-ruled : (l : Ledger) → Known M limits (l .path) → Obeys limits (l .path) →
+      RuledIn M limits (courseOf M limits l)
   unfolding courseOf
   course-ruled l k o =
       let r = course-obeys l k o in
       record {
-        at-start = obeys-rules (limits .branches) (l .path) o;
+        at-start = obeys-rules limits (l .path) o;
         at-ticks =
-            every-map PathObeys (λ w. PathRules (limits .branches) (w .ledger .path))
+            every-map PathObeys (λ w. PathRules limits (w .ledger .path))
             (ticksFrom M limits (limits .ticks) (starting M limits l))
-            (λ w p. obeys-rules (limits .branches) (w .ledger .path) p) (r .0);
-        at-end = obeys-rules (limits .branches) (leftBy (execution M limits l) .ledger .path) (r .1);
+            (λ w p. obeys-rules limits (w .ledger .path) p) (r .0);
+        at-end = obeys-rules limits (leftBy (execution M limits l) .ledger .path) (r .1);
       }
 
-  next-obeys : (l : Ledger) → Known M limits (l .path) → Obeys (limits .branches) (l .path) → (w : Walk (M .State)) →
-      execution M limits l ≡ over w → Obeys (limits .branches) (stepped (w .ledger .path))
-  next-obeys l k o w e = obeys-stepped (limits .branches) (w .ledger .path) (rw e at (course-obeys l k o .1))
+  next-obeys : (l : Ledger) → Known M limits (l .path) → Obeys limits (l .path) → (w : Walk (M .State)) →
+      execution M limits l ≡ over w → Obeys limits (stepped (w .ledger .path))
+  next-obeys l k o w e = obeys-stepped limits (w .ledger .path) (rw e at (course-obeys l k o .1))
 
   -- The path left by the last one
 
   last-ruled : (n : ℕ) (w : Walk (M .State)) (v : Verdict) (l : Ledger) (c : Course (M .State)) (cs : List (Course (M .State))) →
-      Made M limits n w v l (c ∷ cs) → Every (RuledIn M (limits .branches)) (c ∷ cs) → PathRules (limits .branches) (w .ledger .path)
+      Made M limits n w v l (c ∷ cs) → Every (RuledIn M limits) (c ∷ cs) → PathRules limits (w .ledger .path)
   unfolding courseOf
   last-ruled n w v l c [] m r =
       let z = stops-left M limits n w v (execution M limits l) (m .1) in rw z at ((rw (m .0) at (r .0)) .at-end)
   last-ruled n w v l c (d ∷ cs) m r = last-ruled n w v (nextLedger (m .1 .ledger)) d cs (m .6) (r .1)
 
   left-ruled : (n : ℕ) (w : Walk (M .State)) (v : Verdict) (cs : List (Course (M .State))) → Made M limits n w v empty cs →
-      Every (RuledIn M (limits .branches)) cs → PathRules (limits .branches) (w .ledger .path)
-  left-ruled n w v [] m r = rw (m .1) (obeys-rules (limits .branches) [] (obeys-none (limits .branches)))
+      Every (RuledIn M limits) cs → PathRules limits (w .ledger .path)
+  left-ruled n w v [] m r = rw (m .1) (obeys-rules limits [] (obeys-none limits))
   left-ruled n w v (c ∷ cs) m r = last-ruled n w v empty c cs m r
 
 pub ruled : Ruled
 unfolding Ruled Real
 ruled M limits Holds Asked Over keeps can n =
-    let all = every-course M limits (λ l. Obeys (limits .branches) (l .path)) (RuledIn M (limits .branches))
-    (course-ruled M limits Holds Asked Over keeps can) (next-obeys M limits Holds Asked Over keeps can) (obeys-none (limits .branches)) n in
+    let all = every-course M limits (λ l. Obeys limits (l .path)) (RuledIn M limits)
+    (course-ruled M limits Holds Asked Over keeps can) (next-obeys M limits Holds Asked Over keeps can) (obeys-none limits) n in
     record {
       executions = all;
       left =
