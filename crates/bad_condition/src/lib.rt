@@ -4,11 +4,9 @@ ghost use Prim.Native.Nat.{_<_};
 ghost use lib.ListN.{length};
 ghost use Rattle.page.specs.Pages.{ended};
 ghost use Rattle.bad_condition.specs.Conditions.{putComparison, putReason, putBad, putBadCondition};
-use condition::AT_LEAST;
 use condition::COMPARISON;
 use condition::CONDITION_BYTES;
 use condition::DEEP;
-use condition::EQUALS;
 use condition::Extent;
 use condition::OPENS;
 use condition::REGISTER_AT;
@@ -80,7 +78,7 @@ fn put_reason(page: &mut Page, at: usize, condition: &[u8], from: usize, threads
     ensures { λ r. ⌜ ended (now (page .exit)) r ≡ putReason (ended (now (page .entry)) at) (now (condition .entry)) from threads ⌝ }
 {
     let byte = condition[from];
-    if (EQUALS <= byte) & (byte <= AT_LEAST) {
+    if condition::is_sign(byte) {
         return put_comparison(page, at, condition, from, threads);
     }
     if byte == OPENS {

@@ -1,6 +1,6 @@
 -- A condition's bytes as they are written. Assumes nothing.
 --     blank-none, blank-one        the blank before a unit
---     mark-none, above             a byte that is no sign or word
+--     symbol-none, above             a byte that is no sign or word
 --     sign-there, units-on         a comparison is whole, and what is behind a unit
 --     comparison-whole, unit-..    one unit
 --     units-next, units-end, units-out     the units one by one
@@ -19,9 +19,9 @@ use lib.Seq.{drop-cons, getD-drop, drop-drop}
 use Rattle.rules.specs.Table.{u16At, u32At, u64At}
 use Rattle.rules.specs.Condition.{isSign, opens, closes}
 use Rattle.rules.specs.Token.{bytesOf, space}
-use Rattle.rules.specs.Text.{marks}
+use Rattle.rules.specs.Text.{symbols}
 use Rattle.rules.specs.Writer.{shown, blankBefore, unitsShown, conditionShown}
-use Rattle.claim.specs.Units.{Units, word, comparison, markShown, comparisonShown, unitShown, unitBytes}
+use Rattle.claim.specs.Units.{Units, word, comparison, symbolShown, comparisonShown, unitShown, unitBytes}
 
 -- One unit
 
@@ -34,17 +34,17 @@ module _ (opened : Bool) (b : ℕ) where
 
   module _ (bs : List ℕ) where
     pub unit-sign : isSign b ≡ true → blankBefore opened b ++ comparisonShown b bs ≡ unitShown opened b bs
-    unit-sign e = ap (λ (t : Bool). blankBefore opened b ++ cond t (comparisonShown b bs) (markShown b)) (sym e)
+    unit-sign e = ap (λ (t : Bool). blankBefore opened b ++ cond t (comparisonShown b bs) (symbolShown b)) (sym e)
 
-    pub unit-word : isSign b ≡ false → blankBefore opened b ++ markShown b ≡ unitShown opened b bs
-    unit-word e = ap (λ (t : Bool). blankBefore opened b ++ cond t (comparisonShown b bs) (markShown b)) (sym e)
+    pub unit-word : isSign b ≡ false → blankBefore opened b ++ symbolShown b ≡ unitShown opened b bs
+    unit-word e = ap (λ (t : Bool). blankBefore opened b ++ cond t (comparisonShown b bs) (symbolShown b)) (sym e)
 
 pub bytes-sign : (b : ℕ) (t : Bool) → isSign b ≡ t → cond t 11 1 ≡ unitBytes b
 bytes-sign b t e = ap (λ (s : Bool). cond s 11 1) (sym e)
 
-pub mark-none : (b : ℕ) → 11 ≤ b → [] ≡ markShown b
+pub symbol-none : (b : ℕ) → 11 ≤ b → [] ≡ symbolShown b
 unfolding bytesOf
-mark-none b h = sym (List·getD-eq-default marks [] {n = b - 1} (omega arith))
+symbol-none b h = sym (List·getD-eq-default symbols [] {n = b - 1} (omega arith))
 
 above-four : (b : ℕ) → (b ≡ 0 → ⊥) → (b ≡ 1 → ⊥) → (b ≡ 2 → ⊥) → (b ≡ 3 → ⊥) → (b ≡ 4 → ⊥) → 5 ≤ b
 above-four b n0 n1 n2 n3 n4 = omega arith
@@ -61,7 +61,7 @@ module _ (bytes : List ℕ) (from : ℕ) where
   number-there = simp (getD-drop, add-assoc)
 
   pub comparison-whole : (n : ℕ) → n ≡ u64At bytes (from + 3)
-      → ((48 + getD bytes (from + 1) 0) ∷ 46 ∷ 114 ∷ (48 + getD bytes (from + 2) 0) ∷ space ∷ []) ++ (markShown (getD bytes from 0) ++ ((space ∷ []) ++ shown n)) ≡ comparisonShown (getD bytes from 0) (drop (from + 1) bytes)
+      → ((48 + getD bytes (from + 1) 0) ∷ 46 ∷ 114 ∷ (48 + getD bytes (from + 2) 0) ∷ space ∷ []) ++ (symbolShown (getD bytes from 0) ++ ((space ∷ []) ++ shown n)) ≡ comparisonShown (getD bytes from 0) (drop (from + 1) bytes)
   comparison-whole n e =
       let first : getD bytes (from + 1) 0 ≡ getD (drop (from + 1) bytes) 0 0 = simp (getD-drop, add-assoc) in
       let second : getD bytes (from + 2) 0 ≡ getD (drop (from + 1) bytes) 1 0 = simp (getD-drop, add-assoc) in
@@ -105,8 +105,8 @@ module _ (n : ℕ) (opened : Bool) (b : ℕ) (bs : List ℕ) where
       elim t [
         | true ↦
             blankBefore opened b
-            ++ ((48 + getD bs 0 0) ∷ 46 ∷ 114 ∷ (48 + getD bs 1 0) ∷ space ∷ (markShown b ++ (space ∷ (shown (u64At bs 2) ++ unitsShown n false (drop 10 bs)))))
-        | false ↦ blankBefore opened b ++ (markShown b ++ unitsShown n (eqb b opens) bs)
+            ++ ((48 + getD bs 0 0) ∷ 46 ∷ 114 ∷ (48 + getD bs 1 0) ∷ space ∷ (symbolShown b ++ (space ∷ (shown (u64At bs 2) ++ unitsShown n false (drop 10 bs)))))
+        | false ↦ blankBefore opened b ++ (symbolShown b ++ unitsShown n (eqb b opens) bs)
       ]
 
   by-sign-next : unitsShown (suc n) opened (b ∷ bs) ≡ by-sign (isSign b)
@@ -114,12 +114,12 @@ module _ (n : ℕ) (opened : Bool) (b : ℕ) (bs : List ℕ) where
   by-sign-next = refl
 
   by-parts : (t : Bool) → isSign b ≡ t
-      → (blankBefore opened b ++ cond t (comparisonShown b bs) (markShown b)) ++ unitsShown n (eqb b opens) (drop (cond t 11 1) (b ∷ bs)) ≡ by-sign t
+      → (blankBefore opened b ++ cond t (comparisonShown b bs) (symbolShown b)) ++ unitsShown n (eqb b opens) (drop (cond t 11 1) (b ∷ bs)) ≡ by-sign t
   by-parts true e =
       let least = leb-true b 6 (and-eq-true-iff (leb 1 b) (leb b 6) .0 e .1) in
       let no : eqb b opens ≡ false = ne-eqb b 7 (λ (z : b ≡ 7). omega arith) in
       ap (λ (o : Bool). (blankBefore opened b ++ comparisonShown b bs) ++ unitsShown n o (drop 10 bs)) no ∙ (simp append-assoc)
-  by-parts false e = append-assoc (blankBefore opened b) (markShown b) (unitsShown n (eqb b opens) bs)
+  by-parts false e = append-assoc (blankBefore opened b) (symbolShown b) (unitsShown n (eqb b opens) bs)
 
   unit-cons : unitsShown (suc n) opened (b ∷ bs) ≡ unitShown opened b bs ++ unitsShown n (eqb b opens) (drop (unitBytes b) (b ∷ bs))
   unit-cons = by-sign-next ∙ sym (by-parts (isSign b) refl)

@@ -3,10 +3,9 @@ ghost use mathlib.Core.Path.{_≡_};
 ghost use mathlib.Core.Bool.{false};
 ghost use Prim.Native.Nat.{_+_, _<_, _≤_};
 ghost use lib.ListN.{length, getD, drop};
-ghost use Rattle.rules.specs.Condition.{isSign};
 ghost use Rattle.rules.specs.Writer.{blankBefore, unitsShown, conditionShown};
 ghost use Rattle.put.specs.Puts.{Puts};
-ghost use Rattle.claim.specs.Units.{Units, markShown, comparisonShown, unitShown, unitBytes};
+ghost use Rattle.claim.specs.Units.{Units, symbolShown, comparisonShown, unitShown, unitBytes};
 use condition::ABOVE;
 use condition::AND;
 use condition::AT_LEAST;
@@ -21,6 +20,7 @@ use condition::OPENS;
 use condition::OR;
 use condition::REGISTER_AT;
 use condition::THREAD_AT;
+use condition::is_sign;
 use put::put_byte;
 use put::put_bytes;
 use put::put_number;
@@ -70,7 +70,7 @@ fn put_unit(text: &mut [u8], at: usize, condition: &[u8], from: usize, opened: b
     if is_sign(byte) {
         return put_comparison(text, first, condition, from);
     }
-    put_mark(text, first, byte)
+    put_symbol(text, first, byte)
 }
 
 fn put_blank(text: &mut [u8], at: usize, opened: bool, byte: u8) -> usize
@@ -91,14 +91,14 @@ fn put_comparison(text: &mut [u8], at: usize, condition: &[u8], from: usize) -> 
     let register = b'0' + condition[from + REGISTER_AT];
     let name = [thread, b'.', b'r', register, b' '];
     let named = put_bytes(text, at, &name);
-    let signed = put_mark(text, named, condition[from]);
+    let signed = put_symbol(text, named, condition[from]);
     let blank = put_byte(text, signed, b' ');
     put_number(text, blank, u64_at(condition, from + NUMBER_AT))
 }
 
 // The sign or word that a byte is; nothing where it is none.
-fn put_mark(text: &mut [u8], at: usize, byte: u8) -> usize
-    ensures { λ r. ⌜ Puts (now (text .entry)) (now (text .exit)) at (markShown byte) r ⌝ }
+fn put_symbol(text: &mut [u8], at: usize, byte: u8) -> usize
+    ensures { λ r. ⌜ Puts (now (text .entry)) (now (text .exit)) at (symbolShown byte) r ⌝ }
 {
     match byte {
         0 => put_bytes(text, at, b"="),
@@ -123,10 +123,4 @@ fn unit_bytes(byte: u8) -> usize
         return COMPARISON;
     }
     1
-}
-
-fn is_sign(byte: u8) -> bool
-    ensures { λ r. ⌜ r ≡ isSign byte ⌝ }
-{
-    (EQUALS <= byte) & (byte <= AT_LEAST)
 }

@@ -1,6 +1,6 @@
 -- What stands at a place of a condition. Assumes nothing.
 --     place-bounds, register-most     a word's place in a list, and a thread's register
---     mark-..          a bracket, `and` or `or`
+--     symbol-..          a bracket, `and` or `or`
 --     number-.., sign-..     behind a thread's register
 --     unit-..          the whole unit
 use Prim.Native.Nat.{ℕ, suc, _+_, _-_, _*_, _≤_, _<_}
@@ -15,11 +15,11 @@ use Rattle.rules.specs.Vector.{equal}
 use Rattle.rules.specs.Event.{little}
 use Rattle.rules.specs.Condition.{isSign}
 use Rattle.rules.specs.Token.{Found, nothing, found, only, foundIf, isBetween, content, token, pastToken, tokenLength, numberIn, placeIn}
-use Rattle.rules.specs.Text.{marks, markIn, threadRegisterIn, comparisonOf, numberBehind, signBehind, unitAt}
+use Rattle.rules.specs.Text.{symbols, symbolIn, threadRegisterIn, comparisonOf, numberBehind, signBehind, unitAt}
 use Rattle.rules.specs.Text as rules
 use Rattle.token.specs.Places.{part}
 use Rattle.token.proofs.PlaceLaws.{left-by, part-token}
-use Rattle.claims.specs.Units.{Stands, unitOf, markAt, brokenOf}
+use Rattle.claims.specs.Units.{Stands, unitOf, symbolAt, brokenOf}
 use Rattle.claims.specs.declared.Unit.{Unit}
 
 -- Bounds
@@ -34,11 +34,11 @@ place-bounds i word (w ∷ ws) v e =
       | false ↦ λ h. let r = place-bounds (i + 1) word ws v h in (omega (arith, r .0), omega (arith, r .1))
     ]) e
 
-pub mark-least : (word : List ℕ) (v : ℕ) → markIn word ≡ found v → 1 ≤ v
-mark-least word v e = place-bounds 1 word marks v e .0
+pub symbol-least : (word : List ℕ) (v : ℕ) → symbolIn word ≡ found v → 1 ≤ v
+symbol-least word v e = place-bounds 1 word symbols v e .0
 
-pub mark-most : (word : List ℕ) (v : ℕ) → markIn word ≡ found v → v ≤ 10
-mark-most word v e = omega (arith, place-bounds 1 word marks v e .1)
+pub symbol-most : (word : List ℕ) (v : ℕ) → symbolIn word ≡ found v → v ≤ 10
+symbol-most word v e = omega (arith, place-bounds 1 word symbols v e .1)
 
 only-is : (t : Bool) (v w : ℕ) → foundIf t v ≡ found w → t ≡ true
 only-is true v w e = refl
@@ -77,8 +77,8 @@ abbrev notSign : ℕ → Bool
 notSign b = not (isSign b)
 
 -- what comes of a word, by what it stands for
-abbrev markThen : List ℕ → Found → rules.Unit
-markThen rest f = elim f [ nothing ↦ rules.none | found b ↦ rules.unit (b ∷ []) rest ]
+abbrev symbolThen : List ℕ → Found → rules.Unit
+symbolThen rest f = elim f [ nothing ↦ rules.none | found b ↦ rules.unit (b ∷ []) rest ]
 
 is-none : (text : List ℕ) (u : Unit) → u .size ≡ 0 → unitOf text u ≡ rules.none
 is-none text u s = rw s
@@ -93,19 +93,19 @@ only-by : (p : ℕ → Bool) (f : Found) (v : ℕ) (t : Bool) → f ≡ found v 
 only-by p f v t e h = ap (only p) e ∙ ap (λ (s : Bool). foundIf s v) h
 
 module _ (text : List ℕ) (at to : ℕ) where
-  pub mark-none : (u : Unit) → (u .size ≡ 0) × (u .bytes ≡ replicate 11 0) → markIn (part at to text) ≡ nothing → Stands text (markAt at to text) u
-  mark-none u s m = record { is = is-none text u (s .0) ∙ sym (ap (λ (f : Found). markThen (drop to text) (only notSign f)) m); small = omega (arith, s .0); long = ap length (s .1) }
+  pub symbol-none : (u : Unit) → (u .size ≡ 0) × (u .bytes ≡ replicate 11 0) → symbolIn (part at to text) ≡ nothing → Stands text (symbolAt at to text) u
+  symbol-none u s m = record { is = is-none text u (s .0) ∙ sym (ap (λ (f : Found). symbolThen (drop to text) (only notSign f)) m); small = omega (arith, s .0); long = ap length (s .1) }
 
-  module _ (v : ℕ) (m : markIn (part at to text) ≡ found v) where
-    pub mark-sign : (u : Unit) → (u .size ≡ 0) × (u .bytes ≡ replicate 11 0) → v ≤ 6 → Stands text (markAt at to text) u
-    mark-sign u s h =
-        let e : only notSign (markIn (part at to text)) ≡ nothing = only-by notSign _ v false m (ap not (sign-yes v (mark-least _ v m) h)) in
-        record { is = is-none text u (s .0) ∙ sym (ap (markThen (drop to text)) e); small = omega (arith, s .0); long = ap length (s .1) }
+  module _ (v : ℕ) (m : symbolIn (part at to text) ≡ found v) where
+    pub symbol-sign : (u : Unit) → (u .size ≡ 0) × (u .bytes ≡ replicate 11 0) → v ≤ 6 → Stands text (symbolAt at to text) u
+    symbol-sign u s h =
+        let e : only notSign (symbolIn (part at to text)) ≡ nothing = only-by notSign _ v false m (ap not (sign-yes v (symbol-least _ v m) h)) in
+        record { is = is-none text u (s .0) ∙ sym (ap (symbolThen (drop to text)) e); small = omega (arith, s .0); long = ap length (s .1) }
 
-    pub mark-here : 6 < v → Stands text (markAt at to text) (record { whole = true; size = 1; bytes = v ∷ 0 ∷ 0 ∷ 0 ∷ 0 ∷ 0 ∷ 0 ∷ 0 ∷ 0 ∷ 0 ∷ 0 ∷ []; at = to })
-    mark-here h =
-        let e : only notSign (markIn (part at to text)) ≡ found v = only-by notSign _ v true m (ap not (sign-not v (mark-least _ v m) h)) in
-        record { is = sym (ap (markThen (drop to text)) e); small = omega arith; long = refl }
+    pub symbol-here : 6 < v → Stands text (symbolAt at to text) (record { whole = true; size = 1; bytes = v ∷ 0 ∷ 0 ∷ 0 ∷ 0 ∷ 0 ∷ 0 ∷ 0 ∷ 0 ∷ 0 ∷ 0 ∷ []; at = to })
+    symbol-here h =
+        let e : only notSign (symbolIn (part at to text)) ≡ found v = only-by notSign _ v true m (ap not (sign-not v (symbol-least _ v m) h)) in
+        record { is = sym (ap (symbolThen (drop to text)) e); small = omega arith; long = refl }
 
 -- Behind a thread's register
 
@@ -165,23 +165,23 @@ module _ (text : List ℕ) (lines at to register : ℕ) (bs : List ℕ) (left : 
       long = ap length (b ∙ sym (compared-of v)) ∙ compared-long v;
     }
 
-  sign-there : (f : Found) → only isSign (markIn (part at to text)) ≡ f → signThen lines register (content lines bs) f ≡ signBehind lines register bs
-  sign-there f e = ap (signThen lines register (content lines bs)) (sym e ∙ ap (λ (w : List ℕ). only isSign (markIn w)) word-there)
+  sign-there : (f : Found) → only isSign (symbolIn (part at to text)) ≡ f → signThen lines register (content lines bs) f ≡ signBehind lines register bs
+  sign-there f e = ap (signThen lines register (content lines bs)) (sym e ∙ ap (λ (w : List ℕ). only isSign (symbolIn w)) word-there)
 
-  pub sign-none : (u : Unit) → u ≡ brokenOf register at → markIn (part at to text) ≡ nothing → Stands text (signBehind lines register bs) u
+  pub sign-none : (u : Unit) → u ≡ brokenOf register at → symbolIn (part at to text) ≡ nothing → Stands text (signBehind lines register bs) u
   sign-none u b e = rw b (record { is = is-broken ∙ sign-there nothing (ap (only isSign) e); small = omega arith; long = broken-long })
 
-  module _ (v : ℕ) (m : markIn (part at to text) ≡ found v) where
+  module _ (v : ℕ) (m : symbolIn (part at to text) ≡ found v) where
     pub sign-other : (u : Unit) → u ≡ brokenOf register at → 6 < v → Stands text (signBehind lines register bs) u
     sign-other u b h =
-        rw b (record { is = is-broken ∙ sign-there nothing (only-by isSign _ v false m (sign-not v (mark-least _ v m) h)); small = omega arith; long = broken-long })
+        rw b (record { is = is-broken ∙ sign-there nothing (only-by isSign _ v false m (sign-not v (symbol-least _ v m) h)); small = omega arith; long = broken-long })
 
     pub sign-here : (u : Unit) → v ≤ 6 → Stands text (numberBehind lines register v (drop to text)) u → Stands text (signBehind lines register bs) u
     sign-here u h s = record {
       is =
           s .is
           ∙ ap (numberBehind lines register v) past-there
-          ∙ sign-there (found v) (only-by isSign _ v true m (sign-yes v (mark-least _ v m) h));
+          ∙ sign-there (found v) (only-by isSign _ v true m (sign-yes v (symbol-least _ v m) h));
       small = s .small;
       long = s .long;
     }
@@ -192,7 +192,7 @@ abbrev unitThen : ℕ → List ℕ → Found → rules.Unit
 unitThen lines bs f =
     elim f [
       | found at ↦ signBehind lines at (pastToken bs)
-      | nothing ↦ markThen (pastToken bs) (only notSign (markIn (token bs)))
+      | nothing ↦ symbolThen (pastToken bs) (only notSign (symbolIn (token bs)))
     ]
 
 unit-next : (lines : ℕ) (bs : List ℕ) → unitAt lines bs ≡ unitThen lines bs (threadRegisterIn (token bs))
@@ -204,12 +204,12 @@ module _ (text : List ℕ) (lines at to : ℕ) (long : to ≡ at + tokenLength (
   named f e =
       ap (unitThen lines (drop at text)) (sym e ∙ ap threadRegisterIn (part-token text at to long)) ∙ sym (unit-next lines (drop at text))
 
-  pub unit-mark : (u : Unit) → threadRegisterIn (part at to text) ≡ nothing → Stands text (markAt at to text) u → Stands text (unitAt lines (drop at text)) u
-  unit-mark u e s = record {
+  pub unit-symbol : (u : Unit) → threadRegisterIn (part at to text) ≡ nothing → Stands text (symbolAt at to text) u → Stands text (unitAt lines (drop at text)) u
+  unit-symbol u e s = record {
     is =
         s .is
-        ∙ ap (λ (w : List ℕ). markThen (drop to text) (only notSign (markIn w))) (part-token text at to long)
-        ∙ ap (λ (r : List ℕ). markThen r (only notSign (markIn (token (drop at text))))) (left-by text at to _ long)
+        ∙ ap (λ (w : List ℕ). symbolThen (drop to text) (only notSign (symbolIn w))) (part-token text at to long)
+        ∙ ap (λ (r : List ℕ). symbolThen r (only notSign (symbolIn (token (drop at text))))) (left-by text at to _ long)
         ∙ named nothing e;
     small = s .small;
     long = s .long;

@@ -1,7 +1,7 @@
 -- What the answers of this crate stand for in the definition. Assumes nothing.
 --     mostClaimed     the longest condition, and a comparison that broke off behind it
 --     Stands          what stands at a place
---     markAt          a bracket, `and` or `or`
+--     symbolAt          a bracket, `and` or `or`
 --     Claims          what was read of a condition
 --     Concludes       a text's condition, taken or refused
 use Prim.Native.Nat.{ℕ, _+_, _≤_, _<_}
@@ -13,7 +13,7 @@ use lib.ListN.{length, take, drop}
 use Rattle.rules.specs.Condition.{isSign, conditionBytes, comparisonBytes}
 use Rattle.rules.specs.Token.{Found, nothing, found, only}
 use Rattle.rules.specs.Text as rules
-use Rattle.rules.specs.Text.{markIn, comparisonOf}
+use Rattle.rules.specs.Text.{symbolIn, comparisonOf}
 use Rattle.token.specs.Places.{part}
 use Rattle.claims.specs.declared.Unit.{Unit}
 use Rattle.claims.specs.declared.Claim.{Claim}
@@ -34,9 +34,9 @@ pub record Stands (text : List ℕ) (unit : rules.Unit) (u : Unit) : Type 0 wher
   pub long : length (u .bytes) ≡ 11
 
 -- of the token between two places
-abbrev pub markAt : ℕ → ℕ → List ℕ → rules.Unit
-markAt at to text =
-    elim (only (λ (b : ℕ). not (isSign b)) (markIn (part at to text))) [
+abbrev pub symbolAt : ℕ → ℕ → List ℕ → rules.Unit
+symbolAt at to text =
+    elim (only (λ (b : ℕ). not (isSign b)) (symbolIn (part at to text))) [
       | nothing ↦ rules.none
       | found b ↦ rules.unit (b ∷ []) (drop to text)
     ]

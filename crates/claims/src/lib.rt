@@ -7,7 +7,7 @@ ghost use Prim.Native.Nat.{_+_, _≤_, _<_};
 ghost use lib.ListN.{drop, replicate};
 ghost use lib.Seq.{paste};
 ghost use Rattle.rules.specs.Text as rules;
-ghost use Rattle.claims.specs.Units.{mostClaimed, Stands, Claims, Concludes, markAt, brokenOf};
+ghost use Rattle.claims.specs.Units.{mostClaimed, Stands, Claims, Concludes, symbolAt, brokenOf};
 use condition::AT_LEAST;
 use condition::COMPARISON;
 use condition::CONDITION_BYTES;
@@ -162,25 +162,25 @@ fn unit_at(text: &[u8], at: usize, lines: usize) -> Unit
 {
     let to = token::token_end(text, at);
     let Found::Value(register) = token::thread_register(text, at, to) else {
-        return mark_at(text, at, to);
+        return symbol_at(text, at, to);
     };
     sign_behind(text, to, lines, register)
 }
 
 // A bracket, `and` or `or`.
-fn mark_at(text: &[u8], at: usize, to: usize) -> Unit
-    ensures { λ r. ⌜ Stands (now (text .entry)) (markAt at to (now (text .entry))) r ⌝ }
+fn symbol_at(text: &[u8], at: usize, to: usize) -> Unit
+    ensures { λ r. ⌜ Stands (now (text .entry)) (symbolAt at to (now (text .entry))) r ⌝ }
 {
-    let Found::Value(mark) = token::mark(text, at, to) else {
+    let Found::Value(symbol) = token::symbol(text, at, to) else {
         return none(at);
     };
-    if mark <= AT_LEAST as u64 {
+    if symbol <= AT_LEAST as u64 {
         return none(at);
     }
     Unit {
         whole: true,
         size: 1,
-        bytes: [mark as u8, 0, 0, 0, 0, 0, 0, 0, 0, 0, 0],
+        bytes: [symbol as u8, 0, 0, 0, 0, 0, 0, 0, 0, 0, 0],
         at: to,
     }
 }
@@ -203,7 +203,7 @@ fn sign_behind(text: &[u8], from: usize, lines: usize, register: u64) -> Unit
 {
     let at = token::content(text, from, lines);
     let to = token::token_end(text, at);
-    let Found::Value(sign) = token::mark(text, at, to) else {
+    let Found::Value(sign) = token::symbol(text, at, to) else {
         return broken(register, at);
     };
     if (AT_LEAST as u64) < sign {

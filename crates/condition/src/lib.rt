@@ -172,7 +172,7 @@ fn byte_at(bytes: &[u8], at: usize) -> u8
     0
 }
 
-fn is_sign(byte: u8) -> bool
+pub fn is_sign(byte: u8) -> bool
     ensures { λ r. ⌜ r ≡ rules.isSign byte ⌝ }
 {
     (EQUALS <= byte) & (byte <= AT_LEAST)
@@ -195,7 +195,7 @@ fn joined_by(joint: u8, left: bool, right: bool) -> bool
 }
 
 // Whether a register that holds x compares so with n.
-fn compared(sign: u8, x: u64, n: u64) -> bool
+pub fn compared(sign: u8, x: u64, n: u64) -> bool
     ensures { λ r. ⌜ r ≡ rules.compared sign x n ⌝ }
 {
     match sign {

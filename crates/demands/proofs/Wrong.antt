@@ -19,7 +19,7 @@ use Rattle.rules.specs.Explored.{Settings, programOf, limitsOf, verdictNumber}
 use Rattle.rules.specs.Explorer.{Limits, Ledger, empty, Verdict, Walk, Tick, goes, over, faulted}
 use Rattle.rules.specs.Machine.{Program, machine, next, current, activeOp}
 use Rattle.rules.specs.Path as Path
-use Rattle.rules.specs.Path.{Branch, schedule, load, spurious, Bound, noBranch, Choice, choiceOf}
+use Rattle.rules.specs.Path.{Branch, schedule, load, spurious, noBranch, Choice, choiceOf}
 use Rattle.rules.specs.Table.{judged, good}
 use Rattle.rules.specs.State as State
 use Rattle.rules.specs.State.{State}
@@ -328,18 +328,18 @@ wrong-offers =
 -- What holds at every tick
 
 -- two threads that are Active
-two-active : (bound : Bound) (before : List Branch) (b : Branch) → getD (statesIn b) 0 0 ≡ Path.active
-    → getD (statesIn b) 1 0 ≡ Path.active → RecordRules bound before b → ⊥
-two-active bound before (schedule r) e f h = omega (arith, h .one-active 0 1 e f)
-two-active bound before (load l) e f h = omega (arith, e)
-two-active bound before (spurious u) e f h = omega (arith, e)
+two-active : (before : List Branch) (b : Branch) → getD (statesIn b) 0 0 ≡ Path.active → getD (statesIn b) 1 0 ≡ Path.active
+    → RecordRules before b → ⊥
+two-active before (schedule r) e f h = omega (arith, h .one-active 0 1 e f)
+two-active before (load l) e f h = omega (arith, e)
+two-active before (spurious u) e f h = omega (arith, e)
 
 -- a record before the first
-pointed-back : (bound : Bound) (before : List Branch) (b : Branch) → length before ≡ 0 → prevIn b ≡ 0 → RecordRules bound before b → ⊥
-pointed-back bound before (schedule r) e f h =
+pointed-back : (before : List Branch) (b : Branch) → length before ≡ 0 → prevIn b ≡ 0 → RecordRules before b → ⊥
+pointed-back before (schedule r) e f h =
     elim (h .prev) [ inl none ↦ omega (arith, none .0, f) | inr newest ↦ omega (arith, newest .within, e) ]
-pointed-back bound before (load l) e f h = omega (arith, f)
-pointed-back bound before (spurious u) e f h = omega (arith, f)
+pointed-back before (load l) e f h = omega (arith, f)
+pointed-back before (spurious u) e f h = omega (arith, f)
 
 -- one with other values than are offered
 disagreed : (x : Bool) (b : Branch) (q : Question) → isSlot q ≡ 1 → (length (valuesIn b) ≡ length (slotsIn (matchIn q)) → ⊥)
@@ -409,13 +409,13 @@ wrong-ticks =
           let M = machine (programOf storeAndLoad [] (p3 3)) in
           let known = knownBy Wrong.bothActive storeAndLoad (p3 3) 2 in
           let z = every-at (RuledIn M (limitsOf (p3 3))) (madeBy Wrong.bothActive storeAndLoad (p3 3)) 2 noCourse (omega (arith, c .active-made)) (h .records) in
-          two-active (p3 3 .bound) (take 0 known) (getD known 0 noBranch) (c .active-first) (c .active-second)
+          two-active (take 0 known) (getD known 0 noBranch) (c .active-first) (c .active-second)
           (z .at-start .records 0 (omega (arith, c .active-known)));
       pointed = λ h.
           let M = machine (programOf storeAndLoad [] (p3 2)) in
           let known = knownBy Wrong.pointing storeAndLoad (p3 2) 1 in
           let z = every-at (RuledIn M (limitsOf (p3 2))) (madeBy Wrong.pointing storeAndLoad (p3 2)) 1 noCourse (omega (arith, c .pointed-made)) (h .records) in
-          pointed-back (p3 2 .bound) (take 0 known) (getD known 0 noBranch) refl (c .pointed-first)
+          pointed-back (take 0 known) (getD known 0 noBranch) refl (c .pointed-first)
           (z .at-start .records 0 (omega (arith, c .pointed-known)));
       disagreeing = λ h.
           let p = programOf storeAndLoad [] (p3 2) in

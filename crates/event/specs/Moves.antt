@@ -1,4 +1,5 @@
 -- What a fault, an answer and an event of the code stand for in the definition, for every case. Assumes nothing.
+--     siteOf        a thread at its row
 --     faultOf       a fault
 --     matchedFor    what a row that asks for a slot is offered
 --     entryIf       the entry of a row that asks, if it is complete
@@ -14,10 +15,14 @@ use Rattle.rules.specs.Machine.{Role, loads, storesOperand, storesRegister, mod
 use Rattle.rules.specs.Table.{Op, Decoded}
 use Rattle.event.specs.declared.Fault.{Fault}
 use Rattle.event.specs.declared.Fault.the-variants as fault
+use Rattle.event.specs.declared.Site.{Site}
 use Rattle.event.specs.declared.Question.{Question}
 use Rattle.event.specs.declared.Question.the-variants as question
 use Rattle.event.specs.declared.Moved.{Moved}
 use Rattle.event.specs.declared.Moved.the-variants as event
+
+abbrev pub siteOf : Site → rules.Site
+siteOf s = record { thread = s .thread; row = s .row }
 
 abbrev pub faultOf : Fault → rules.Fault
 faultOf fault.Deadlock = rules.deadlock

@@ -16,12 +16,12 @@ use layout::MAX_CELLS;
 use layout::MAX_THREADS;
 use layout::NUMBERS;
 use layout::Numbers;
+use layout::RECORD;
 use layout::UNSEEN;
 use layout::VALUES;
 use report::Answer;
 use report::Report;
 use settings::Settings;
-use trace::ENTRY;
 use walk::Cursor;
 use walk::Limits;
 use walk::Ticked;
@@ -44,8 +44,8 @@ pub fn run(
     requires { ⌜ Ready (now table) (settingsOf settings) (now path) (now trace) ⌝ }
     ensures { λ r. ⌜ Ran (now (table .entry)) (now (condition .entry)) (settingsOf settings) (now (path .entry)) (now (trace .entry)) r (now (path .exit)) (now (trace .exit)) ⌝ }
 {
-    clear_all(path);
-    clear_all(trace);
+    trace::clear_all(path);
+    trace::clear_all(trace);
     executions(table, condition, path, trace, settings)
 }
 
@@ -159,7 +159,7 @@ fn stop(
     ensures { λ r. ⌜ Stopped (now (clocks .entry)) (now (numbers .entry)) (now (path .entry)) (now (trace .entry)) (now (trace .exit)) answer progress r ⌝ }
 {
     let cursor = progress.cursor;
-    trace::clear(trace, ENTRY * cursor.entries, ENTRY * progress.longest);
+    trace::clear(trace, RECORD * cursor.entries, RECORD * progress.longest);
     finish(clocks, numbers, path, answer, progress.begun, cursor)
 }
 
@@ -174,12 +174,4 @@ fn stepped(path: &mut [u8], progress: Progress) -> Progress
         longest: progress.longest,
         begun: progress.begun,
     }
-}
-
-// Sets all bytes to zero.
-fn clear_all(bytes: &mut [u8])
-    ensures { λ _. ⌜ Empty (now (bytes .exit)) ⌝ }
-{
-    let to = bytes.len();
-    trace::clear(bytes, 0, to);
 }

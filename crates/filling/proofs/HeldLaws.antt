@@ -13,23 +13,12 @@ use mathlib.Core.Logic.{_≢_, inl, inr}
 use lib.Dec.{eqb}
 use lib.ListN.{length, getD, set, take, drop, replicate, length-append, length-set, length-replicate, getD-replicate, List·getD-append}
 use lib.Seq.{paste, take-all, take-at, drop-at, drop-append-add, getD-at, set-at, getD-set-same, getD-set-other, set-append-left, ext-getD, length-paste}
-use Rattle.trace.specs.Entries as trace
 use Rattle.rules.specs.Table.{maxRows, total}
 use Rattle.rules.specs.Event.{little}
 use Rattle.rules.specs.Form.{fieldsAsBytes}
 use Rattle.rules.specs.Text.{Draft, tableOf, filled, withCell, withPlain, withThread, withRow, rowsSoFar, tableBytes}
 use Rattle.rules.proofs.LittleLaws.{little-long}
-use Rattle.filling.specs.Tables.{Held, Counts, howMany, oneMore, Cleared}
-
--- Zeros
-
-pub all-zeros : (entry exit : List ℕ) → trace.Cleared entry exit 0 (length entry) → Cleared entry exit
-all-zeros entry exit c = record {
-  is =
-      ext-getD 0 exit (replicate (length exit) 0) (sym (length-replicate {A = ℕ} (length exit) 0))
-      (λ i h. c .zero i (omega arith) (omega (arith, c .long)) ∙ sym (getD-replicate (length exit) i 0 0 h));
-  long = c .long;
-}
+use Rattle.filling.specs.Tables.{Held, Counts, howMany, oneMore}
 
 -- Bytes behind those that are there
 

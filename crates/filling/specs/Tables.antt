@@ -3,7 +3,7 @@
 --     Holds       it is so for some table
 --     Counts, howMany, oneMore      where the header counts start values, how many there are, and one more
 --     Grows       from any table that it held, one step of the definition
---     Cleared, Blank      zeros
+--     Blank               zeros
 use Prim.Native.Nat.{ℕ, _+_, _-_, _*_, _≤_, _<_}
 use mathlib.Core.List.{List}
 use mathlib.Core.Bool.{cond}
@@ -47,10 +47,6 @@ pub record RowFits (buffer : List ℕ) (n : ℕ) : Type 0 where
   pub holds : Holds buffer n
   pub some : 1 ≤ getD buffer 0 0
   pub fewer : getD buffer (1 + getD buffer 0 0) 0 < maxRows
-
-pub record Cleared (entry exit : List ℕ) : Type 0 where
-  pub is : exit ≡ replicate (length exit) 0
-  pub long : length exit ≡ length entry
 
 -- zeros, so many at least
 pub record Blank (least : ℕ) (buffer : List ℕ) : Type 0 where

@@ -8,7 +8,7 @@ ghost use lib.Seq.{paste};
 ghost use Rattle.rules.specs.Table.{headerBytes};
 ghost use Rattle.rules.specs.Text as rules;
 ghost use Rattle.token.specs.Places.{part};
-ghost use Rattle.filling.specs.Tables.{Holds, RowFits, Counts, howMany, oneMore, Grows, Cleared};
+ghost use Rattle.filling.specs.Tables.{Holds, RowFits, Counts, howMany, oneMore, Grows};
 ghost use Rattle.filling.specs.Steps.{Bare, Steps, isPlains, threadLine, rowLine};
 use form::Fields;
 use form::Room;
@@ -28,7 +28,11 @@ use token::Found;
 // How a line comes out: the next one follows, in a thread of so many rows, behind a table of so many bytes; it is refused at a place; the
 // text ends; the condition follows.
 pub enum Line {
-    GoesOn(usize, usize, usize),
+    GoesOn {
+        rows: usize,
+        length: usize,
+        from: usize,
+    },
     Refused(usize),
     Ended,
     Concludes(usize),
@@ -55,7 +59,11 @@ pub fn line_of(
         return Line::Ended;
     }
     if token::ends_line(text, here) {
-        return Line::GoesOn(rows, length, token::next_line(text, here));
+        return Line::GoesOn {
+            rows,
+            length,
+            from: token::next_line(text, here),
+        };
     }
     let to = token::token_end(text, here);
     if table[CELL_COUNT] == 0 {
@@ -142,7 +150,11 @@ fn a_row(
     }
     let fields = row.fields;
     add_row(table, length, fields);
-    Line::GoesOn(rows, length + ROW_BYTES, row.at)
+    Line::GoesOn {
+        rows,
+        length: length + ROW_BYTES,
+        from: row.at,
+    }
 }
 
 // Whether it is the line of the plain cells: behind the cells, ahead of the threads, once.
@@ -197,7 +209,11 @@ fn bare_then(text: &[u8], from: usize, rows: usize, length: usize) -> Line
 {
     let here = token::past_blanks(text, from);
     if token::ends_line(text, here) {
-        return Line::GoesOn(rows, length, token::next_line(text, here));
+        return Line::GoesOn {
+            rows,
+            length,
+            from: token::next_line(text, here),
+        };
     }
     Line::Refused(here)
 }
@@ -244,12 +260,4 @@ pub fn append(buffer: &mut [u8], at: usize, bytes: &[u8])
         buffer[at + i] = bytes[i];
         i += 1;
     }
-}
-
-// Sets all bytes to zero.
-pub fn clear_all(bytes: &mut [u8])
-    ensures { λ _. ⌜ Cleared (now (bytes .entry)) (now (bytes .exit)) ⌝ }
-{
-    let to = bytes.len();
-    trace::clear(bytes, 0, to);
 }

@@ -16,7 +16,7 @@ use lib.ListN.{length, getD, take, drop, length-append, length-drop, drop-of-len
 use lib.Seq.{sets-eq, take-at, take-append-le, drop-append-le}
 use Rattle.rules.specs.Table.{u64At}
 use Rattle.rules.specs.Token.{bytesOf, space}
-use Rattle.rules.specs.Text.{marks}
+use Rattle.rules.specs.Text.{symbols}
 use Rattle.rules.specs.Condition.{isSign, opens, closes, isCondition, ends, claimAt}
 use Rattle.rules.specs.Writer.{digitsOf, shown, blankBefore, unitsShown, conditionShown}
 use Rattle.put.specs.Puts.{last, Puts}
@@ -37,19 +37,19 @@ digits-long (suc n) v behind = on (ltb v 10) (digits-long n (v / 10) ((48 + v % 
     on true h = omega arith
     on false h = omega arith
 
-mark-long : (i : ℕ) → length (getD marks i []) ≤ 3
+symbol-long : (i : ℕ) → length (getD symbols i []) ≤ 3
 unfolding bytesOf
-mark-long zero = omega arith
-mark-long (suc zero) = omega arith
-mark-long (suc (suc zero)) = omega arith
-mark-long (suc (suc (suc zero))) = omega arith
-mark-long (suc (suc (suc (suc zero)))) = omega arith
-mark-long (suc (suc (suc (suc (suc zero))))) = omega arith
-mark-long (suc (suc (suc (suc (suc (suc zero)))))) = omega arith
-mark-long (suc (suc (suc (suc (suc (suc (suc zero))))))) = omega arith
-mark-long (suc (suc (suc (suc (suc (suc (suc (suc zero)))))))) = omega arith
-mark-long (suc (suc (suc (suc (suc (suc (suc (suc (suc zero))))))))) = omega arith
-mark-long (suc (suc (suc (suc (suc (suc (suc (suc (suc (suc i)))))))))) = omega arith
+symbol-long zero = omega arith
+symbol-long (suc zero) = omega arith
+symbol-long (suc (suc zero)) = omega arith
+symbol-long (suc (suc (suc zero))) = omega arith
+symbol-long (suc (suc (suc (suc zero)))) = omega arith
+symbol-long (suc (suc (suc (suc (suc zero))))) = omega arith
+symbol-long (suc (suc (suc (suc (suc (suc zero)))))) = omega arith
+symbol-long (suc (suc (suc (suc (suc (suc (suc zero))))))) = omega arith
+symbol-long (suc (suc (suc (suc (suc (suc (suc (suc zero)))))))) = omega arith
+symbol-long (suc (suc (suc (suc (suc (suc (suc (suc (suc zero))))))))) = omega arith
+symbol-long (suc (suc (suc (suc (suc (suc (suc (suc (suc (suc i)))))))))) = omega arith
 
 blank-long : (t : Bool) → length (cond t [] (space ∷ [])) ≤ 1
 blank-long true = omega arith
@@ -62,8 +62,8 @@ units-none (suc n) opened = refl
 
 -- one unit, where those behind it are so long: a byte is four bytes of text at most, but a comparison that breaks off may be 30
 module _ (n b : ℕ) (bs : List ℕ) (opened : Bool) (behind : (o : Bool) (cs : List ℕ) → length (unitsShown n o cs) ≤ 4 * length cs + 26) where
-  abbrev mark : List ℕ
-  mark = getD marks (b - 1) []
+  abbrev symbol : List ℕ
+  symbol = getD symbols (b - 1) []
 
   abbrev number : List ℕ
   number = shown (u64At bs 2)
@@ -79,20 +79,20 @@ module _ (n b : ℕ) (bs : List ℕ) (opened : Bool) (behind : (o : Bool) (cs : 
       ]
 
   abbrev compares : List ℕ
-  compares = (48 + getD bs 0 0) ∷ 46 ∷ 114 ∷ (48 + getD bs 1 0) ∷ space ∷ (mark ++ (space ∷ (number ++ rest)))
+  compares = (48 + getD bs 0 0) ∷ 46 ∷ 114 ∷ (48 + getD bs 1 0) ∷ space ∷ (symbol ++ (space ∷ (number ++ rest)))
 
   abbrev other : List ℕ
-  other = mark ++ unitsShown n (eqb b opens) bs
+  other = symbol ++ unitsShown n (eqb b opens) bs
 
   unit-long : (t : Bool) → length {A = ℕ} (elim t [ true ↦ blankBefore opened b ++ compares | false ↦ blankBefore opened b ++ other ]) ≤ 4 * suc (length bs) + 26
   unit-long true =
       omega (
         arith,
         length-append (blankBefore opened b) compares,
-        length-append mark (space ∷ (number ++ rest)),
+        length-append symbol (space ∷ (number ++ rest)),
         length-append number rest,
         blank-long (opened || eqb b closes),
-        mark-long (b - 1),
+        symbol-long (b - 1),
         digits-long 20 (u64At bs 2) [],
         rest-long,
       )
@@ -100,9 +100,9 @@ module _ (n b : ℕ) (bs : List ℕ) (opened : Bool) (behind : (o : Bool) (cs : 
       omega (
         arith,
         length-append (blankBefore opened b) other,
-        length-append mark (unitsShown n (eqb b opens) bs),
+        length-append symbol (unitsShown n (eqb b opens) bs),
         blank-long (opened || eqb b closes),
-        mark-long (b - 1),
+        symbol-long (b - 1),
         behind (eqb b opens) bs,
       )
 

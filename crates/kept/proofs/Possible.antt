@@ -122,12 +122,12 @@ module _ (M : Machine) (limits : Limits) (Holds : Holding M) (Asked : Asking M) 
 
   -- The verdict
 
-  no-verdict : (n : ℕ) (w : Walk (M .State)) (site : Site) (l : Ledger) (cs : List (Course (M .State))) → 1 ≤ n →
+  no-verdict : (n : ℕ) (w : Walk (M .State)) (site : Site) (l : Ledger) (cs : List (Course (M .State))) → l .begun < n →
       Made M limits n w (stopped impossible site) l cs → Every (PossibleIn M Holds Asked Over) cs → ⊥
   unfolding courseOf
   no-verdict n w site l [] h m e = omega (arith, m .0)
   no-verdict n w site l (c ∷ []) h m e = e .0 .never site w (rw (m .0) (m .1))
-  no-verdict n w site l (c ∷ d ∷ cs) h m e = no-verdict n w site (nextLedger (m .1 .ledger)) (d ∷ cs) h (m .6) (e .1)
+  no-verdict n w site l (c ∷ d ∷ cs) h m e = no-verdict n w site (nextLedger (m .1 .ledger)) (d ∷ cs) (m .5) (m .6) (e .1)
 
 pub never-impossible : NeverImpossible
 unfolding NeverImpossible Real
@@ -138,6 +138,6 @@ never-impossible M limits Holds Asked Over N n =
     record {
       executions = all;
       verdict = λ h site e.
-          no-verdict M limits Holds Asked Over N n (run M limits n .walk) site empty (courses M limits n) h
+          no-verdict M limits Holds Asked Over N n (run M limits n .walk) site empty (courses M limits n) (omega arith)
           (rw e at (real M limits n .made)) all;
     }

@@ -1,8 +1,8 @@
 -- No schedule's preemptions pass the bound: one that has as many as the bound takes no marks, so it chooses no other thread. Assumes
 -- nothing.
 --     Bounded, Within                               a schedule's, a record's: with its choice, and with one that is open
+--     within-there                                  at a place of a path
 --     within-marks, within-stepped, within-new      what marks, a step and an addition leave of it
---     within-last                                   the preemptions that a new schedule has
 use Prim.Native.Nat.{ℕ, zero, suc, _+_, _≤_, _<_}
 use mathlib.Core.List.{List, [], _∷_}
 use mathlib.Core.Bool.{Bool, true, false, cond, not, _||_}
@@ -85,7 +85,7 @@ within-set bound [] k b h w = tt
 within-set bound (c ∷ bs) zero b h w = (h, w .1)
 within-set bound (c ∷ bs) (suc k) b h w = (w .0, within-set bound bs k b h (w .1))
 
-within-there : (bound : Bound) (bs : List Branch) (k : ℕ) → Every (Within bound) bs → Within bound (getD bs k noBranch)
+pub within-there : (bound : Bound) (bs : List Branch) (k : ℕ) → Every (Within bound) bs → Within bound (getD bs k noBranch)
 within-there bound [] k w = tt
 within-there bound (b ∷ bs) zero w = w .0
 within-there bound (b ∷ bs) (suc k) w = within-there bound bs k (w .1)
@@ -157,7 +157,7 @@ within-stepped bound (b ∷ bs) w = go (stepped bs) (within-stepped bound bs (w 
 -- Additions
 
 -- a new schedule has the preemptions of the one before it, with that one's choice
-pub within-last : (bound : Bound) (bs : List Branch) → Every (Within bound) bs → (n : ℕ) → bound ≡ atMost n →
+within-last : (bound : Bound) (bs : List Branch) → Every (Within bound) bs → (n : ℕ) → bound ≡ atMost n →
     preemptionsAfter (lastSchedule bs) ≤ n
 unfolding lastSchedule
 within-last bound [] w n e = omega arith

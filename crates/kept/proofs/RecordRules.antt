@@ -16,23 +16,23 @@ use lib.Dec.{ltb, leb, eqb}
 use lib.ListN.{length, getD, set, take, length-append}
 use borrow.Author.Tests.{ltb-true, ltb-false, leb-false}
 use Rattle.rules.specs.Vector.{Whom, nobody, thread}
-use Rattle.rules.specs.Path.{Branch, schedule, load, spurious, Bound, yield, pending, active, visited, noThread, noPrev, noBranch, firstIn, activeIn, activeOf, orNone, toActive, toVisited, left, unlessActive, toggled, turned, turnedBranch, marked, openAt, stepped, orTurned, Last, none, at, orFirst, oneFurther, lastSchedule, prevOf, initialAfter, preemptionsAfter, Added, threadAdded, loadAdded, spuriousAdded}
+use Rattle.rules.specs.Path.{Branch, schedule, load, spurious, yield, pending, active, visited, noThread, noPrev, noBranch, firstIn, activeIn, activeOf, orNone, toActive, toVisited, left, unlessActive, toggled, turned, turnedBranch, marked, openAt, stepped, orTurned, Last, none, at, orFirst, oneFurther, lastSchedule, prevOf, initialAfter, preemptionsAfter, Added, threadAdded, loadAdded, spuriousAdded}
 use Rattle.rules.specs.Event as Event
 use Rattle.rules.specs.Event.{Standing, yielded, cannotRun, other, Question, whichThread, whichSlot, whichBit, offers, slotsFrom, slotsOf}
-use Rattle.rules.specs.Explorer.{Limits, Ledger, seedOf, seedState, orFault, pushed, pushes, firstMarked}
-use Rattle.ledger.specs.History.{Every}
+use Rattle.rules.specs.Explorer.{Limits, Ledger, firstMarked, seedOf, seedState, orFault, pushed, pushes}
 use Rattle.ledger.proofs.Events.{StatesMarked, marked-states}
+use Rattle.ledger.specs.History.{Every}
 use Rattle.ledger.proofs.Marking.{Marking, same, mark, AllMarking, all-length, firstMarked-marks}
 use Rattle.ledger.proofs.States.{found}
 use Rattle.ledger.proofs.Records.{open-values}
 use Rattle.ledger.proofs.Proper.{Proper, proper-marking, proper-turned, pushed-proper}
 use Rattle.ledger.proofs.Outcomes.{only-branch, just-branch}
 use Rattle.rules.proofs.SlotLaws.{slots-below}
-use Rattle.ledger.proofs.Lists.{every-append, rising-at, slots-rising}
+use Rattle.ledger.proofs.Lists.{rising-at, slots-rising, every-append}
 use Rattle.kept.specs.Kept.{Answerable}
 use Rattle.kept.specs.Rules.{IsSchedule, NoSchedule, Newest, RecordRules, PathRules}
 use Rattle.kept.proofs.Answers.{marked-length, turned-length, seed-length}
-use Rattle.kept.proofs.Preemptions.{Within, within-marks, within-stepped, within-last, within-new}
+use Rattle.kept.proofs.Preemptions.{Within, within-there, within-marks, within-new, within-stepped}
 
 -- States are at most 5
 
@@ -186,52 +186,48 @@ prev-marking bs cs p m (inr r) =
 -- A record
 
 -- after records that are marked
-rules-after : (bound : Bound) (bs cs : List Branch) (b : Branch) → AllMarking bs cs → RecordRules bound bs b → RecordRules bound cs b
-rules-after bound bs cs (schedule s) m r =
+rules-after : (bs cs : List Branch) (b : Branch) → AllMarking bs cs → RecordRules bs b → RecordRules cs b
+rules-after bs cs (schedule s) m r =
     record {
       five = r .five;
       states = r .states;
       one-active = r .one-active;
       preemptions = r .preemptions;
-      bounded = r .bounded;
       initial = r .initial;
       prev = prev-marking bs cs (s .prev) m (r .prev);
     }
-rules-after bound bs cs (load l) m r = r
-rules-after bound bs cs (spurious u) m r = r
+rules-after bs cs (load l) m r = r
+rules-after bs cs (spurious u) m r = r
 
 -- that is marked itself
-rules-marking : {b c : Branch} (bound : Bound) (bs : List Branch) → Marking b c → RecordRules bound bs b → RecordRules bound bs c
-rules-marking bound bs same r = r
-rules-marking bound bs (mark s t e m) r =
-    let q = rules-marking bound bs m r in
+rules-marking : {b c : Branch} (bs : List Branch) → Marking b c → RecordRules bs b → RecordRules bs c
+rules-marking bs same r = r
+rules-marking bs (mark s t e m) r =
+    let q = rules-marking bs m r in
     record {
       five = marked-length (s .states) (marked (s .states) t) (marked-states (s .states) t) ∙ q .five;
       states = low-marked (s .states) (marked (s .states) t) (marked-states (s .states) t) (q .states);
       one-active = proper-marking (mark s t e same) (q .one-active);
       preemptions = q .preemptions;
-      bounded = q .bounded;
       initial = q .initial;
       prev = q .prev;
     }
 
 -- at its next choice
-rules-turned : (bound : Bound) (bs : List Branch) (b : Branch) → 0 < openAt b → RecordRules bound bs b →
-    RecordRules bound bs (turnedBranch b)
+rules-turned : (bs : List Branch) (b : Branch) → 0 < openAt b → RecordRules bs b → RecordRules bs (turnedBranch b)
 unfolding turnedBranch
-rules-turned bound bs (schedule s) h r =
+rules-turned bs (schedule s) h r =
     record {
       five = turned-length (s .states) ∙ r .five;
       states = low-turned (s .states) (r .states);
       one-active = proper-turned (schedule s) h (r .one-active);
       preemptions = r .preemptions;
-      bounded = r .bounded;
       initial = r .initial;
       prev = r .prev;
     }
-rules-turned bound bs (load l) h r =
+rules-turned bs (load l) h r =
     record { some = r .some; seven = r .seven; rise = r .rise; slots = r .slots; pos = open-values l h }
-rules-turned bound bs (spurious u) h r = tt
+rules-turned bs (spurious u) h r = tt
 
 -- that is added
 
@@ -250,10 +246,10 @@ slots-few i [] = omega arith
 slots-few i (true ∷ bs) = omega (arith, slots-few (i + 1) bs)
 slots-few i (false ∷ bs) = omega (arith, slots-few (i + 1) bs)
 
-rules-new : (bound : Bound) (B : ℕ) (bs : List Branch) (x : Bool) (q : Question) (b : Branch) → Answerable q →
-    pushed B bs x q ≡ pushes b → Every (Within bound) bs → RecordRules bound bs b
+rules-new : (B : ℕ) (bs : List Branch) (x : Bool) (q : Question) (b : Branch) → Answerable q → pushed B bs x q ≡ pushes b →
+    RecordRules bs b
 unfolding pushed threadAdded loadAdded spuriousAdded
-rules-new bound B bs x (whichThread points initial standings) b p e w =
+rules-new B bs x (whichThread points initial standings) b p e =
     let z = only-branch (leb B (length bs)) (ltb 255 (preemptionsAfter (lastSchedule bs))) _ b e in
     let f = few-preemptions (leb B (length bs)) (ltb 255 (preemptionsAfter (lastSchedule bs))) _ b e in
     let five : length (toggled (seedOf initial standings)) ≡ 5 = seed-length initial standings ∙ p .five in
@@ -263,11 +259,10 @@ rules-new bound B bs x (whichThread points initial standings) b p e w =
       states = low-seed initial standings;
       one-active = rw (← z) at one;
       preemptions = ltb-false 255 (preemptionsAfter (lastSchedule bs)) f;
-      bounded = within-last bound bs w;
       initial = initial-rule (toggled (seedOf initial standings)) (lastSchedule bs) five;
       prev = prev-rule bs;
     })
-rules-new bound B bs x (whichSlot (offers slots)) b p e w =
+rules-new B bs x (whichSlot (offers slots)) b p e =
     let z = just-branch (leb B (length bs)) _ b e in
     let few = p .few slots refl in
     rw (← z) (record {
@@ -277,8 +272,8 @@ rules-new bound B bs x (whichSlot (offers slots)) b p e w =
       slots = λ k l. omega (arith, slots-below 0 slots k l);
       pos = p .some slots refl;
     })
-rules-new bound B bs x (whichSlot Event.equal) b p e w = let z : _≡_ {A = ℕ} 0 1 = cc in absurd (omega arith)
-rules-new bound B bs x whichBit b p e w = let z = just-branch (leb B (length bs)) _ b e in rw (← z) tt
+rules-new B bs x (whichSlot Event.equal) b p e = let z : _≡_ {A = ℕ} 0 1 = cc in absurd (omega arith)
+rules-new B bs x whichBit b p e = let z = just-branch (leb B (length bs)) _ b e in rw (← z) tt
 
 room-new : (B : ℕ) (bs : List Branch) (x : Bool) (q : Question) (b : Branch) → pushed B bs x q ≡ pushes b → length bs < B
 unfolding pushed threadAdded loadAdded spuriousAdded
@@ -290,9 +285,9 @@ room-new B bs x whichBit b e = leb-false B (length bs) (full-not (leb B (length 
 -- A path
 
 -- records, after others
-abbrev Ruled : Bound → List Branch → List Branch → Type 0
-Ruled bound before [] = Unit {0}
-Ruled bound before (b ∷ bs) = RecordRules bound before b × Ruled bound (before ++ (b ∷ [])) bs
+abbrev Ruled : List Branch → List Branch → Type 0
+Ruled before [] = Unit {0}
+Ruled before (b ∷ bs) = RecordRules before b × Ruled (before ++ (b ∷ [])) bs
 
 all-append : (pre bs cs ds : List Branch) → AllMarking pre bs → AllMarking cs ds → AllMarking (pre ++ cs) (bs ++ ds)
 all-append [] [] cs ds p q = q
@@ -300,30 +295,29 @@ all-append [] (b ∷ bs) cs ds p q = absurd p
 all-append (a ∷ pre) [] cs ds p q = absurd p
 all-append (a ∷ pre) (b ∷ bs) cs ds p q = (p .0, all-append pre bs cs ds (p .1) q)
 
-ruled-marking : (bound : Bound) (pre bs cs ds : List Branch) → AllMarking pre bs → AllMarking cs ds → Ruled bound pre cs → Ruled bound bs ds
-ruled-marking bound pre bs [] [] p q r = tt
-ruled-marking bound pre bs [] (d ∷ ds) p q r = absurd q
-ruled-marking bound pre bs (c ∷ cs) [] p q r = absurd q
-ruled-marking bound pre bs (c ∷ cs) (d ∷ ds) p q r = (
-  rules-marking bound bs (q .0) (rules-after bound pre bs c p (r .0)),
-  ruled-marking bound (pre ++ (c ∷ [])) (bs ++ (d ∷ [])) cs ds (all-append pre bs (c ∷ []) (d ∷ []) p (q .0, tt)) (q .1) (r .1),
+ruled-marking : (pre bs cs ds : List Branch) → AllMarking pre bs → AllMarking cs ds → Ruled pre cs → Ruled bs ds
+ruled-marking pre bs [] [] p q r = tt
+ruled-marking pre bs [] (d ∷ ds) p q r = absurd q
+ruled-marking pre bs (c ∷ cs) [] p q r = absurd q
+ruled-marking pre bs (c ∷ cs) (d ∷ ds) p q r = (
+  rules-marking bs (q .0) (rules-after pre bs c p (r .0)),
+  ruled-marking (pre ++ (c ∷ [])) (bs ++ (d ∷ [])) cs ds (all-append pre bs (c ∷ []) (d ∷ []) p (q .0, tt)) (q .1) (r .1),
 )
 
-ruled-added : (bound : Bound) (pre bs : List Branch) (b : Branch) → Ruled bound pre bs → RecordRules bound (pre ++ bs) b →
-    Ruled bound pre (bs ++ (b ∷ []))
-ruled-added bound pre [] b r h = (rw append-nil at h, tt)
-ruled-added bound pre (c ∷ bs) b r h = (r .0, ruled-added bound (pre ++ (c ∷ [])) bs b (r .1) (rw append-assoc h))
+ruled-added : (pre bs : List Branch) (b : Branch) → Ruled pre bs → RecordRules (pre ++ bs) b → Ruled pre (bs ++ (b ∷ []))
+ruled-added pre [] b r h = (rw append-nil at h, tt)
+ruled-added pre (c ∷ bs) b r h = (r .0, ruled-added (pre ++ (c ∷ [])) bs b (r .1) (rw append-assoc h))
 
-ruled-stepped : (bound : Bound) (pre bs : List Branch) → Ruled bound pre bs → Ruled bound pre (stepped bs)
+ruled-stepped : (pre bs : List Branch) → Ruled pre bs → Ruled pre (stepped bs)
 unfolding stepped
-ruled-stepped bound pre [] r = tt
-ruled-stepped bound pre (b ∷ bs) r = go (stepped bs) (ruled-stepped bound (pre ++ (b ∷ [])) bs (r .1))
+ruled-stepped pre [] r = tt
+ruled-stepped pre (b ∷ bs) r = go (stepped bs) (ruled-stepped (pre ++ (b ∷ [])) bs (r .1))
   where
-    on : (y : Bool) → ltb 0 (openAt b) ≡ y → Ruled bound pre (cond y (turnedBranch b ∷ []) [])
-    on true h = (rules-turned bound pre b (ltb-true 0 (openAt b) h) (r .0), tt)
+    on : (y : Bool) → ltb 0 (openAt b) ≡ y → Ruled pre (cond y (turnedBranch b ∷ []) [])
+    on true h = (rules-turned pre b (ltb-true 0 (openAt b) h) (r .0), tt)
     on false h = tt
 
-    go : (cs : List Branch) → Ruled bound (pre ++ (b ∷ [])) cs → Ruled bound pre (orTurned cs b)
+    go : (cs : List Branch) → Ruled (pre ++ (b ∷ [])) cs → Ruled pre (orTurned cs b)
     go [] q = on (ltb 0 (openAt b)) refl
     go (c ∷ cs) q = (r .0, q)
 
@@ -340,21 +334,23 @@ stepped-length (b ∷ bs) = go (stepped bs) (stepped-length bs)
     go [] h = on (ltb 0 (openAt b))
     go (c ∷ cs) h = omega arith
 
-ruled-at : (bound : Bound) (pre bs : List Branch) (k : ℕ) → Ruled bound pre bs → k < length bs →
-    RecordRules bound (pre ++ take k bs) (getD bs k noBranch)
-ruled-at bound pre [] k r h = absurd (omega arith)
-ruled-at bound pre (b ∷ bs) zero r h = rw append-nil (r .0)
-ruled-at bound pre (b ∷ bs) (suc k) r h = rw append-assoc at (ruled-at bound (pre ++ (b ∷ [])) bs k (r .1) (omega arith))
+ruled-at : (pre bs : List Branch) (k : ℕ) → Ruled pre bs → k < length bs → RecordRules (pre ++ take k bs) (getD bs k noBranch)
+ruled-at pre [] k r h = absurd (omega arith)
+ruled-at pre (b ∷ bs) zero r h = rw append-nil (r .0)
+ruled-at pre (b ∷ bs) (suc k) r h = rw append-assoc at (ruled-at (pre ++ (b ∷ [])) bs k (r .1) (omega arith))
 
 -- of a whole path
 pub record Obeys (limits : Limits) (bs : List Branch) : Type 0 where
   pub room : length bs ≤ limits .branches
-  pub ruled : Ruled (limits .bound) [] bs
-  -- no rule of a record, but why the next one is within the bound
+  pub ruled : Ruled [] bs
   pub within : Every (Within (limits .bound)) bs
 
 pub obeys-rules : (limits : Limits) (bs : List Branch) → Obeys limits bs → PathRules limits bs
-obeys-rules limits bs o = record { room = o .room; records = λ k h. ruled-at (limits .bound) [] bs k (o .ruled) h }
+obeys-rules limits bs o = record {
+  room = o .room;
+  records = λ k h. ruled-at [] bs k (o .ruled) h;
+  bounded = λ n e k s f. let w : Within (limits .bound) (schedule s) = rw f at (within-there (limits .bound) bs k (o .within)) in w n e .chosen;
+}
 
 pub obeys-none : (limits : Limits) → Obeys limits []
 obeys-none limits = record { room = omega arith; ruled = tt; within = tt }
@@ -367,25 +363,24 @@ obeys-marks limits l q o =
     let m = firstMarked-marks (limits .bound) l q in
     record {
       room = rw (all-length (l .path) after m) (o .room);
-      ruled = ruled-marking (limits .bound) [] [] (l .path) after tt m (o .ruled);
+      ruled = ruled-marking [] [] (l .path) after tt m (o .ruled);
       within = within-marks (limits .bound) l q (o .within);
     }
 
 pub obeys-added : (limits : Limits) (bs : List Branch) (x : Bool) (q : Question) (b : Branch) → Answerable q →
     pushed (limits .branches) bs x q ≡ pushes b → Obeys limits bs → Obeys limits (bs ++ (b ∷ []))
 obeys-added limits bs x q b p e o =
-    let bound = limits .bound in
     let B = limits .branches in
     record {
       room = rw length-append (omega (arith, room-new B bs x q b e));
-      ruled = ruled-added bound [] bs b (o .ruled) (rules-new bound B bs x q b p e (o .within));
-      within = every-append (Within bound) bs (b ∷ []) (o .within) (within-new bound B bs x q b e (o .within), tt);
+      ruled = ruled-added [] bs b (o .ruled) (rules-new B bs x q b p e);
+      within = every-append (Within (limits .bound)) bs (b ∷ []) (o .within) (within-new (limits .bound) B bs x q b e (o .within), tt);
     }
 
 pub obeys-stepped : (limits : Limits) (bs : List Branch) → Obeys limits bs → Obeys limits (stepped bs)
 obeys-stepped limits bs o =
     record {
       room = omega (arith, o .room, stepped-length bs);
-      ruled = ruled-stepped (limits .bound) [] bs (o .ruled);
+      ruled = ruled-stepped [] bs (o .ruled);
       within = within-stepped (limits .bound) bs (o .within);
     }

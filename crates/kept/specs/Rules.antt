@@ -9,7 +9,7 @@ use mathlib.Core.List.{List}
 use mathlib.Core.Path.{_≡_}
 use mathlib.Core.Logic.{_⊎_}
 use lib.ListN.{length, getD, take}
-use Rattle.rules.specs.Path.{Branch, schedule, load, spurious, Schedule, Load, Bound, atMost, active, noThread, noPrev, noBranch}
+use Rattle.rules.specs.Path.{Branch, schedule, load, spurious, Schedule, Load, atMost, preemptionsWith, active, noThread, noPrev, noBranch}
 use Rattle.rules.specs.Event.{Machine, Question}
 use Rattle.rules.specs.Explorer.{Limits, run}
 use Rattle.ledger.specs.History.{Every, Course, courses, end}
@@ -35,8 +35,8 @@ pub record Newest (bs : List Branch) (p : ℕ) : Type 0 where
 -- Records
 
 -- "schedule: five states (0 Disabled, 1 Skip, 2 Yield, 3 Pending, 4 Active, 5 Visited), preemptions, initial active or 255, prev
--- u16 or 65535", under this bound, after the records before it
-pub record ScheduleRules (bound : Bound) (before : List Branch) (s : Schedule) : Type 0 where
+-- u16 or 65535", after the records before it
+pub record ScheduleRules (before : List Branch) (s : Schedule) : Type 0 where
   -- "five states"
   pub five : length (s .states) ≡ 5
   -- "(0 Disabled .. 5 Visited)"
@@ -45,8 +45,6 @@ pub record ScheduleRules (bound : Bound) (before : List Branch) (s : Schedule) :
   pub one-active : (t u : ℕ) → getD (s .states) t 0 ≡ active → getD (s .states) u 0 ≡ active → t ≡ u
   -- "a new schedule branch's preemptions would pass 255": the branch isn't added
   pub preemptions : s .preemptions ≤ 255
-  -- "preemption bound none or 0..255": nor do they pass the bound (path.rs: Schedule::backtrack asserts it)
-  pub bounded : (n : ℕ) → bound ≡ atMost n → s .preemptions ≤ n
   -- "initial active or 255"
   pub initial : (s .initial ≡ noThread) ⊎ (s .initial < 5)
   -- "prev u16 or 65535": the newest schedule before it, or there is none
@@ -66,17 +64,20 @@ pub record LoadRules (l : Load) : Type 0 where
   pub pos : l .pos < length (l .values)
 
 -- "spurious: bit"
-abbrev pub RecordRules : Bound → List Branch → Branch → Type 0
-RecordRules bound before (schedule s) = ScheduleRules bound before s
-RecordRules bound before (load l) = LoadRules l
-RecordRules bound before (spurious u) = Unit {0}
+abbrev pub RecordRules : List Branch → Branch → Type 0
+RecordRules before (schedule s) = ScheduleRules before s
+RecordRules before (load l) = LoadRules l
+RecordRules before (spurious u) = Unit {0}
 
--- Paths: with room for as many records as the limits say
+-- Paths, under these limits
 pub record PathRules (limits : Limits) (bs : List Branch) : Type 0 where
   -- "a branch is to be added with B present"
   pub room : length bs ≤ limits .branches
   -- "Path record"
-  pub records : (k : ℕ) → k < length bs → RecordRules (limits .bound) (take k bs) (getD bs k noBranch)
+  pub records : (k : ℕ) → k < length bs → RecordRules (take k bs) (getD bs k noBranch)
+  -- "preemption bound none or 0..255": no execution passes it. The preemptions before each schedule, and the one that its own choice may
+  -- be, are at most as many (path.rs: Schedule::backtrack asserts it)
+  pub bounded : (n : ℕ) → limits .bound ≡ atMost n → (k : ℕ) (s : Schedule) → getD bs k noBranch ≡ schedule s → preemptionsWith s ≤ n
 
 -- Every moment
 

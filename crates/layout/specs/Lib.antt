@@ -1,3 +1,4 @@
 pub mod Slots
 pub mod Tables
+pub mod Threads
 pub mod Wide

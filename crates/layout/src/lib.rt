@@ -27,6 +27,9 @@ pub const MAX_ATOMIC_HISTORY: usize = 7;
 // Registers of a thread.
 pub const REGISTERS: usize = 4;
 
+// How many bytes a path record has, and a trace entry.
+pub const RECORD: usize = 16;
+
 // A number that stands for none: no yield yet, no access yet.
 pub const NONE: u16 = 65535;
 

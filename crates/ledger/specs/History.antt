@@ -73,9 +73,9 @@ module _ (M : Machine) (limits : Limits) where
   Stops n w (stopped f site) t = t ≡ faulted f site w
 
   -- The executions from a ledger on. Each but the last was over, its condition met, with a choice open and fewer than n begun, and
-  -- the next goes on from the next path. With none allowed nothing begins
+  -- the next goes on from the next path. With none more allowed nothing begins
   abbrev pub Made : ℕ → Walk (M .State) → Verdict → Ledger → List (Course (M .State)) → Type 0
-  Made n w v l [] = (n ≡ 0) × (w ≡ fresh M limits l) × (v ≡ stopped impossible noSite)
+  Made n w v l [] = (n ≡ l .begun) × (w ≡ fresh M limits l) × (v ≡ stopped impossible noSite)
   Made n w v l (c ∷ []) = (c ≡ courseOf l) × Stops n w v (execution M limits l)
   Made n w v l (c ∷ d ∷ more) =
       (c ≡ courseOf l)

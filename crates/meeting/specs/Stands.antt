@@ -17,6 +17,7 @@ use Rattle.layout.specs.Tables.{state}
 use Rattle.decode.specs.Ops.{opWithin}
 use Rattle.path.specs.Holds.{Holds}
 use Rattle.event.specs.Moves.{faultOf}
+pub use Rattle.event.specs.Moves.{siteOf}
 use Rattle.event.specs.declared.Fault.{Fault}
 use Rattle.event.specs.declared.Site.{Site}
 use Rattle.meeting.specs.declared.Cursor.{Cursor}
@@ -64,9 +65,6 @@ pub record Lent : Type 0 where
 abbrev pub lent : Clocks → Marks → Values → Numbers → List ℕ → List ℕ → Lent
 lent clocks marks values numbers path trace =
     record { clocks = clocks; marks = marks; values = values; numbers = numbers; path = path; trace = trace }
-
-abbrev pub siteOf : Site → rules.Site
-siteOf s = record { thread = s .thread; row = s .row }
 
 pub record Stands (x : Lent) (c : Cursor) (w : Walk State) : Type 0 where
   pub is-state : w .state ≡ state (x .clocks) (x .marks) (x .values) (x .numbers)

@@ -14,17 +14,18 @@ use Rattle.rules.specs.Text as rules
 use Rattle.rules.specs.Text.{TextRead, refusedAt, accepted, readText, readInto, filled, tableBytes, ReadInto}
 use Rattle.ahead.specs.Counts.{PlacedAt}
 use Rattle.ahead.specs.declared.Place.{Place}
-use Rattle.filling.specs.Tables.{Cleared, Blank}
+use Rattle.filling.specs.Tables.{Blank}
+use Rattle.trace.specs.Entries.{Zeros}
 use Rattle.reader.specs.Lines.{Answers, Answered, Took, readOf}
 use Rattle.reader.specs.declared.Lines.{Lines}
 use Rattle.reader.specs.declared.Lines.the-variants as lines
 use Rattle.reader.specs.declared.TextAnswer.the-variants.{NoRoom, Refused, Taken}
 use Rattle.reader.proofs.WholeLaws.{blank-filled}
 
-pub cleared-blank : (least : ℕ) (entry exit : List ℕ) → Cleared entry exit → least ≤ length entry → Blank least exit
+pub cleared-blank : (least : ℕ) (entry exit : List ℕ) → Zeros entry exit → least ≤ length entry → Blank least exit
 cleared-blank least entry exit c h = record { is = c .is; room = omega (arith, c .long) }
 
-cleared-filled : (n : ℕ) (entry exit : List ℕ) → Cleared entry exit → length entry ≡ n → exit ≡ filled n []
+cleared-filled : (n : ℕ) (entry exit : List ℕ) → Zeros entry exit → length entry ≡ n → exit ≡ filled n []
 cleared-filled n entry exit c e = blank-filled 0 exit (cleared-blank 0 entry exit c (omega arith)) ∙ ap (λ (k : ℕ). filled k []) (c .long ∙ e)
 
 module _ (text table condition : List ℕ) where
@@ -65,7 +66,7 @@ module _ (text table condition : List ℕ) where
       said-refused t c r at a e = subst (λ (x : Lines). Answered text t c x (readText text)) e (a .is)
 
       pub read-refused : (at : ℕ) (p : Place) → PlacedAt text (drop at text) p → readText text ≡ refusedAt (drop at text)
-          → (before after was is : List ℕ) → Cleared before after → Cleared was is → length before ≡ length table → length was ≡ length condition
+          → (before after was is : List ℕ) → Zeros before after → Zeros was is → length before ≡ length table → length was ≡ length condition
           → readOf (Refused (p .line) (p .column)) after is ≡ readInto text table condition
       read-refused at p placed e before after was is t c n k =
           ap (λ (x : rules.Place). readOf (Refused (x .line) (x .column)) after is) placed

@@ -37,12 +37,12 @@ pub fn read(text: &[u8], table: &mut [u8], condition: &mut [u8]) -> TextAnswer
     if condition.len() < CONDITION_BYTES {
         return TextAnswer::NoRoom;
     }
-    filling::clear_all(table);
-    filling::clear_all(condition);
+    trace::clear_all(table);
+    trace::clear_all(condition);
     match lines_from(text, table, condition) {
         Lines::Refused(at) => {
-            filling::clear_all(table);
-            filling::clear_all(condition);
+            trace::clear_all(table);
+            trace::clear_all(condition);
             let place = ahead::place_of(text, at);
             TextAnswer::Refused(place.line, place.column)
         }
@@ -63,7 +63,11 @@ fn lines_from(text: &[u8], table: &mut [u8], condition: &mut [u8]) -> Lines
     let mut left = lines;
     while 0 < left {
         match filling::line_of(text, table, from, lines, all, rows, length) {
-            Line::GoesOn(more, long, to) => {
+            Line::GoesOn {
+                rows: more,
+                length: long,
+                from: to,
+            } => {
                 rows = more;
                 length = long;
                 from = to;

@@ -6,9 +6,7 @@ ghost use lib.ListN.{length};
 ghost use lib.Dec.{eqb};
 ghost use Rattle.rules.specs.Path.{flag};
 ghost use Rattle.record.specs.Fields.{fieldOf, withField, begun, cleared};
-
-// How many bytes a record has.
-pub const RECORD: usize = 16;
+pub use layout::RECORD;
 
 // Every record: its kind.
 pub const KIND: usize = 0;

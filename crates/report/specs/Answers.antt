@@ -16,14 +16,12 @@ use Rattle.rules.specs.Machine.{everyThread}
 use Rattle.rules.specs.State.{State, number, rowsBegun}
 use lib.ListN.{replicate}
 use Rattle.event.specs.Moves.{faultOf}
+pub use Rattle.event.specs.Moves.{siteOf}
 use Rattle.event.specs.declared.Site.{Site}
 use Rattle.report.specs.declared.Answer.{Answer}
 use Rattle.report.specs.declared.Answer.the-variants as answer
 use Rattle.report.specs.declared.ThreadRecord.{ThreadRecord}
 use Rattle.report.specs.declared.Report as code
-
-abbrev pub siteOf : Site → rules.Site
-siteOf s = record { thread = s .thread; row = s .row }
 
 -- the answer's number: "0 an execution ended, no choice open", "1 N executions ended, some choice open", "2 B, L or N out of range",
 -- "3 path buffer length wrong", "4 trace buffer or thread list length wrong", "5 table refused", those of the faults, and "a false

@@ -10,7 +10,7 @@ use native.Mathlib.Omega.{arith}
 use lib.Dec.{eqb}
 use lib.ListN.{length, getD, drop, length-drop}
 use borrow.Author.Tests.{eqb-true}
-use Rattle.rules.specs.Token.{lineFeed, isBlank, isLetter, isMark, runLength, tokenLength, lineLength, endsLine, isEmpty, pastBlanks, pastToken, nextLine}
+use Rattle.rules.specs.Token.{lineFeed, isBlank, isLetter, isSymbol, runLength, tokenLength, lineLength, endsLine, isEmpty, pastBlanks, pastToken, nextLine}
 use Rattle.rules.specs.Text.{says, isBare, rowsAhead, threadsAhead}
 
 -- The next line
@@ -49,12 +49,12 @@ next-other (b ∷ bs) e = sym (next-one b bs (on-no-feed b bs e))
 
 pub next-past : (bs : List ℕ) → nextLine (pastToken bs) ≡ nextLine bs
 unfolding tokenLength
-next-past bs = by (endsLine bs) refl (isLetter (getD bs 0 0)) (isMark (getD bs 0 0))
+next-past bs = by (endsLine bs) refl (isLetter (getD bs 0 0)) (isSymbol (getD bs 0 0))
   where
-    by : (x : Bool) → endsLine bs ≡ x → (y z : Bool) → nextLine (drop (cond x 0 (cond y (runLength isLetter bs) (cond z (runLength isMark bs) 1))) bs) ≡ nextLine bs
+    by : (x : Bool) → endsLine bs ≡ x → (y z : Bool) → nextLine (drop (cond x 0 (cond y (runLength isLetter bs) (cond z (runLength isSymbol bs) 1))) bs) ≡ nextLine bs
     by true e y z = refl
     by false e true z = next-run isLetter refl bs
-    by false e false true = next-run isMark refl bs
+    by false e false true = next-run isSymbol refl bs
     by false e false false = next-other bs e
 
 pub skip-shorter : (bs : List ℕ) → length (pastBlanks bs) ≤ length bs

@@ -13,7 +13,7 @@ use lib.Dec.{leb, eqb, eqb·suc-zero}
 use lib.ListN.{length, getD, drop}
 use lib.Seq.{take-at, drop-at}
 use borrow.Author.Tests.{leb-true, eqb-true, ne-eqb, not-true}
-use Rattle.rules.specs.Token.{lineFeed, isBlank, isBetween, isLetter, isMark, runLength, pastBlanks, token, tokenLength, pastToken, endsLine, isEmpty, lineLength, nextLine}
+use Rattle.rules.specs.Token.{lineFeed, isBlank, isBetween, isLetter, isSymbol, runLength, pastBlanks, token, tokenLength, pastToken, endsLine, isEmpty, lineLength, nextLine}
 use Rattle.rules.proofs.MeasureRows.{both-left, both-right}
 
 -- Tests
@@ -64,8 +64,8 @@ letter-from b e =
     (λ g. omega (arith, eqb-true b 95 g)))
     (λ f. omega (arith, eqb-true b 46 f))
 
-pub mark-is : (P : ℕ → Type 0) (b : ℕ) → isMark b ≡ true → P 61 → P 33 → P 60 → P 62 → P b
-mark-is P b e x y z w =
+pub symbol-is : (P : ℕ → Type 0) (b : ℕ) → isSymbol b ≡ true → P 61 → P 33 → P 60 → P 62 → P b
+symbol-is P b e x y z w =
     either (eqb b 61 || eqb b 33 || eqb b 60) (eqb b 62) e
     (λ f. either (eqb b 61 || eqb b 33) (eqb b 60) f
     (λ g. either (eqb b 61) (eqb b 33) g (λ h. rw (eqb-true b 61 h) x) (λ h. rw (eqb-true b 33 h) y))
@@ -83,15 +83,15 @@ letter-in b e =
     rw (ne-eqb b 32 (λ f. omega arith), ne-eqb b 9 (λ f. omega arith), ne-eqb b 10 (λ f. omega arith), ne-eqb b 35 (λ f. omega arith), ne-eqb b 13 (λ f. omega arith))
     refl
 
-pub mark-in : (b : ℕ) → isMark b ≡ true → inWord b ≡ true
+pub symbol-in : (b : ℕ) → isSymbol b ≡ true → inWord b ≡ true
 unfolding inWord
-mark-in b e = mark-is (λ (c : ℕ). inWord c ≡ true) b e refl refl refl refl
+symbol-in b e = symbol-is (λ (c : ℕ). inWord c ≡ true) b e refl refl refl refl
 
 -- A word that ends where what follows it begins
 pub data Stands : List ℕ → List ℕ → Type 0 where
   letters : (b : ℕ) (bs rest : List ℕ) → all isLetter (b ∷ bs) ≡ true → isLetter (getD rest 0 0) ≡ false → Stands (b ∷ bs) rest
-  marks : (b : ℕ) (bs rest : List ℕ) → all isMark (b ∷ bs) ≡ true → isMark (getD rest 0 0) ≡ false → Stands (b ∷ bs) rest
-  other : (b : ℕ) (rest : List ℕ) → inWord b ≡ true → isLetter b ≡ false → isMark b ≡ false → Stands (b ∷ []) rest
+  symbols : (b : ℕ) (bs rest : List ℕ) → all isSymbol (b ∷ bs) ≡ true → isSymbol (getD rest 0 0) ≡ false → Stands (b ∷ bs) rest
+  other : (b : ℕ) (rest : List ℕ) → inWord b ≡ true → isLetter b ≡ false → isSymbol b ≡ false → Stands (b ∷ []) rest
 
 not-blank : (b : ℕ) (bs : List ℕ) → inWord b ≡ true → pastBlanks (b ∷ bs) ≡ b ∷ bs
 unfolding runLength inWord
@@ -112,13 +112,13 @@ not-end b bs h = by (isBlank b) (eqb b lineFeed) (eqb b 35) (eqb b 13) h
     by false false true z e = absurd (true≢false (sym e))
     by false false false true e = absurd (true≢false (sym e))
 
-mark-no-letter : (b : ℕ) → isMark b ≡ true → isLetter b ≡ false
-mark-no-letter b e = mark-is (λ (c : ℕ). isLetter c ≡ false) b e refl refl refl refl
+symbol-no-letter : (b : ℕ) → isSymbol b ≡ true → isLetter b ≡ false
+symbol-no-letter b e = symbol-is (λ (c : ℕ). isLetter c ≡ false) b e refl refl refl refl
 
 -- its first byte
 pub stands-begins : {w rest : List ℕ} → Stands w rest → (b : ℕ) × (bs : List ℕ) × (w ≡ b ∷ bs) × (inWord b ≡ true)
 stands-begins (letters b bs rest h e) = (b, bs, refl, letter-in b (both-left (isLetter b) (all isLetter bs) h))
-stands-begins (marks b bs rest h e) = (b, bs, refl, mark-in b (both-left (isMark b) (all isMark bs) h))
+stands-begins (symbols b bs rest h e) = (b, bs, refl, symbol-in b (both-left (isSymbol b) (all isSymbol bs) h))
 stands-begins (other b rest h e f) = (b, [], refl, h)
 
 pub stands-skip : {w rest : List ℕ} → Stands w rest → pastBlanks (w ++ rest) ≡ w ++ rest
@@ -133,15 +133,15 @@ stands-some {rest = rest} s = let k = stands-begins s in rw (k .2) (eqb·suc-zer
 
 pub stands-long : {w rest : List ℕ} → Stands w rest → 1 ≤ length w
 stands-long (letters b bs rest h e) = omega arith
-stands-long (marks b bs rest h e) = omega arith
+stands-long (symbols b bs rest h e) = omega arith
 stands-long (other b rest h e f) = omega arith
 
 pub stands-length : {w rest : List ℕ} → Stands w rest → tokenLength (w ++ rest) ≡ length w
 unfolding tokenLength
 stands-length (letters b bs rest h e) =
     rw (stands-on (letters b bs rest h e), both-left (isLetter b) (all isLetter bs) h) (run-all isLetter (b ∷ bs) rest h e)
-stands-length (marks b bs rest h e) =
-    rw (stands-on (marks b bs rest h e), mark-no-letter b (both-left (isMark b) (all isMark bs) h), both-left (isMark b) (all isMark bs) h) (run-all isMark (b ∷ bs) rest h e)
+stands-length (symbols b bs rest h e) =
+    rw (stands-on (symbols b bs rest h e), symbol-no-letter b (both-left (isSymbol b) (all isSymbol bs) h), both-left (isSymbol b) (all isSymbol bs) h) (run-all isSymbol (b ∷ bs) rest h e)
 stands-length (other b rest h e f) = rw (not-end b rest h, e, f) refl
 
 pub stands-token : {w rest : List ℕ} → Stands w rest → token (w ++ rest) ≡ w
@@ -153,17 +153,17 @@ stands-past {w} {rest} s = drop-at w rest (tokenLength (w ++ rest)) (sym (stands
 -- A word of letters, or of a sign's bytes
 unfoldable pub isWord : List ℕ → Bool
 isWord [] = false
-isWord (b ∷ bs) = all isLetter (b ∷ bs) || all isMark (b ∷ bs)
+isWord (b ∷ bs) = all isLetter (b ∷ bs) || all isSymbol (b ∷ bs)
 
 -- no byte of either kind
 abbrev pub Parted : List ℕ → Type 0
-Parted rest = (isLetter (getD rest 0 0) ≡ false) × (isMark (getD rest 0 0) ≡ false)
+Parted rest = (isLetter (getD rest 0 0) ≡ false) × (isSymbol (getD rest 0 0) ≡ false)
 
 pub word-stands : (w rest : List ℕ) → isWord w ≡ true → Parted rest → Stands w rest
 unfolding isWord
 word-stands [] rest h p = absurd (true≢false (sym h))
 word-stands (b ∷ bs) rest h p =
-    either (all isLetter (b ∷ bs)) (all isMark (b ∷ bs)) h (λ e. letters b bs rest e (p .0)) (λ e. marks b bs rest e (p .1))
+    either (all isLetter (b ∷ bs)) (all isSymbol (b ∷ bs)) h (λ e. letters b bs rest e (p .0)) (λ e. symbols b bs rest e (p .1))
 
 -- Lines
 
@@ -186,8 +186,8 @@ pub word-no-feed : (w : List ℕ) → isWord w ≡ true → noFeed w ≡ true
 unfolding isWord
 word-no-feed [] h = refl
 word-no-feed (b ∷ bs) h =
-    either (all isLetter (b ∷ bs)) (all isMark (b ∷ bs)) h (letters-no-feed (b ∷ bs))
-    (all-so isMark (λ (c : ℕ). not (eqb c lineFeed)) (λ c e. in-no-feed c (mark-in c e)) (b ∷ bs))
+    either (all isLetter (b ∷ bs)) (all isSymbol (b ∷ bs)) h (letters-no-feed (b ∷ bs))
+    (all-so isSymbol (λ (c : ℕ). not (eqb c lineFeed)) (λ c e. in-no-feed c (symbol-in c e)) (b ∷ bs))
 
 -- what has no line feed belongs to the line
 pub line-on : (w rest : List ℕ) → noFeed w ≡ true → nextLine (w ++ rest) ≡ nextLine rest

@@ -12,7 +12,7 @@ use Rattle.rules.specs.Condition.{isSign}
 use Rattle.rules.specs.ConditionTree.{AllBytes}
 use Rattle.rules.specs.Token.{isBetween, token, pastToken, content, Found, nothing, found, only, numberIn}
 use Rattle.rules.specs.Text as Text
-use Rattle.rules.specs.Text.{marks, markIn, threadRegisterIn, comparisonOf, unitAt}
+use Rattle.rules.specs.Text.{symbols, symbolIn, threadRegisterIn, comparisonOf, unitAt}
 use Rattle.rules.proofs.MeasureRows.{both-left, both-right}
 use Rattle.returns.proofs.NumberLaws.{only-found, onlyIf-found, place-below}
 use Rattle.returns.proofs.ByteLaws.{little-bytes}
@@ -35,8 +35,8 @@ register-few bs at e =
     let register = leb-true (getD bs 3 0) 51 (both-right (leb 48 (getD bs 3 0)) _ (both-right signs _ (k .0))) in
     omega (arith, k .1)
 
-mark-few : (p : ℕ → Bool) (bs : List ℕ) (b : ℕ) → only p (markIn bs) ≡ found b → b < 256
-mark-few p bs b e = omega (arith, place-below 1 bs marks b (only-found p (markIn bs) b e .1))
+symbol-few : (p : ℕ → Bool) (bs : List ℕ) (b : ℕ) → only p (symbolIn bs) ≡ found b → b < 256
+symbol-few p bs b e = omega (arith, place-below 1 bs symbols b (only-found p (symbolIn bs) b e .1))
 
 module _ (lines : ℕ) where
   number-bytes : (at sign : ℕ) (bs : List ℕ) → at < 20 → sign < 256 → OfBytes (Text.numberBehind lines at sign bs)
@@ -47,25 +47,25 @@ module _ (lines : ℕ) where
       by (found n) = (l, (omega arith, (omega arith, little-bytes 8 n)))
 
   sign-bytes : (at : ℕ) (bs : List ℕ) → at < 20 → OfBytes (Text.signBehind lines at bs)
-  sign-bytes at bs h = by (only isSign (markIn (token (content lines bs)))) refl
+  sign-bytes at bs h = by (only isSign (symbolIn (token (content lines bs)))) refl
     where
-      by : (f : Found) → only isSign (markIn (token (content lines bs))) ≡ f →
+      by : (f : Found) → only isSign (symbolIn (token (content lines bs))) ≡ f →
           OfBytes (elim f [ nothing ↦ Text.broken (comparisonOf 1 at 0) (content lines bs) | found sign ↦ Text.numberBehind lines at sign (pastToken (content lines bs)) ])
       by nothing e = tt
-      by (found sign) e = number-bytes at sign (pastToken (content lines bs)) h (mark-few isSign (token (content lines bs)) sign e)
+      by (found sign) e = number-bytes at sign (pastToken (content lines bs)) h (symbol-few isSign (token (content lines bs)) sign e)
 
   pub unit-bytes : (bs : List ℕ) → OfBytes (unitAt lines bs)
   unfolding unitAt
   unit-bytes bs = by (threadRegisterIn (token bs)) refl
     where
-      bracket : (f : Found) → only (λ (b : ℕ). not (isSign b)) (markIn (token bs)) ≡ f → OfBytes (elim f [ nothing ↦ Text.none | found b ↦ Text.unit (b ∷ []) (pastToken bs) ])
+      bracket : (f : Found) → only (λ (b : ℕ). not (isSign b)) (symbolIn (token bs)) ≡ f → OfBytes (elim f [ nothing ↦ Text.none | found b ↦ Text.unit (b ∷ []) (pastToken bs) ])
       bracket nothing e = tt
-      bracket (found b) e = (mark-few (λ (x : ℕ). not (isSign x)) (token bs) b e, tt)
+      bracket (found b) e = (symbol-few (λ (x : ℕ). not (isSign x)) (token bs) b e, tt)
 
       by : (f : Found) → threadRegisterIn (token bs) ≡ f →
           OfBytes (elim f [
             | found at ↦ Text.signBehind lines at (pastToken bs)
-            | nothing ↦ elim (only (λ (b : ℕ). not (isSign b)) (markIn (token bs))) [ nothing ↦ Text.none | found b ↦ Text.unit (b ∷ []) (pastToken bs) ]
+            | nothing ↦ elim (only (λ (b : ℕ). not (isSign b)) (symbolIn (token bs))) [ nothing ↦ Text.none | found b ↦ Text.unit (b ∷ []) (pastToken bs) ]
           ])
       by (found at) e = sign-bytes at (pastToken bs) (register-few (token bs) at e)
-      by nothing e = bracket (only (λ (b : ℕ). not (isSign b)) (markIn (token bs))) refl
+      by nothing e = bracket (only (λ (b : ℕ). not (isSign b)) (symbolIn (token bs))) refl

@@ -20,10 +20,10 @@ use Rattle.rules.specs.ConditionTree as Tree
 use Rattle.rules.specs.ConditionTree.{Comparison, Joint, Deep, comparison, group, leafBytes, jointOf, othersOf, FineAll, Fine}
 use Rattle.rules.specs.Token.{bytesOf, space, lineFeed, isLetter, isBetween, runLength, lineLength, endsLine, isEmpty, pastBlanks, token, pastToken, content, nothing, found, only, numberIn, placeIn}
 use Rattle.rules.specs.Text as Text
-use Rattle.rules.specs.Text.{marks, markIn, threadRegisterIn, unit, unitAt, claimed, claimedTo}
+use Rattle.rules.specs.Text.{symbols, symbolIn, threadRegisterIn, unit, unitAt, claimed, claimedTo}
 use Rattle.rules.specs.Writer.{shown, blankBefore, unitsShown}
 use Rattle.rules.proofs.MeasureRows.{both-left, both-right}
-use Rattle.returns.proofs.TokenLaws.{also, all, inWord, Stands, letters, marks as signed, other, stands-skip, stands-on, stands-some, stands-long, stands-token, stands-past}
+use Rattle.returns.proofs.TokenLaws.{also, all, inWord, Stands, letters, symbols as signed, other, stands-skip, stands-on, stands-some, stands-long, stands-token, stands-past}
 use Rattle.returns.proofs.NumberLaws.{number-back, shown-letters, shown-some, digit-letter}
 
 -- Units
@@ -142,27 +142,27 @@ parted-units us (sign b more h l u) (suc k) rest =
     sign-cases (λ (x : ℕ). isLetter (getD (unitsShown (suc k) false (x ∷ more) ++ (lineFeed ∷ rest)) 0 0) ≡ false) b h l refl refl refl refl
 
 -- a bracket stands by itself
-sign-stands : (b : ℕ) → 7 ≤ b → b ≤ 10 → (rest : List ℕ) → (eqb b opens ≡ false → isLetter (getD rest 0 0) ≡ false) → Stands (getD marks (b - 1) []) rest
+sign-stands : (b : ℕ) → 7 ≤ b → b ≤ 10 → (rest : List ℕ) → (eqb b opens ≡ false → isLetter (getD rest 0 0) ≡ false) → Stands (getD symbols (b - 1) []) rest
 unfolding bytesOf inWord
 sign-stands b h l rest =
-    sign-cases (λ (x : ℕ). (eqb x opens ≡ false → isLetter (getD rest 0 0) ≡ false) → Stands (getD marks (x - 1) []) rest) b h l
+    sign-cases (λ (x : ℕ). (eqb x opens ≡ false → isLetter (getD rest 0 0) ≡ false) → Stands (getD symbols (x - 1) []) rest) b h l
     (λ e. other 40 rest refl refl refl) (λ e. other 41 rest refl refl refl) (λ e. letters _ _ rest refl (e refl)) (λ e. letters _ _ rest refl (e refl))
 
-sign-in : (b : ℕ) → 7 ≤ b → b ≤ 10 → (threadRegisterIn (getD marks (b - 1) []) ≡ nothing) × (only (λ (x : ℕ). not (isSign x)) (markIn (getD marks (b - 1) [])) ≡ found b)
+sign-in : (b : ℕ) → 7 ≤ b → b ≤ 10 → (threadRegisterIn (getD symbols (b - 1) []) ≡ nothing) × (only (λ (x : ℕ). not (isSign x)) (symbolIn (getD symbols (b - 1) [])) ≡ found b)
 unfolding threadRegisterIn bytesOf placeIn equal
 sign-in b h l =
-    sign-cases (λ (x : ℕ). (threadRegisterIn (getD marks (x - 1) []) ≡ nothing) × (only (λ (y : ℕ). not (isSign y)) (markIn (getD marks (x - 1) [])) ≡ found x)) b h l
+    sign-cases (λ (x : ℕ). (threadRegisterIn (getD symbols (x - 1) []) ≡ nothing) × (only (λ (y : ℕ). not (isSign y)) (symbolIn (getD symbols (x - 1) [])) ≡ found x)) b h l
     (refl, refl) (refl, refl) (refl, refl) (refl, refl)
 
-compare-stands : (s : ℕ) → isSign s ≡ true → (rest : List ℕ) → Stands (getD marks (s - 1) []) (space ∷ rest)
+compare-stands : (s : ℕ) → isSign s ≡ true → (rest : List ℕ) → Stands (getD symbols (s - 1) []) (space ∷ rest)
 unfolding bytesOf
 compare-stands s h rest =
-    compare-cases (λ (x : ℕ). Stands (getD marks (x - 1) []) (space ∷ rest)) s h
+    compare-cases (λ (x : ℕ). Stands (getD symbols (x - 1) []) (space ∷ rest)) s h
     (signed _ _ (space ∷ rest) refl refl) (signed _ _ (space ∷ rest) refl refl) (signed _ _ (space ∷ rest) refl refl) (signed _ _ (space ∷ rest) refl refl) (signed _ _ (space ∷ rest) refl refl) (signed _ _ (space ∷ rest) refl refl)
 
-compare-in : (s : ℕ) → isSign s ≡ true → only isSign (markIn (getD marks (s - 1) [])) ≡ found s
+compare-in : (s : ℕ) → isSign s ≡ true → only isSign (symbolIn (getD symbols (s - 1) [])) ≡ found s
 unfolding bytesOf placeIn equal
-compare-in s h = compare-cases (λ (x : ℕ). only isSign (markIn (getD marks (x - 1) [])) ≡ found x) s h refl refl refl refl refl refl
+compare-in s h = compare-cases (λ (x : ℕ). only isSign (symbolIn (getD symbols (x - 1) [])) ≡ found x) s h refl refl refl refl refl refl
 
 -- `THREAD.rREGISTER`
 abbrev named : ℕ → ℕ → List ℕ
@@ -183,12 +183,12 @@ named-in th re h l =
     rw (between-so 52 th (omega arith), between-so 51 re (omega arith)) (ap found e)
 
 module _ (lines : ℕ) where
-  sign-unit : (b : ℕ) → 7 ≤ b → b ≤ 10 → (rest : List ℕ) → Stands (getD marks (b - 1) []) rest → unitAt lines (getD marks (b - 1) [] ++ rest) ≡ unit (b ∷ []) rest
+  sign-unit : (b : ℕ) → 7 ≤ b → b ≤ 10 → (rest : List ℕ) → Stands (getD symbols (b - 1) []) rest → unitAt lines (getD symbols (b - 1) [] ++ rest) ≡ unit (b ∷ []) rest
   unfolding unitAt
   sign-unit b h l rest s =
       let k = sign-in b h l in
-      let e : threadRegisterIn (token (getD marks (b - 1) [] ++ rest)) ≡ nothing = ap threadRegisterIn (stands-token s) ∙ k .0 in
-      let f : only (λ (x : ℕ). not (isSign x)) (markIn (token (getD marks (b - 1) [] ++ rest))) ≡ found b = ap (λ (w : List ℕ). only (λ (x : ℕ). not (isSign x)) (markIn w)) (stands-token s) ∙ k .1 in
+      let e : threadRegisterIn (token (getD symbols (b - 1) [] ++ rest)) ≡ nothing = ap threadRegisterIn (stands-token s) ∙ k .0 in
+      let f : only (λ (x : ℕ). not (isSign x)) (symbolIn (token (getD symbols (b - 1) [] ++ rest))) ≡ found b = ap (λ (w : List ℕ). only (λ (x : ℕ). not (isSign x)) (symbolIn w)) (stands-token s) ∙ k .1 in
       rw (unitAt, e, f) (ap (λ (r : List ℕ). unit (b ∷ []) r) (stands-past s))
 
   number-unit : (at s n : ℕ) (rest : List ℕ) → n < 2 ^ 64 → Stands (shown n) rest → Text.numberBehind lines at s (space ∷ (shown n ++ rest)) ≡ unit (Text.comparisonOf s at n) rest
@@ -198,21 +198,21 @@ module _ (lines : ℕ) where
       rw (Text.numberBehind, e) (ap (λ (r : List ℕ). unit (Text.comparisonOf s at n) r) (ap pastToken c ∙ stands-past st))
 
   sign-behind : (at s n : ℕ) (rest : List ℕ) → isSign s ≡ true → n < 2 ^ 64 → Stands (shown n) rest →
-      Text.signBehind lines at (space ∷ (getD marks (s - 1) [] ++ (space ∷ (shown n ++ rest)))) ≡ unit (Text.comparisonOf s at n) rest
+      Text.signBehind lines at (space ∷ (getD symbols (s - 1) [] ++ (space ∷ (shown n ++ rest)))) ≡ unit (Text.comparisonOf s at n) rest
   sign-behind at s n rest h l st =
       let more = space ∷ (shown n ++ rest) in
-      let w = getD marks (s - 1) [] in
+      let w = getD symbols (s - 1) [] in
       let su = compare-stands s h (shown n ++ rest) in
       let c = content-word lines w more su in
-      let e : only isSign (markIn (token (content lines (space ∷ (w ++ more))))) ≡ found s = ap (λ (x : List ℕ). only isSign (markIn (token x))) c ∙ ap (λ (x : List ℕ). only isSign (markIn x)) (stands-token su) ∙ compare-in s h in
+      let e : only isSign (symbolIn (token (content lines (space ∷ (w ++ more))))) ≡ found s = ap (λ (x : List ℕ). only isSign (symbolIn (token x))) c ∙ ap (λ (x : List ℕ). only isSign (symbolIn x)) (stands-token su) ∙ compare-in s h in
       rw (Text.signBehind, e) (ap (λ (x : List ℕ). Text.numberBehind lines at s x) (ap pastToken c ∙ stands-past su) ∙ number-unit at s n rest l st)
 
   compare-unit : (s th re n : ℕ) (rest : List ℕ) → isSign s ≡ true → th < 5 → re < 4 → n < 2 ^ 64 → Stands (shown n) rest →
-      unitAt lines (named th re ++ (space ∷ (getD marks (s - 1) [] ++ (space ∷ (shown n ++ rest))))) ≡ unit (s ∷ th ∷ re ∷ little 8 n) rest
+      unitAt lines (named th re ++ (space ∷ (getD symbols (s - 1) [] ++ (space ∷ (shown n ++ rest))))) ≡ unit (s ∷ th ∷ re ∷ little 8 n) rest
   unfolding unitAt
   compare-unit s th re n rest h a b l st =
-      let more = space ∷ (getD marks (s - 1) [] ++ (space ∷ (shown n ++ rest))) in
-      let su = named-stands th re a b (getD marks (s - 1) [] ++ (space ∷ (shown n ++ rest))) in
+      let more = space ∷ (getD symbols (s - 1) [] ++ (space ∷ (shown n ++ rest))) in
+      let su = named-stands th re a b (getD symbols (s - 1) [] ++ (space ∷ (shown n ++ rest))) in
       let e : threadRegisterIn (token (named th re ++ more)) ≡ found (4 * th + re) = ap threadRegisterIn (stands-token su) ∙ named-in th re a b in
       let q : (4 * th + re) / 4 ≡ th = omega arith in
       let r : (4 * th + re) % 4 ≡ re = omega arith in
@@ -238,7 +238,7 @@ units-none zero opened = refl
 units-none (suc k) opened = refl
 
 units-sign : (k : ℕ) (opened : Bool) (b : ℕ) (rest : List ℕ) → isSign b ≡ false →
-    unitsShown (suc k) opened (b ∷ rest) ≡ blankBefore opened b ++ (getD marks (b - 1) [] ++ unitsShown k (eqb b opens) rest)
+    unitsShown (suc k) opened (b ∷ rest) ≡ blankBefore opened b ++ (getD symbols (b - 1) [] ++ unitsShown k (eqb b opens) rest)
 unfolding unitsShown
 units-sign k opened b rest e = rw (unitsShown, e) refl
 
@@ -248,11 +248,11 @@ number-there th re n rest h = omega arith
 
 units-compare : (k : ℕ) (opened : Bool) (s th re n : ℕ) (rest : List ℕ) → isSign s ≡ true → n < 2 ^ 64 →
     unitsShown (suc k) opened (s ∷ th ∷ re ∷ (little 8 n ++ rest))
-    ≡ blankBefore opened s ++ (named th re ++ (space ∷ (getD marks (s - 1) [] ++ (space ∷ (shown n ++ unitsShown k false rest)))))
+    ≡ blankBefore opened s ++ (named th re ++ (space ∷ (getD symbols (s - 1) [] ++ (space ∷ (shown n ++ unitsShown k false rest)))))
 unfolding unitsShown little
 units-compare k opened s th re n rest e h =
     rw (unitsShown, e)
-    (ap (λ (x : ℕ). blankBefore opened s ++ (named th re ++ (space ∷ (getD marks (s - 1) [] ++ (space ∷ (shown x ++ unitsShown k false rest)))))) (number-there th re n rest h))
+    (ap (λ (x : ℕ). blankBefore opened s ++ (named th re ++ (space ∷ (getD symbols (s - 1) [] ++ (space ∷ (shown x ++ unitsShown k false rest)))))) (number-there th re n rest h))
 
 letters-stand : (w rest : List ℕ) → 1 ≤ length w → all isLetter w ≡ true → isLetter (getD rest 0 0) ≡ false → Stands w rest
 letters-stand [] rest l h e = absurd (omega arith)
@@ -277,7 +277,7 @@ module _ (l : ℕ) where
   claimed-back us (sign b rest lo hi u) opened (suc k) zero made h i j =
       absurd (omega (arith, length-append (unitsShown (suc k) opened (b ∷ rest)) (lineFeed ∷ [])))
   claimed-back us (sign b rest lo hi u) opened (suc k) (suc n) made h i j =
-      let w = getD marks (b - 1) [] in
+      let w = getD symbols (b - 1) [] in
       let more = unitsShown k (eqb b opens) rest ++ (lineFeed ∷ []) in
       let a : unitsShown (suc k) opened (b ∷ rest) ++ (lineFeed ∷ []) ≡ blankBefore opened b ++ (w ++ more) =
       rw (units-sign k opened b rest (sign-none b lo hi)) (simp append-assoc) in
@@ -292,7 +292,7 @@ module _ (l : ℕ) where
   claimed-back us (compares s th re v rest e x y z u) opened (suc k) zero made h i j =
       absurd (omega (arith, length-append (unitsShown (suc k) opened (s ∷ th ∷ re ∷ (little 8 v ++ rest))) (lineFeed ∷ [])))
   claimed-back us (compares s th re v rest e x y z u) opened (suc k) (suc n) made h i j =
-      let w = getD marks (s - 1) [] in
+      let w = getD symbols (s - 1) [] in
       let more = unitsShown k false rest ++ (lineFeed ∷ []) in
       let told = named th re ++ (space ∷ (w ++ (space ∷ (shown v ++ more)))) in
       let a : unitsShown (suc k) opened (s ∷ th ∷ re ∷ (little 8 v ++ rest)) ++ (lineFeed ∷ []) ≡ blankBefore opened s ++ told =

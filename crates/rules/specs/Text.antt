@@ -19,11 +19,11 @@ use Rattle.rules.specs.Form.{Followed, stuck, fits, rowIn, fieldsAsBytes
 -- The final condition
 
 -- the signs and words of a condition; each is a byte, the first is 1
-abbrev pub marks : List (List ℕ)
-marks = map bytesOf ("=" ∷ "!=" ∷ "<" ∷ "<=" ∷ ">" ∷ ">=" ∷ "(" ∷ ")" ∷ "and" ∷ "or" ∷ [])
+abbrev pub symbols : List (List ℕ)
+symbols = map bytesOf ("=" ∷ "!=" ∷ "<" ∷ "<=" ∷ ">" ∷ ">=" ∷ "(" ∷ ")" ∷ "and" ∷ "or" ∷ [])
 
-abbrev pub markIn : List ℕ → Found
-markIn word = placeIn 1 word marks
+abbrev pub symbolIn : List ℕ → Found
+symbolIn word = placeIn 1 word symbols
 
 -- `THREAD.rREGISTER`: 4 times the thread, and the register
 unfoldable pub threadRegisterIn : List ℕ → Found
@@ -54,7 +54,7 @@ module _ (lines : ℕ) where
   -- behind `THREAD.rREGISTER`
   abbrev pub signBehind : ℕ → List ℕ → Unit
   signBehind at bs =
-      elim (only isSign (markIn (token (content lines bs)))) [
+      elim (only isSign (symbolIn (token (content lines bs)))) [
         | nothing ↦ broken (comparisonOf 1 at 0) (content lines bs)
         | found sign ↦ numberBehind at sign (pastToken (content lines bs))
       ]
@@ -64,7 +64,7 @@ module _ (lines : ℕ) where
       elim (threadRegisterIn (token bs)) [
         | found at ↦ signBehind at (pastToken bs)
         | nothing ↦
-            elim (only (λ (b : ℕ). not (isSign b)) (markIn (token bs))) [
+            elim (only (λ (b : ℕ). not (isSign b)) (symbolIn (token bs))) [
               | nothing ↦ none
               | found b ↦ unit (b ∷ []) (pastToken bs)
             ]

@@ -36,8 +36,8 @@ abbrev pub isLetter : ℕ → Bool
 isLetter b = isBetween 48 57 b || isBetween 65 90 b || isBetween 97 122 b || eqb b 95 || eqb b 46
 
 -- a sign is a run of `=`, `!`, `<` and `>`
-abbrev pub isMark : ℕ → Bool
-isMark b = eqb b 61 || eqb b 33 || eqb b 60 || eqb b 62
+abbrev pub isSymbol : ℕ → Bool
+isSymbol b = eqb b 61 || eqb b 33 || eqb b 60 || eqb b 62
 
 -- a line ends at a line feed, or at a carriage return with a line feed behind it; a comment, from `#` on, belongs to the line's end;
 -- so does the text's end
@@ -61,7 +61,7 @@ unfoldable pub tokenLength : List ℕ → ℕ
 tokenLength bs =
     cond (endsLine bs) 0
     (cond (isLetter (getD bs 0 0)) (runLength isLetter bs)
-    (cond (isMark (getD bs 0 0)) (runLength isMark bs)
+    (cond (isSymbol (getD bs 0 0)) (runLength isSymbol bs)
     1))
 
 abbrev pub token : List ℕ → List ℕ

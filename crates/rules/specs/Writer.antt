@@ -12,7 +12,7 @@ use Rattle.rules.specs.Table.{Row, rowAt, u64At, judged, good, badHeader
 use Rattle.rules.specs.Condition.{isSign, isCondition, opens, closes}
 use Rattle.rules.specs.Token.{bytesOf, space, lineFeed}
 use Rattle.rules.specs.Form.{orders, Form, forms, fieldOf}
-use Rattle.rules.specs.Text.{marks, filled}
+use Rattle.rules.specs.Text.{symbols, filled}
 
 -- a number in decimal: its digits from the last on, n at most
 unfoldable pub digitsOf : ℕ → ℕ → List ℕ → List ℕ
@@ -88,8 +88,8 @@ unitsShown (suc n) opened (b ∷ bs) =
     elim (isSign b) [
       | true ↦
           blankBefore opened b
-          ++ ((48 + getD bs 0 0) ∷ 46 ∷ 114 ∷ (48 + getD bs 1 0) ∷ space ∷ (getD marks (b - 1) [] ++ (space ∷ (shown (u64At bs 2) ++ unitsShown n false (drop 10 bs)))))
-      | false ↦ blankBefore opened b ++ (getD marks (b - 1) [] ++ unitsShown n (eqb b opens) bs)
+          ++ ((48 + getD bs 0 0) ∷ 46 ∷ 114 ∷ (48 + getD bs 1 0) ∷ space ∷ (getD symbols (b - 1) [] ++ (space ∷ (shown (u64At bs 2) ++ unitsShown n false (drop 10 bs)))))
+      | false ↦ blankBefore opened b ++ (getD symbols (b - 1) [] ++ unitsShown n (eqb b opens) bs)
     ]
 
 unfoldable pub conditionShown : List ℕ → List ℕ

@@ -13,6 +13,7 @@ use Rattle.scheduling.specs.declared.Point.{Point}
 use Rattle.scheduling.specs.declared.Point.the-variants as place
 use Rattle.event.specs.declared.Pending.{Pending}
 use Rattle.event.specs.declared.Pending.the-variants as operation
+pub use Rattle.layout.specs.Threads.{orFive}
 
 abbrev pub pointOf : Point → rules.Point
 pointOf place.Nowhere = rules.nowhere
@@ -28,8 +29,3 @@ pub record On (st : State) (t action cell : ℕ) : Type 0 where
 abbrev pub operationMeans : Pending → State → ℕ → Type 0
 operationMeans operation.Nothing st t = operationOf st t ≡ noOperation
 operationMeans (operation.On action cell) st t = On st t action cell
-
--- five where it is none
-abbrev pub orFive : Whom → ℕ
-orFive nobody = 5
-orFive (thread t) = t

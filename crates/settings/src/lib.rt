@@ -4,9 +4,8 @@ ghost use Prim.Native.Nat.{_*_};
 ghost use lib.Dec.{eqb};
 ghost use Rattle.rules.specs.Explored as rules;
 ghost use Rattle.settings.specs.Given.{settingsOf};
+pub use layout::RECORD;
 use path::Bound;
-pub use record::fields::RECORD;
-use trace::ENTRY;
 
 pub struct Settings {
     pub branches: u64,
@@ -28,7 +27,7 @@ pub const MAX_BOUND: u64 = 255;
 // The bytes of the largest buffers.
 pub const PATH_BYTES: usize = RECORD * MAX_BRANCHES as usize;
 
-pub const TRACE_BYTES: usize = ENTRY * MAX_OPERATIONS as usize;
+pub const TRACE_BYTES: usize = RECORD * MAX_OPERATIONS as usize;
 
 // Whether B, L and N are in range.
 pub fn settings_fine(settings: Settings) -> bool

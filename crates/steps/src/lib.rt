@@ -8,11 +8,11 @@ ghost use Rattle.steps.specs.Entries.{byteAt, entryAt, isEntry, entries,
 use decode::Decoded;
 use decode::opcodes::LOAD;
 use layout::MAX_THREADS;
+use layout::RECORD;
 use layout::short8;
 use layout::wide8;
 use table::COUNTS;
 use table::little;
-use trace::ENTRY;
 
 pub mod held;
 
@@ -34,7 +34,7 @@ pub fn count(trace: &[u8]) -> usize
     ensures { λ r. ⌜ r ≡ entries (now (trace .entry)) ⌝ }
 {
     let mut i = 0;
-    while i < trace.len() / ENTRY {
+    while i < trace.len() / RECORD {
         if !is_entry(trace, i) {
             return i;
         }
@@ -84,8 +84,8 @@ pub fn mask(trace: &[u8], i: usize) -> u8
 pub fn value(trace: &[u8], i: usize) -> u64
     ensures { λ r. ⌜ r ≡ entryAt (now (trace .entry)) i .value ⌝ }
 {
-    if i < trace.len() / ENTRY {
-        return little::u64_at(trace, ENTRY * i + VALUE);
+    if i < trace.len() / RECORD {
+        return little::u64_at(trace, RECORD * i + VALUE);
     }
     0
 }
@@ -95,8 +95,8 @@ fn byte(trace: &[u8], i: usize, place: usize) -> u8
     requires { ⌜ place < 16 ⌝ }
     ensures { λ r. ⌜ r ≡ byteAt (now (trace .entry)) i place ⌝ }
 {
-    if i < trace.len() / ENTRY {
-        return trace[ENTRY * i + place];
+    if i < trace.len() / RECORD {
+        return trace[RECORD * i + place];
     }
     0
 }
@@ -105,7 +105,7 @@ fn byte(trace: &[u8], i: usize, place: usize) -> u8
 pub fn operation(table: &[u8], trace: &[u8], i: usize) -> Decoded
     ensures { λ r. ⌜ decodedOf r ≡ operationAt (now (table .entry)) (now (trace .entry)) i ⌝ }
 {
-    if i < trace.len() / ENTRY {
+    if i < trace.len() / RECORD {
         return row_of(table, thread(trace, i), row(trace, i));
     }
     Decoded::Refused

@@ -11,7 +11,7 @@ use lib.ListN.{length, drop, length-drop}
 use Rattle.rules.specs.Vector.{equal}
 use Rattle.rules.specs.Token.{runLength, endsLine, bytesOf, isEmpty, pastBlanks, token, pastToken, tokenLength, Found, nothing, found, placeIn}
 use Rattle.rules.specs.Form.{orders}
-use Rattle.rules.specs.Text.{marks}
+use Rattle.rules.specs.Text.{symbols}
 use Rattle.token.specs.Places.{part}
 use Rattle.token.specs.Finds.{wordsIn}
 use Rattle.token.proofs.PlaceLaws.{left-by, part-token}
@@ -72,6 +72,6 @@ pub orders-line : wordsIn 37 (bytesOf "relaxed release acquire acqrel seqcst") �
 unfolding wordsIn bytesOf runLength tokenLength endsLine
 orders-line = refl
 
-pub marks-line : wordsIn 25 (bytesOf "= != < <= > >= ( ) and or") ≡ marks
+pub symbols-line : wordsIn 25 (bytesOf "= != < <= > >= ( ) and or") ≡ symbols
 unfolding wordsIn bytesOf runLength tokenLength endsLine
-marks-line = refl
+symbols-line = refl

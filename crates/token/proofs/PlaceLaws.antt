@@ -16,7 +16,7 @@ use borrow.Author.Tests.{eq-eqb, ne-eqb}
 use lib.Dec.{eqb}
 use lib.ListN.{length, getD, take, drop, length-drop, drop-of-length-le}
 use lib.Seq.{drop-cons, getD-drop, drop-drop, take-nil, take-all}
-use Rattle.rules.specs.Token.{runLength, endsLine, lineLength, tokenLength, isLetter, isMark, isEmpty, pastBlanks, token, nextLine, content, lineFeed}
+use Rattle.rules.specs.Token.{runLength, endsLine, lineLength, tokenLength, isLetter, isSymbol, isEmpty, pastBlanks, token, nextLine, content, lineFeed}
 use Rattle.rules.specs.Vector.{equal}
 use Rattle.token.specs.Places.{part, Between}
 
@@ -106,11 +106,11 @@ module _ (text : List ℕ) (at : ℕ) where
     unfolding tokenLength
     token-word t = rw (e, first, t)
 
-    pub token-sign : isLetter (getD text at 0) ≡ false → isMark (getD text at 0) ≡ true → tokenLength (drop at text) ≡ runLength isMark (drop at text)
+    pub token-sign : isLetter (getD text at 0) ≡ false → isSymbol (getD text at 0) ≡ true → tokenLength (drop at text) ≡ runLength isSymbol (drop at text)
     unfolding tokenLength
     token-sign f t = rw (e, first, f, t)
 
-    pub token-byte : isLetter (getD text at 0) ≡ false → isMark (getD text at 0) ≡ false → tokenLength (drop at text) ≡ 1
+    pub token-byte : isLetter (getD text at 0) ≡ false → isSymbol (getD text at 0) ≡ false → tokenLength (drop at text) ≡ 1
     unfolding tokenLength
     token-byte f t = rw (e, first, f, t)
 
@@ -119,13 +119,13 @@ unfolding tokenLength endsLine
 token-within [] = omega arith
 token-within (b ∷ bs) =
     let word = run-within isLetter (b ∷ bs) in
-    let sign = run-within isMark (b ∷ bs) in
-    elim (endsLine (b ∷ bs)) as (λ t. cond t 0 (cond (isLetter b) (runLength isLetter (b ∷ bs)) (cond (isMark b) (runLength isMark (b ∷ bs)) 1)) ≤ suc (length bs)) [
+    let sign = run-within isSymbol (b ∷ bs) in
+    elim (endsLine (b ∷ bs)) as (λ t. cond t 0 (cond (isLetter b) (runLength isLetter (b ∷ bs)) (cond (isSymbol b) (runLength isSymbol (b ∷ bs)) 1)) ≤ suc (length bs)) [
       | true ↦ omega arith
       | false ↦
-          elim (isLetter b) as (λ t. cond t (runLength isLetter (b ∷ bs)) (cond (isMark b) (runLength isMark (b ∷ bs)) 1) ≤ suc (length bs)) [
+          elim (isLetter b) as (λ t. cond t (runLength isLetter (b ∷ bs)) (cond (isSymbol b) (runLength isSymbol (b ∷ bs)) 1) ≤ suc (length bs)) [
             | true ↦ word
-            | false ↦ elim (isMark b) as (λ t. cond t (runLength isMark (b ∷ bs)) 1 ≤ suc (length bs)) [ true ↦ sign | false ↦ omega arith ]
+            | false ↦ elim (isSymbol b) as (λ t. cond t (runLength isSymbol (b ∷ bs)) 1 ≤ suc (length bs)) [ true ↦ sign | false ↦ omega arith ]
           ]
     ]
 

@@ -7,9 +7,9 @@ use mathlib.Core.List.{List}
 use mathlib.Core.Bool.{Bool}
 use mathlib.Core.Path.{_≡_}
 use lib.ListN.{length, take, drop}
-use Rattle.rules.specs.Token.{isBlank, isLetter, isMark, content}
+use Rattle.rules.specs.Token.{isBlank, isLetter, isSymbol, content}
 use Rattle.token.specs.declared.Kind.{Kind}
-use Rattle.token.specs.declared.Kind.the-variants.{Blank, Letter, Mark}
+use Rattle.token.specs.declared.Kind.the-variants.{Blank, Letter, Symbol}
 
 -- none where the second place is no further
 abbrev pub part : ℕ → ℕ → List ℕ → List ℕ
@@ -18,7 +18,7 @@ part from to text = take (to - from) (drop from text)
 abbrev pub isOf : Kind → ℕ → Bool
 isOf Blank b = isBlank b
 isOf Letter b = isLetter b
-isOf Mark b = isMark b
+isOf Symbol b = isSymbol b
 
 -- not before the first place, nor past the text's end unless that is
 pub record Between (text : List ℕ) (at r : ℕ) : Type 0 where

@@ -6,7 +6,7 @@ ghost use lib.ListN.{length, drop};
 ghost use Rattle.rules.specs.Vector.{equal};
 ghost use Rattle.rules.specs.Token.{runLength, isBlank, isLetter, isBetween, endsLine, tokenLength, lineLength, foundIf, numberIn, fourth, registerIn, plainIn, placeIn};
 ghost use Rattle.rules.specs.Form.{orderIn};
-ghost use Rattle.rules.specs.Text.{markIn, threadRegisterIn};
+ghost use Rattle.rules.specs.Text.{symbolIn, threadRegisterIn};
 ghost use Rattle.token.specs.Places.{isOf, part, Content};
 ghost use Rattle.token.specs.Finds.{foundOf, wordsIn};
 use decimal::Parsed;
@@ -16,7 +16,7 @@ use layout::REGISTERS;
 enum Kind {
     Blank,
     Letter,
-    Mark,
+    Symbol,
 }
 
 // What a word stands for, if anything.
@@ -43,8 +43,8 @@ pub fn token_end(text: &[u8], at: usize) -> usize
     if is_of(byte, Kind::Letter) {
         return run_end(text, at, Kind::Letter);
     }
-    if is_of(byte, Kind::Mark) {
-        return run_end(text, at, Kind::Mark);
+    if is_of(byte, Kind::Symbol) {
+        return run_end(text, at, Kind::Symbol);
     }
     at + 1
 }
@@ -194,8 +194,8 @@ pub fn order(text: &[u8], from: usize, to: usize) -> Found
 }
 
 // The byte that a sign or word of a condition is.
-pub fn mark(text: &[u8], from: usize, to: usize) -> Found
-    ensures { λ r. ⌜ foundOf r ≡ markIn (part from to (now (text .entry))) ⌝ }
+pub fn symbol(text: &[u8], from: usize, to: usize) -> Found
+    ensures { λ r. ⌜ foundOf r ≡ symbolIn (part from to (now (text .entry))) ⌝ }
 {
     place_in(part(text, from, to), b"= != < <= > >= ( ) and or", 1)
 }
@@ -287,7 +287,7 @@ fn is_of(byte: u8, kind: Kind) -> bool
     match kind {
         Kind::Blank => (byte == b' ') | (byte == b'\t'),
         Kind::Letter => is_letter(byte),
-        Kind::Mark => (byte == b'=') | (byte == b'!') | (byte == b'<') | (byte == b'>'),
+        Kind::Symbol => (byte == b'=') | (byte == b'!') | (byte == b'<') | (byte == b'>'),
     }
 }
 

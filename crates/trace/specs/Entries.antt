@@ -1,7 +1,7 @@
 -- What an entry stands for, and what a buffer of entries is left as. Assumes nothing.
 --     entryOf      the definition's entry
 --     Notes        an entry written past the first n
---     Cleared      zeros in a part of the bytes
+--     Cleared, Zeros      zeros in a part of the bytes, in all of them
 --     Front        the bytes begin with these entries
 --     Appended     they begin with these, of which the last came past the first n, and are else as they were
 use Prim.Native.Nat.{ℕ, _+_, _*_, _/_, _<_, _≤_}
@@ -9,7 +9,7 @@ use mathlib.Core.List.{List}
 use mathlib.Core.Bool.{Bool, cond}
 use mathlib.Core.Path.{_≡_}
 use lib.Dec.{ltb}
-use lib.ListN.{length, getD, take}
+use lib.ListN.{length, getD, take, replicate}
 use lib.Seq.{paste}
 use Rattle.rules.specs.Event as rules
 use Rattle.rules.specs.Event.{entryBytes}
@@ -35,6 +35,11 @@ pub record Cleared (entry exit : List ℕ) (from to : ℕ) : Type 0 where
   pub zero : (i : ℕ) → from ≤ i → i < to → getD exit i 0 ≡ 0
   pub below : (i : ℕ) → i < from → getD exit i 0 ≡ getD entry i 0
   pub above : (i : ℕ) → to ≤ i → getD exit i 0 ≡ getD entry i 0
+
+-- zeros in all of them
+pub record Zeros (entry exit : List ℕ) : Type 0 where
+  pub is : exit ≡ replicate (length exit) 0
+  pub long : length exit ≡ length entry
 
 abbrev pub Front : List ℕ → List rules.Entry → Type 0
 Front bytes es = take (16 * length es) bytes ≡ entriesBytes es

@@ -6,10 +6,8 @@ ghost use lib.Dec.{ltb};
 ghost use lib.ListN.{length, take, drop, replicate};
 ghost use Rattle.rules.specs.Event.{entryBytes};
 ghost use lib.Seq.{paste};
-ghost use Rattle.trace.specs.Entries.{entryOf, Notes, Cleared};
-
-// How many bytes an entry has.
-pub const ENTRY: usize = 16;
+ghost use Rattle.trace.specs.Entries.{entryOf, Notes, Cleared, Zeros};
+use layout::RECORD;
 
 // One row that is complete.
 pub struct Entry {
@@ -25,15 +23,15 @@ pub struct Entry {
 pub fn note(trace: &mut [u8], entries: usize, entry: Entry) -> bool
     ensures { λ r. ⌜ Notes (now (trace .entry)) (now (trace .exit)) entries (entryOf entry) r ⌝ }
 {
-    if trace.len() / ENTRY <= entries {
+    if trace.len() / RECORD <= entries {
         return false;
     }
-    write(trace, ENTRY * entries, bytes_of(entry));
+    write(trace, RECORD * entries, bytes_of(entry));
     true
 }
 
 // The bytes of an entry: thread, row, opcode, slot, offer mask, three zeros, and the value, its least byte first.
-fn bytes_of(entry: Entry) -> [u8; ENTRY]
+fn bytes_of(entry: Entry) -> [u8; RECORD]
     ensures { λ r. ⌜ r ≡ entryBytes (entryOf entry) ⌝ }
 {
     let low = entry.value % 0x1_0000_0000;
@@ -58,12 +56,12 @@ fn bytes_of(entry: Entry) -> [u8; ENTRY]
     ]
 }
 
-fn write(trace: &mut [u8], at: usize, bytes: [u8; ENTRY])
+fn write(trace: &mut [u8], at: usize, bytes: [u8; RECORD])
     requires { ⌜ at + 16 ≤ length (now trace) ⌝ }
     ensures { λ _. ⌜ now (trace .exit) ≡ paste (now (trace .entry)) at bytes 16 ⌝ }
 {
     let mut i = 0;
-    while i < ENTRY {
+    while i < RECORD {
         trace[at + i] = bytes[i];
         i += 1;
     }
@@ -78,4 +76,12 @@ pub fn clear(bytes: &mut [u8], from: usize, to: usize)
         bytes[i] = 0;
         i += 1;
     }
+}
+
+// Sets all bytes to zero.
+pub fn clear_all(bytes: &mut [u8])
+    ensures { λ _. ⌜ Zeros (now (bytes .entry)) (now (bytes .exit)) ⌝ }
+{
+    let to = bytes.len();
+    clear(bytes, 0, to);
 }

@@ -1,18 +1,13 @@
 // What a final condition says, part by part, of what the registers hold.
 ghost use mathlib.Core.Path.{_≡_};
-ghost use Rattle.rules.specs.Condition as rules;
 ghost use Rattle.put.specs.Puts.{Puts};
 ghost use Rattle.unmet.specs.Parts.{nextFrom, noPart, partAt, claimShown};
-use condition::ABOVE;
-use condition::AT_LEAST;
-use condition::AT_MOST;
-use condition::BELOW;
 use condition::COMPARISON;
-use condition::DIFFERS;
-use condition::EQUALS;
 use condition::NUMBER_AT;
 use condition::REGISTER_AT;
 use condition::THREAD_AT;
+use condition::compared;
+use condition::is_sign;
 use layout::wide8;
 use steps::held;
 use steps::held::Held;
@@ -43,12 +38,6 @@ pub fn next_comparison(condition: &[u8], from: usize) -> usize
         i += 1;
     }
     i
-}
-
-fn is_sign(byte: u8) -> bool
-    ensures { λ r. ⌜ r ≡ rules.isSign byte ⌝ }
-{
-    (EQUALS <= byte) & (byte <= AT_LEAST)
 }
 
 // The comparison that begins here, by what is held; zeros where there is no room for one.
@@ -86,20 +75,6 @@ fn none() -> Part
         number: 0,
         value: 0,
         holds: true,
-    }
-}
-
-// Whether a register that holds x compares so with n.
-fn compared(sign: u8, x: u64, n: u64) -> bool
-    ensures { λ r. ⌜ r ≡ rules.compared sign x n ⌝ }
-{
-    match sign {
-        EQUALS => x == n,
-        DIFFERS => x != n,
-        BELOW => x < n,
-        AT_MOST => x <= n,
-        ABOVE => n < x,
-        _ => n <= x,
     }
 }
 

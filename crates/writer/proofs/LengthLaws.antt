@@ -14,7 +14,7 @@ use Rattle.rules.specs.Table.{Row, u64At, rowAt, cellsOf, plainsOf, valuesOf, t
 use Rattle.rules.specs.Condition.{conditionBytes, isSign, opens, closes}
 use Rattle.rules.specs.Token.{bytesOf, space}
 use Rattle.rules.specs.Form.{Form, forms, fieldOf}
-use Rattle.rules.specs.Text.{marks}
+use Rattle.rules.specs.Text.{symbols}
 use Rattle.put.specs.Puts.{last}
 use Rattle.rules.specs.Writer.{digitsOf, shown, orderShown, letterShown, formShown, formIn, fieldsOf, rowShown, rowsShown, threadsShown, valuesShown, plainsShown, blankBefore, unitsShown, conditionShown, writtenText}
 
@@ -42,19 +42,19 @@ order-short (suc (suc (suc zero))) = omega arith
 order-short (suc (suc (suc (suc zero)))) = omega arith
 order-short (suc (suc (suc (suc (suc o))))) = omega arith
 
-mark-short : (i : ℕ) → length (getD marks i []) ≤ 3
+symbol-short : (i : ℕ) → length (getD symbols i []) ≤ 3
 unfolding bytesOf
-mark-short zero = omega arith
-mark-short (suc zero) = omega arith
-mark-short (suc (suc zero)) = omega arith
-mark-short (suc (suc (suc zero))) = omega arith
-mark-short (suc (suc (suc (suc zero)))) = omega arith
-mark-short (suc (suc (suc (suc (suc zero))))) = omega arith
-mark-short (suc (suc (suc (suc (suc (suc zero)))))) = omega arith
-mark-short (suc (suc (suc (suc (suc (suc (suc zero))))))) = omega arith
-mark-short (suc (suc (suc (suc (suc (suc (suc (suc zero)))))))) = omega arith
-mark-short (suc (suc (suc (suc (suc (suc (suc (suc (suc zero))))))))) = omega arith
-mark-short (suc (suc (suc (suc (suc (suc (suc (suc (suc (suc i)))))))))) = omega arith
+symbol-short zero = omega arith
+symbol-short (suc zero) = omega arith
+symbol-short (suc (suc zero)) = omega arith
+symbol-short (suc (suc (suc zero))) = omega arith
+symbol-short (suc (suc (suc (suc zero)))) = omega arith
+symbol-short (suc (suc (suc (suc (suc zero))))) = omega arith
+symbol-short (suc (suc (suc (suc (suc (suc zero)))))) = omega arith
+symbol-short (suc (suc (suc (suc (suc (suc (suc zero))))))) = omega arith
+symbol-short (suc (suc (suc (suc (suc (suc (suc (suc zero)))))))) = omega arith
+symbol-short (suc (suc (suc (suc (suc (suc (suc (suc (suc zero))))))))) = omega arith
+symbol-short (suc (suc (suc (suc (suc (suc (suc (suc (suc (suc i)))))))))) = omega arith
 
 -- one of two texts
 either-short : (t : Bool) (a b : List ℕ) (n : ℕ) → length a ≤ n → length b ≤ n → length (cond t a b) ≤ n
@@ -152,23 +152,23 @@ unit n opened b bs t =
     elim t [
       | true ↦
           blankBefore opened b
-          ++ ((48 + getD bs 0 0) ∷ 46 ∷ 114 ∷ (48 + getD bs 1 0) ∷ space ∷ (getD marks (b - 1) [] ++ (space ∷ (shown (u64At bs 2) ++ unitsShown n false (drop 10 bs)))))
-      | false ↦ blankBefore opened b ++ (getD marks (b - 1) [] ++ unitsShown n (eqb b opens) bs)
+          ++ ((48 + getD bs 0 0) ∷ 46 ∷ 114 ∷ (48 + getD bs 1 0) ∷ space ∷ (getD symbols (b - 1) [] ++ (space ∷ (shown (u64At bs 2) ++ unitsShown n false (drop 10 bs)))))
+      | false ↦ blankBefore opened b ++ (getD symbols (b - 1) [] ++ unitsShown n (eqb b opens) bs)
     ]
 
 unit-short : (n : ℕ) (opened : Bool) (b : ℕ) (bs : List ℕ) (t : Bool) → length (unitsShown n false (drop 10 bs)) ≤ 40 * n → length (unitsShown n (eqb b opens) bs) ≤ 40 * n → length (unit n opened b bs t) ≤ 40 * suc n
 unit-short n opened b bs true h k =
     let blank = blank-short opened b in
-    let mark = mark-short (b - 1) in
+    let symbol = symbol-short (b - 1) in
     let number = shown-short (u64At bs 2) in
     let rest = length-append (shown (u64At bs 2)) (unitsShown n false (drop 10 bs)) in
-    let more = length-append (getD marks (b - 1) []) (space ∷ (shown (u64At bs 2) ++ unitsShown n false (drop 10 bs))) in
-    omega (arith, length-append (blankBefore opened b) ((48 + getD bs 0 0) ∷ 46 ∷ 114 ∷ (48 + getD bs 1 0) ∷ space ∷ (getD marks (b - 1) [] ++ (space ∷ (shown (u64At bs 2) ++ unitsShown n false (drop 10 bs))))))
+    let more = length-append (getD symbols (b - 1) []) (space ∷ (shown (u64At bs 2) ++ unitsShown n false (drop 10 bs))) in
+    omega (arith, length-append (blankBefore opened b) ((48 + getD bs 0 0) ∷ 46 ∷ 114 ∷ (48 + getD bs 1 0) ∷ space ∷ (getD symbols (b - 1) [] ++ (space ∷ (shown (u64At bs 2) ++ unitsShown n false (drop 10 bs))))))
 unit-short n opened b bs false h k =
     let blank = blank-short opened b in
-    let mark = mark-short (b - 1) in
-    let more = length-append (getD marks (b - 1) []) (unitsShown n (eqb b opens) bs) in
-    omega (arith, length-append (blankBefore opened b) (getD marks (b - 1) [] ++ unitsShown n (eqb b opens) bs))
+    let symbol = symbol-short (b - 1) in
+    let more = length-append (getD symbols (b - 1) []) (unitsShown n (eqb b opens) bs) in
+    omega (arith, length-append (blankBefore opened b) (getD symbols (b - 1) [] ++ unitsShown n (eqb b opens) bs))
 
 units-short : (n : ℕ) (opened : Bool) (bs : List ℕ) → length (unitsShown n opened bs) ≤ 40 * n
 unfolding unitsShown

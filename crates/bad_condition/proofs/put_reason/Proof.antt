@@ -8,12 +8,17 @@ use Rattle.bad_condition.proofs.put_reason.Tie as tie
 shared-slice-read-byte : tie.Need-shared-slice-read-byte
 shared-slice-read-byte c = search needs
 
+is-sign-requires : tie.Need-is-sign-requires
+is-sign-requires c κs = search needs
+
 put-comparison-requires : tie.Need-put-comparison-requires
 put-comparison-requires c κs = search needs
 
 returns : tie.Need-returns
 unfolding putReason
-returns c = rw (c .before .before .if1 .taken) (c .put-comparison .ensures)
+returns c =
+    let first = c .before .before in
+    rw (← first .before .is-sign .ensures, first .if1 .taken) (c .put-comparison .ensures)
 
 slice-aggregate-fill : tie.Need-slice-aggregate-fill
 slice-aggregate-fill c = search needs
@@ -25,17 +30,18 @@ returns-2 : tie.Need-returns-2
 unfolding putReason bytesOf
 returns-2 c =
     let second = c .before .before .before in
-    rw (second .before .if1 .left, eq-eqb _ 7 (second .if2 .taken)) (c .fill .ensures)
+    rw (← second .before .before .is-sign .ensures, second .before .if1 .left, eq-eqb _ 7 (second .if2 .taken)) (c .fill .ensures)
 
 returns-3 : tie.Need-returns-3
 unfolding putReason
-returns-3 c = rw (c .before .if1 .left, ne-eqb _ 7 (c .if2 .left))
+returns-3 c = rw (← c .before .before .is-sign .ensures, c .before .if1 .left, ne-eqb _ 7 (c .if2 .left))
 
 pub put-reason-spec : {M : Type 1} → statement M
 put-reason-spec =
     tie.close
     (tie.spec
     shared-slice-read-byte
+    is-sign-requires
     put-comparison-requires
     returns
     slice-aggregate-fill

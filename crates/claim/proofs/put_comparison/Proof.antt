@@ -36,11 +36,11 @@ slice-aggregate-put-bytes c = search needs
 put-bytes-requires : tie.Need-put-bytes-requires
 put-bytes-requires c κs = search needs
 
-shared-slice-read-put-mark : tie.Need-shared-slice-read-put-mark
-shared-slice-read-put-mark c = search needs
+shared-slice-read-put-symbol : tie.Need-shared-slice-read-put-symbol
+shared-slice-read-put-symbol c = search needs
 
-put-mark-requires : tie.Need-put-mark-requires
-put-mark-requires c κs = search needs
+put-symbol-requires : tie.Need-put-symbol-requires
+put-symbol-requires c κs = search needs
 
 put-byte-requires : tie.Need-put-byte-requires
 put-byte-requires c κs = search needs
@@ -67,7 +67,7 @@ returns c =
     let known = name .before .before .before .before .before .before in
     puts-are _ _ _ _ _ _ (comparison-whole _ _ _ (got .u64-at .ensures))
     (puts-then _ _ _ _ _ _ _ _ (long known) (name .put-bytes .ensures)
-    (puts-then _ _ _ _ _ _ _ _ (omega arith) (sign .put-mark .ensures)
+    (puts-then _ _ _ _ _ _ _ _ (omega arith) (sign .put-symbol .ensures)
     (puts-then _ _ _ _ _ _ _ _ (omega arith) (blank .put-byte .ensures) (number .put-number .ensures))))
 
 pub put-comparison-spec : {M : Type 1} → statement M
@@ -82,8 +82,8 @@ put-comparison-spec =
     add-register-2
     slice-aggregate-put-bytes
     put-bytes-requires
-    shared-slice-read-put-mark
-    put-mark-requires
+    shared-slice-read-put-symbol
+    put-symbol-requires
     put-byte-requires
     add-u64-at
     u64-at-requires

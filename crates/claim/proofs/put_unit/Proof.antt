@@ -35,8 +35,8 @@ returns c =
     puts-are _ _ _ _ _ _ (unit-sign (a .opened) (getD (a .condition .now) (a .from) 0) (drop (a .from + 1) (a .condition .now)) (sym (is .before .is-sign .ensures) ∙ is .if1 .taken))
     (puts-then _ _ _ _ _ _ _ _ (omega arith) (blank .put-blank .ensures) (put .put-comparison .ensures))
 
-put-mark-requires : tie.Need-put-mark-requires
-put-mark-requires c κs = search needs
+put-symbol-requires : tie.Need-put-symbol-requires
+put-symbol-requires c κs = search needs
 
 same-length-2 : tie.Need-same-length-2
 same-length-2 c = search needs
@@ -48,7 +48,7 @@ returns-2 c =
     let blank = is .before .before .before .before in
     let a = blank .before .before .before .before .before .args in
     puts-are _ _ _ _ _ _ (unit-word (a .opened) (getD (a .condition .now) (a .from) 0) (drop (a .from + 1) (a .condition .now)) (sym (is .before .is-sign .ensures) ∙ is .if1 .left))
-    (puts-then _ _ _ _ _ _ _ _ (omega arith) (blank .put-blank .ensures) (put .put-mark .ensures))
+    (puts-then _ _ _ _ _ _ _ _ (omega arith) (blank .put-blank .ensures) (put .put-symbol .ensures))
 
 pub put-unit-spec : {M : Type 1} → statement M
 put-unit-spec =
@@ -60,6 +60,6 @@ put-unit-spec =
     put-comparison-requires
     same-length
     returns
-    put-mark-requires
+    put-symbol-requires
     same-length-2
     returns-2)

@@ -11,8 +11,8 @@ content-requires c κs = search needs
 token-end-requires : tie.Need-token-end-requires
 token-end-requires c κs = search needs
 
-mark-requires : tie.Need-mark-requires
-mark-requires c κs = search needs
+symbol-requires : tie.Need-symbol-requires
+symbol-requires c κs = search needs
 
 enum-known-sign : tie.Need-enum-known-sign
 enum-known-sign c = search needs
@@ -28,7 +28,7 @@ returns c =
     let got = c .before .before .before in
     let long = got .before in
     let there = long .before in
-    sign-none _ _ _ _ _ _ (there .content .ensures .left) (long .token-end .ensures) _ (c .broken .ensures) (sym (got .mark .ensures) ∙ ap foundOf (c .before .enum-told .given .1))
+    sign-none _ _ _ _ _ _ (there .content .ensures .left) (long .token-end .ensures) _ (c .broken .ensures) (sym (got .symbol .ensures) ∙ ap foundOf (c .before .enum-told .given .1))
 
 cast-if1 : tie.Need-cast-if1
 cast-if1 c = search needs
@@ -42,7 +42,7 @@ returns-2 c =
     let got = told .before .before in
     let long = got .before in
     let there = long .before in
-    sign-other _ _ _ _ _ _ (there .content .ensures .left) (long .token-end .ensures) _ (sym (got .mark .ensures) ∙ ap foundOf (told .sign .given .1)) _ (c .broken2 .ensures) (c .before .if1 .taken)
+    sign-other _ _ _ _ _ _ (there .content .ensures .left) (long .token-end .ensures) _ (sym (got .symbol .ensures) ∙ ap foundOf (told .sign .given .1)) _ (c .broken2 .ensures) (c .before .if1 .taken)
 
 number-behind-requires : tie.Need-number-behind-requires
 number-behind-requires c κs = search needs
@@ -53,7 +53,7 @@ returns-3 c =
     let got = told .before .before in
     let long = got .before in
     let there = long .before in
-    sign-here _ _ _ _ _ _ (there .content .ensures .left) (long .token-end .ensures) _ (sym (got .mark .ensures) ∙ ap foundOf (told .sign .given .1)) _ (c .before .if1 .left) (c .number-behind .ensures)
+    sign-here _ _ _ _ _ _ (there .content .ensures .left) (long .token-end .ensures) _ (sym (got .symbol .ensures) ∙ ap foundOf (told .sign .given .1)) _ (c .before .if1 .left) (c .number-behind .ensures)
 
 pub sign-behind-spec : {M : Type 1} → statement M
 sign-behind-spec =
@@ -61,7 +61,7 @@ sign-behind-spec =
     (tie.spec
     content-requires
     token-end-requires
-    mark-requires
+    symbol-requires
     enum-known-sign
     enum-told
     broken-requires

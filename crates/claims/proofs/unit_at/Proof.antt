@@ -1,6 +1,6 @@
 use mathlib.Core.Path.{_≡_, sym, ap, _∙_}
 use Rattle.token.specs.Finds.{foundOf}
-use Rattle.claims.proofs.UnitLaws.{register-most, unit-mark, unit-compared}
+use Rattle.claims.proofs.UnitLaws.{register-most, unit-symbol, unit-compared}
 use borrow.Author.Needs.{needs}
 use Rattle.claims.proofs.unit_at.Statement.{statement}
 use Rattle.claims.proofs.unit_at.Tie as tie
@@ -17,13 +17,13 @@ enum-known-register c = search needs
 enum-told : tie.Need-enum-told
 enum-told c = search needs
 
-mark-at-requires : tie.Need-mark-at-requires
-mark-at-requires c κs = search needs
+symbol-at-requires : tie.Need-symbol-at-requires
+symbol-at-requires c κs = search needs
 
 returns : tie.Need-returns
 returns c =
     let got = c .before .before .before in
-    unit-mark _ _ _ _ (got .before .token-end .ensures) _ (sym (got .thread-register .ensures) ∙ ap foundOf (c .before .enum-told .given .1)) (c .mark-at .ensures)
+    unit-symbol _ _ _ _ (got .before .token-end .ensures) _ (sym (got .thread-register .ensures) ∙ ap foundOf (c .before .enum-told .given .1)) (c .symbol-at .ensures)
 
 sign-behind-requires : tie.Need-sign-behind-requires
 sign-behind-requires c κs =
@@ -45,7 +45,7 @@ unit-at-spec =
     thread-register-requires
     enum-known-register
     enum-told
-    mark-at-requires
+    symbol-at-requires
     returns
     sign-behind-requires
     returns-2)

@@ -1,5 +1,6 @@
 use native.Mathlib.Omega.{arith}
 use Rattle.settings.specs.Given.{settingsOf}
+use Rattle.trace.proofs.ZeroLaws.{zero-at}
 use Rattle.explorer.proofs.EndLaws.{ready-kept, ran-cleared}
 use borrow.Author.Needs.{needs}
 use Rattle.explorer.proofs.run.run.Statement.{statement}
@@ -16,7 +17,7 @@ executions-requires c κs =
     let start = c .before .before .before .before .before .before .before .before .before .before .before .before .before .before in
     let cleared = c .before .before .before .before .before .before .before .before in
     let both = c .before .before .before .before in
-    (ready-kept (start .pre) (omega (arith, cleared .clear-all .kept)) (omega (arith, both .clear-all2 .kept)), cleared .clear-all .ensures, both .clear-all2 .ensures)
+    (ready-kept (start .pre) (omega (arith, cleared .clear-all .kept)) (omega (arith, both .clear-all2 .kept)), zero-at _ _ (cleared .clear-all .ensures), zero-at _ _ (both .clear-all2 .ensures))
 
 same-length : tie.Need-same-length
 same-length c = search needs

@@ -1,10 +1,10 @@
 use mathlib.Core.Path.{ap, _∙_}
 use Rattle.rules.specs.Token.{placeIn, bytesOf}
-use Rattle.rules.specs.Text.{markIn}
-use Rattle.token.proofs.ListLaws.{marks-line}
+use Rattle.rules.specs.Text.{symbolIn}
+use Rattle.token.proofs.ListLaws.{symbols-line}
 use borrow.Author.Needs.{needs}
-use Rattle.token.proofs.mark.Statement.{statement}
-use Rattle.token.proofs.mark.Tie as tie
+use Rattle.token.proofs.symbol.Statement.{statement}
+use Rattle.token.proofs.symbol.Tie as tie
 
 part-requires : tie.Need-part-requires
 part-requires c κs = search needs
@@ -19,7 +19,7 @@ returns : tie.Need-returns
 unfolding bytesOf
 returns c =
     let got = c .before .before .part in
-    c .place-in .ensures ∙ ap (placeIn 1 (got .result .now)) marks-line ∙ ap markIn (got .ensures)
+    c .place-in .ensures ∙ ap (placeIn 1 (got .result .now)) symbols-line ∙ ap symbolIn (got .ensures)
 
-pub mark-spec : {M : Type 1} → statement M
-mark-spec = tie.close (tie.spec part-requires slice-aggregate-place-in place-in-requires returns)
+pub symbol-spec : {M : Type 1} → statement M
+symbol-spec = tie.close (tie.spec part-requires slice-aggregate-place-in place-in-requires returns)

@@ -1,7 +1,7 @@
-use Rattle.filling.proofs.HeldLaws.{all-zeros}
+use Rattle.trace.proofs.ZeroLaws.{all-zeros}
 use borrow.Author.Needs.{needs}
-use Rattle.filling.proofs.clear_all.Statement.{statement}
-use Rattle.filling.proofs.clear_all.Tie as tie
+use Rattle.trace.proofs.clear_all.Statement.{statement}
+use Rattle.trace.proofs.clear_all.Tie as tie
 
 clear-requires : tie.Need-clear-requires
 clear-requires c κs = search needs
