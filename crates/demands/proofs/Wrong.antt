@@ -32,7 +32,7 @@ use Rattle.ledger.specs.Turning.{Each, Name}
 use Rattle.ledger.proofs.Lists.{perm-length, every-at, every-map}
 use Rattle.ledger.specs.Replay as replay
 use Rattle.kept.specs.Held.{HoldsAt}
-use Rattle.kept.specs.Rules.{RecordRules, RuledIn}
+use Rattle.kept.specs.Rules.{RecordRules, PathRules, RuledIn}
 use Rattle.standing.specs.Standing as standing
 use Rattle.bounds.specs.Bounds.{Over}
 use Rattle.bounds.specs.Range.{RangeIn}
@@ -43,9 +43,9 @@ use Rattle.offers.proofs.Chosen.{all-offers}
 use Rattle.demands.specs.Demands as Demands
 use Rattle.demands.specs.Demands.{Explorer, right, LastIs, ButLast, theAnswers, openedChoices, turnedChoices, openChoices}
 use Rattle.demands.specs.Wrong as Wrong
-use Rattle.demands.specs.Wrong.{settings, p3, pathFor, traceFor, ofThreadOne, aBit, storeThenLoad, twoLoads, yieldAndLoad, loadThenBit, parting, noCourse, nothing}
+use Rattle.demands.specs.Wrong.{settings, p3, tight, pathFor, traceFor, ofThreadOne, aBit, storeThenLoad, twoLoads, yieldAndLoad, loadThenBit, parting, noCourse, nothing}
 use Rattle.demands.proofs.Answered.{true-false}
-use Rattle.demands.proofs.WrongRuns.{isOver, faultIn, isGood, valuesIn, statesIn, prevIn, cellIn, slotsIn, matchIn, questionIn, stateIn, entriesIn, exploringIn}
+use Rattle.demands.proofs.WrongRuns.{isOver, faultIn, isGood, valuesIn, statesIn, preemptionsIn, prevIn, cellIn, slotsIn, matchIn, questionIn, stateIn, entriesIn, exploringIn}
 use Rattle.demands.proofs.WrongRuns.{isSlot, asksSlot, maskIn, madeBy, courseAt, walkAt, knownBy, sees, There, Misoffers, computed}
 
 -- Lists
@@ -341,6 +341,13 @@ pointed-back before (schedule r) e f h =
 pointed-back before (load l) e f h = omega (arith, f)
 pointed-back before (spurious u) e f h = omega (arith, f)
 
+-- one that has passed the bound
+passes : (limits : Limits) (n : ℕ) → limits .bound ≡ Path.atMost n → (bs : List Branch) (k : ℕ) (b : Branch) → getD bs k noBranch ≡ b
+    → n < preemptionsIn b → PathRules limits bs → ⊥
+passes limits n e bs k (schedule r) f h o = omega (arith, o .bounded n e k r f)
+passes limits n e bs k (load l) f h o = omega arith
+passes limits n e bs k (spurious u) f h o = omega arith
+
 -- one with other values than are offered
 disagreed : (x : Bool) (b : Branch) (q : Question) → isSlot q ≡ 1 → (length (valuesIn b) ≡ length (slotsIn (matchIn q)) → ⊥)
     → replay.Agrees x b q → ⊥
@@ -417,6 +424,11 @@ wrong-ticks =
           let z = every-at (RuledIn M (limitsOf (p3 2))) (madeBy Wrong.pointing storeAndLoad (p3 2)) 1 noCourse (omega (arith, c .pointed-made)) (h .records) in
           pointed-back (take 0 known) (getD known 0 noBranch) refl (c .pointed-first)
           (z .at-start .records 0 (omega (arith, c .pointed-known)));
+      past-bound = λ h.
+          let M = machine (programOf storeAndLoad [] (tight 3)) in
+          let known = knownBy Wrong.unheeding storeAndLoad (tight 3) 2 in
+          let z = every-at (RuledIn M (limitsOf (tight 3))) (madeBy Wrong.unheeding storeAndLoad (tight 3)) 2 noCourse (omega (arith, c .past-made)) (h .records) in
+          passes (limitsOf (tight 3)) 0 refl known 0 (getD known 0 noBranch) refl (omega (arith, c .past-first)) (z .at-start);
       disagreeing = λ h.
           let p = programOf storeAndLoad [] (p3 2) in
           let limits = limitsOf (p3 2) in

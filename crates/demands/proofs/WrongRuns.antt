@@ -38,7 +38,7 @@ use Rattle.offers.specs.Chosen.{left}
 use Rattle.demands.specs.Demands.{Explorer, right, LastIs, it, report, openedChoices, turnedChoices, openChoices}
 use Rattle.demands.specs.Exchanged.{ticksFromBy, courseBy, coursesFromBy, coursesBy, runningBy}
 use Rattle.demands.specs.Wrong as Wrong
-use Rattle.demands.specs.Wrong.{settings, p3, pathFor, traceFor, noSuchRow, ofThreadOne, notSeven, aBit, storeThenLoad, twoLoads, yieldAndLoad, loadThenBit, parting, noCourse, nothing}
+use Rattle.demands.specs.Wrong.{settings, p3, tight, pathFor, traceFor, noSuchRow, ofThreadOne, notSeven, aBit, storeThenLoad, twoLoads, yieldAndLoad, loadThenBit, parting, noCourse, nothing}
 
 -- What is read off
 
@@ -69,6 +69,12 @@ abbrev pub statesIn : Branch → List ℕ
 statesIn (schedule r) = r .states
 statesIn (load l) = []
 statesIn (spurious u) = []
+
+-- the preemptions up to a schedule and with it
+abbrev pub preemptionsIn : Branch → ℕ
+preemptionsIn (schedule r) = Path.preemptionsWith r
+preemptionsIn (load l) = 0
+preemptionsIn (spurious u) = 0
 
 -- where the record before is; of no schedule there is none
 abbrev pub prevIn : Branch → ℕ
@@ -324,6 +330,8 @@ pub record Computed : Type 0 where
   pub active-known : length (knownBy Wrong.bothActive storeAndLoad (p3 3) 2) ≡ 1
   pub active-first : getD (statesIn (getD (knownBy Wrong.bothActive storeAndLoad (p3 3) 2) 0 noBranch)) 0 0 ≡ 4
   pub active-second : getD (statesIn (getD (knownBy Wrong.bothActive storeAndLoad (p3 3) 2) 0 noBranch)) 1 0 ≡ 4
+  pub past-made : length (madeBy Wrong.unheeding storeAndLoad (tight 3)) ≡ 3
+  pub past-first : preemptionsIn (getD (knownBy Wrong.unheeding storeAndLoad (tight 3) 2) 0 noBranch) ≡ 1
   pub pointed-made : length (madeBy Wrong.pointing storeAndLoad (p3 2)) ≡ 2
   pub pointed-known : length (knownBy Wrong.pointing storeAndLoad (p3 2) 1) ≡ 4
   pub pointed-first : prevIn (getD (knownBy Wrong.pointing storeAndLoad (p3 2) 1) 0 noBranch) ≡ 0
@@ -464,6 +472,8 @@ computed = record {
   active-known = refl;
   active-first = refl;
   active-second = refl;
+  past-made = refl;
+  past-first = refl;
   pointed-made = refl;
   pointed-known = refl;
   pointed-first = refl;

@@ -11,7 +11,7 @@ use mathlib.Core.List.{List, [], _∷_, _++_, map}
 use mathlib.Core.Bool.{Bool, true, false, cond}
 use lib.Dec.{eqb}
 use lib.ListN.{length, getD, replicate, drop}
-use Rattle.rules.specs.Path.{Branch, schedule, load, spurious, unbounded, recordBytes, skip, pending, active, visited, withStates, stepped}
+use Rattle.rules.specs.Path.{Branch, schedule, load, spurious, unbounded, atMost, recordBytes, skip, pending, active, visited, withStates, stepped}
 use Rattle.rules.specs.Table.{judged, good, badHeader, badRow}
 use Rattle.rules.specs.Seen.{unseens}
 use Rattle.rules.specs.Event as Event
@@ -54,6 +54,10 @@ Broken Sentences x table s = BrokenUnder Sentences x table [] s
 -- case P3, "thread 0 stores 1, thread 1 loads", with a budget; its right run has five executions and opens four choices
 abbrev pub p3 : ℕ → Settings
 p3 N = settings 5 2 N
+
+-- the same under the bound 0, by which its right run has two executions
+abbrev pub tight : ℕ → Settings
+tight N = record { branches = 5; operations = 2; executions = N; bound = atMost 0; exploring = true }
 
 -- a table whose only row has an opcode that there is not; one thread that stores, then loads; one that loads twice; a thread that
 -- yields beside one that loads
@@ -532,6 +536,10 @@ afterFirst (spurious u) = spurious u
 abbrev pub pointing : Explorer
 pointing = stepping (λ bs. map afterFirst (stepped bs))
 
+-- the bound is passed over
+abbrev pub unheeding : Explorer
+unheeding = limiting (λ l. record { branches = l .branches; operations = l .operations; bound = unbounded; ticks = l .ticks })
+
 pub record WrongTicks : Type 0 where
   -- [possible] no tick is left
   pub impossible : Broken Sound oneTick oneLoad (settings 3 1 1)
@@ -547,6 +555,8 @@ pub record WrongTicks : Type 0 where
   pub two-active : Broken Sound bothActive storeAndLoad (p3 3)
   -- [records] the first record has one before it
   pub pointed : Broken Sound pointing storeAndLoad (p3 2)
+  -- [records] the bound is 0, and the third execution begins with a preemption
+  pub past-bound : Broken Sound unheeding storeAndLoad (tight 3)
   -- [follows] the record does not agree with what is asked
   pub disagreeing : Broken Sound shortening storeAndLoad (p3 2)
 

@@ -221,7 +221,7 @@ fn put_seen(out: &mut [u8], at: usize, bytes: &[u8], below: bool) -> usize
     to
 }
 
-// A byte as it is seen: one that would steer a terminal is a question symbol. Below it a blank, which is a tab below a tab, so that the
+// A byte as it is seen: one that would steer a terminal is a question mark. Below it a blank, which is a tab below a tab, so that the
 // caret stands right.
 fn seen_as(byte: u8, below: bool) -> u8
     ensures { λ r. ⌜ r ≡ seenAs below byte ⌝ }
