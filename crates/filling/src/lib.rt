@@ -28,11 +28,7 @@ use token::Found;
 // How a line comes out: the next one follows, in a thread of so many rows, behind a table of so many bytes; it is refused at a place; the
 // text ends; the condition follows.
 pub enum Line {
-    GoesOn {
-        rows: usize,
-        length: usize,
-        from: usize,
-    },
+    GoesOn(usize, usize, usize),
     Refused(usize),
     Ended,
     Concludes(usize),
@@ -59,11 +55,7 @@ pub fn line_of(
         return Line::Ended;
     }
     if token::ends_line(text, here) {
-        return Line::GoesOn {
-            rows,
-            length,
-            from: token::next_line(text, here),
-        };
+        return Line::GoesOn(rows, length, token::next_line(text, here));
     }
     let to = token::token_end(text, here);
     if table[CELL_COUNT] == 0 {
@@ -89,7 +81,7 @@ fn the_condition(header: &[u8], here: usize, to: usize) -> Line
     requires { ⌜ 1 ≤ length (now header) ⌝ }
     ensures { λ r. ⌜ r ≡ cond (ltb 0 (getD (now (header .entry)) 0 0)) (Line.Concludes to) (Line.Refused here) ⌝ }
 {
-    if 0 < header[0] {
+    if 0 < header[THREAD_COUNT] {
         return Line::Concludes(to);
     }
     Line::Refused(here)
@@ -150,11 +142,7 @@ fn a_row(
     }
     let fields = row.fields;
     add_row(table, length, fields);
-    Line::GoesOn {
-        rows,
-        length: length + ROW_BYTES,
-        from: row.at,
-    }
+    Line::GoesOn(rows, length + ROW_BYTES, row.at)
 }
 
 // Whether it is the line of the plain cells: behind the cells, ahead of the threads, once.
@@ -209,11 +197,7 @@ fn bare_then(text: &[u8], from: usize, rows: usize, length: usize) -> Line
 {
     let here = token::past_blanks(text, from);
     if token::ends_line(text, here) {
-        return Line::GoesOn {
-            rows,
-            length,
-            from: token::next_line(text, here),
-        };
+        return Line::GoesOn(rows, length, token::next_line(text, here));
     }
     Line::Refused(here)
 }

@@ -63,11 +63,7 @@ fn lines_from(text: &[u8], table: &mut [u8], condition: &mut [u8]) -> Lines
     let mut left = lines;
     while 0 < left {
         match filling::line_of(text, table, from, lines, all, rows, length) {
-            Line::GoesOn {
-                rows: more,
-                length: long,
-                from: to,
-            } => {
+            Line::GoesOn(more, long, to) => {
                 rows = more;
                 length = long;
                 from = to;
