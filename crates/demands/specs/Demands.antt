@@ -206,7 +206,7 @@ module _ (x : Explorer) (table condition : List ℕ) (s : Settings) (path trace 
     pub stood : Every (λ c. HoldsAt theMachine (standing.Over (programOf table condition s)) (end c)) executions
     -- every part of every vector, every count and every mark is in range, by the rows that were begun
     pub ranges : Every (RangeIn (programOf table condition s)) executions
-    -- every record of the path obeys document 01's rules, at every moment
+    -- every record of the path obeys document 01's rules, and no preemption bound is passed, at every moment
     pub records : Every (RuledIn theMachine (limitsOf s)) executions
     -- an execution is a function of its choices, and goes along the path that it knows
     pub follows : Every (replay.Follows theMachine (limitsOf s)) executions
