@@ -42,6 +42,13 @@ pub struct Limits {
     pub bound: Bound,
 }
 
+// Where a tick is: the limits that it is under, the thread at its row, and how far the execution has come.
+struct At {
+    limits: Limits,
+    here: Here,
+    cursor: Cursor,
+}
+
 // One tick of the active thread, and the answer to what it asks.
 pub fn tick(
     table: &[u8],
@@ -69,18 +76,12 @@ pub fn tick(
         row: number,
     };
     let here = Here { site, row };
-    tick_at(
-        shape,
-        clocks,
-        marks,
-        values,
-        numbers,
-        path,
-        trace,
+    let at = At {
         limits,
         here,
         cursor,
-    )
+    };
+    tick_at(shape, clocks, marks, values, numbers, path, trace, at)
 }
 
 // One tick of a thread at its row.
@@ -92,30 +93,18 @@ fn tick_at(
     numbers: &mut Numbers,
     path: &mut [u8],
     trace: &mut [u8],
-    limits: Limits,
-    here: Here,
-    cursor: Cursor,
+    at: At,
 ) -> Ticked
-    requires { ⌜ (getD (now shape) 1 0 ≤ 4) × HereWithin here × CursorPlaced cursor (now path) (now trace) × (cursor .opened + 60 < 2 ^ 64) ⌝ }
-    ensures { λ r. ⌜ Goes (lent (now (clocks .entry)) (now (marks .entry)) (now (values .entry)) (now (numbers .entry)) (now (path .entry)) (now (trace .entry))) (lent (now (clocks .exit)) (now (marks .exit)) (now (values .exit)) (now (numbers .exit)) (now (path .exit)) (now (trace .exit))) cursor r 60 here (ticksAt (now (shape .entry)) limits here) (tickedAt here) ⌝ }
+    requires { ⌜ (getD (now shape) 1 0 ≤ 4) × HereWithin (at .here) × CursorPlaced (at .cursor) (now path) (now trace) × (at .cursor .opened + 60 < 2 ^ 64) ⌝ }
+    ensures { λ r. ⌜ Goes (lent (now (clocks .entry)) (now (marks .entry)) (now (values .entry)) (now (numbers .entry)) (now (path .entry)) (now (trace .entry))) (lent (now (clocks .exit)) (now (marks .exit)) (now (values .exit)) (now (numbers .exit)) (now (path .exit)) (now (trace .exit))) (at .cursor) r 60 (at .here) (ticksAt (now (shape .entry)) (at .limits) (at .here)) (tickedAt (at .here)) ⌝ }
 {
+    let limits = at.limits;
+    let here = at.here;
     let site = here.site;
     let row = here.row;
     let operations = limits.operations;
-    let bound = limits.bound;
     let event = execution::next(shape, clocks, marks, values, numbers, operations, site, row);
-    take(
-        clocks,
-        marks,
-        values,
-        numbers,
-        path,
-        trace,
-        bound,
-        here,
-        event,
-        cursor,
-    )
+    take(clocks, marks, values, numbers, path, trace, at, event)
 }
 
 // What a tick comes to. A yield is complete before its scheduling, and so is its trace entry.
@@ -126,14 +115,16 @@ fn take(
     numbers: &mut Numbers,
     path: &mut [u8],
     trace: &mut [u8],
-    bound: Bound,
-    here: Here,
+    at: At,
     event: Moved,
-    cursor: Cursor,
 ) -> Ticked
-    requires { ⌜ HereWithin here × CursorPlaced cursor (now path) (now trace) × (cursor .opened + 60 < 2 ^ 64) ⌝ }
-    ensures { λ r. ⌜ Goes (lent (now (clocks .entry)) (now (marks .entry)) (now (values .entry)) (now (numbers .entry)) (now (path .entry)) (now (trace .entry))) (lent (now (clocks .exit)) (now (marks .exit)) (now (values .exit)) (now (numbers .exit)) (now (path .exit)) (now (trace .exit))) cursor r 60 here (takesAt event here bound) (takenAt event here) ⌝ }
+    requires { ⌜ HereWithin (at .here) × CursorPlaced (at .cursor) (now path) (now trace) × (at .cursor .opened + 60 < 2 ^ 64) ⌝ }
+    ensures { λ r. ⌜ Goes (lent (now (clocks .entry)) (now (marks .entry)) (now (values .entry)) (now (numbers .entry)) (now (path .entry)) (now (trace .entry))) (lent (now (clocks .exit)) (now (marks .exit)) (now (values .exit)) (now (numbers .exit)) (now (path .exit)) (now (trace .exit))) (at .cursor) r 60 (at .here) (takesAt event (at .here) (at .limits .bound)) (takenAt event (at .here)) ⌝ }
 {
+    let limits = at.limits;
+    let bound = limits.bound;
+    let here = at.here;
+    let cursor = at.cursor;
     let Moved::Asks { question, yielded } = event else {
         return conclude(trace, here, event, cursor);
     };
@@ -144,17 +135,12 @@ fn take(
     };
     let before = noted.cursor;
     let cursor = mark(clocks, numbers, path, bound, question, before);
-    meet(
-        clocks,
-        marks,
-        values,
-        numbers,
-        path,
-        trace,
+    let at = At {
+        limits,
         here,
-        question,
         cursor,
-    )
+    };
+    meet(clocks, marks, values, numbers, path, trace, at, question)
 }
 
 // A question meets the path: the branch there answers.
@@ -165,13 +151,14 @@ fn meet(
     numbers: &mut Numbers,
     path: &mut [u8],
     trace: &mut [u8],
-    here: Here,
+    at: At,
     question: Question,
-    cursor: Cursor,
 ) -> Ticked
-    requires { ⌜ HereWithin here × CursorPlaced cursor (now path) (now trace) × (cursor .opened + 6 < 2 ^ 64) ⌝ }
-    ensures { λ r. ⌜ Goes (lent (now (clocks .entry)) (now (marks .entry)) (now (values .entry)) (now (numbers .entry)) (now (path .entry)) (now (trace .entry))) (lent (now (clocks .exit)) (now (marks .exit)) (now (values .exit)) (now (numbers .exit)) (now (path .exit)) (now (trace .exit))) cursor r 6 here (meetsAt question here) (metAt question here) ⌝ }
+    requires { ⌜ HereWithin (at .here) × CursorPlaced (at .cursor) (now path) (now trace) × (at .cursor .opened + 6 < 2 ^ 64) ⌝ }
+    ensures { λ r. ⌜ Goes (lent (now (clocks .entry)) (now (marks .entry)) (now (values .entry)) (now (numbers .entry)) (now (path .entry)) (now (trace .entry))) (lent (now (clocks .exit)) (now (marks .exit)) (now (values .exit)) (now (numbers .exit)) (now (path .exit)) (now (trace .exit))) (at .cursor) r 6 (at .here) (meetsAt question (at .here)) (metAt question (at .here)) ⌝ }
 {
+    let here = at.here;
+    let cursor = at.cursor;
     let met = reach(clocks, marks, numbers, path, here, question, cursor);
     let outcome = met.outcome;
     let Outcome::Goes = outcome else {

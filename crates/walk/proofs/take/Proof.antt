@@ -15,9 +15,9 @@ same-length c = search needs
 
 returns : tie.Need-returns
 returns c =
-    let start = c .before .before .before .before .before .before .before in
+    let start = c .before .before .before .before .before .before .before .before .before .before in
     let args = start .args in
-    take-concludes (args .cursor) (args .here) (args .event) (args .bound) (args .clocks .now) (args .marks .now) (args .values .now) (args .numbers .now) (args .path .now) (args .trace .now) (start .pre .1) (c .before .before .conclude .result) _ (c .before .before .before .before .match .keys2) (c .before .before .conclude .ensures)
+    take-concludes (args .at .cursor) (args .at .here) (args .event) (args .at .limits .bound) (args .clocks .now) (args .marks .now) (args .values .now) (args .numbers .now) (args .path .now) (args .trace .now) (start .pre .1) (c .before .before .conclude .result) _ (c .before .before .before .before .match .keys2) (c .before .before .conclude .ensures)
 
 note-if-requires : tie.Need-note-if-requires
 note-if-requires c κs = search needs
@@ -30,9 +30,9 @@ same-length-2 c = search needs
 
 returns-2 : tie.Need-returns-2
 returns-2 c =
-    let start = c .before .before .before .before .before .before .before .before .before .before in
+    let start = c .before .before .before .before .before .before .before .before .before .before .before .before .before in
     let args = start .args in
-    take-stays (args .cursor) (args .here) (args .event) (args .bound) (args .clocks .now) (args .marks .now) (args .values .now) (args .numbers .now) (args .path .now) (args .trace .now) (start .pre .1) _ _ (c .before .before .before .before .before .before .event .given .1) (c .before .before .before .note-if .result) _ (c .before .before .before .note-if .ensures) (c .match2 .keys2)
+    take-stays (args .at .cursor) (args .at .here) (args .event) (args .at .limits .bound) (args .clocks .now) (args .marks .now) (args .values .now) (args .numbers .now) (args .path .now) (args .trace .now) (start .pre .1) _ _ (c .before .before .before .before .before .before .event .given .1) (c .before .before .before .note-if .result) _ (c .before .before .before .note-if .ensures) (c .match2 .keys2)
 
 mark-requires : tie.Need-mark-requires
 mark-requires c κs = search needs
@@ -41,7 +41,7 @@ meet-requires : tie.Need-meet-requires
 meet-requires c κs =
     let mark = c .before .before .before .before .before .before .before .before in
     let note = mark .before .before .before .before .before .before .before .before .before in
-    let start = note .before .before .before .before .before .before .before in (
+    let start = note .before .before .before .before .before .before .before .before .before .before in (
       start .pre .0,
       record {
         passed = omega (arith, start .pre .1 .passed, note .note-if .ensures .kept .same-pos, note .note-if .ensures .kept .same-len, mark .mark .ensures .marked .same-pos, mark .mark .ensures .marked .same-len);
@@ -60,9 +60,9 @@ same-length-4 c =
 
 returns-3 : tie.Need-returns-3
 returns-3 c =
-    let start = c .before .before .before .before .before .before .before .before .before .before .before .before .before .before .before .before .before .before .before .before .before .before .before .before .before .before .before .before .before in
+    let start = c .before .before .before .before .before .before .before .before .before .before .before .before .before .before .before .before .before .before .before .before .before .before .before .before .before .before .before .before .before .before .before .before in
     let args = start .args in
-    take-meets (args .cursor) (args .here) (args .event) (args .bound) (args .clocks .now) (args .marks .now) (args .values .now) (args .numbers .now) (args .path .now) (args .trace .now) (start .pre .1) _ _ (c .before .before .before .before .before .before .before .before .before .before .before .before .before .before .before .before .before .before .before .before .before .before .before .before .before .event .given .1) (c .before .before .before .before .before .before .before .before .before .before .before .before .before .before .before .before .before .before .before .before .before .before .note-if .result) _ (c .before .before .before .before .before .before .before .before .before .before .before .before .before .before .before .before .before .before .before .before .before .before .note-if .ensures) (c .before .before .before .before .before .before .before .before .before .before .before .before .before .mark .result) _ (c .before .before .before .before .before .before .before .before .before .before .before .before .before .mark .ensures) (c .before .before .before .before .before .before .before .before .before .before .before .before .before .mark .kept .1 .1 .0) (c .before .before .before .before .before .before .before .before .before .before .before .before .before .before .before .before .before .before .enum-told .given .1) (c .before .before .before .before .meet .result) _ (c .before .before .before .before .meet .ensures)
+    take-meets (args .at .cursor) (args .at .here) (args .event) (args .at .limits .bound) (args .clocks .now) (args .marks .now) (args .values .now) (args .numbers .now) (args .path .now) (args .trace .now) (start .pre .1) _ _ (c .before .before .before .before .before .before .before .before .before .before .before .before .before .before .before .before .before .before .before .before .before .before .before .before .before .event .given .1) (c .before .before .before .before .before .before .before .before .before .before .before .before .before .before .before .before .before .before .before .before .before .before .note-if .result) _ (c .before .before .before .before .before .before .before .before .before .before .before .before .before .before .before .before .before .before .before .before .before .before .note-if .ensures) (c .before .before .before .before .before .before .before .before .before .before .before .before .before .mark .result) _ (c .before .before .before .before .before .before .before .before .before .before .before .before .before .mark .ensures) (c .before .before .before .before .before .before .before .before .before .before .before .before .before .mark .kept .1 .1 .0) (c .before .before .before .before .before .before .before .before .before .before .before .before .before .before .before .before .before .before .enum-told .given .1) (c .before .before .before .before .meet .result) _ (c .before .before .before .before .meet .ensures)
 
 pub take-spec : {M : Type 1} → statement M
 take-spec =
