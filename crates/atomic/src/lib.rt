@@ -64,8 +64,8 @@ pub fn load(
     if let Race::With { kind, other } = track::track_load(clocks, thread, cell) {
         return Loaded::Raced { kind, other };
     }
-    apply_load_coherence(clocks, marks, numbers, thread, cell, slot);
-    touch(clocks, marks, thread, cell, slot);
+    apply_load_coherence(clocks, marks, numbers, access, slot);
+    touch(clocks, marks, access, slot);
     let at = store_at(cell, slot);
     sync_load(clocks, thread, at, access.order);
     Loaded::Value(values[VALUE + at])
@@ -93,7 +93,7 @@ pub fn store(
     numbers[COUNT + cell] = vv::one_more(count);
     let causality = clocks[CAUSALITY + thread];
     // The slot that is replaced still counts here: its order is joined by the marks that it had.
-    let modification_order = store_order(clocks, marks, count, thread, cell);
+    let modification_order = store_order(clocks, marks, access, count);
     let sync = sync_store(clocks, thread, sync, access.order);
     clocks[HAPPENS_BEFORE + at] = causality;
     clocks[MODIFICATION_ORDER + at] = modification_order;
@@ -122,8 +122,8 @@ pub fn rmw(
     if let Race::With { kind, other } = track::track_load(clocks, thread, cell) {
         return Loaded::Raced { kind, other };
     }
-    apply_load_coherence(clocks, marks, numbers, thread, cell, slot);
-    touch(clocks, marks, thread, cell, slot);
+    apply_load_coherence(clocks, marks, numbers, access, slot);
+    touch(clocks, marks, access, slot);
     let at = store_at(cell, slot);
     let prev = values[VALUE + at];
     let Changed::Success(next) = change::apply(change, prev) else {
