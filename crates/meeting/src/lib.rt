@@ -95,7 +95,7 @@ fn mark_threads(clocks: &Clocks, numbers: &Numbers, path: &mut [u8], bound: Boun
     let mut t = 0;
     while t < MAX_THREADS {
         if let Point::Branch(point) = scheduling::conflict(clocks, numbers, t) {
-            opened += path::backtrack(path, wide16(point), t, bound);
+            opened += path::backtrack(path, wide16(point), bound, t);
         }
         t += 1;
     }
