@@ -40,10 +40,10 @@ pub enum Fate {
 // unless a newer one has been seen in the thread's causality: then to return it would go back in modification order.
 pub fn match_load_to_stores(
     clocks: &Clocks,
-    marks: [[u16; MAX_THREADS]; MAX_ATOMIC_HISTORY],
     numbers: &Numbers,
     dst: &mut [u8; MAX_ATOMIC_HISTORY],
     access: Access,
+    marks: [[u16; MAX_THREADS]; MAX_ATOMIC_HISTORY],
 ) -> Matched
     requires { ⌜ (access .thread < 5) × (access .cell < 4) ⌝ }
     ensures { λ r. ⌜ scanned r (now (dst .exit)) ≡ offered (matchedLoad (now (clocks .entry)) marks (now (numbers .entry)) (access .thread) (access .cell) (access .order)) (now (dst .entry)) ⌝ }

@@ -114,7 +114,7 @@ pub fn push_load(
     fields::begin(path, len, fields::KIND_LOAD, exploring);
     load::put_values(path, len, seed, n);
     if exploring {
-        return Addition::Added(load::left(0, n));
+        return Addition::Added(load::left(n, 0));
     }
     Addition::Added(0)
 }

@@ -100,15 +100,15 @@ pub fn fence_row(
     marks: &Marks,
     numbers: &mut Numbers,
     site: Site,
-    cells: usize,
     order: u8,
+    cells: usize,
 ) -> Moved
     requires { ⌜ (site .thread < 5) × (cells ≤ 4) ⌝ }
     ensures { λ r. ⌜ ((p : machine.Program) (values : rules.Values) (opcode : ℕ) (m : Matched) → cellsOf (p .table) ≡ cells → moveOf r (site .thread) (site .row) opcode m (state (now (clocks .exit)) (now (marks .entry)) values (now (numbers .exit))) ≡ machine.done (machine.fences p (state (now (clocks .entry)) (now (marks .entry)) values (now (numbers .entry))) (site .thread) order) (site .thread) (site .row) opcode) ⌝ }
 {
     let thread = site.thread;
     thread::raise(clocks, thread);
-    fence::fence(clocks, marks, numbers, thread, cells, order);
+    fence::fence(clocks, marks, numbers, thread, order, cells);
     done(numbers, site)
 }
 
