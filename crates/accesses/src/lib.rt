@@ -193,7 +193,7 @@ pub fn offers(
                 cell,
                 order,
             };
-            matches::match_load_to_stores(clocks, marks[cell], numbers, dst, act)
+            matches::match_load_to_stores(clocks, numbers, dst, act, marks[cell])
         }
         Op::Rmw { cell, .. } => matches::match_rmw_to_stores(clocks, numbers, dst, cell),
         _ => Matched::Offers(0),
@@ -273,7 +273,7 @@ fn read(
                 cell,
                 order,
             };
-            atomic::rmw(clocks, marks, values, numbers, act, slot, change, failure)
+            atomic::rmw(clocks, marks, values, numbers, act, change, failure, slot)
         }
         _ => Loaded::Value(0),
     }

@@ -84,31 +84,28 @@ fn thread_here(text: &[u8], at: usize, to: usize) -> usize
 pub fn place_of(text: &[u8], at: usize) -> Place
     ensures { λ r. ⌜ PlacedAt (now (text .entry)) (drop at (now (text .entry))) r ⌝ }
 {
-    let mut line = 1;
-    let mut column = 1;
+    let mut place = Place { line: 1, column: 1 };
     let mut i = 0;
     while i < at && i < text.len() {
-        let next = behind(line, column, text[i]);
-        line = next.line;
-        column = next.column;
+        place = behind(text[i], place);
         i += 1;
     }
-    Place { line, column }
+    place
 }
 
 // The place behind a byte.
-fn behind(line: usize, column: usize, byte: u8) -> Place
-    requires { ⌜ (line < 2 ^ 63) × (column < 2 ^ 63) ⌝ }
-    ensures { λ r. ⌜ Behind line column byte r ⌝ }
+fn behind(byte: u8, place: Place) -> Place
+    requires { ⌜ (place .line < 2 ^ 63) × (place .column < 2 ^ 63) ⌝ }
+    ensures { λ r. ⌜ Behind (place .line) (place .column) byte r ⌝ }
 {
     if byte == b'\n' {
         return Place {
-            line: line + 1,
+            line: place.line + 1,
             column: 1,
         };
     }
     Place {
-        line,
-        column: column + 1,
+        line: place.line,
+        column: place.column + 1,
     }
 }

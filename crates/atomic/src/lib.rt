@@ -64,10 +64,10 @@ pub fn load(
     if let Race::With { kind, other } = track::track_load(clocks, thread, cell) {
         return Loaded::Raced { kind, other };
     }
-    apply_load_coherence(clocks, marks, numbers, thread, cell, slot);
-    touch(clocks, marks, thread, cell, slot);
+    apply_load_coherence(clocks, marks, numbers, access, slot);
+    touch(clocks, marks, access, slot);
     let at = store_at(cell, slot);
-    sync_load(clocks, thread, at, access.order);
+    sync_load(clocks, thread, access.order, at);
     Loaded::Value(values[VALUE + at])
 }
 
@@ -93,8 +93,8 @@ pub fn store(
     numbers[COUNT + cell] = vv::one_more(count);
     let causality = clocks[CAUSALITY + thread];
     // The slot that is replaced still counts here: its order is joined by the marks that it had.
-    let modification_order = store_order(clocks, marks, count, thread, cell);
-    let sync = sync_store(clocks, thread, sync, access.order);
+    let modification_order = store_order(clocks, marks, access, count);
+    let sync = sync_store(clocks, thread, access.order, sync);
     clocks[HAPPENS_BEFORE + at] = causality;
     clocks[MODIFICATION_ORDER + at] = modification_order;
     clocks[SYNC + at] = sync;
@@ -110,9 +110,9 @@ pub fn rmw(
     values: &mut Values,
     numbers: &mut Numbers,
     access: Access,
-    slot: usize,
     change: Change,
     failure: u8,
+    slot: usize,
 ) -> Loaded
     requires { ⌜ (access .thread < 5) × (access .cell < 4) × (slot < 7) ⌝ }
     ensures { λ r. ⌜ accessOf r (state (now (clocks .exit)) (now (marks .exit)) (now (values .exit)) (now (numbers .exit))) ≡ rmwDone (state (now (clocks .entry)) (now (marks .entry)) (now (values .entry)) (now (numbers .entry))) (access .thread) (access .cell) slot (changeMeant change) (access .order) failure ⌝ }
@@ -122,12 +122,12 @@ pub fn rmw(
     if let Race::With { kind, other } = track::track_load(clocks, thread, cell) {
         return Loaded::Raced { kind, other };
     }
-    apply_load_coherence(clocks, marks, numbers, thread, cell, slot);
-    touch(clocks, marks, thread, cell, slot);
+    apply_load_coherence(clocks, marks, numbers, access, slot);
+    touch(clocks, marks, access, slot);
     let at = store_at(cell, slot);
     let prev = values[VALUE + at];
     let Changed::Success(next) = change::apply(change, prev) else {
-        sync_load(clocks, thread, at, failure);
+        sync_load(clocks, thread, failure, at);
         return Loaded::Value(prev);
     };
     rmw_store(clocks, marks, values, numbers, access, at, prev, next)
@@ -151,7 +151,7 @@ fn rmw_store(
     if let Race::With { kind, other } = track::track_store(clocks, thread, access.cell) {
         return Loaded::Raced { kind, other };
     }
-    sync_load(clocks, thread, at, access.order);
+    sync_load(clocks, thread, access.order, at);
     // The new store starts from the sync of the one read, which makes a release sequence of the two.
     let sync = clocks[SYNC + at];
     store(clocks, marks, values, numbers, access, sync, next);

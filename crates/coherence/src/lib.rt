@@ -11,6 +11,7 @@ ghost use Prim.Native.Nat.{_<_};
 ghost use Rattle.rules.specs.Cell.{coherent, touchDone, storeOrder};
 ghost use Rattle.rules.specs.State.{marksOf};
 ghost use Rattle.rules.specs.Vector.{less};
+use layout::Access;
 use layout::Clocks;
 use layout::MAX_THREADS;
 use layout::Marks;
@@ -34,13 +35,14 @@ pub fn apply_load_coherence(
     clocks: &mut Clocks,
     marks: &Marks,
     numbers: &Numbers,
-    thread: usize,
-    cell: usize,
+    access: Access,
     slot: usize,
 )
-    requires { ⌜ (thread < 5) × (cell < 4) × (slot < 7) ⌝ }
-    ensures { λ _. ⌜ now (clocks .exit) ≡ coherent (now (clocks .entry)) (marksOf (now (marks .entry)) cell) (now (numbers .entry)) thread cell slot ⌝ }
+    requires { ⌜ (access .thread < 5) × (access .cell < 4) × (slot < 7) ⌝ }
+    ensures { λ _. ⌜ now (clocks .exit) ≡ coherent (now (clocks .entry)) (marksOf (now (marks .entry)) (access .cell)) (now (numbers .entry)) (access .thread) (access .cell) slot ⌝ }
 {
+    let thread = access.thread;
+    let cell = access.cell;
     let causality = clocks[CAUSALITY + thread];
     let chosen = MODIFICATION_ORDER + store_at(cell, slot);
     let live = live_stores(numbers[COUNT + cell]);
@@ -63,10 +65,12 @@ pub fn apply_load_coherence(
 }
 
 // The thread's mark on a store that it reads, where it has none yet.
-pub fn touch(clocks: &Clocks, marks: &mut Marks, thread: usize, cell: usize, slot: usize)
-    requires { ⌜ (thread < 5) × (cell < 4) × (slot < 7) ⌝ }
-    ensures { λ _. ⌜ now (marks .exit) ≡ touchDone (now (clocks .entry)) (now (marks .entry)) thread cell slot ⌝ }
+pub fn touch(clocks: &Clocks, marks: &mut Marks, access: Access, slot: usize)
+    requires { ⌜ (access .thread < 5) × (access .cell < 4) × (slot < 7) ⌝ }
+    ensures { λ _. ⌜ now (marks .exit) ≡ touchDone (now (clocks .entry)) (now (marks .entry)) (access .thread) (access .cell) slot ⌝ }
 {
+    let thread = access.thread;
+    let cell = access.cell;
     let row = marks[cell][slot];
     if row[thread] != UNSEEN {
         return;
@@ -77,16 +81,12 @@ pub fn touch(clocks: &Clocks, marks: &mut Marks, thread: usize, cell: usize, slo
 
 // The place of a new store in modification order: after all that its thread knows, and after each store it has seen of the
 // `count` before it, by the cell's marks as they were.
-pub fn store_order(
-    clocks: &Clocks,
-    marks: &Marks,
-    count: u16,
-    thread: usize,
-    cell: usize,
-) -> [u16; MAX_THREADS]
-    requires { ⌜ (thread < 5) × (cell < 4) ⌝ }
-    ensures { λ r. ⌜ r ≡ storeOrder (now (clocks .entry)) (marksOf (now (marks .entry)) cell) count thread cell ⌝ }
+pub fn store_order(clocks: &Clocks, marks: &Marks, access: Access, count: u16) -> [u16; MAX_THREADS]
+    requires { ⌜ (access .thread < 5) × (access .cell < 4) ⌝ }
+    ensures { λ r. ⌜ r ≡ storeOrder (now (clocks .entry)) (marksOf (now (marks .entry)) (access .cell)) count (access .thread) (access .cell) ⌝ }
 {
+    let thread = access.thread;
+    let cell = access.cell;
     let causality = clocks[CAUSALITY + thread];
     let live = live_stores(count);
     // To start with the causality is write-write coherence.

@@ -1,5 +1,6 @@
 // What the machine does at a tick, as the explorer is told it: document 01's faults, the questions that the path answers, and
 // how a tick comes out. Each stands for a case of the definition (specs/Moves).
+use layout::Operation;
 
 // Why a run stops within an execution: document 01's answers from 10 on. Impossible stands for a number read back that
 // no run from a fresh start can have written.
@@ -24,7 +25,7 @@ pub struct Site {
 // A pending operation, what a thread is about to do and to which cell: the one that a row sets, or that a thread has.
 pub enum Pending {
     Nothing,
-    On { action: u16, cell: usize },
+    On(Operation),
 }
 
 // What is asked: which thread runs, which store is read, whether `branch_spurious` is set.

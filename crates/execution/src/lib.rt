@@ -74,7 +74,7 @@ pub fn next(
         };
     }
     let cells = wide16(shape[CELLS]);
-    act(clocks, marks, values, numbers, site, cells, op)
+    act(clocks, marks, values, numbers, site, op, cells)
 }
 
 // What a row does once it has begun, and its thread was chosen if it called the scheduling.
@@ -84,8 +84,8 @@ pub fn act(
     values: &mut Values,
     numbers: &mut Numbers,
     site: Site,
-    cells: usize,
     op: Op,
+    cells: usize,
 ) -> Moved
     requires { ⌜ (site .thread < 5) × (cells ≤ 4) × inRange (opOf op) ⌝ }
     ensures { λ r. ⌜ ((p : machine.Program) → cellsOf (p .table) ≡ cells → moveOf r (site .thread) (site .row) (opcodeOf (opOf op)) (matchedFor (state (now (clocks .exit)) (now (marks .exit)) (now (values .exit)) (now (numbers .exit))) (site .thread) (decodedOf (Decoded.Row op))) (state (now (clocks .exit)) (now (marks .exit)) (now (values .exit)) (now (numbers .exit))) ≡ machine.acts p (state (now (clocks .entry)) (now (marks .entry)) (now (values .entry)) (now (numbers .entry))) (site .thread) (site .row) (opOf op)) ⌝ }
@@ -93,7 +93,7 @@ pub fn act(
     match op {
         Op::Load { .. } => ask_slot(clocks, site.thread),
         Op::Rmw { .. } => ask_slot(clocks, site.thread),
-        Op::Fence { order } => rows::fence_row(clocks, marks, numbers, site, cells, order),
+        Op::Fence { order } => rows::fence_row(clocks, marks, numbers, site, order, cells),
         Op::Yield => rows::yield_row(clocks, numbers, site),
         Op::Join { thread: target } => rows::join_row(clocks, numbers, site, target),
         _ => act_store(clocks, marks, values, numbers, site, op),

@@ -27,8 +27,8 @@ pub fn fence(
     marks: &Marks,
     numbers: &Numbers,
     thread: usize,
-    cells: usize,
     order: u8,
+    cells: usize,
 )
     requires { ⌜ (thread < 5) × (cells ≤ 4) ⌝ }
     ensures { λ _. ⌜ now (clocks .exit) ≡ fenced (now (clocks .entry)) (now (marks .entry)) (now (numbers .entry)) thread cells order ⌝ }
@@ -50,13 +50,13 @@ pub fn fence_acq(clocks: &mut Clocks, marks: &Marks, numbers: &Numbers, thread: 
     let mut cell = 0;
     while cell < cells {
         let count = numbers[COUNT + cell];
-        fence_acq_cell(clocks, marks, count, thread, cell);
+        fence_acq_cell(clocks, marks, thread, cell, count);
         cell += 1;
     }
 }
 
 // A cell's stores are visited oldest first, since what one of them brings may show another to be seen.
-fn fence_acq_cell(clocks: &mut Clocks, marks: &Marks, count: u16, thread: usize, cell: usize)
+fn fence_acq_cell(clocks: &mut Clocks, marks: &Marks, thread: usize, cell: usize, count: u16)
     requires { ⌜ (thread < 5) × (cell < 4) ⌝ }
     ensures { λ _. ⌜ now (clocks .exit) ≡ cellAcquired (now (clocks .entry)) (marksOf (now (marks .entry)) cell) count thread cell ⌝ }
 {
@@ -66,7 +66,7 @@ fn fence_acq_cell(clocks: &mut Clocks, marks: &Marks, count: u16, thread: usize,
         let slot = kth_oldest(count, k);
         let causality = clocks[CAUSALITY + thread];
         if is_seen(marks, cell, slot, causality) {
-            sync_load(clocks, thread, store_at(cell, slot), ACQUIRE);
+            sync_load(clocks, thread, ACQUIRE, store_at(cell, slot));
         }
         k += 1;
     }

@@ -58,6 +58,12 @@ pub struct Access {
     pub order: u8,
 }
 
+// An operation on a cell that a thread is about to take: which, by its number, and on which cell.
+pub struct Operation {
+    pub action: u16,
+    pub cell: usize,
+}
+
 // The number of a store among those of all cells.
 pub fn store_at(cell: usize, slot: usize) -> usize
     requires { ⌜ (cell < 4) × (slot < 7) ⌝ }

@@ -40,10 +40,10 @@ pub enum Fate {
 // unless a newer one has been seen in the thread's causality: then to return it would go back in modification order.
 pub fn match_load_to_stores(
     clocks: &Clocks,
-    marks: [[u16; MAX_THREADS]; MAX_ATOMIC_HISTORY],
     numbers: &Numbers,
     dst: &mut [u8; MAX_ATOMIC_HISTORY],
     access: Access,
+    marks: [[u16; MAX_THREADS]; MAX_ATOMIC_HISTORY],
 ) -> Matched
     requires { ⌜ (access .thread < 5) × (access .cell < 4) ⌝ }
     ensures { λ r. ⌜ scanned r (now (dst .exit)) ≡ offered (matchedLoad (now (clocks .entry)) marks (now (numbers .entry)) (access .thread) (access .cell) (access .order)) (now (dst .entry)) ⌝ }
@@ -60,7 +60,7 @@ pub fn match_load_to_stores(
         let row = marks[i];
         let first = FirstSeen { versions: row };
         let before_yield = first.is_seen_before_yield(thread, last_yield);
-        match load_fate(clocks, numbers, cell, i, access.order, seen, before_yield) {
+        match load_fate(clocks, numbers, access, i, seen, before_yield) {
             Fate::Kept => {
                 dst[n] = i as u8;
                 n += 1;
@@ -80,15 +80,15 @@ pub fn match_load_to_stores(
 fn load_fate(
     clocks: &Clocks,
     numbers: &Numbers,
-    cell: usize,
+    access: Access,
     i: usize,
-    order: u8,
     seen: [bool; MAX_ATOMIC_HISTORY],
     before_yield: bool,
 ) -> Fate
-    requires { ⌜ (cell < 4) × (i < 7) ⌝ }
-    ensures { λ r. ⌜ fateOf r ≡ fateFrom (now (clocks .entry)) cell i (drops seen «before_yield» (now (numbers .entry)) cell order i) (liveIn (now (numbers .entry)) cell) 0 ⌝ }
+    requires { ⌜ (access .cell < 4) × (i < 7) ⌝ }
+    ensures { λ r. ⌜ fateOf r ≡ fateFrom (now (clocks .entry)) (access .cell) i (drops seen «before_yield» (now (numbers .entry)) (access .cell) (access .order) i) (liveIn (now (numbers .entry)) (access .cell)) 0 ⌝ }
 {
+    let cell = access.cell;
     let live = live_stores(numbers[COUNT + cell]);
     let mut j = 0;
     while j < live {
@@ -96,7 +96,7 @@ fn load_fate(
             match compare_orders(clocks, cell, i, j) {
                 Ordering::Equal => return Fate::Equal,
                 Ordering::Less => {
-                    if seen[j] || before_yield || all_seq_cst(numbers, cell, i, j, order) {
+                    if seen[j] || before_yield || all_seq_cst(numbers, access, i, j) {
                         return Fate::Dropped;
                     }
                 }
@@ -168,11 +168,12 @@ fn compare_orders(clocks: &Clocks, cell: usize, i: usize, j: usize) -> Ordering
 }
 
 // Whether the load and both stores are SeqCst.
-fn all_seq_cst(numbers: &Numbers, cell: usize, i: usize, j: usize, order: u8) -> bool
-    requires { ⌜ (cell < 4) × (i < 7) × (j < 7) ⌝ }
-    ensures { λ r. ⌜ r ≡ allSeqCst (now (numbers .entry)) cell i j order ⌝ }
+fn all_seq_cst(numbers: &Numbers, access: Access, i: usize, j: usize) -> bool
+    requires { ⌜ (access .cell < 4) × (i < 7) × (j < 7) ⌝ }
+    ensures { λ r. ⌜ r ≡ allSeqCst (now (numbers .entry)) (access .cell) i j (access .order) ⌝ }
 {
+    let cell = access.cell;
     let a = numbers[SEQ_CST + store_at(cell, i)];
     let b = numbers[SEQ_CST + store_at(cell, j)];
-    (order == order::SEQ_CST) & (a == 1) & (b == 1)
+    (access.order == order::SEQ_CST) & (a == 1) & (b == 1)
 }

@@ -95,7 +95,7 @@ fn mark_threads(clocks: &Clocks, numbers: &Numbers, path: &mut [u8], bound: Boun
     let mut t = 0;
     while t < MAX_THREADS {
         if let Point::Branch(point) = scheduling::conflict(clocks, numbers, t) {
-            opened += path::backtrack(path, wide16(point), t, bound);
+            opened += path::backtrack(path, wide16(point), bound, t);
         }
         t += 1;
     }
@@ -140,12 +140,12 @@ fn add(
         Question::Thread => {
             let seed = scheduling::seed(numbers);
             let pushed = path::push_thread(path, cursor.len, exploring, seed);
-            added(pushed, site, cursor)
+            added(site, pushed, cursor)
         }
         Question::Slot => add_load(clocks, marks, numbers, path, here, exploring, cursor),
         Question::Bit => {
             let pushed = path::push_spurious(path, cursor.len, exploring);
-            added(pushed, site, cursor)
+            added(site, pushed, cursor)
         }
     }
 }
@@ -171,11 +171,11 @@ fn add_load(
         return stops(Fault::Equal, site, cursor);
     };
     let pushed = path::push_load(path, cursor.len, exploring, seed, n);
-    added(pushed, site, cursor)
+    added(site, pushed, cursor)
 }
 
 // A branch that was added is counted, with what it opened; one that was not is a fault.
-fn added(pushed: Addition, site: Site, mut cursor: Cursor) -> Ticked
+fn added(site: Site, pushed: Addition, mut cursor: Cursor) -> Ticked
     requires { ⌜ pushedFew pushed × (cursor .len + 1 < 2 ^ 64) × (cursor .opened + 6 < 2 ^ 64) ⌝ }
     ensures { λ r. ⌜ addedTo pushed site cursor r ⌝ }
 {

@@ -260,23 +260,23 @@ module _ (bytes : List ℕ) (from curr : ℕ) (w : Walks bytes from curr) (f : S
 
 -- The second mark
 
-module _ (n k t : ℕ) (m : Marked) (s : Schedule) where
+module _ (bound : rules.Bound) (k t : ℕ) (m : Marked) (s : Schedule) where
   abbrev second : Last → Marked
-  second l = withOpened (m .opened) (markedAt (rules.atMost n) (m .path) l t)
+  second l = withOpened (m .opened) (markedAt bound (m .path) l t)
 
-  second-is : (l : Last) → switchIn (schedulesBelow (m .path) k) ≡ l → markedBefore (rules.atMost n) m (at k s) t ≡ second l
+  second-is : (l : Last) → switchIn (schedulesBelow (m .path) k) ≡ l → markedBefore bound m (at k s) t ≡ second l
   unfolding markedBefore
   second-is l e = ap second e
 
-  unmarked-second : {bytes : List ℕ} → Holds bytes (m .path) → switchIn (schedulesBelow (m .path) k) ≡ none → PathMarked bytes (markedBefore (rules.atMost n) m (at k s) t) (m .opened + 0)
+  unmarked-second : {bytes : List ℕ} → Holds bytes (m .path) → switchIn (schedulesBelow (m .path) k) ≡ none → PathMarked bytes (markedBefore bound m (at k s) t) (m .opened + 0)
   unmarked-second h e = rw (second-is none e) (record { holds = h; opens = refl })
 
-module _ {entry : List ℕ} (n k t : ℕ) (f : ScheduleAt) (g : PrevOf entry k f) (m : Marked) (s : Schedule) (h : HoldsAt entry (m .path) k s) where
-  pub second-none : f ≡ Nowhere → PathMarked entry (markedBefore (rules.atMost n) m (at k s) t) (m .opened + 0)
+module _ {entry : List ℕ} (bound : rules.Bound) (k t : ℕ) (f : ScheduleAt) (g : PrevOf entry k f) (m : Marked) (s : Schedule) (h : HoldsAt entry (m .path) k s) where
+  pub second-none : f ≡ Nowhere → PathMarked entry (markedBefore bound m (at k s) t) (m .opened + 0)
   unfolding switchIn
   second-none e =
       let b : lastIn (schedulesBelow (m .path) k) ≡ none = found-none (lastIn (schedulesBelow (m .path) k)) (sym e ∙ prev-says h f g) in
-      unmarked-second n k t m s (h .path) (ap switchIn (none-is (m .path) k b))
+      unmarked-second bound k t m s (h .path) (ap switchIn (none-is (m .path) k b))
 
   module _ (p : ℕ) (e : f ≡ At p) (c : ScheduleAt) (d : SwitchFrom entry p c) where
     prior-is : Named (lastIn (schedulesBelow (m .path) k)) p
@@ -294,16 +294,16 @@ module _ {entry : List ℕ} (n k t : ℕ) (f : ScheduleAt) (g : PrevOf entry k f
         ∙ ap (λ (x : ℕ). lastAs (switchIn (schedulesBelow (m .path) x))) (add-one p)
         ∙ ap (λ (x : List Placed). lastAs (switchIn x)) (sym (newest .same))
 
-    pub second-nowhere : c ≡ Nowhere → PathMarked entry (markedBefore (rules.atMost n) m (at k s) t) (m .opened + 0)
-    second-nowhere q = unmarked-second n k t m s (h .path) (found-none met (sym q ∙ met-is))
+    pub second-nowhere : c ≡ Nowhere → PathMarked entry (markedBefore bound m (at k s) t) (m .opened + 0)
+    second-nowhere q = unmarked-second bound k t m s (h .path) (found-none met (sym q ∙ met-is))
 
-    pub second-at : (u : ℕ) → c ≡ At u → (exit : List ℕ) (r : ℕ) → MarksAt entry exit u (rules.atMost n) t r → PathMarked exit (markedBefore (rules.atMost n) m (at k s) t) (m .opened + r)
+    pub second-at : (u : ℕ) → c ≡ At u → (exit : List ℕ) (r : ℕ) → MarksAt entry exit u bound t r → PathMarked exit (markedBefore bound m (at k s) t) (m .opened + r)
     second-at u q exit r w =
         let there-is : Named met u = found-at met u (sym q ∙ met-is) in
         let stood : standsIn (m .path) met = switch-stands (m .path) k in
         let stands : standsIn (m .path) (at u (there-is .of)) = rw (there-is .is) at stood in
-        let marks : PathMarked exit (markedAt (rules.atMost n) (m .path) (at u (there-is .of)) t) r = w .marks (m .path) (there-is .of) (record { path = h .path; there = stands }) in
-        rw (second-is n k t m s (at u (there-is .of)) (there-is .is)) (record { holds = marks .holds; opens = ap (λ (y : ℕ). m .opened + y) (marks .opens) })
+        let marks : PathMarked exit (markedAt bound (m .path) (at u (there-is .of)) t) r = w .marks (m .path) (there-is .of) (record { path = h .path; there = stands }) in
+        rw (second-is bound k t m s (at u (there-is .of)) (there-is .is)) (record { holds = marks .holds; opens = ap (λ (y : ℕ). m .opened + y) (marks .opens) })
 
 -- Both marks
 
@@ -342,7 +342,7 @@ module _ {entry : List ℕ} (point t : ℕ) (f : ScheduleAt) (g : ExploringFrom 
     mark-one Unbounded q exit r w = one-mark exit r w
     mark-one (AtMost n) q exit r w = let z : _≡_ {A = ℕ} 0 1 = cc in absurd (omega arith)
 
-    two-marks : (n : ℕ) (mid exit : List ℕ) (r q : ℕ) → MarksAt entry mid k (rules.atMost n) t r → MarksBefore mid exit k n t q → PathMarked exit (backtracked (rules.atMost n) bs point t) (r + q)
+    two-marks : (n : ℕ) (mid exit : List ℕ) (r q : ℕ) → MarksAt entry mid k (rules.atMost n) t r → MarksBefore mid exit k (rules.atMost n) t q → PathMarked exit (backtracked (rules.atMost n) bs point t) (r + q)
     unfolding backtracked
     two-marks n mid exit r q w v =
         let s : Schedule = first-is .of in
@@ -353,12 +353,9 @@ module _ {entry : List ℕ} (point t : ℕ) (f : ScheduleAt) (g : ExploringFrom 
         let two : PathMarked exit (markedBefore (rules.atMost n) m (at k u) t) (m .opened + q) = v .marks m u back in
         rw (first-is .is, one .opens, ← second-same (rules.atMost n) m k s u t) two
 
-    pub mark-two : (bound : Bound) (n : ℕ) → bound ≡ AtMost n → (mid exit : List ℕ) (r q : ℕ) → MarksAt entry mid k (boundOf bound) t r → MarksBefore mid exit k n t q → PathMarked exit (backtracked (boundOf bound) bs point t) (r + q)
+    pub mark-two : (bound : Bound) (n : ℕ) → bound ≡ AtMost n → (mid exit : List ℕ) (r q : ℕ) → MarksAt entry mid k (boundOf bound) t r → MarksBefore mid exit k (boundOf bound) t q → PathMarked exit (backtracked (boundOf bound) bs point t) (r + q)
     mark-two Unbounded n b mid exit r q w v = let z : _≡_ {A = ℕ} 0 1 = cc in absurd (omega arith)
-    mark-two (AtMost x) n b mid exit r q w v =
-        let i : n ≡ x = cc in
-        let v₁ : MarksBefore mid exit k x t q = rw i at v in
-        two-marks x mid exit r q w v₁
+    mark-two (AtMost x) n b mid exit r q w v = two-marks x mid exit r q w v
 
 -- As many branches as before
 

@@ -62,11 +62,11 @@ pub record MarksAt (entry exit : List ℕ) (at : ℕ) (bound : Bound) (t r : ℕ
   pub marks : (bs : List Branch) (s : Schedule) → HoldsAt entry bs at s → PathMarked exit (rules.markedAt bound bs (rules.at at s) t) r
 
 -- the second mark, after a first one at a position
-pub record MarksBefore (entry exit : List ℕ) (at bound t r : ℕ) : Type 0 where
+pub record MarksBefore (entry exit : List ℕ) (at : ℕ) (bound : Bound) (t r : ℕ) : Type 0 where
   pub few : r ≤ 5
   pub marks :
       (m : Marked) (s : Schedule) → HoldsAt entry (m .path) at s
-      → PathMarked exit (rules.markedBefore (rules.atMost bound) m (rules.at at s) t) (m .opened + r)
+      → PathMarked exit (rules.markedBefore bound m (rules.at at s) t) (m .opened + r)
 
 -- both marks
 pub record Backtracks (entry exit : List ℕ) (point : ℕ) (bound : Bound) (t r : ℕ) : Type 0 where

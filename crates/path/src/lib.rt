@@ -114,7 +114,7 @@ pub fn push_load(
     fields::begin(path, len, fields::KIND_LOAD, exploring);
     load::put_values(path, len, seed, n);
     if exploring {
-        return Addition::Added(load::left(0, n));
+        return Addition::Added(load::left(n, 0));
     }
     Addition::Added(0)
 }
@@ -157,17 +157,17 @@ pub fn branch_spurious(path: &[u8], pos: usize) -> Said
 // how many choices that opened. The branch at the point may be no schedule, or one that is not
 // explored and so is never set to another choice: the mark goes to the next below that can take it.
 // With a bound an earlier schedule is marked too.
-pub fn backtrack(path: &mut [u8], point: usize, thread: usize, bound: Bound) -> u64
+pub fn backtrack(path: &mut [u8], point: usize, bound: Bound, thread: usize) -> u64
     ensures { λ r. ⌜ Backtracks (now (path .entry)) (now (path .exit)) point (boundOf bound) thread r ⌝ }
 {
     let ScheduleAt::At(at) = exploring_from(path, point) else {
         return 0;
     };
-    let opened = backtrack_at(path, at, thread, bound);
-    let Bound::AtMost(most) = bound else {
+    let opened = backtrack_at(path, at, bound, thread);
+    let Bound::AtMost(_) = bound else {
         return opened;
     };
-    opened + backtrack_before(path, at, thread, most)
+    opened + backtrack_before(path, at, bound, thread)
 }
 
 // Whether some choice is open. It looks at the last records first, where most open choices are.
@@ -301,7 +301,7 @@ fn exploring_from(path: &[u8], point: usize) -> ScheduleAt
 }
 
 // A mark in the schedule at a position: none where its preemptions have reached the bound.
-fn backtrack_at(path: &mut [u8], at: usize, thread: usize, bound: Bound) -> u64
+fn backtrack_at(path: &mut [u8], at: usize, bound: Bound, thread: usize) -> u64
     requires { ⌜ 16 * at + 16 ≤ length (now path) ⌝ }
     ensures { λ r. ⌜ MarksAt (now (path .entry)) (now (path .exit)) at (boundOf bound) thread r ⌝ }
 {
@@ -325,9 +325,9 @@ fn is_bound(path: &[u8], at: usize, bound: Bound) -> bool
 // The second mark of a bounded search, at a schedule before this one: a search that bounds
 // preemptions has to be careful and add another point, to cover cases that the bound makes it miss.
 // It is made also where the first left no mark. Answers how many choices it opened.
-fn backtrack_before(path: &mut [u8], at: usize, thread: usize, bound: u8) -> u64
+fn backtrack_before(path: &mut [u8], at: usize, bound: Bound, thread: usize) -> u64
     requires { ⌜ 16 * at + 16 ≤ length (now path) ⌝ }
-    ensures { λ r. ⌜ MarksBefore (now (path .entry)) (now (path .exit)) at bound thread r ⌝ }
+    ensures { λ r. ⌜ MarksBefore (now (path .entry)) (now (path .exit)) at (boundOf bound) thread r ⌝ }
 {
     let ScheduleAt::At(prev) = schedule::prev(path, at) else {
         return 0;
@@ -335,7 +335,7 @@ fn backtrack_before(path: &mut [u8], at: usize, thread: usize, bound: u8) -> u64
     let ScheduleAt::At(curr) = switch_from(path, prev) else {
         return 0;
     };
-    backtrack_at(path, curr, thread, Bound::AtMost(bound))
+    backtrack_at(path, curr, bound, thread)
 }
 
 // The last exploring schedule, from one downwards, whose Active thread is not that of the schedule

@@ -17,6 +17,9 @@ use layout::of_plain::WRITE_ACCESS;
 use layout::of_thread::CAUSALITY;
 use synchronize::join_into;
 use track::Race;
+use track::kinds::PLAIN_READ_AGAINST_WRITE;
+use track::kinds::PLAIN_WRITE_AGAINST_READ;
+use track::kinds::PLAIN_WRITE_AGAINST_WRITE;
 use track::race_with;
 
 // Track a read: no write may be ahead.
@@ -24,7 +27,8 @@ pub fn track_read(clocks: &mut Clocks, thread: usize, plain: usize) -> Race
     requires { ⌜ (thread < 5) × (plain < 4) ⌝ }
     ensures { λ r. ⌜ Tracked (raceOf r) (now (clocks .exit)) (plainReadRace (now (clocks .entry)) thread plain) (plainReadTracked (now (clocks .entry)) thread plain) ⌝ }
 {
-    if let Race::With { kind, other } = race_with(clocks, thread, WRITE_ACCESS + plain, 10) {
+    let at = WRITE_ACCESS + plain;
+    if let Race::With { kind, other } = race_with(clocks, thread, at, PLAIN_READ_AGAINST_WRITE) {
         return Race::With { kind, other };
     }
     join_into(clocks, READ_ACCESS + plain, CAUSALITY + thread);
@@ -36,10 +40,12 @@ pub fn track_write(clocks: &mut Clocks, thread: usize, plain: usize) -> Race
     requires { ⌜ (thread < 5) × (plain < 4) ⌝ }
     ensures { λ r. ⌜ Tracked (raceOf r) (now (clocks .exit)) (plainWriteRace (now (clocks .entry)) thread plain) (plainWriteTracked (now (clocks .entry)) thread plain) ⌝ }
 {
-    if let Race::With { kind, other } = race_with(clocks, thread, READ_ACCESS + plain, 11) {
+    let at = READ_ACCESS + plain;
+    if let Race::With { kind, other } = race_with(clocks, thread, at, PLAIN_WRITE_AGAINST_READ) {
         return Race::With { kind, other };
     }
-    if let Race::With { kind, other } = race_with(clocks, thread, WRITE_ACCESS + plain, 12) {
+    let at = WRITE_ACCESS + plain;
+    if let Race::With { kind, other } = race_with(clocks, thread, at, PLAIN_WRITE_AGAINST_WRITE) {
         return Race::With { kind, other };
     }
     join_into(clocks, WRITE_ACCESS + plain, CAUSALITY + thread);

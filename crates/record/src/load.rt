@@ -45,11 +45,11 @@ pub fn offered(path: &[u8], at: usize) -> Offered
     if MAX_ATOMIC_HISTORY <= slot {
         return Offered::Unexpected;
     }
-    with_mask(path, at, len, slot)
+    with_mask(path, at, slot, len)
 }
 
 // The slot, with the mask of the record's first n values: bit i for slot i.
-fn with_mask(path: &[u8], at: usize, n: usize, slot: usize) -> Offered
+fn with_mask(path: &[u8], at: usize, slot: usize, n: usize) -> Offered
     requires { ⌜ (16 * at + 16 ≤ length (now path)) × (n ≤ 7) × (slot < 7) ⌝ }
     ensures { λ r. ⌜ Offers (offers slot 0 (valuesAt (now (path .entry)) at n)) r ⌝ }
 {
@@ -67,7 +67,7 @@ fn with_mask(path: &[u8], at: usize, n: usize, slot: usize) -> Offered
 }
 
 // How many values follow a position, which are the choices still open.
-pub fn left(pos: usize, len: usize) -> u64
+pub fn left(len: usize, pos: usize) -> u64
     ensures { λ r. ⌜ Left pos len r ⌝ }
 {
     if MAX_ATOMIC_HISTORY < len {
@@ -85,8 +85,8 @@ pub fn open(path: &[u8], at: usize) -> u64
     ensures { λ r. ⌜ Left (fieldOf (now (path .entry)) at 9) (fieldOf (now (path .entry)) at 10) r ⌝ }
 {
     left(
-        wide8(field(path, at, fields::POS)),
         wide8(field(path, at, fields::LEN)),
+        wide8(field(path, at, fields::POS)),
     )
 }
 

@@ -38,6 +38,7 @@ use Rattle.decode.specs.declared.Op.the-variants as code
 use Rattle.decode.specs.declared.Decoded.{Decoded}
 use Rattle.decode.specs.declared.Decoded.the-variants.{Refused, Row as Says}
 use Rattle.decode.specs.Ops.{opOf, decodedOf, inRange, opWithin}
+use Rattle.layout.specs.declared.Operation.{Operation}
 use Rattle.event.specs.declared.Pending.{Pending}
 use Rattle.event.specs.declared.Pending.the-variants as pending
 use Rattle.rows.specs.Begins.{pendingSet, begunTo, thenActs}
@@ -68,12 +69,12 @@ module _ (r : Pending) (op : rules.Op) (means : Pends r (pendingOf op)) where
   pub sets-none : r ≡ pending.Nothing → pendingOf op ≡ machine.nothing
   sets-none e = let m : Pends pending.Nothing (pendingOf op) = rw e at means in sym (m .is)
 
-  module _ (action cell : ℕ) (e : r ≡ pending.On action cell) where
-    pub sets-one : pendingOf op ≡ machine.pends action cell
-    sets-one = let m : Pends (pending.On action cell) (pendingOf op) = rw e at means in sym (m .is)
+  module _ (o : Operation) (e : r ≡ pending.On o) where
+    pub sets-one : pendingOf op ≡ machine.pends (o .action) (o .cell)
+    sets-one = let m : Pends (pending.On o) (pendingOf op) = rw e at means in sym (m .is)
 
-    pub sets-within : cell < 4
-    sets-within = let m : Pends (pending.On action cell) (pendingOf op) = rw e at means in m .within
+    pub sets-within : o .cell < 4
+    sets-within = let m : Pends (pending.On o) (pendingOf op) = rw e at means in m .within
 
 -- A row begins
 

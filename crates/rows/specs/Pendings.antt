@@ -7,12 +7,12 @@ use Rattle.event.specs.declared.Pending.the-variants as code
 
 abbrev pub pendingMeant : Pending → rules.Pending
 pendingMeant code.Nothing = rules.nothing
-pendingMeant (code.On action cell) = rules.pends action cell
+pendingMeant (code.On o) = rules.pends (o .action) (o .cell)
 
 -- its cell is one
 abbrev pub cellWithin : Pending → Type 0
 cellWithin code.Nothing = Unit
-cellWithin (code.On action cell) = cell < 4
+cellWithin (code.On o) = o .cell < 4
 
 pub record Pends (r : Pending) (pending : rules.Pending) : Type 0 where
   pub is : pendingMeant r ≡ pending

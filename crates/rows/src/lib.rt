@@ -23,6 +23,7 @@ use event::Site;
 use layout::Clocks;
 use layout::Marks;
 use layout::Numbers;
+use layout::Operation;
 use layout::Values;
 use layout::of_run::EXPLORING;
 use layout::of_run::ROWS_BEGUN;
@@ -50,11 +51,11 @@ pub fn begin(numbers: &mut Numbers, limit: u16, thread: usize, op: Op) -> Moved
     numbers[ROWS_BEGUN] = vv::one_more(numbers[ROWS_BEGUN]);
     numbers[ROWS + thread] = vv::one_more(numbers[ROWS + thread]);
     numbers[PHASE + thread] = thread::TO_ACT;
-    let Pending::On { action, cell } = pending_of(op) else {
+    let Pending::On(operation) = pending_of(op) else {
         return Moved::Moves;
     };
-    numbers[OPERATION + thread] = action;
-    numbers[OBJECT + thread] = cell as u16;
+    numbers[OPERATION + thread] = operation.action;
+    numbers[OBJECT + thread] = operation.cell as u16;
     Moved::Asks {
         question: Question::Thread,
         yielded: false,
@@ -76,9 +77,9 @@ fn pending_of(op: Op) -> Pending
 }
 
 fn on(action: u16, cell: usize) -> Pending
-    ensures { λ r. ⌜ r ≡ Pending.On action cell ⌝ }
+    ensures { λ r. ⌜ r ≡ Pending.On (record { action = action; cell = cell }) ⌝ }
 {
-    Pending::On { action, cell }
+    Pending::On(Operation { action, cell })
 }
 
 // A row that leaves neither slot nor value in the trace.
@@ -99,15 +100,15 @@ pub fn fence_row(
     marks: &Marks,
     numbers: &mut Numbers,
     site: Site,
-    cells: usize,
     order: u8,
+    cells: usize,
 ) -> Moved
     requires { ⌜ (site .thread < 5) × (cells ≤ 4) ⌝ }
     ensures { λ r. ⌜ ((p : machine.Program) (values : rules.Values) (opcode : ℕ) (m : Matched) → cellsOf (p .table) ≡ cells → moveOf r (site .thread) (site .row) opcode m (state (now (clocks .exit)) (now (marks .entry)) values (now (numbers .exit))) ≡ machine.done (machine.fences p (state (now (clocks .entry)) (now (marks .entry)) values (now (numbers .entry))) (site .thread) order) (site .thread) (site .row) opcode) ⌝ }
 {
     let thread = site.thread;
     thread::raise(clocks, thread);
-    fence::fence(clocks, marks, numbers, thread, cells, order);
+    fence::fence(clocks, marks, numbers, thread, order, cells);
     done(numbers, site)
 }
 

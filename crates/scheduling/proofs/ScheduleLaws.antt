@@ -24,6 +24,7 @@ use Rattle.rules.specs.State as names
 use Rattle.rules.specs.Vector.{Whom, nobody, thread, atMost}
 use Rattle.rules.specs.Machine.{isIn, runnable, canRun, noOperation, operationOf, cellOf, dependentBranch, dependentVector, conflict, yieldsLess, fewestFrom, initial, accessMade, othersAwake, switched, scheduled, allOver, someCanRun}
 use Rattle.layout.specs.Tables.{state}
+use Rattle.layout.specs.declared.Operation.{Operation}
 use Rattle.track.specs.LastAccess.{grown, accessed}
 use Rattle.thread.proofs.ThreadLaws.{one-left, none-left}
 use Rattle.scheduling.specs.Schedules.{On, operationMeans, orFive}
@@ -54,8 +55,8 @@ module _ (r : Pending) (st : State) (t : ℕ) (means : operationMeans r st t) wh
   pub means-none : r ≡ answer.Nothing → operationOf st t ≡ noOperation
   means-none e = rw e at means
 
-  pub means-on : (action cell : ℕ) → r ≡ answer.On action cell → On st t action cell
-  means-on action cell e = rw e at means
+  pub means-on : (o : Operation) → r ≡ answer.On o → On st t (o .action) (o .cell)
+  means-on o e = rw e at means
 
 -- Rule (a)
 

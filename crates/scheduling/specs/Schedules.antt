@@ -28,4 +28,4 @@ pub record On (st : State) (t action cell : ℕ) : Type 0 where
 
 abbrev pub operationMeans : Pending → State → ℕ → Type 0
 operationMeans operation.Nothing st t = operationOf st t ≡ noOperation
-operationMeans (operation.On action cell) st t = On st t action cell
+operationMeans (operation.On o) st t = On st t (o .action) (o .cell)

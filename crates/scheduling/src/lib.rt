@@ -21,6 +21,7 @@ use layout::MAX_CELLS;
 use layout::MAX_THREADS;
 use layout::NONE;
 use layout::Numbers;
+use layout::Operation;
 use layout::of_run::ACTIVE_THREAD;
 use layout::of_thread::OBJECT;
 use layout::of_thread::OPERATION;
@@ -52,7 +53,7 @@ pub fn pending_operation(numbers: &Numbers, thread: usize) -> Pending
     if MAX_CELLS <= cell {
         return Pending::Nothing;
     }
-    Pending::On { action, cell }
+    Pending::On(Operation { action, cell })
 }
 
 // Rule (a): the branch of the access that a thread's pending operation is concurrent with. That branch is to be backtracked
@@ -61,11 +62,11 @@ pub fn conflict(clocks: &Clocks, numbers: &Numbers, thread: usize) -> Point
     requires { ⌜ thread < 5 ⌝ }
     ensures { λ r. ⌜ ((marks : rules.Marks) (values : rules.Values) → pointOf r ≡ machine.conflict (state (now (clocks .entry)) marks values (now (numbers .entry))) thread) ⌝ }
 {
-    let Pending::On { action, cell } = pending_operation(numbers, thread) else {
+    let Pending::On(operation) = pending_operation(numbers, thread) else {
         return Point::Nowhere;
     };
-    if access::is_concurrent(clocks, numbers, thread, action, cell) {
-        return Point::Branch(access::last_dependent_branch(numbers, action, cell));
+    if access::is_concurrent(clocks, numbers, thread, operation) {
+        return Point::Branch(access::last_dependent_branch(numbers, operation));
     }
     Point::Nowhere
 }
@@ -147,8 +148,8 @@ fn choose(clocks: &mut Clocks, numbers: &mut Numbers, chosen: usize, branch: u16
     ensures { λ _. ⌜ ((marks : rules.Marks) (values : rules.Values) → state (now (clocks .exit)) marks values (now (numbers .exit)) ≡ machine.switched (state (now (clocks .entry)) marks values (now (numbers .entry))) chosen branch) ⌝ }
 {
     numbers[ACTIVE_THREAD] = chosen as u16;
-    if let Pending::On { action, cell } = pending_operation(numbers, chosen) {
-        access::set_last_access(clocks, numbers, chosen, action, cell, branch);
+    if let Pending::On(operation) = pending_operation(numbers, chosen) {
+        access::set_last_access(clocks, numbers, chosen, operation, branch);
     }
     thread::reactivate(numbers, chosen);
 }

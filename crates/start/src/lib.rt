@@ -136,13 +136,13 @@ fn make_plains(table: &[u8], clocks: &mut Clocks, values: &mut Values, cells: us
 {
     let mut plain = 0;
     while plain < plains {
-        make_plain(table, clocks, values, cells, plain);
+        make_plain(table, clocks, values, plain, cells);
         plain += 1;
     }
 }
 
 // A plain cell is written by thread 0. Its start value stands behind those of the cells.
-fn make_plain(table: &[u8], clocks: &mut Clocks, values: &mut Values, cells: usize, plain: usize)
+fn make_plain(table: &[u8], clocks: &mut Clocks, values: &mut Values, plain: usize, cells: usize)
     requires { ⌜ (cells ≤ 4) × (plain < 4) ⌝ }
     ensures { λ _. ⌜ ((marks : rules.Marks) (numbers : rules.Numbers) → cellsOf (now (table .entry)) ≡ cells → state (now (clocks .exit)) marks (now (values .exit)) numbers ≡ machine.plainMade (now (table .entry)) (state (now (clocks .entry)) marks (now (values .entry)) numbers) plain) ⌝ }
 {

@@ -38,7 +38,7 @@ pub fn join_into(clocks: &mut Clocks, at: usize, from: usize)
 }
 
 // A load by an order that acquires takes the store's sync vector into the thread.
-pub fn sync_load(clocks: &mut Clocks, thread: usize, store: usize, order: u8)
+pub fn sync_load(clocks: &mut Clocks, thread: usize, order: u8, store: usize)
     requires { ⌜ (thread < 5) × (store < 28) ⌝ }
     ensures { λ _. ⌜ now (clocks .exit) ≡ loadSynced (now (clocks .entry)) thread store order ⌝ }
 {
@@ -52,8 +52,8 @@ pub fn sync_load(clocks: &mut Clocks, thread: usize, store: usize, order: u8)
 pub fn sync_store(
     clocks: &Clocks,
     thread: usize,
-    sync: [u16; MAX_THREADS],
     order: u8,
+    sync: [u16; MAX_THREADS],
 ) -> [u16; MAX_THREADS]
     requires { ⌜ thread < 5 ⌝ }
     ensures { λ r. ⌜ r ≡ storeSynced (now (clocks .entry)) thread sync order ⌝ }

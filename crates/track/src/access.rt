@@ -12,6 +12,7 @@ use layout::Clocks;
 use layout::MAX_THREADS;
 use layout::NONE;
 use layout::Numbers;
+use layout::Operation;
 use layout::of_cell::ACCESS_BRANCH;
 use layout::of_cell::LAST_ACCESS;
 use layout::of_cell::LAST_NON_LOAD_ACCESS;
@@ -27,29 +28,29 @@ pub const A_STORE: u16 = 2;
 pub const A_RMW: u16 = 3;
 
 // The branch of the access that this operation depends on, or NONE: a load does not depend on loads.
-pub fn last_dependent_branch(numbers: &Numbers, action: u16, cell: usize) -> u16
-    requires { ⌜ cell < 4 ⌝ }
-    ensures { λ r. ⌜ r ≡ dependentBranch (now (numbers .entry)) action cell ⌝ }
+pub fn last_dependent_branch(numbers: &Numbers, operation: Operation) -> u16
+    requires { ⌜ operation .cell < 4 ⌝ }
+    ensures { λ r. ⌜ r ≡ dependentBranch (now (numbers .entry)) (operation .action) (operation .cell) ⌝ }
 {
-    let at = if action == A_LOAD {
+    let at = if operation.action == A_LOAD {
         NON_LOAD_BRANCH
     } else {
         ACCESS_BRANCH
     };
-    numbers[at + cell]
+    numbers[at + operation.cell]
 }
 
 // That access's vector.
-pub fn last_dependent_version(clocks: &Clocks, action: u16, cell: usize) -> [u16; MAX_THREADS]
-    requires { ⌜ cell < 4 ⌝ }
-    ensures { λ r. ⌜ r ≡ dependentVector (now (clocks .entry)) action cell ⌝ }
+pub fn last_dependent_version(clocks: &Clocks, operation: Operation) -> [u16; MAX_THREADS]
+    requires { ⌜ operation .cell < 4 ⌝ }
+    ensures { λ r. ⌜ r ≡ dependentVector (now (clocks .entry)) (operation .action) (operation .cell) ⌝ }
 {
-    let at = if action == A_LOAD {
+    let at = if operation.action == A_LOAD {
         LAST_NON_LOAD_ACCESS
     } else {
         LAST_ACCESS
     };
-    clocks[at + cell]
+    clocks[at + operation.cell]
 }
 
 // Whether a dependent access is there that did not happen before what the thread has scheduled so far.
@@ -57,16 +58,15 @@ pub fn is_concurrent(
     clocks: &Clocks,
     numbers: &Numbers,
     thread: usize,
-    action: u16,
-    cell: usize,
+    operation: Operation,
 ) -> bool
-    requires { ⌜ (thread < 5) × (cell < 4) ⌝ }
-    ensures { λ r. ⌜ r ≡ not (eqb (dependentBranch (now (numbers .entry)) action cell) rules.none || atMost (dependentVector (now (clocks .entry)) action cell) (rules.vector (now (clocks .entry)) (rules.scheduleOf thread))) ⌝ }
+    requires { ⌜ (thread < 5) × (operation .cell < 4) ⌝ }
+    ensures { λ r. ⌜ r ≡ not (eqb (dependentBranch (now (numbers .entry)) (operation .action) (operation .cell)) rules.none || atMost (dependentVector (now (clocks .entry)) (operation .action) (operation .cell)) (rules.vector (now (clocks .entry)) (rules.scheduleOf thread))) ⌝ }
 {
-    if last_dependent_branch(numbers, action, cell) == NONE {
+    if last_dependent_branch(numbers, operation) == NONE {
         return false;
     }
-    let version = last_dependent_version(clocks, action, cell);
+    let version = last_dependent_version(clocks, operation);
     let schedule = clocks[SCHEDULE + thread];
     let access = VersionVec { versions: version };
     !access.at_most(VersionVec { versions: schedule })
@@ -77,17 +77,17 @@ pub fn set_last_access(
     clocks: &mut Clocks,
     numbers: &mut Numbers,
     thread: usize,
-    action: u16,
-    cell: usize,
+    operation: Operation,
     branch: u16,
 )
-    requires { ⌜ (thread < 5) × (cell < 4) ⌝ }
-    ensures { λ _. ⌜ ((marks : rules.Marks) (values : rules.Values) → state (now (clocks .exit)) marks values (now (numbers .exit)) ≡ accessed (state (now (clocks .entry)) marks values (now (numbers .entry))) thread action cell branch) ⌝ }
+    requires { ⌜ (thread < 5) × (operation .cell < 4) ⌝ }
+    ensures { λ _. ⌜ ((marks : rules.Marks) (values : rules.Values) → state (now (clocks .exit)) marks values (now (numbers .exit)) ≡ accessed (state (now (clocks .entry)) marks values (now (numbers .entry))) thread (operation .action) (operation .cell) branch) ⌝ }
 {
+    let cell = operation.cell;
     let row = clocks[SCHEDULE + thread];
     let mut schedule = VersionVec { versions: row };
-    if last_dependent_branch(numbers, action, cell) != NONE {
-        let version = last_dependent_version(clocks, action, cell);
+    if last_dependent_branch(numbers, operation) != NONE {
+        let version = last_dependent_version(clocks, operation);
         schedule = schedule.join(VersionVec { versions: version });
     }
     let schedule = schedule.raise(thread);
@@ -95,7 +95,7 @@ pub fn set_last_access(
     clocks[SCHEDULE + thread] = row;
     clocks[LAST_ACCESS + cell] = row;
     numbers[ACCESS_BRANCH + cell] = branch;
-    if action != A_LOAD {
+    if operation.action != A_LOAD {
         clocks[LAST_NON_LOAD_ACCESS + cell] = row;
         numbers[NON_LOAD_BRANCH + cell] = branch;
     }

@@ -7,6 +7,15 @@ ghost use Rattle.rules.specs.Cell.{ofKind, loadRace, loadTracked, unsyncLoadRac
 ghost use Rattle.rules.specs.State.{vector, causality};
 ghost use Rattle.rules.specs.Vector as rules;
 ghost use Rattle.track.specs.Tracked.{raceOf, Tracked};
+use crate::kinds::LOAD_AGAINST_MUT;
+use crate::kinds::MUT_AGAINST_LOAD;
+use crate::kinds::MUT_AGAINST_MUT;
+use crate::kinds::MUT_AGAINST_STORE;
+use crate::kinds::MUT_AGAINST_UNSYNC_LOAD;
+use crate::kinds::STORE_AGAINST_MUT;
+use crate::kinds::STORE_AGAINST_UNSYNC_LOAD;
+use crate::kinds::UNSYNC_LOAD_AGAINST_MUT;
+use crate::kinds::UNSYNC_LOAD_AGAINST_STORE;
 use layout::Clocks;
 use layout::of_cell::LOADED_AT;
 use layout::of_cell::STORED_AT;
@@ -18,6 +27,7 @@ use vv::Ahead;
 use vv::VersionVec;
 
 pub mod access;
+pub mod kinds;
 
 // No race, or the kind of race by document 01's number and the lowest thread that is ahead.
 pub enum Race {
@@ -44,7 +54,8 @@ pub fn track_load(clocks: &mut Clocks, thread: usize, cell: usize) -> Race
     requires { ⌜ (thread < 5) × (cell < 4) ⌝ }
     ensures { λ r. ⌜ Tracked (raceOf r) (now (clocks .exit)) (loadRace (now (clocks .entry)) thread cell) (loadTracked (now (clocks .entry)) thread cell) ⌝ }
 {
-    if let Race::With { kind, other } = race_with(clocks, thread, UNSYNC_MUT_AT + cell, 1) {
+    let at = UNSYNC_MUT_AT + cell;
+    if let Race::With { kind, other } = race_with(clocks, thread, at, LOAD_AGAINST_MUT) {
         return Race::With { kind, other };
     }
     join_into(clocks, LOADED_AT + cell, CAUSALITY + thread);
@@ -56,10 +67,12 @@ pub fn track_unsync_load(clocks: &mut Clocks, thread: usize, cell: usize) -> Rac
     requires { ⌜ (thread < 5) × (cell < 4) ⌝ }
     ensures { λ r. ⌜ Tracked (raceOf r) (now (clocks .exit)) (unsyncLoadRace (now (clocks .entry)) thread cell) (unsyncLoadTracked (now (clocks .entry)) thread cell) ⌝ }
 {
-    if let Race::With { kind, other } = race_with(clocks, thread, UNSYNC_MUT_AT + cell, 2) {
+    let at = UNSYNC_MUT_AT + cell;
+    if let Race::With { kind, other } = race_with(clocks, thread, at, UNSYNC_LOAD_AGAINST_MUT) {
         return Race::With { kind, other };
     }
-    if let Race::With { kind, other } = race_with(clocks, thread, STORED_AT + cell, 3) {
+    let at = STORED_AT + cell;
+    if let Race::With { kind, other } = race_with(clocks, thread, at, UNSYNC_LOAD_AGAINST_STORE) {
         return Race::With { kind, other };
     }
     join_into(clocks, UNSYNC_LOADED_AT + cell, CAUSALITY + thread);
@@ -71,10 +84,12 @@ pub fn track_store(clocks: &mut Clocks, thread: usize, cell: usize) -> Race
     requires { ⌜ (thread < 5) × (cell < 4) ⌝ }
     ensures { λ r. ⌜ Tracked (raceOf r) (now (clocks .exit)) (storeRace (now (clocks .entry)) thread cell) (storeTracked (now (clocks .entry)) thread cell) ⌝ }
 {
-    if let Race::With { kind, other } = race_with(clocks, thread, UNSYNC_MUT_AT + cell, 4) {
+    let at = UNSYNC_MUT_AT + cell;
+    if let Race::With { kind, other } = race_with(clocks, thread, at, STORE_AGAINST_MUT) {
         return Race::With { kind, other };
     }
-    if let Race::With { kind, other } = race_with(clocks, thread, UNSYNC_LOADED_AT + cell, 5) {
+    let at = UNSYNC_LOADED_AT + cell;
+    if let Race::With { kind, other } = race_with(clocks, thread, at, STORE_AGAINST_UNSYNC_LOAD) {
         return Race::With { kind, other };
     }
     join_into(clocks, STORED_AT + cell, CAUSALITY + thread);
@@ -86,16 +101,20 @@ pub fn track_unsync_mut(clocks: &mut Clocks, thread: usize, cell: usize) -> Race
     requires { ⌜ (thread < 5) × (cell < 4) ⌝ }
     ensures { λ r. ⌜ Tracked (raceOf r) (now (clocks .exit)) (mutRace (now (clocks .entry)) thread cell) (mutTracked (now (clocks .entry)) thread cell) ⌝ }
 {
-    if let Race::With { kind, other } = race_with(clocks, thread, LOADED_AT + cell, 6) {
+    let at = LOADED_AT + cell;
+    if let Race::With { kind, other } = race_with(clocks, thread, at, MUT_AGAINST_LOAD) {
         return Race::With { kind, other };
     }
-    if let Race::With { kind, other } = race_with(clocks, thread, UNSYNC_LOADED_AT + cell, 7) {
+    let at = UNSYNC_LOADED_AT + cell;
+    if let Race::With { kind, other } = race_with(clocks, thread, at, MUT_AGAINST_UNSYNC_LOAD) {
         return Race::With { kind, other };
     }
-    if let Race::With { kind, other } = race_with(clocks, thread, STORED_AT + cell, 8) {
+    let at = STORED_AT + cell;
+    if let Race::With { kind, other } = race_with(clocks, thread, at, MUT_AGAINST_STORE) {
         return Race::With { kind, other };
     }
-    if let Race::With { kind, other } = race_with(clocks, thread, UNSYNC_MUT_AT + cell, 9) {
+    let at = UNSYNC_MUT_AT + cell;
+    if let Race::With { kind, other } = race_with(clocks, thread, at, MUT_AGAINST_MUT) {
         return Race::With { kind, other };
     }
     join_into(clocks, UNSYNC_MUT_AT + cell, CAUSALITY + thread);

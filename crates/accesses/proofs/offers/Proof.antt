@@ -18,10 +18,10 @@ enum-known-op : tie.Need-enum-known-op
 enum-known-op c = search needs
 
 mul-match-load-to-stores : tie.Need-mul-match-load-to-stores
-mul-match-load-to-stores c = scaled-fits _ 4 70 (load-within _ _ _ _ (c .before .op .given .1) (row-within _ _ (c .before .before .before .before .row .given .1) (c .before .before .before .before .before .before .pre .1)) .0) (lit< tt)
+mul-match-load-to-stores c = scaled-fits _ 4 70 (load-within _ _ _ _ (c .before .before .op .given .1) (row-within _ _ (c .before .before .before .before .before .row .given .1) (c .before .before .before .before .before .before .before .pre .1)) .0) (lit< tt)
 
 element-copy-out-match-load-to-stores : tie.Need-element-copy-out-match-load-to-stores
-element-copy-out-match-load-to-stores c = load-within _ _ _ _ (c .before .op .given .1) (row-within _ _ (c .before .before .before .before .row .given .1) (c .before .before .before .before .before .before .pre .1)) .0
+element-copy-out-match-load-to-stores c = load-within _ _ _ _ (c .before .before .op .given .1) (row-within _ _ (c .before .before .before .before .before .row .given .1) (c .before .before .before .before .before .before .before .pre .1)) .0
 
 match-load-to-stores-requires : tie.Need-match-load-to-stores-requires
 match-load-to-stores-requires c κs = (c .before .before .before .before .before .before .before .before .pre .0, load-within _ _ _ _ (c .before .before .before .op .given .1) (row-within _ _ (c .before .before .before .before .before .before .row .given .1) (c .before .before .before .before .before .before .before .before .pre .1)) .0)

@@ -10,11 +10,11 @@ use Rattle.ahead.proofs.place_of.Statement.{statement}
 use Rattle.ahead.proofs.place_of.Tie as tie
 
 abbrev Inv-loop : tie.InvT-loop
-Inv-loop text at line₀ column₀ i₀ line column i =
-    (line ≤ i + 1) × (column ≤ i + 1) × (placeBehind line column (drop i (take at text)) ≡ placeBehind 1 1 (take at text))
+Inv-loop text at place₀ i₀ place i =
+    (place .line ≤ i + 1) × (place .column ≤ i + 1) × (placeBehind (place .line) (place .column) (drop i (take at text)) ≡ placeBehind 1 1 (take at text))
 
 abbrev μ-loop : tie.MeasureT-loop
-μ-loop text at line₀ column₀ i₀ line column i = at - i
+μ-loop text at place₀ i₀ place i = at - i
 
 loop-holds : tie.Need-loop-holds Inv-loop μ-loop
 loop-holds c = (search needs, search needs, refl)
@@ -42,13 +42,13 @@ loop-again c =
     let a = at .before .before .args in
     let h : at .loop .i < length (a .text .now) = ltb-true _ _ (turn .if1 .taken) in
     let b = c .behind .ensures in
-    (omega (arith, b .low, at .loop .inv .0), omega (arith, b .near, at .loop .inv .1), way-on (a .text .now) (a .at) (at .loop .line) (at .loop .column) (at .loop .i) (c .behind .result) (turn .before .loop-test .taken) h b ∙ at .loop .inv .2)
+    (omega (arith, b .low, at .loop .inv .0), omega (arith, b .near, at .loop .inv .1), way-on (a .text .now) (a .at) (at .loop .place .line) (at .loop .place .column) (at .loop .i) (c .behind .result) (turn .before .loop-test .taken) h b ∙ at .loop .inv .2)
 
 returns : tie.Need-returns Inv-loop μ-loop
 returns c =
     let at = c .before .before in
     let a = at .before .before .args in
-    way-end (a .text .now) (a .at) (at .loop .line) (at .loop .column) (at .loop .i) (omega (arith, length-take (a .at) (a .text .now), ltb-false (at .loop .i) (length (a .text .now)) (c .if1 .left)))
+    way-end (a .text .now) (a .at) (at .loop .place .line) (at .loop .place .column) (at .loop .i) (omega (arith, length-take (a .at) (a .text .now), ltb-false (at .loop .i) (length (a .text .now)) (c .if1 .left)))
     ∙ at .loop .inv .2
     ∙ ap (placeBehind 1 1) (sym (before-is (a .text .now) (a .at)))
 
@@ -56,7 +56,7 @@ returns-2 : tie.Need-returns-2 Inv-loop μ-loop
 returns-2 c =
     let at = c .before in
     let a = at .before .before .args in
-    way-end (a .text .now) (a .at) (at .loop .line) (at .loop .column) (at .loop .i) (omega (arith, length-take (a .at) (a .text .now), c .loop-test .left))
+    way-end (a .text .now) (a .at) (at .loop .place .line) (at .loop .place .column) (at .loop .i) (omega (arith, length-take (a .at) (a .text .now), c .loop-test .left))
     ∙ at .loop .inv .2
     ∙ ap (placeBehind 1 1) (sym (before-is (a .text .now) (a .at)))
 

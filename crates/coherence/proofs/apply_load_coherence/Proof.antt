@@ -9,12 +9,12 @@ use Rattle.coherence.proofs.apply_load_coherence.Statement.{statement}
 use Rattle.coherence.proofs.apply_load_coherence.Tie as tie
 
 abbrev Inv-loop : tie.InvT-loop
-Inv-loop clocks marks numbers thread cell slot causality chosen live order₀ i₀ order i =
+Inv-loop clocks marks numbers slot thread cell causality chosen live order₀ i₀ order i =
     let made = coherentFrom clocks (marksOf marks cell) thread cell slot in
     (i ≤ 7) × (made order (live - i) i ≡ made (orderOf clocks cell slot) (liveIn numbers cell) 0)
 
 abbrev μ-loop : tie.MeasureT-loop
-μ-loop clocks marks numbers thread cell slot causality chosen live order₀ i₀ order i = 7 - i
+μ-loop clocks marks numbers slot thread cell causality chosen live order₀ i₀ order i = 7 - i
 
 add-causality : tie.Need-add-causality Inv-loop μ-loop
 add-causality c = search needs

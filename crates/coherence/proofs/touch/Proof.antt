@@ -42,11 +42,11 @@ array-read-touched-row c = search needs
 touched-row-requires : tie.Need-touched-row-requires
 touched-row-requires c κs = search needs
 
-mul-t8 : tie.Need-mul-t8
-mul-t8 c = search needs
+mul-t9 : tie.Need-mul-t9
+mul-t9 c = search needs
 
-mul-t26 : tie.Need-mul-t26
-mul-t26 c = search needs
+mul-t27 : tie.Need-mul-t27
+mul-t27 c = search needs
 
 index-1-marks : tie.Need-index-1-marks
 index-1-marks c = search needs
@@ -74,8 +74,8 @@ touch-spec =
     mul-touched-row
     array-read-touched-row
     touched-row-requires
-    mul-t8
-    mul-t26
+    mul-t9
+    mul-t27
     index-1-marks
     index-2-marks
     returns-2)

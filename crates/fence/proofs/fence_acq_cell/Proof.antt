@@ -9,12 +9,12 @@ use Rattle.fence.proofs.fence_acq_cell.Statement.{statement}
 use Rattle.fence.proofs.fence_acq_cell.Tie as tie
 
 abbrev Inv-loop : tie.InvT-loop
-Inv-loop clocks₀ marks count thread cell live k₀ clocks k =
+Inv-loop clocks₀ marks thread cell count live k₀ clocks k =
     (k ≤ live)
     × (acquiredFrom clocks (marksOf marks cell) count thread cell (live - k) k ≡ cellAcquired clocks₀ (marksOf marks cell) count thread cell)
 
 abbrev μ-loop : tie.MeasureT-loop
-μ-loop clocks₀ marks count thread cell live k₀ clocks k = live - k
+μ-loop clocks₀ marks thread cell count live k₀ clocks k = live - k
 
 live-stores-requires : tie.Need-live-stores-requires Inv-loop μ-loop
 live-stores-requires c κs = search needs

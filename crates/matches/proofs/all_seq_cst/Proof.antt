@@ -29,8 +29,8 @@ element-copy-out-b c = search needs
 
 returns : tie.Need-returns
 returns c =
-    let args = c .before .before .before .before .args in
-    all-seq-cst (args .numbers .now) _ _ _ (args .order) _ _ (c .before .before .before .store-at .ensures) (c .before .store-at2 .ensures)
+    let args = c .before .before .before .before .before .args in
+    all-seq-cst (args .numbers .now) _ _ _ (args .access .order) _ _ (c .before .before .before .before .store-at .ensures) (c .before .before .store-at2 .ensures)
 
 pub all-seq-cst-spec : {M : Type 1} → statement M
 all-seq-cst-spec =

@@ -9,12 +9,13 @@ use Rattle.matches.proofs.load_fate.Statement.{statement}
 use Rattle.matches.proofs.load_fate.Tie as tie
 
 abbrev Inv-loop : tie.InvT-loop
-Inv-loop clocks numbers cell i order before-yield seen live j₀ j =
-    let dropping = drops seen before-yield numbers cell order i in
-    (j ≤ 7) × (fateFrom clocks cell i dropping (live - j) j ≡ fateFrom clocks cell i dropping (liveIn numbers cell) 0)
+Inv-loop clocks numbers access i before-yield seen cell live j₀ j =
+    let dropping = drops seen before-yield numbers (access .cell) (access .order) i in
+    let fate = fateFrom clocks (access .cell) i dropping in
+    (j ≤ 7) × (fate (live - j) j ≡ fate (liveIn numbers (access .cell)) 0)
 
 abbrev μ-loop : tie.MeasureT-loop
-μ-loop clocks numbers cell i order before-yield seen live j₀ j = 7 - j
+μ-loop clocks numbers access i before-yield seen cell live j₀ j = 7 - j
 
 add-live-stores : tie.Need-add-live-stores Inv-loop μ-loop
 add-live-stores c = search needs

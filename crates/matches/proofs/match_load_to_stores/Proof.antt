@@ -20,13 +20,13 @@ abbrev μ-loop : tie.MeasureT-loop
 fated : (c : tie.After-load-fate Inv-loop μ-loop) →
     let at = c .before .before .before .before in
     let args = at .before .before .before .before .before .before .args in
-    fateOf (c .load-fate .result) ≡ loadFate (args .clocks .now) (args .t2) (args .numbers .now) (args .access .thread) (args .access .cell) (args .access .order) (at .loop .i)
+    fateOf (c .load-fate .result) ≡ loadFate (args .clocks .now) (args .t5) (args .numbers .now) (args .access .thread) (args .access .cell) (args .access .order) (at .loop .i)
 fated c =
     let at = c .before .before .before .before in
     let slots = at .before .before .before .before in
     let args = slots .before .before .args in
     c .load-fate .ensures
-    ∙ fate-load (args .clocks .now) (args .t2) (args .numbers .now) (args .access .thread) (args .access .cell) (args .access .order) (at .loop .i) _ _ (slots .seen-slots .ensures) (c .before .is-seen-before-yield .ensures)
+    ∙ fate-load (args .clocks .now) (args .t5) (args .numbers .now) (args .access .thread) (args .access .cell) (args .access .order) (at .loop .i) _ _ (slots .seen-slots .ensures) (c .before .is-seen-before-yield .ensures)
 
 add-causality : tie.Need-add-causality Inv-loop μ-loop
 add-causality c = search needs

@@ -27,11 +27,11 @@ backtrack-at-requires c κs =
     let at = c .before .before in
     omega (arith, place-below (at .at .given .1) (at .before .before .exploring-from .ensures .below))
 
-enum-known-bound : tie.Need-enum-known-bound
-enum-known-bound c = search needs
-
 enum-told-2 : tie.Need-enum-told-2
 enum-told-2 c = search needs
+
+enum-told-3 : tie.Need-enum-told-3
+enum-told-3 c = search needs
 
 same-length-2 : tie.Need-same-length-2
 same-length-2 c = search needs
@@ -41,17 +41,17 @@ returns-2 c =
     let first = c .before .before .before .before in
     let at = first .before .before .before in
     let start = at .before .before .before .before .before in
-    record { few = omega (arith, first .backtrack-at .ensures .few); keeps = search needs; marks = λ bs h. mark-one _ (start .args .thread) _ (at .before .before .exploring-from .ensures) h _ (at .at .given .1) (start .args .bound) (c .enum-told2 .given .1) _ _ (first .backtrack-at .ensures) }
+    record { few = omega (arith, first .backtrack-at .ensures .few); keeps = search needs; marks = λ bs h. mark-one _ (start .args .thread) _ (at .before .before .exploring-from .ensures) h _ (at .at .given .1) (start .args .bound) (c .enum-told3 .given .1) _ _ (first .backtrack-at .ensures) }
 
 backtrack-before-requires : tie.Need-backtrack-before-requires
 backtrack-before-requires c κs =
-    let at = c .before .before .before .before .before .before .before .before .before in
+    let at = c .before .before .before .before .before .before .before .before in
     omega (arith, place-below (at .at .given .1) (at .before .before .exploring-from .ensures .below))
 
 add-result : tie.Need-add-result
 add-result c =
     let second = c .before .before in
-    let first = second .before .before .before .before .before .before .before in
+    let first = second .before .before .before .before .before .before in
     omega (arith, first .backtrack-at .ensures .few, second .backtrack-before .ensures .few)
 
 same-length-3 : tie.Need-same-length-3
@@ -60,11 +60,11 @@ same-length-3 c = search needs
 returns-3 : tie.Need-returns-3
 returns-3 c =
     let second = c .before .before in
-    let most = second .before .before .before in
-    let first = most .before .before .before .before in
+    let told = second .before .before in
+    let first = told .before .before .before .before in
     let at = first .before .before .before in
     let start = at .before .before .before .before .before in
-    record { few = omega (arith, first .backtrack-at .ensures .few, second .backtrack-before .ensures .few); keeps = search needs; marks = λ bs h. mark-two _ (start .args .thread) _ (at .before .before .exploring-from .ensures) h _ (at .at .given .1) (start .args .bound) _ (most .bound .given .1) _ _ _ _ (first .backtrack-at .ensures) (second .backtrack-before .ensures) }
+    record { few = omega (arith, first .backtrack-at .ensures .few, second .backtrack-before .ensures .few); keeps = search needs; marks = λ bs h. mark-two _ (start .args .thread) _ (at .before .before .exploring-from .ensures) h _ (at .at .given .1) (start .args .bound) _ (told .enum-told2 .given .1) _ _ _ _ (first .backtrack-at .ensures) (second .backtrack-before .ensures) }
 
 pub backtrack-spec : {M : Type 1} → statement M
 backtrack-spec =
@@ -76,8 +76,8 @@ backtrack-spec =
     same-length
     returns
     backtrack-at-requires
-    enum-known-bound
     enum-told-2
+    enum-told-3
     same-length-2
     returns-2
     backtrack-before-requires

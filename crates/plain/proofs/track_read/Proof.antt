@@ -5,8 +5,8 @@ use Rattle.track.proofs.TrackLaws.{answered, raced, clear}
 use Rattle.plain.proofs.track_read.Statement.{statement}
 use Rattle.plain.proofs.track_read.Tie as tie
 
-add-race-with : tie.Need-add-race-with
-add-race-with c = search needs
+add-at : tie.Need-add-at
+add-at c = search needs
 
 race-with-requires : tie.Need-race-with-requires
 race-with-requires c κs = search needs
@@ -45,7 +45,7 @@ pub track-read-spec : {M : Type 1} → statement M
 track-read-spec =
     tie.close
     (tie.spec
-    add-race-with
+    add-at
     race-with-requires
     enum-known-kind
     returns

@@ -56,8 +56,8 @@ element-write-numbers-3 c = search needs
 pending-of-requires : tie.Need-pending-of-requires
 pending-of-requires c κs = search needs
 
-enum-known-action : tie.Need-enum-known-action
-enum-known-action c = search needs
+enum-known-operation : tie.Need-enum-known-operation
+enum-known-operation c = search needs
 
 enum-told : tie.Need-enum-told
 enum-told c = search needs
@@ -84,13 +84,13 @@ element-write-numbers-4 c = search needs
 
 cast-numbers : tie.Need-cast-numbers
 cast-numbers c =
-    let action = c .before in
-    let pend = action .before .before in
+    let operation = c .before .before in
+    let pend = operation .before .before in
     let two = pend .before in
     let one = two .before .before in
     let test = one .before .before in
     let args = test .before .before .args in
-    omega (arith, sets-within _ (opOf (args .op)) (pend .pending-of .ensures) _ _ (action .action .given .1))
+    omega (arith, sets-within _ (opOf (args .op)) (pend .pending-of .ensures) _ (operation .operation .given .1))
 
 add-numbers-4 : tie.Need-add-numbers-4
 add-numbers-4 c = search needs
@@ -103,15 +103,15 @@ element-write-numbers-5 c = search needs
 
 returns-3 : tie.Need-returns-3
 returns-3 c =
-    let action = c .before in
-    let pend = action .before .before in
+    let operation = c .before .before in
+    let pend = operation .before .before in
     let two = pend .before in
     let one = two .before .before in
     let test = one .before .before in
     let args = test .before .before .args in
     λ clocks marks values k opcode m.
     begun-asking clocks marks values (args .numbers .now) (args .thread) _ _ (args .limit) (opOf (args .op)) (one .one-more .ensures) (two .one-more2 .ensures) (test .if1 .left) _ _
-    (sets-one _ (opOf (args .op)) (pend .pending-of .ensures) _ _ (action .action .given .1))
+    (sets-one _ (opOf (args .op)) (pend .pending-of .ensures) _ (operation .operation .given .1))
 
 pub begin-spec : {M : Type 1} → statement M
 begin-spec =
@@ -133,7 +133,7 @@ begin-spec =
     mul-numbers-2
     element-write-numbers-3
     pending-of-requires
-    enum-known-action
+    enum-known-operation
     enum-told
     returns-2
     add-numbers-3

@@ -17,14 +17,14 @@ element-write-numbers c = search needs
 pending-operation-requires : tie.Need-pending-operation-requires
 pending-operation-requires c κs = search needs
 
-enum-known-action : tie.Need-enum-known-action
-enum-known-action c = search needs
+enum-known-operation : tie.Need-enum-known-operation
+enum-known-operation c = search needs
 
 set-last-access-requires : tie.Need-set-last-access-requires
 set-last-access-requires c κs =
     let told = c .before .before .before in
     let call = told .before .before in
-    (search needs, means-on _ _ (call .before .before .args .chosen) (call .pending-operation .ensures [] [] []) _ _ (told .action .given .1) .within)
+    (search needs, means-on _ _ (call .before .before .args .chosen) (call .pending-operation .ensures [] [] []) _ (told .operation .given .1) .within)
 
 enum-told : tie.Need-enum-told
 enum-told c = search needs
@@ -43,7 +43,7 @@ returns c =
     let t = args .chosen in
     switched-as (args .clocks .now) (came .match .clocks) marks values (args .numbers .now) (came .match .numbers) _ t (args .branch)
     (⊎-elim
-    (λ w. left-as _ _ marks values _ _ (w .6) (w .7) ∙ w .5 .ensures marks values ∙ access-on st t (args .branch) _ _ (means-on _ st t means _ _ (w .1 .given .1)))
+    (λ w. left-as _ _ marks values _ _ (w .6) (w .7) ∙ w .5 .ensures marks values ∙ access-on st t (args .branch) _ _ (means-on _ st t means _ (w .1 .given .1)))
     (λ w. left-as _ _ marks values _ _ (w .2) (w .3) ∙ access-none st t (args .branch) (means-none _ st t means (w .1 .given .1)))
     (came .match .came))
     (c .reactivate .ensures)
@@ -55,7 +55,7 @@ choose-spec =
     cast-numbers
     element-write-numbers
     pending-operation-requires
-    enum-known-action
+    enum-known-operation
     set-last-access-requires
     enum-told
     reactivate-requires

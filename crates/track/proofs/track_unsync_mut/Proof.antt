@@ -5,8 +5,8 @@ use Rattle.track.proofs.TrackLaws.{answered, here, past, raced, clear}
 use Rattle.track.proofs.track_unsync_mut.Statement.{statement}
 use Rattle.track.proofs.track_unsync_mut.Tie as tie
 
-add-race-with : tie.Need-add-race-with
-add-race-with c = search needs
+add-at : tie.Need-add-at
+add-at c = search needs
 
 race-with-requires : tie.Need-race-with-requires
 race-with-requires c κs = search needs
@@ -24,8 +24,8 @@ returns c =
 enum-told : tie.Need-enum-told
 enum-told c = search needs
 
-add-race-with-2 : tie.Need-add-race-with-2
-add-race-with-2 c = search needs
+add-at-2 : tie.Need-add-at-2
+add-at-2 c = search needs
 
 race-with-requires-2 : tie.Need-race-with-requires-2
 race-with-requires-2 c κs = search needs
@@ -45,8 +45,8 @@ returns-2 c =
 enum-told-2 : tie.Need-enum-told-2
 enum-told-2 c = search needs
 
-add-race-with-3 : tie.Need-add-race-with-3
-add-race-with-3 c = search needs
+add-at-3 : tie.Need-add-at-3
+add-at-3 c = search needs
 
 race-with-requires-3 : tie.Need-race-with-requires-3
 race-with-requires-3 c κs = search needs
@@ -68,8 +68,8 @@ returns-3 c =
 enum-told-3 : tie.Need-enum-told-3
 enum-told-3 c = search needs
 
-add-race-with-4 : tie.Need-add-race-with-4
-add-race-with-4 c = search needs
+add-at-4 : tie.Need-add-at-4
+add-at-4 c = search needs
 
 race-with-requires-4 : tie.Need-race-with-requires-4
 race-with-requires-4 c κs = search needs
@@ -120,22 +120,22 @@ pub track-unsync-mut-spec : {M : Type 1} → statement M
 track-unsync-mut-spec =
     tie.close
     (tie.spec
-    add-race-with
+    add-at
     race-with-requires
     enum-known-kind
     returns
     enum-told
-    add-race-with-2
+    add-at-2
     race-with-requires-2
     enum-known-kind-2
     returns-2
     enum-told-2
-    add-race-with-3
+    add-at-3
     race-with-requires-3
     enum-known-kind-3
     returns-3
     enum-told-3
-    add-race-with-4
+    add-at-4
     race-with-requires-4
     enum-known-kind-4
     returns-4

@@ -22,7 +22,7 @@ left-requires c κs = search needs
 returns : tie.Need-returns
 returns c =
     let wide = c .before .before .before in
-    left-of _ _ _ _ _ (wide .wide8 .ensures .same ∙ wide .before .field .ensures) (c .before .wide82 .ensures .same ∙ c .before .before .field2 .ensures) (c .left .ensures)
+    left-of _ _ _ _ _ (c .before .wide82 .ensures .same ∙ c .before .before .field2 .ensures) (wide .wide8 .ensures .same ∙ wide .before .field .ensures) (c .left .ensures)
 
 pub open-spec : {M : Type 1} → statement M
 open-spec =

@@ -9,11 +9,11 @@ use Rattle.record.proofs.load.with_mask.Statement.{statement}
 use Rattle.record.proofs.load.with_mask.Tie as tie
 
 abbrev Inv-loop : tie.InvT-loop
-Inv-loop path at n slot mask₀ i₀ mask i =
+Inv-loop path at slot n mask₀ i₀ mask i =
     (i ≤ n) × (offers slot mask (drop i (valuesAt path at n)) ≡ offers slot 0 (valuesAt path at n))
 
 abbrev μ-loop : tie.MeasureT-loop
-μ-loop path at n slot mask₀ i₀ mask i = n - i
+μ-loop path at slot n mask₀ i₀ mask i = n - i
 
 loop-holds : tie.Need-loop-holds Inv-loop μ-loop
 loop-holds c = (search needs, refl)

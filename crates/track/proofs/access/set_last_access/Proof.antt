@@ -76,22 +76,22 @@ element-write-numbers-2 c = search needs
 
 grew : (c : tie.After-raise) (marks : Marks) (values : Values) →
     let args = c .before .before .before .before .before .args in
-    c .raise .result .versions ≡ grown (state (args .clocks .now) marks values (args .numbers .now)) (args .thread) (args .action) (args .cell)
+    c .raise .result .versions ≡ grown (state (args .clocks .now) marks values (args .numbers .now)) (args .thread) (args .operation .action) (args .operation .cell)
 grew c marks values =
     let joined = c .before in
     let found = joined .before in
     let args = found .before .before .before .args in
     let st = state (args .clocks .now) marks values (args .numbers .now) in
     ⊎-elim
-    (λ w. grown-joined st (args .thread) (args .action) (args .cell) _ _ _ (found .last-dependent-branch .ensures) (c .raise .ensures) (w .0 .taken) _ (w .2 .ensures) (rw (w .4) (w .3 .ensures)))
-    (λ w. grown-none st (args .thread) (args .action) (args .cell) _ _ _ (found .last-dependent-branch .ensures) (c .raise .ensures) (w .0 .left) (rw (w .1)))
+    (λ w. grown-joined st (args .thread) (args .operation .action) (args .operation .cell) _ _ _ (found .last-dependent-branch .ensures) (c .raise .ensures) (w .0 .taken) _ (w .2 .ensures) (rw (w .4) (w .3 .ensures)))
+    (λ w. grown-none st (args .thread) (args .operation .action) (args .operation .cell) _ _ _ (found .last-dependent-branch .ensures) (c .raise .ensures) (w .0 .left) (rw (w .1)))
     (joined .if1 .came)
 
 returns : tie.Need-returns
-returns c = λ marks values. recorded-other _ marks values _ _ _ _ _ _ (grew (c .before .before) marks values) (c .if2 .taken)
+returns c = λ marks values. recorded-other _ marks values _ _ _ _ _ _ (grew (c .before .before .before) marks values) (c .if2 .taken)
 
 returns-2 : tie.Need-returns-2
-returns-2 c = λ marks values. recorded-load _ marks values _ _ _ _ _ _ (grew (c .before .before) marks values) (c .if2 .left)
+returns-2 c = λ marks values. recorded-load _ marks values _ _ _ _ _ _ (grew (c .before .before .before) marks values) (c .if2 .left)
 
 pub set-last-access-spec : {M : Type 1} → statement M
 set-last-access-spec =
