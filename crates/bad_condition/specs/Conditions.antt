@@ -1,5 +1,5 @@
 -- What is wrong with a condition, in words. Places count its bytes from 0. Assumes nothing.
---     putComparison      what a comparison that begins at a place has wrong, if anything
+--     putBadComparison      what a comparison that begins at a place has wrong, if anything
 --     putReason          why the byte at a place cannot stand there, where that is plain
 --     putBad             the byte that cannot stand at a place
 --     putFound           that byte, or what goes on behind the condition's end
@@ -18,8 +18,8 @@ use Rattle.condition.specs.declared.Extent.{Extent}
 use Rattle.condition.specs.declared.Extent.the-variants.{Bad, Ends}
 
 -- its eleven bytes are there, and its second and third name a thread and a register: what of that is not so first
-unfoldable pub putComparison : Page → List ℕ → ℕ → ℕ → Page
-putComparison p condition at threads =
+unfoldable pub putBadComparison : Page → List ℕ → ℕ → ℕ → Page
+putBadComparison p condition at threads =
     cond (ltb (length condition) (at + comparisonBytes)) (putText p (bytesOf ": its comparison breaks off"))
     (cond (leb threads (getD condition (at + 1) 0))
     (filled p (bytesOf ": thread # is none: they count from 0, and the table has #") (getD condition (at + 1) 0) threads 0)
@@ -30,7 +30,7 @@ putComparison p condition at threads =
 -- the sign of a comparison, or a group that would stand too deep
 unfoldable pub putReason : Page → List ℕ → ℕ → ℕ → Page
 putReason p condition at threads =
-    cond (isSign (getD condition at 0)) (putComparison p condition at threads)
+    cond (isSign (getD condition at 0)) (putBadComparison p condition at threads)
     (cond (eqb (getD condition at 0) opens)
     (filled p (bytesOf ": groups stand in each other at most # deep") groupsDeep 0 0)
     p)

@@ -3,7 +3,7 @@ ghost use mathlib.Core.Path.{_≡_};
 ghost use Prim.Native.Nat.{_<_};
 ghost use lib.ListN.{length};
 ghost use Rattle.page.specs.Pages.{ended};
-ghost use Rattle.bad_condition.specs.Conditions.{putComparison, putReason, putBad, putBadCondition};
+ghost use Rattle.bad_condition.specs.Conditions.{putBadComparison, putReason, putBad, putBadCondition};
 use condition::COMPARISON;
 use condition::CONDITION_BYTES;
 use condition::DEEP;
@@ -34,7 +34,7 @@ pub fn put(page: &mut Page, at: usize, table: &[u8], condition: &[u8]) -> usize
     let shape = table::shape(table);
     let threads = wide16(shape[THREADS]);
     match condition::first_bad(condition, threads) {
-        Extent::Bad(from) => put_bad(page, at, condition, from, threads),
+        Extent::Bad(from) => put_bad(page, at, condition, threads, from),
         Extent::Ends(end) => page::fill(
             page,
             at,
@@ -47,7 +47,7 @@ pub fn put(page: &mut Page, at: usize, table: &[u8], condition: &[u8]) -> usize
 }
 
 // The byte that cannot stand there, with the reason where it is plain.
-fn put_bad(page: &mut Page, at: usize, condition: &[u8], from: usize, threads: usize) -> usize
+fn put_bad(page: &mut Page, at: usize, condition: &[u8], threads: usize, from: usize) -> usize
     ensures { λ r. ⌜ ended (now (page .exit)) r ≡ putBad (ended (now (page .entry)) at) (now (condition .entry)) from threads ⌝ }
 {
     if condition.len() <= from {
@@ -68,18 +68,18 @@ fn put_bad(page: &mut Page, at: usize, condition: &[u8], from: usize, threads: u
         wide8(condition[from]) as u64,
         0,
     );
-    let to = put_reason(page, to, condition, from, threads);
+    let to = put_reason(page, to, condition, threads, from);
     page::put(page, to, b"\n")
 }
 
 // The reason: that of a comparison that begins there; or how deep groups may stand in each other, where one opens.
-fn put_reason(page: &mut Page, at: usize, condition: &[u8], from: usize, threads: usize) -> usize
+fn put_reason(page: &mut Page, at: usize, condition: &[u8], threads: usize, from: usize) -> usize
     requires { ⌜ from < length (now condition) ⌝ }
     ensures { λ r. ⌜ ended (now (page .exit)) r ≡ putReason (ended (now (page .entry)) at) (now (condition .entry)) from threads ⌝ }
 {
     let byte = condition[from];
     if condition::is_sign(byte) {
-        return put_comparison(page, at, condition, from, threads);
+        return put_bad_comparison(page, at, condition, threads, from);
     }
     if byte == OPENS {
         return page::fill(
@@ -95,15 +95,15 @@ fn put_reason(page: &mut Page, at: usize, condition: &[u8], from: usize, threads
 }
 
 // What a comparison that begins there has wrong, if anything.
-fn put_comparison(
+fn put_bad_comparison(
     page: &mut Page,
     at: usize,
     condition: &[u8],
-    from: usize,
     threads: usize,
+    from: usize,
 ) -> usize
     requires { ⌜ from < length (now condition) ⌝ }
-    ensures { λ r. ⌜ ended (now (page .exit)) r ≡ putComparison (ended (now (page .entry)) at) (now (condition .entry)) from threads ⌝ }
+    ensures { λ r. ⌜ ended (now (page .exit)) r ≡ putBadComparison (ended (now (page .entry)) at) (now (condition .entry)) from threads ⌝ }
 {
     if condition.len() - from < COMPARISON {
         return page::put(page, at, b": its comparison breaks off");

@@ -1,5 +1,5 @@
 -- A row that is refused, in words. Assumes nothing.
---     rowIn         the row of a thread, in a table of this shape
+--     threadRow         the row of a thread, in a table of this shape
 --     putBadRow     which row it is, and what is wrong with it
 use Prim.Native.Nat.{ℕ, _+_}
 use mathlib.Core.List.{List}
@@ -13,17 +13,17 @@ use Rattle.page.specs.Pages.{Page, putText, filled}
 use Rattle.reasons.specs.Wrong.{wrongIn}
 use Rattle.bad_row.specs.Words.{putWrong}
 
-abbrev pub rowIn : List ℕ → List ℕ → ℕ → ℕ → Row
-rowIn t shape thread number = rowAt t (getD shape 1 0 + getD shape 12 0) (getD shape (7 + thread) 0 + number)
+abbrev pub threadRow : List ℕ → List ℕ → ℕ → ℕ → Row
+threadRow t shape thread number = rowAt t (getD shape 1 0 + getD shape 12 0) (getD shape (7 + thread) 0 + number)
 
 -- in one line, with the field that is wrong first
-abbrev pub putRow : Page → ℕ → ℕ → Row → Room → Page
-putRow l thread number r room =
+abbrev pub putRefusedRow : Page → ℕ → ℕ → Row → Room → Page
+putRefusedRow l thread number r room =
     putText (putWrong (filled l (bytesOf "answer 5: refused: thread #, row #: ") thread number 0) (wrongIn room r) r room) (bytesOf "\n")
 
 -- nothing where there can be no such thread
 unfoldable pub putBadRow : Page → List ℕ → ℕ → ℕ → Page
 putBadRow l t thread number =
     cond (ltb thread maxThreads)
-    (putRow l thread number (rowIn t (shapeOf t) thread number) (roomIn (shapeOf t) thread number))
+    (putRefusedRow l thread number (threadRow t (shapeOf t) thread number) (roomIn (shapeOf t) thread number))
     l

@@ -1,5 +1,5 @@
 -- What is wrong with a field of a row, in words. Assumes nothing.
---     valueOf      the number that stands in a field
+--     fieldValue      the number that stands in a field
 --     fieldName    the field's name
 --     opcodeName   that of an opcode
 --     putMay       what it may be
@@ -18,16 +18,16 @@ use Rattle.reasons.specs.declared.Field.the-variants.{Opcode, Object, Order, Ki
 use Rattle.reasons.specs.declared.May.{May}
 use Rattle.reasons.specs.declared.May.the-variants as may
 
-unfoldable pub valueOf : Field → Row → ℕ
-valueOf Opcode r = r .opcode
-valueOf Object r = r .object
-valueOf Order r = r .order
-valueOf Kind r = r .kind
-valueOf Failure r = r .failure
-valueOf Register r = r .register
-valueOf Target r = r .target
-valueOf A r = r .a
-valueOf B r = r .b
+unfoldable pub fieldValue : Field → Row → ℕ
+fieldValue Opcode r = r .opcode
+fieldValue Object r = r .object
+fieldValue Order r = r .order
+fieldValue Kind r = r .kind
+fieldValue Failure r = r .failure
+fieldValue Register r = r .register
+fieldValue Target r = r .target
+fieldValue A r = r .a
+fieldValue B r = r .b
 
 -- a row names a cell, a plain cell, a thread, or none
 abbrev pub objectName : ℕ → String
@@ -61,15 +61,15 @@ opcodeName opcode =
     (bytesOf "load,store,store of a register,change,fence,unsync_load,with_mut,yield,join,jump,jump if equal,jump if not equal,check,critical,explore_state,skip_branch,branch_spurious,plain read,plain write")
 
 -- how many of them the table has
-abbrev pub putCount : Page → ℕ → Page
-putCount l n = filled l (bytesOf ": they count from 0, and the table has #") n 0 0
+abbrev pub putPresent : Page → ℕ → Page
+putPresent l n = filled l (bytesOf ": they count from 0, and the table has #") n 0 0
 
 -- what it may be, where it is used
 unfoldable pub putMay : Page → Room → May → Page
 putMay l room may.AnyOpcode = putText l (bytesOf ": there are 0 to 18")
-putMay l room may.AnyCell = putCount l (room .cells)
-putMay l room may.AnyPlain = putCount l (room .plains)
-putMay l room may.AnyThread = putCount l (room .threads)
+putMay l room may.AnyCell = putPresent l (room .cells)
+putMay l room may.AnyPlain = putPresent l (room .plains)
+putMay l room may.AnyThread = putPresent l (room .threads)
 putMay l room may.AnyOrder = putText l (bytesOf ": there are 0 to 4")
 putMay l room may.LoadOrder = putText l (bytesOf " that a load may have (0, 2 or 4)")
 putMay l room may.StoreOrder = putText l (bytesOf " that a store may have (0, 1 or 4)")
@@ -111,4 +111,4 @@ putValue l value r room may.ZeroByKind =
 
 unfoldable pub putWrong : Page → Field → Row → Room → Page
 putWrong l field r room =
-    putValue (putText l (bytesOf (fieldName field (r .opcode)))) (valueOf field r) r room (mayBe field (r .opcode) (r .kind))
+    putValue (putText l (bytesOf (fieldName field (r .opcode)))) (fieldValue field r) r room (mayBe field (r .opcode) (r .kind))

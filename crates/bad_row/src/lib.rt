@@ -1,10 +1,10 @@
 // What is wrong with a row: which of its fields, by crate reasons.
 ghost use mathlib.Core.Path.{_≡_};
 ghost use Prim.Native.Nat.{_<_};
-ghost use Rattle.decode.specs.Ops.{rowMeant, roomOf};
+ghost use Rattle.decode.specs.Ops.{rowMeant, roomMeant};
 ghost use Rattle.table.specs.Answers.{roomIn};
 ghost use Rattle.page.specs.Pages.{ended};
-ghost use Rattle.bad_row.specs.Rows.{rowIn, putBadRow};
+ghost use Rattle.bad_row.specs.Rows.{threadRow, putBadRow};
 use decode::Row;
 use layout::MAX_THREADS;
 use layout::wide8;
@@ -30,7 +30,7 @@ pub fn put(page: &mut Page, at: usize, table: &[u8], thread: u8, number: u8) -> 
     }
     let shape = table::shape(table);
     let room = room_in(&shape, t, number);
-    let row = row_in(table, &shape, t, number);
+    let row = thread_row(table, &shape, t, number);
     let to = page::fill(
         page,
         at,
@@ -39,14 +39,14 @@ pub fn put(page: &mut Page, at: usize, table: &[u8], thread: u8, number: u8) -> 
         number as u64,
         0,
     );
-    let to = words::put(page, to, reasons::wrong(row, room), row, room);
+    let to = words::put(page, to, room, row, reasons::wrong(room, row));
     page::put(page, to, b"\n")
 }
 
 // What this row of this thread may name, in a table of this shape.
 fn room_in(shape: &Shape, thread: usize, number: u8) -> Room
     requires { ⌜ thread < 5 ⌝ }
-    ensures { λ r. ⌜ roomOf r ≡ roomIn (now (shape .entry)) thread number ⌝ }
+    ensures { λ r. ⌜ roomMeant r ≡ roomIn (now (shape .entry)) thread number ⌝ }
 {
     Room {
         threads: wide16(shape[THREADS]),
@@ -58,9 +58,9 @@ fn room_in(shape: &Shape, thread: usize, number: u8) -> Room
 }
 
 // The row itself.
-fn row_in(table: &[u8], shape: &Shape, thread: usize, number: u8) -> Row
+fn thread_row(table: &[u8], shape: &Shape, thread: usize, number: u8) -> Row
     requires { ⌜ thread < 5 ⌝ }
-    ensures { λ r. ⌜ rowMeant r ≡ rowIn (now (table .entry)) (now (shape .entry)) thread number ⌝ }
+    ensures { λ r. ⌜ rowMeant r ≡ threadRow (now (table .entry)) (now (shape .entry)) thread number ⌝ }
 {
     let values = wide16(shape[CELLS]) + wide16(shape[PLAINS]);
     let index = wide16(shape[FIRSTS + thread]) + wide8(number);

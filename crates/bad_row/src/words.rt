@@ -2,8 +2,8 @@
 ghost use mathlib.Core.Path.{_≡_};
 ghost use Rattle.rules.specs.Token.{bytesOf};
 ghost use Rattle.page.specs.Pages.{ended, putText};
-ghost use Rattle.decode.specs.Ops.{rowMeant, roomOf};
-ghost use Rattle.bad_row.specs.Words.{valueOf, objectName, fieldName, partPast, putCount, putMay, putUnused, putWrong};
+ghost use Rattle.decode.specs.Ops.{rowMeant, roomMeant};
+ghost use Rattle.bad_row.specs.Words.{fieldValue, objectName, fieldName, partPast, putPresent, putMay, putUnused, putWrong};
 use decode::Row;
 use page::Page;
 use reasons::Field;
@@ -11,15 +11,15 @@ use reasons::May;
 use reasons::Room;
 
 // Puts the field, what it is and what it may be.
-pub fn put(page: &mut Page, at: usize, field: Field, row: Row, room: Room) -> usize
-    ensures { λ r. ⌜ ended (now (page .exit)) r ≡ putWrong (ended (now (page .entry)) at) field (rowMeant row) (roomOf room) ⌝ }
+pub fn put(page: &mut Page, at: usize, room: Room, row: Row, field: Field) -> usize
+    ensures { λ r. ⌜ ended (now (page .exit)) r ≡ putWrong (ended (now (page .entry)) at) field (rowMeant row) (roomMeant room) ⌝ }
 {
     let opcode = row.opcode;
     let kind = row.kind;
-    let value = value_of(field, row);
-    let to = put_field(page, at, field, opcode);
+    let value = field_value(row, field);
+    let to = put_field(page, at, opcode, field);
     match reasons::may_be(field, opcode, kind) {
-        May::ZeroByOpcode => put_unused(page, to, value, opcode),
+        May::ZeroByOpcode => put_unused(page, to, opcode, value),
         May::ZeroByKind => page::fill(
             page,
             to,
@@ -30,14 +30,14 @@ pub fn put(page: &mut Page, at: usize, field: Field, row: Row, room: Room) -> us
         ),
         may => {
             let to = page::fill(page, to, b" # is none", value, 0, 0);
-            put_may(page, to, may, room)
+            put_may(page, to, room, may)
         }
     }
 }
 
 // The number that stands in this field.
-fn value_of(field: Field, row: Row) -> u64
-    ensures { λ r. ⌜ r ≡ valueOf field (rowMeant row) ⌝ }
+fn field_value(row: Row, field: Field) -> u64
+    ensures { λ r. ⌜ r ≡ fieldValue field (rowMeant row) ⌝ }
 {
     match field {
         Field::Opcode => row.opcode as u64,
@@ -53,7 +53,7 @@ fn value_of(field: Field, row: Row) -> u64
 }
 
 // The field's name.
-fn put_field(page: &mut Page, at: usize, field: Field, opcode: u8) -> usize
+fn put_field(page: &mut Page, at: usize, opcode: u8, field: Field) -> usize
     ensures { λ r. ⌜ ended (now (page .exit)) r ≡ putText (ended (now (page .entry)) at) (bytesOf (fieldName field opcode)) ⌝ }
 {
     match field {
@@ -82,14 +82,14 @@ fn put_object(page: &mut Page, at: usize, opcode: u8) -> usize
 }
 
 // What it may be, where it is used.
-fn put_may(page: &mut Page, at: usize, may: May, room: Room) -> usize
-    ensures { λ r. ⌜ ended (now (page .exit)) r ≡ putMay (ended (now (page .entry)) at) (roomOf room) may ⌝ }
+fn put_may(page: &mut Page, at: usize, room: Room, may: May) -> usize
+    ensures { λ r. ⌜ ended (now (page .exit)) r ≡ putMay (ended (now (page .entry)) at) (roomMeant room) may ⌝ }
 {
     match may {
         May::AnyOpcode => page::put(page, at, b": there are 0 to 18"),
-        May::AnyCell => put_count(page, at, room.cells),
-        May::AnyPlain => put_count(page, at, room.plains),
-        May::AnyThread => put_count(page, at, room.threads),
+        May::AnyCell => put_present(page, at, room.cells),
+        May::AnyPlain => put_present(page, at, room.plains),
+        May::AnyThread => put_present(page, at, room.threads),
         May::AnyOrder => page::put(page, at, b": there are 0 to 4"),
         May::LoadOrder => page::put(page, at, b" that a load may have (0, 2 or 4)"),
         May::StoreOrder => page::put(page, at, b" that a store may have (0, 1 or 4)"),
@@ -117,8 +117,8 @@ fn put_may(page: &mut Page, at: usize, may: May, room: Room) -> usize
 }
 
 // How many of them the table has.
-fn put_count(page: &mut Page, at: usize, count: usize) -> usize
-    ensures { λ r. ⌜ ended (now (page .exit)) r ≡ putCount (ended (now (page .entry)) at) count ⌝ }
+fn put_present(page: &mut Page, at: usize, count: usize) -> usize
+    ensures { λ r. ⌜ ended (now (page .exit)) r ≡ putPresent (ended (now (page .entry)) at) count ⌝ }
 {
     page::fill(
         page,
@@ -131,7 +131,7 @@ fn put_count(page: &mut Page, at: usize, count: usize) -> usize
 }
 
 // A field that the opcode, which is named, does not use.
-fn put_unused(page: &mut Page, at: usize, value: u64, opcode: u8) -> usize
+fn put_unused(page: &mut Page, at: usize, opcode: u8, value: u64) -> usize
     ensures { λ r. ⌜ ended (now (page .exit)) r ≡ putUnused (ended (now (page .entry)) at) value opcode ⌝ }
 {
     let to = page::fill(page, at, b" is #, and opcode # (", value, opcode as u64, 0);

@@ -14,7 +14,7 @@ use Rattle.rules.specs.Condition.{conditionBytes, Read, bad, read, conditionAt,
 use Rattle.rules.specs.Token.{isEmpty, content}
 use Rattle.rules.specs.Text.{unitAt, claimed, claimedTo, Claimed}
 use Rattle.rules.specs.Text as rules
-use Rattle.claims.specs.Units.{mostClaimed, Stands, Claims, unitOf}
+use Rattle.claims.specs.Units.{mostClaimed, UnitStands, Claims, unitOf}
 use Rattle.claims.specs.declared.Claim.{Claim}
 use Rattle.claims.specs.declared.Unit.{Unit}
 
@@ -78,7 +78,7 @@ module _ (text : List ℕ) (lines left stop : ℕ) (made : List ℕ) (from here 
           ap (claimedTo lines made (drop here text)) (sym some)
           ∙ one-more true (ap (λ (t : Bool). t || isEmpty (drop here text)) (le-leb stop (length made) h))
 
-      module _ (early : length made < stop) (u : Unit) (stands : Stands text (unitAt lines (drop here text)) u) where
+      module _ (early : length made < stop) (u : Unit) (stands : UnitStands text (unitAt lines (drop here text)) u) where
         one-unit : unitThen lines (left - 1) stop made (drop here text) (unitOf text u) ≡ claimed lines left stop made (drop from text)
         one-unit =
             ap (unitThen lines (left - 1) stop made (drop here text)) (stands .is)

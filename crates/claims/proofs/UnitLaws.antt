@@ -1,4 +1,5 @@
 -- What stands at a place of a condition. Assumes nothing.
+--     eight-bytes        a number's bytes
 --     place-bounds, register-most     a word's place in a list, and a thread's register
 --     symbol-..          a bracket, `and` or `or`
 --     number-.., sign-..     behind a thread's register
@@ -19,8 +20,14 @@ use Rattle.rules.specs.Text.{symbols, symbolIn, threadRegisterIn, comparisonOf,
 use Rattle.rules.specs.Text as rules
 use Rattle.token.specs.Places.{part}
 use Rattle.token.proofs.PlaceLaws.{left-by, part-token}
-use Rattle.claims.specs.Units.{Stands, unitOf, symbolAt, brokenOf}
+use Rattle.claims.specs.Units.{UnitStands, unitOf, symbolAt, brokenOf}
 use Rattle.claims.specs.declared.Unit.{Unit}
+
+-- a number's bytes, one by one
+pub eight-bytes : (bs : List ℕ) (n : ℕ) → bs ≡ little 8 n
+    → getD bs 0 0 ∷ getD bs 1 0 ∷ getD bs 2 0 ∷ getD bs 3 0 ∷ getD bs 4 0 ∷ getD bs 5 0 ∷ getD bs 6 0 ∷ getD bs 7 0 ∷ [] ≡ little 8 n
+unfolding little
+eight-bytes bs n e = rw e
 
 -- Bounds
 
@@ -93,16 +100,16 @@ only-by : (p : ℕ → Bool) (f : Found) (v : ℕ) (t : Bool) → f ≡ found v 
 only-by p f v t e h = ap (only p) e ∙ ap (λ (s : Bool). foundIf s v) h
 
 module _ (text : List ℕ) (at to : ℕ) where
-  pub symbol-none : (u : Unit) → (u .size ≡ 0) × (u .bytes ≡ replicate 11 0) → symbolIn (part at to text) ≡ nothing → Stands text (symbolAt at to text) u
+  pub symbol-none : (u : Unit) → (u .size ≡ 0) × (u .bytes ≡ replicate 11 0) → symbolIn (part at to text) ≡ nothing → UnitStands text (symbolAt at to text) u
   symbol-none u s m = record { is = is-none text u (s .0) ∙ sym (ap (λ (f : Found). symbolThen (drop to text) (only notSign f)) m); small = omega (arith, s .0); long = ap length (s .1) }
 
   module _ (v : ℕ) (m : symbolIn (part at to text) ≡ found v) where
-    pub symbol-sign : (u : Unit) → (u .size ≡ 0) × (u .bytes ≡ replicate 11 0) → v ≤ 6 → Stands text (symbolAt at to text) u
+    pub symbol-sign : (u : Unit) → (u .size ≡ 0) × (u .bytes ≡ replicate 11 0) → v ≤ 6 → UnitStands text (symbolAt at to text) u
     symbol-sign u s h =
         let e : only notSign (symbolIn (part at to text)) ≡ nothing = only-by notSign _ v false m (ap not (sign-yes v (symbol-least _ v m) h)) in
         record { is = is-none text u (s .0) ∙ sym (ap (symbolThen (drop to text)) e); small = omega (arith, s .0); long = ap length (s .1) }
 
-    pub symbol-here : 6 < v → Stands text (symbolAt at to text) (record { whole = true; size = 1; bytes = v ∷ 0 ∷ 0 ∷ 0 ∷ 0 ∷ 0 ∷ 0 ∷ 0 ∷ 0 ∷ 0 ∷ 0 ∷ []; at = to })
+    pub symbol-here : 6 < v → UnitStands text (symbolAt at to text) (record { whole = true; size = 1; bytes = v ∷ 0 ∷ 0 ∷ 0 ∷ 0 ∷ 0 ∷ 0 ∷ 0 ∷ 0 ∷ 0 ∷ 0 ∷ []; at = to })
     symbol-here h =
         let e : only notSign (symbolIn (part at to text)) ≡ found v = only-by notSign _ v true m (ap not (sign-not v (symbol-least _ v m) h)) in
         record { is = sym (ap (symbolThen (drop to text)) e); small = omega arith; long = refl }
@@ -143,7 +150,7 @@ module _ (text : List ℕ) (lines at to register : ℕ) (bs : List ℕ) (left : 
     number-there : (f : Found) → numberIn (part at to text) ≡ f → numberThen register sign (content lines bs) f ≡ numberBehind lines register sign bs
     number-there f e = ap (numberThen register sign (content lines bs)) (sym e ∙ ap numberIn word-there)
 
-    pub number-broken : (u : Unit) → u ≡ brokenOf register at → numberIn (part at to text) ≡ nothing → Stands text (numberBehind lines register sign bs) u
+    pub number-broken : (u : Unit) → u ≡ brokenOf register at → numberIn (part at to text) ≡ nothing → UnitStands text (numberBehind lines register sign bs) u
     number-broken u b e = rw b (record { is = is-broken ∙ number-there nothing e; small = omega arith; long = broken-long })
 
     compared-of : (v : ℕ) → take 11 (comparisonOf sign register v) ≡ comparisonOf sign register v
@@ -155,7 +162,7 @@ module _ (text : List ℕ) (lines at to register : ℕ) (bs : List ℕ) (left : 
     compared-long v = refl
 
     pub number-here : (bytes : List ℕ) (v : ℕ) → bytes ≡ comparisonOf sign register v → numberIn (part at to text) ≡ found v
-        → Stands text (numberBehind lines register sign bs) (record { whole = true; size = 11; bytes = bytes; at = to })
+        → UnitStands text (numberBehind lines register sign bs) (record { whole = true; size = 11; bytes = bytes; at = to })
     number-here bytes v b e = record {
       is =
           ap (λ (x : List ℕ). rules.unit x (drop to text)) (ap (take 11) b ∙ compared-of v)
@@ -168,15 +175,15 @@ module _ (text : List ℕ) (lines at to register : ℕ) (bs : List ℕ) (left : 
   sign-there : (f : Found) → only isSign (symbolIn (part at to text)) ≡ f → signThen lines register (content lines bs) f ≡ signBehind lines register bs
   sign-there f e = ap (signThen lines register (content lines bs)) (sym e ∙ ap (λ (w : List ℕ). only isSign (symbolIn w)) word-there)
 
-  pub sign-none : (u : Unit) → u ≡ brokenOf register at → symbolIn (part at to text) ≡ nothing → Stands text (signBehind lines register bs) u
+  pub sign-none : (u : Unit) → u ≡ brokenOf register at → symbolIn (part at to text) ≡ nothing → UnitStands text (signBehind lines register bs) u
   sign-none u b e = rw b (record { is = is-broken ∙ sign-there nothing (ap (only isSign) e); small = omega arith; long = broken-long })
 
   module _ (v : ℕ) (m : symbolIn (part at to text) ≡ found v) where
-    pub sign-other : (u : Unit) → u ≡ brokenOf register at → 6 < v → Stands text (signBehind lines register bs) u
+    pub sign-other : (u : Unit) → u ≡ brokenOf register at → 6 < v → UnitStands text (signBehind lines register bs) u
     sign-other u b h =
         rw b (record { is = is-broken ∙ sign-there nothing (only-by isSign _ v false m (sign-not v (symbol-least _ v m) h)); small = omega arith; long = broken-long })
 
-    pub sign-here : (u : Unit) → v ≤ 6 → Stands text (numberBehind lines register v (drop to text)) u → Stands text (signBehind lines register bs) u
+    pub sign-here : (u : Unit) → v ≤ 6 → UnitStands text (numberBehind lines register v (drop to text)) u → UnitStands text (signBehind lines register bs) u
     sign-here u h s = record {
       is =
           s .is
@@ -204,7 +211,7 @@ module _ (text : List ℕ) (lines at to : ℕ) (long : to ≡ at + tokenLength (
   named f e =
       ap (unitThen lines (drop at text)) (sym e ∙ ap threadRegisterIn (part-token text at to long)) ∙ sym (unit-next lines (drop at text))
 
-  pub unit-symbol : (u : Unit) → threadRegisterIn (part at to text) ≡ nothing → Stands text (symbolAt at to text) u → Stands text (unitAt lines (drop at text)) u
+  pub unit-symbol : (u : Unit) → threadRegisterIn (part at to text) ≡ nothing → UnitStands text (symbolAt at to text) u → UnitStands text (unitAt lines (drop at text)) u
   unit-symbol u e s = record {
     is =
         s .is
@@ -215,7 +222,7 @@ module _ (text : List ℕ) (lines at to : ℕ) (long : to ≡ at + tokenLength (
     long = s .long;
   }
 
-  pub unit-compared : (u : Unit) (v : ℕ) → threadRegisterIn (part at to text) ≡ found v → Stands text (signBehind lines v (drop to text)) u → Stands text (unitAt lines (drop at text)) u
+  pub unit-compared : (u : Unit) (v : ℕ) → threadRegisterIn (part at to text) ≡ found v → UnitStands text (signBehind lines v (drop to text)) u → UnitStands text (unitAt lines (drop at text)) u
   unit-compared u v e s = record {
     is = s .is ∙ ap (signBehind lines v) (left-by text at to _ long) ∙ named (found v) e;
     small = s .small;

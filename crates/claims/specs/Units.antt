@@ -1,6 +1,6 @@
 -- What the answers of this crate stand for in the definition. Assumes nothing.
 --     mostClaimed     the longest condition, and a comparison that broke off behind it
---     Stands          what stands at a place
+--     UnitStands          what stands at a place
 --     symbolAt          a bracket, `and` or `or`
 --     Claims          what was read of a condition
 --     Concludes       a text's condition, taken or refused
@@ -28,7 +28,7 @@ unitOf text u =
     cond (eqb (u .size) 0) rules.none
     (cond (u .whole) (rules.unit (take (u .size) (u .bytes)) (drop (u .at) text)) (rules.broken (take (u .size) (u .bytes)) (drop (u .at) text)))
 
-pub record Stands (text : List ℕ) (unit : rules.Unit) (u : Unit) : Type 0 where
+pub record UnitStands (text : List ℕ) (unit : rules.Unit) (u : Unit) : Type 0 where
   pub is : unitOf text u ≡ unit
   pub small : u .size ≤ 11
   pub long : length (u .bytes) ≡ 11

@@ -7,13 +7,14 @@ ghost use Prim.Native.Nat.{_+_, _≤_, _<_};
 ghost use lib.ListN.{drop, replicate};
 ghost use lib.Seq.{paste};
 ghost use Rattle.rules.specs.Text as rules;
-ghost use Rattle.claims.specs.Units.{mostClaimed, Stands, Claims, Concludes, symbolAt, brokenOf};
+ghost use Rattle.claims.specs.Units.{mostClaimed, UnitStands, Claims, Concludes, symbolAt, brokenOf};
 use condition::AT_LEAST;
 use condition::COMPARISON;
 use condition::CONDITION_BYTES;
 use condition::EQUALS;
 use condition::Extent;
 use layout::REGISTERS;
+use table::little::low_bytes;
 use token::Found;
 
 // The longest condition, and a comparison that broke off behind it.
@@ -46,20 +47,20 @@ pub struct Conclusion {
 
 // The condition that begins here, in a text of so many lines at most and a program of so many threads: its bytes are read, then judged. It is
 // refused where its first byte stands that cannot stand there.
-pub fn concluded(text: &[u8], at: usize, lines: usize, threads: usize) -> Conclusion
+pub fn concluded(text: &[u8], lines: usize, threads: usize, at: usize) -> Conclusion
     ensures { λ r. ⌜ Concludes (now (text .entry)) at lines threads r ⌝ }
 {
-    let all = claimed(text, at, lines, CONDITION_BYTES + 1);
+    let all = claimed(text, lines, CONDITION_BYTES + 1, at);
     let bytes = all.bytes;
     let length = all.length;
     match condition::first_bad(token::part(&bytes, 0, length), threads) {
-        Extent::Bad(stop) => refused(text, at, lines, stop),
+        Extent::Bad(stop) => refused(text, lines, stop, at),
         Extent::Ends(stop) => {
             if stop != length {
-                return refused(text, at, lines, stop);
+                return refused(text, lines, stop, at);
             }
             if !all.whole {
-                return refused(text, at, lines, stop);
+                return refused(text, lines, stop, at);
             }
             Conclusion {
                 taken: true,
@@ -72,10 +73,10 @@ pub fn concluded(text: &[u8], at: usize, lines: usize, threads: usize) -> Conclu
 }
 
 // A condition that is refused at its byte `stop`.
-fn refused(text: &[u8], at: usize, lines: usize, stop: usize) -> Conclusion
+fn refused(text: &[u8], lines: usize, stop: usize, at: usize) -> Conclusion
     ensures { λ r. ⌜ (r .taken ≡ false) × (r .length ≡ 0) × (r .bytes ≡ replicate mostClaimed 0) × (drop (r .at) (now (text .entry)) ≡ rules.claimed lines lines stop [] (drop at (now (text .entry))) .rest) ⌝ }
 {
-    let part = claimed(text, at, lines, stop);
+    let part = claimed(text, lines, stop, at);
     Conclusion {
         taken: false,
         at: part.at,
@@ -85,7 +86,7 @@ fn refused(text: &[u8], at: usize, lines: usize, stop: usize) -> Conclusion
 }
 
 // The bytes of the condition that begins here, up to the `stop`th.
-fn claimed(text: &[u8], at: usize, lines: usize, stop: usize) -> Claim
+fn claimed(text: &[u8], lines: usize, stop: usize, at: usize) -> Claim
     ensures { λ r. ⌜ Claims (now (text .entry)) lines (rules.claimed lines lines stop [] (drop at (now (text .entry)))) r ⌝ }
 {
     let mut bytes = [0u8; MOST_CLAIMED];
@@ -93,14 +94,14 @@ fn claimed(text: &[u8], at: usize, lines: usize, stop: usize) -> Claim
     let mut from = at;
     let mut left = lines;
     while 0 < left {
-        let here = token::content(text, from, lines);
+        let here = token::content(text, lines, from);
         if text.len() <= here {
             return claimed_to(bytes, length, here, true);
         }
         if stop <= length {
             return claimed_to(bytes, length, here, false);
         }
-        let unit = unit_at(text, here, lines);
+        let unit = unit_at(text, lines, here);
         let size = unit.size;
         let piece = unit.bytes;
         if size == 0 {
@@ -123,7 +124,7 @@ fn claimed(text: &[u8], at: usize, lines: usize, stop: usize) -> Claim
         from = unit.at;
         left -= 1;
     }
-    claimed_to(bytes, length, token::content(text, from, lines), false)
+    claimed_to(bytes, length, token::content(text, lines, from), false)
 }
 
 fn claimed_to(bytes: [u8; MOST_CLAIMED], length: usize, at: usize, whole: bool) -> Claim
@@ -157,19 +158,19 @@ fn appended(
 }
 
 // The unit that stands here.
-fn unit_at(text: &[u8], at: usize, lines: usize) -> Unit
-    ensures { λ r. ⌜ Stands (now (text .entry)) (rules.unitAt lines (drop at (now (text .entry)))) r ⌝ }
+fn unit_at(text: &[u8], lines: usize, at: usize) -> Unit
+    ensures { λ r. ⌜ UnitStands (now (text .entry)) (rules.unitAt lines (drop at (now (text .entry)))) r ⌝ }
 {
     let to = token::token_end(text, at);
     let Found::Value(register) = token::thread_register(text, at, to) else {
         return symbol_at(text, at, to);
     };
-    sign_behind(text, to, lines, register)
+    sign_behind(text, lines, register, to)
 }
 
 // A bracket, `and` or `or`.
 fn symbol_at(text: &[u8], at: usize, to: usize) -> Unit
-    ensures { λ r. ⌜ Stands (now (text .entry)) (symbolAt at to (now (text .entry))) r ⌝ }
+    ensures { λ r. ⌜ UnitStands (now (text .entry)) (symbolAt at to (now (text .entry))) r ⌝ }
 {
     let Found::Value(symbol) = token::symbol(text, at, to) else {
         return none(at);
@@ -197,11 +198,11 @@ fn none(at: usize) -> Unit
 }
 
 // Behind `THREAD.rREGISTER`.
-fn sign_behind(text: &[u8], from: usize, lines: usize, register: u64) -> Unit
+fn sign_behind(text: &[u8], lines: usize, register: u64, from: usize) -> Unit
     requires { ⌜ register < 20 ⌝ }
-    ensures { λ r. ⌜ Stands (now (text .entry)) (rules.signBehind lines register (drop from (now (text .entry)))) r ⌝ }
+    ensures { λ r. ⌜ UnitStands (now (text .entry)) (rules.signBehind lines register (drop from (now (text .entry)))) r ⌝ }
 {
-    let at = token::content(text, from, lines);
+    let at = token::content(text, lines, from);
     let to = token::token_end(text, at);
     let Found::Value(sign) = token::symbol(text, at, to) else {
         return broken(register, at);
@@ -209,15 +210,15 @@ fn sign_behind(text: &[u8], from: usize, lines: usize, register: u64) -> Unit
     if (AT_LEAST as u64) < sign {
         return broken(register, at);
     }
-    number_behind(text, to, lines, register, sign)
+    number_behind(text, lines, register, sign, to)
 }
 
 // Behind `THREAD.rREGISTER SIGN`.
-fn number_behind(text: &[u8], from: usize, lines: usize, register: u64, sign: u64) -> Unit
+fn number_behind(text: &[u8], lines: usize, register: u64, sign: u64, from: usize) -> Unit
     requires { ⌜ (register < 20) × (sign ≤ 6) ⌝ }
-    ensures { λ r. ⌜ Stands (now (text .entry)) (rules.numberBehind lines register sign (drop from (now (text .entry)))) r ⌝ }
+    ensures { λ r. ⌜ UnitStands (now (text .entry)) (rules.numberBehind lines register sign (drop from (now (text .entry)))) r ⌝ }
 {
-    let at = token::content(text, from, lines);
+    let at = token::content(text, lines, from);
     let to = token::token_end(text, at);
     let Found::Value(n) = token::number(text, at, to) else {
         return broken(register, at);
@@ -248,19 +249,18 @@ fn comparison(sign: u64, register: u64, n: u64) -> [u8; COMPARISON]
     requires { ⌜ (register < 20) × (sign ≤ 6) ⌝ }
     ensures { λ r. ⌜ r ≡ rules.comparisonOf sign register n ⌝ }
 {
-    let low = n % 0x1_0000_0000;
-    let high = n / 0x1_0000_0000;
+    let number = low_bytes(n);
     [
         sign as u8,
         (register / REGISTERS as u64) as u8,
         (register % REGISTERS as u64) as u8,
-        (low % 256) as u8,
-        (low / 256 % 256) as u8,
-        (low / 65536 % 256) as u8,
-        (low / 16777216 % 256) as u8,
-        (high % 256) as u8,
-        (high / 256 % 256) as u8,
-        (high / 65536 % 256) as u8,
-        (high / 16777216 % 256) as u8,
+        number[0],
+        number[1],
+        number[2],
+        number[3],
+        number[4],
+        number[5],
+        number[6],
+        number[7],
     ]
 }

@@ -12,7 +12,7 @@ use lib.ListN.{length, drop, length-drop}
 use lib.Seq.{drop-drop}
 use borrow.Author.Tests.{eq-eqb, ne-eqb}
 use Rattle.rules.specs.Condition.{Read, bad, read, nextByte, closes, groupAt, behind, mayJoin, joinedBy}
-use Rattle.condition.specs.Reads.{Reads, NextByte, readOf}
+use Rattle.condition.specs.Reads.{ReadsCondition, NextByte, readOf}
 use Rattle.condition.specs.declared.Read as code
 use Rattle.condition.specs.declared.Read.the-variants.{Bad, Value}
 
@@ -60,9 +60,9 @@ pub record Goes (bytes : List ℕ) (start : ℕ) (member : List ℕ → Read) (a
   pub left : Left member joint v (drop at bytes) (groupAt member (drop start bytes))
 
 module _ (bytes : List ℕ) (start : ℕ) (member : List ℕ → Read) {r : code.Read} where
-  pub begun : {v : Bool} {at : ℕ} → Reads bytes start r (member (drop start bytes)) → r ≡ Value v at → Goes bytes start member at 0 v
+  pub begun : {v : Bool} {at : ℕ} → ReadsCondition bytes start r (member (drop start bytes)) → r ≡ Value v at → Goes bytes start member at 0 v
   begun {v} {at} h e =
-      let first : Reads bytes start (Value v at) (member (drop start bytes)) = rw e at h in
+      let first : ReadsCondition bytes start (Value v at) (member (drop start bytes)) = rw e at h in
       record {
         from = first .on;
         within = first .within;
@@ -73,9 +73,9 @@ module _ (bytes : List ℕ) (start : ℕ) (member : List ℕ → Read) {r : code
         };
       }
 
-  pub first-bad : {at : ℕ} → Reads bytes start r (member (drop start bytes)) → r ≡ Bad at → Reads bytes start r (groupAt member (drop start bytes))
+  pub first-bad : {at : ℕ} → ReadsCondition bytes start r (member (drop start bytes)) → r ≡ Bad at → ReadsCondition bytes start r (groupAt member (drop start bytes))
   first-bad {at} h e =
-      let first : Reads bytes start (Bad at) (member (drop start bytes)) = rw e at h in
+      let first : ReadsCondition bytes start (Bad at) (member (drop start bytes)) = rw e at h in
       rw e (record { is = rw (sym (first .is), groupAt); on = first .on; within = first .within })
 
 module _ (bytes : List ℕ) (start : ℕ) (member : List ℕ → Read) (at joint : ℕ) (v : Bool) (goes : Goes bytes start member at joint v) where
@@ -89,10 +89,10 @@ module _ (bytes : List ℕ) (start : ℕ) (member : List ℕ → Read) (at joint
     pub there : m ≡ true → at < length bytes
     there e = byte .there (joins-there joint b (sym joins ∙ e))
 
-    module _ (e : m ≡ true) {r : code.Read} (h : Reads bytes (at + 1) r (member (drop (at + 1) bytes))) where
+    module _ (e : m ≡ true) {r : code.Read} (h : ReadsCondition bytes (at + 1) r (member (drop (at + 1) bytes))) where
       pub goes-on : {w j : Bool} {place b′ : ℕ} → NextByte bytes at b′ → r ≡ Value w place → j ≡ joinedBy b′ v w → Goes bytes start member place b′ j
       goes-on {w} {j} {place} {b′} byte′ d q =
-          let one : Reads bytes (at + 1) (Value w place) (member (drop (at + 1) bytes)) = rw d at h in
+          let one : ReadsCondition bytes (at + 1) (Value w place) (member (drop (at + 1) bytes)) = rw d at h in
           let l = there e in
           record {
             from = omega (arith, one .on, goes .from);
@@ -102,13 +102,13 @@ module _ (bytes : List ℕ) (start : ℕ) (member : List ℕ → Read) (at joint
 
       pub further : {w : Bool} {place : ℕ} → r ≡ Value w place → length bytes - place < length bytes - at
       further {w} {place} d =
-          let one : Reads bytes (at + 1) (Value w place) (member (drop (at + 1) bytes)) = rw d at h in
+          let one : ReadsCondition bytes (at + 1) (Value w place) (member (drop (at + 1) bytes)) = rw d at h in
           let l = there e in
           omega (arith, one .on)
 
-      pub goes-bad : {place : ℕ} → r ≡ Bad place → Reads bytes start r (groupAt member (drop start bytes))
+      pub goes-bad : {place : ℕ} → r ≡ Bad place → ReadsCondition bytes start r (groupAt member (drop start bytes))
       goes-bad {place} d =
-          let one : Reads bytes (at + 1) (Bad place) (member (drop (at + 1) bytes)) = rw d at h in
+          let one : ReadsCondition bytes (at + 1) (Bad place) (member (drop (at + 1) bytes)) = rw d at h in
           rw d (record {
             is = turn-bad member joint v _ (drop at bytes) (goes .left .turns) (goes .left .same) (goes .left .enough) (more (there e)) (joined e) (rw drop-drop (sym (one .is)));
             on = omega (arith, one .on, goes .from);
@@ -116,7 +116,7 @@ module _ (bytes : List ℕ) (start : ℕ) (member : List ℕ → Read) (at joint
           })
 
     module _ (e : m ≡ false) {b′ : ℕ} (byte′ : NextByte bytes at b′) where
-      pub stuck : (b′ ≡ closes → ⊥) → Reads bytes start (Bad at) (groupAt member (drop start bytes))
+      pub stuck : (b′ ≡ closes → ⊥) → ReadsCondition bytes start (Bad at) (groupAt member (drop start bytes))
       stuck d =
           record {
             is = turn-stuck member joint v _ (drop at bytes) (goes .left .turns) (goes .left .same) (cc (byte .is)) (λ q. d (byte′ .is ∙ q));
@@ -124,7 +124,7 @@ module _ (bytes : List ℕ) (start : ℕ) (member : List ℕ → Read) (at joint
             within = goes .within;
           }
 
-      pub closed : b′ ≡ closes → Reads bytes start (Value v (at + 1)) (groupAt member (drop start bytes))
+      pub closed : b′ ≡ closes → ReadsCondition bytes start (Value v (at + 1)) (groupAt member (drop start bytes))
       closed d =
           let l : at < length bytes = byte′ .there (omega arith) in
           record {

@@ -15,7 +15,7 @@ use lib.Seq.{getD-drop, drop-drop}
 use borrow.Author.Tests.{lt-leb, le-leb, eq-eqb, ne-eqb}
 use Rattle.rules.specs.Table.{u16At, u32At, u64At, isRegister}
 use Rattle.rules.specs.Condition.{Read, bad, read, nextByte, opens, isSign, compared, comparisonAt, conditionAt, groupAt}
-use Rattle.condition.specs.Reads.{Reads, NextByte}
+use Rattle.condition.specs.Reads.{ReadsCondition, NextByte}
 use Rattle.condition.specs.declared.Read as code
 use Rattle.condition.specs.declared.Read.the-variants.{Bad, Value}
 
@@ -33,7 +33,7 @@ module _ (bytes : List ℕ) (at : ℕ) where
 -- A comparison
 
 module _ (threads : ℕ) (register : ℕ → ℕ → ℕ) (bytes : List ℕ) (at : ℕ) where
-  pub short : at ≤ length bytes → length bytes - at < 11 → Reads bytes at (Bad at) (comparisonAt threads register (drop at bytes))
+  pub short : at ≤ length bytes → length bytes - at < 11 → ReadsCondition bytes at (Bad at) (comparisonAt threads register (drop at bytes))
   unfolding comparisonAt
   short l h = record { is = rw (length-drop, lt-leb 11 (length bytes - at) h); on = omega arith; within = l }
 
@@ -45,26 +45,26 @@ module _ (threads : ℕ) (register : ℕ → ℕ → ℕ) (bytes : List ℕ) (at
     fields = rw (s, t, p, here bytes at, number bytes at, length-drop, le-leb 11 (length bytes - at) h) (simp (getD-drop, drop-drop))
 
     module _ {i : Bool} (d : i ≡ isSign sign) where
-      pub wrong : ((i && ltb thread threads) && isRegister place) ≡ false → Reads bytes at (Bad at) (comparisonAt threads register (drop at bytes))
+      pub wrong : ((i && ltb thread threads) && isRegister place) ≡ false → ReadsCondition bytes at (Bad at) (comparisonAt threads register (drop at bytes))
       wrong e = record { is = rw (fields, ← d, e); on = omega arith; within = omega arith }
 
       pub right : ((i && ltb thread threads) && isRegister place) ≡ true → {x n : ℕ} {v : Bool} → x ≡ register thread place → n ≡ u64At bytes (at + 3) → v ≡ compared sign x n →
-          Reads bytes at (Value v (at + 11)) (comparisonAt threads register (drop at bytes))
+          ReadsCondition bytes at (Value v (at + 11)) (comparisonAt threads register (drop at bytes))
       right e q m r = record { is = rw (fields, ← d, e, r, q, m); on = omega arith; within = omega arith }
 
 -- A condition
 
 module _ (threads : ℕ) (register : ℕ → ℕ → ℕ) (bytes : List ℕ) (at : ℕ) {r : code.Read} where
-  pub bare : {deep : ℕ} → deep ≡ 0 → Reads bytes at r (comparisonAt threads register (drop at bytes)) → Reads bytes at r (conditionAt threads register deep (drop at bytes))
+  pub bare : {deep : ℕ} → deep ≡ 0 → ReadsCondition bytes at r (comparisonAt threads register (drop at bytes)) → ReadsCondition bytes at r (conditionAt threads register deep (drop at bytes))
   unfolding conditionAt
   bare e h = rw e h
 
-  pub alone : (deep : ℕ) {b : ℕ} → NextByte bytes at b → (b ≡ opens → ⊥) → Reads bytes at r (comparisonAt threads register (drop at bytes)) → Reads bytes at r (conditionAt threads register deep (drop at bytes))
+  pub alone : (deep : ℕ) {b : ℕ} → NextByte bytes at b → (b ≡ opens → ⊥) → ReadsCondition bytes at r (comparisonAt threads register (drop at bytes)) → ReadsCondition bytes at r (conditionAt threads register deep (drop at bytes))
   unfolding conditionAt
   alone zero n d h = h
   alone (suc deep) n d h = rw (ne-eqb _ _ (λ (q : nextByte (drop at bytes) ≡ opens). d (n .is ∙ q))) h
 
-  pub opened : (deep : ℕ) {b : ℕ} → NextByte bytes at b → b ≡ opens → (deep ≡ 0 → ⊥) → Reads bytes (at + 1) r (groupAt (conditionAt threads register (deep - 1)) (drop (at + 1) bytes)) → Reads bytes at r (conditionAt threads register deep (drop at bytes))
+  pub opened : (deep : ℕ) {b : ℕ} → NextByte bytes at b → b ≡ opens → (deep ≡ 0 → ⊥) → ReadsCondition bytes (at + 1) r (groupAt (conditionAt threads register (deep - 1)) (drop (at + 1) bytes)) → ReadsCondition bytes at r (conditionAt threads register deep (drop at bytes))
   unfolding conditionAt
   opened zero n e z h = absurd (z refl)
   opened (suc deep) n e z h =

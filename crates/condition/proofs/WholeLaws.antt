@@ -13,7 +13,7 @@ use borrow.Author.Tests.{lt-leb, le-leb, eq-eqb, ne-eqb}
 use Rattle.rules.specs.Condition as rules
 use Rattle.rules.specs.Condition.{bad, read, conditionAt, claimAt, ends, groupsDeep, isCondition, holds}
 use Rattle.rules.specs.State.{valuesHeld}
-use Rattle.condition.specs.Reads.{Reads, registerIn, readOf, foundIn}
+use Rattle.condition.specs.Reads.{ReadsCondition, registerValue, readOf, foundIn}
 use Rattle.condition.specs.declared.Read as code
 use Rattle.condition.specs.declared.Read.the-variants.{Bad, Value}
 use Rattle.condition.specs.declared.Extent.{Extent}
@@ -25,21 +25,21 @@ zero-at zero k = refl
 zero-at (suc n) zero = refl
 zero-at (suc n) (suc k) = zero-at n k
 
-nothing-held : registerIn (replicate valuesHeld 0) ≡ (λ (t r : ℕ). 0)
+nothing-held : registerValue (replicate valuesHeld 0) ≡ (λ (t r : ℕ). 0)
 nothing-held = λ i t r. zero-at valuesHeld (28 + (4 * t + r)) i
 
-module _ (threads : ℕ) (bytes : List ℕ) {r : code.Read} (h : Reads bytes 0 r (conditionAt threads (registerIn (replicate valuesHeld 0)) groupsDeep (drop 0 bytes))) where
+module _ (threads : ℕ) (bytes : List ℕ) {r : code.Read} (h : ReadsCondition bytes 0 r (conditionAt threads (registerValue (replicate valuesHeld 0)) groupsDeep (drop 0 bytes))) where
   back : {at : ℕ} → at ≤ length bytes → at ≡ length bytes - length (drop at bytes)
   back l = simp length-drop (omega arith)
 
   pub found-bad : {at : ℕ} → r ≡ Bad at → found.Bad at ≡ foundIn (length bytes) (conditionAt threads (λ (t r : ℕ). 0) groupsDeep bytes)
   found-bad {at} e =
-      let one : Reads bytes 0 (Bad at) (conditionAt threads (registerIn (replicate valuesHeld 0)) groupsDeep bytes) = rw e at h in
+      let one : ReadsCondition bytes 0 (Bad at) (conditionAt threads (registerValue (replicate valuesHeld 0)) groupsDeep bytes) = rw e at h in
       rw (← nothing-held, ← one .is) (ap found.Bad (back (one .within)))
 
   pub found-end : {v : Bool} {at : ℕ} → r ≡ Value v at → found.Ends at ≡ foundIn (length bytes) (conditionAt threads (λ (t r : ℕ). 0) groupsDeep bytes)
   found-end {v} {at} e =
-      let one : Reads bytes 0 (Value v at) (conditionAt threads (registerIn (replicate valuesHeld 0)) groupsDeep bytes) = rw e at h in
+      let one : ReadsCondition bytes 0 (Value v at) (conditionAt threads (registerValue (replicate valuesHeld 0)) groupsDeep bytes) = rw e at h in
       rw (← nothing-held, ← one .is) (ap found.Ends (back (one .within)))
 
 module _ (threads : ℕ) (register : ℕ → ℕ → ℕ) where
@@ -52,17 +52,17 @@ module _ (threads : ℕ) (register : ℕ → ℕ → ℕ) where
   none-holds [] e = refl
   none-holds (b ∷ bytes) e = absurd (omega arith)
 
-  module _ (bytes : List ℕ) (d : length bytes ≡ 0 → ⊥) {r : code.Read} (h : Reads bytes 0 r (conditionAt threads register groupsDeep (drop 0 bytes))) where
+  module _ (bytes : List ℕ) (d : length bytes ≡ 0 → ⊥) {r : code.Read} (h : ReadsCondition bytes 0 r (conditionAt threads register groupsDeep (drop 0 bytes))) where
     pub bad-fails : {at : ℕ} → r ≡ Bad at → false ≡ holds threads register bytes
     unfolding holds
     bad-fails {at} e =
-        let one : Reads bytes 0 (Bad at) (conditionAt threads register groupsDeep bytes) = rw e at h in
+        let one : ReadsCondition bytes 0 (Bad at) (conditionAt threads register groupsDeep bytes) = rw e at h in
         rw (claims bytes d, ← one .is)
 
     pub read-holds : {v : Bool} {at : ℕ} → r ≡ Value v at → v ≡ holds threads register bytes
     unfolding holds
     read-holds {v} {at} e =
-        let one : Reads bytes 0 (Value v at) (conditionAt threads register groupsDeep bytes) = rw e at h in
+        let one : ReadsCondition bytes 0 (Value v at) (conditionAt threads register groupsDeep bytes) = rw e at h in
         rw (claims bytes d, ← one .is)
 
 -- what follows is none

@@ -11,8 +11,8 @@ use Rattle.condition.specs.declared.Extent.{Extent}
 use Rattle.condition.specs.declared.Extent.the-variants as found
 
 -- a thread's register in the table of values
-abbrev pub registerIn : Values → ℕ → ℕ → ℕ
-registerIn values t r = value values (ofRegister (registerAt t r))
+abbrev pub registerValue : Values → ℕ → ℕ → ℕ
+registerValue values t r = value values (ofRegister (registerAt t r))
 
 -- what was read by places is what the definition reads by what follows
 abbrev pub readOf : List ℕ → Read → rules.Read
@@ -24,7 +24,7 @@ readTo (Bad at) = at
 readTo (Value holds at) = at
 
 -- what was read from this place on, and where it ends
-pub record Reads (bytes : List ℕ) (at : ℕ) (r : Read) (answer : rules.Read) : Type 0 where
+pub record ReadsCondition (bytes : List ℕ) (at : ℕ) (r : Read) (answer : rules.Read) : Type 0 where
   pub is : readOf bytes r ≡ answer
   pub on : at ≤ readTo r
   pub within : readTo r ≤ length bytes

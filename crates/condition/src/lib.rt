@@ -5,7 +5,7 @@ ghost use mathlib.Core.Path.{_≡_};
 ghost use Prim.Native.Nat.{ℕ, _≤_};
 ghost use lib.ListN.{length, drop};
 ghost use Rattle.rules.specs.Condition as rules;
-ghost use Rattle.condition.specs.Reads.{Reads, NextByte, foundIn, registerIn};
+ghost use Rattle.condition.specs.Reads.{ReadsCondition, NextByte, foundIn, registerValue};
 use layout::REGISTERS;
 use layout::VALUES;
 use layout::Values;
@@ -31,9 +31,9 @@ pub const OPENS: u8 = 7;
 
 pub const CLOSES: u8 = 8;
 
-pub const AND: u8 = 9;
+pub const BOTH: u8 = 9;
 
-pub const OR: u8 = 10;
+pub const EITHER: u8 = 10;
 
 // In bytes: a comparison, and the longest condition.
 pub const COMPARISON: usize = 11;
@@ -83,7 +83,7 @@ pub fn first_bad(bytes: &[u8], threads: usize) -> Extent
     ensures { λ r. ⌜ r ≡ foundIn (length (now (bytes .entry))) (rules.conditionAt threads (λ t r. 0) rules.groupsDeep (now (bytes .entry))) ⌝ }
 {
     let zeros = [0u64; VALUES];
-    match condition(bytes, &zeros, 0, DEEP, threads) {
+    match condition(bytes, &zeros, threads, DEEP, 0) {
         Read::Bad(at) => Extent::Bad(at),
         Read::Value(_, at) => Extent::Ends(at),
     }
@@ -91,37 +91,37 @@ pub fn first_bad(bytes: &[u8], threads: usize) -> Extent
 
 // Whether the condition holds with which these bytes begin. No byte is no condition, and holds.
 pub fn holds(bytes: &[u8], values: &Values, threads: usize) -> bool
-    ensures { λ r. ⌜ r ≡ rules.holds threads (registerIn (now (values .entry))) (now (bytes .entry)) ⌝ }
+    ensures { λ r. ⌜ r ≡ rules.holds threads (registerValue (now (values .entry))) (now (bytes .entry)) ⌝ }
 {
     if bytes.len() == 0 {
         return true;
     }
-    match condition(bytes, values, 0, DEEP, threads) {
+    match condition(bytes, values, threads, DEEP, 0) {
         Read::Bad(_) => false,
         Read::Value(holds, _) => holds,
     }
 }
 
 // The condition that begins here, with at most so many groups in each other.
-fn condition(bytes: &[u8], values: &Values, at: usize, deep: usize, threads: usize) -> Read
+fn condition(bytes: &[u8], values: &Values, threads: usize, deep: usize, at: usize) -> Read
     requires { ⌜ at ≤ length (now bytes) ⌝ }
-    ensures { λ r. ⌜ Reads (now (bytes .entry)) at r (rules.conditionAt threads (registerIn (now (values .entry))) deep (drop at (now (bytes .entry)))) ⌝ }
+    ensures { λ r. ⌜ ReadsCondition (now (bytes .entry)) at r (rules.conditionAt threads (registerValue (now (values .entry))) deep (drop at (now (bytes .entry)))) ⌝ }
 {
     if deep == 0 {
-        return comparison(bytes, values, at, threads);
+        return comparison(bytes, values, threads, at);
     }
     if byte_at(bytes, at) == OPENS {
-        return group(bytes, values, at + 1, deep - 1, threads);
+        return group(bytes, values, threads, deep - 1, at + 1);
     }
-    comparison(bytes, values, at, threads)
+    comparison(bytes, values, threads, at)
 }
 
 // The rest of a group, behind its opening bracket. All its members are joined by the same joint.
-fn group(bytes: &[u8], values: &Values, start: usize, deep: usize, threads: usize) -> Read
+fn group(bytes: &[u8], values: &Values, threads: usize, deep: usize, start: usize) -> Read
     requires { ⌜ start ≤ length (now bytes) ⌝ }
-    ensures { λ r. ⌜ Reads (now (bytes .entry)) start r (rules.groupAt (rules.conditionAt threads (registerIn (now (values .entry))) deep) (drop start (now (bytes .entry)))) ⌝ }
+    ensures { λ r. ⌜ ReadsCondition (now (bytes .entry)) start r (rules.groupAt (rules.conditionAt threads (registerValue (now (values .entry))) deep) (drop start (now (bytes .entry)))) ⌝ }
 {
-    let first = condition(bytes, values, start, deep, threads);
+    let first = condition(bytes, values, threads, deep, start);
     let Read::Value(value, behind) = first else {
         return first;
     };
@@ -130,7 +130,7 @@ fn group(bytes: &[u8], values: &Values, start: usize, deep: usize, threads: usiz
     let mut joint = 0;
     while may_join(joint, byte_at(bytes, at)) {
         joint = byte_at(bytes, at);
-        let member = condition(bytes, values, at + 1, deep, threads);
+        let member = condition(bytes, values, threads, deep, at + 1);
         let Read::Value(value, behind) = member else {
             return member;
         };
@@ -144,9 +144,9 @@ fn group(bytes: &[u8], values: &Values, start: usize, deep: usize, threads: usiz
 }
 
 // The comparison that begins here.
-fn comparison(bytes: &[u8], values: &Values, at: usize, threads: usize) -> Read
+fn comparison(bytes: &[u8], values: &Values, threads: usize, at: usize) -> Read
     requires { ⌜ at ≤ length (now bytes) ⌝ }
-    ensures { λ r. ⌜ Reads (now (bytes .entry)) at r (rules.comparisonAt threads (registerIn (now (values .entry))) (drop at (now (bytes .entry)))) ⌝ }
+    ensures { λ r. ⌜ ReadsCondition (now (bytes .entry)) at r (rules.comparisonAt threads (registerValue (now (values .entry))) (drop at (now (bytes .entry)))) ⌝ }
 {
     if bytes.len() - at < COMPARISON {
         return Read::Bad(at);
@@ -182,13 +182,13 @@ pub fn is_sign(byte: u8) -> bool
 fn may_join(joint: u8, byte: u8) -> bool
     ensures { λ r. ⌜ r ≡ rules.mayJoin joint byte ⌝ }
 {
-    ((byte == AND) | (byte == OR)) & ((joint == 0) | (joint == byte))
+    ((byte == BOTH) | (byte == EITHER)) & ((joint == 0) | (joint == byte))
 }
 
 fn joined_by(joint: u8, left: bool, right: bool) -> bool
     ensures { λ r. ⌜ r ≡ rules.joinedBy joint left right ⌝ }
 {
-    if joint == AND {
+    if joint == BOTH {
         return left & right;
     }
     left | right
@@ -211,7 +211,7 @@ pub fn compared(sign: u8, x: u64, n: u64) -> bool
 // What the register holds; 0 where there is none.
 fn register_of(values: &[u64], thread: usize, register: usize) -> u64
     requires { ⌜ (thread ≤ 255) × (register ≤ 255) ⌝ }
-    ensures { λ r. ⌜ r ≡ registerIn (now (values .entry)) thread register ⌝ }
+    ensures { λ r. ⌜ r ≡ registerValue (now (values .entry)) thread register ⌝ }
 {
     let at = REGISTER + register_at(thread, register);
     if at < values.len() {

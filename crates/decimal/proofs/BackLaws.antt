@@ -5,20 +5,20 @@ use mathlib.Core.List.{List, [], _∷_, _++_, append-assoc, append-nil}
 use native.Mathlib.Omega.{arith}
 use Rattle.digits.specs.Shown.{digit, shown}
 use Rattle.digits.proofs.ShownLaws.{shown-small, shown-large, tenfold, some}
-use Rattle.decimal.specs.Decimal.{withDigit, extended, behind, numberOf}
+use Rattle.decimal.specs.Decimal.{withDigit, extended, withDigits, numberSpelled}
 use Rattle.decimal.specs.declared.Parsed.the-variants.{Number}
 use Rattle.decimal.proofs.Laws.{one-more, behind-all}
 
 -- the digits of n in front of others
 abbrev Read : ℕ → Type 0
-Read n = n < 2 ^ 64 → (bs : List ℕ) → behind (Number 0) (shown n ++ bs) ≡ behind (Number n) bs
+Read n = n < 2 ^ 64 → (bs : List ℕ) → withDigits (Number 0) (shown n ++ bs) ≡ withDigits (Number n) bs
 
 -- one digit more makes n of m
-read-one : (m d n : ℕ) (bs : List ℕ) → d < 10 → extended m (digit d) ≡ n → n < 2 ^ 64 → behind (Number m) (digit d ∷ bs) ≡ behind (Number n) bs
-unfolding behind
+read-one : (m d n : ℕ) (bs : List ℕ) → d < 10 → extended m (digit d) ≡ n → n < 2 ^ 64 → withDigits (Number m) (digit d ∷ bs) ≡ withDigits (Number n) bs
+unfolding withDigits
 read-one m d n bs s e h =
-    ap (λ p. behind p bs) (sym (one-more m (digit d) (omega arith) (omega arith) (omega arith)))
-    ∙ ap (λ (k : ℕ). behind (Number k) bs) e
+    ap (λ p. withDigits p bs) (sym (one-more m (digit d) (omega arith) (omega arith) (omega arith)))
+    ∙ ap (λ (k : ℕ). withDigits (Number k) bs) e
 
 read-small : (n : ℕ) → n < 10 → Read n
 read-small n s h bs = rw (shown-small n s) (read-one 0 n n bs s (omega arith) h)
@@ -27,9 +27,9 @@ read-large : (n : ℕ) → 10 ≤ n → Read (n / 10) → Read n
 read-large n s before h bs =
     rw (shown-large n s, append-assoc) (before (omega arith) (digit (n % 10) ∷ bs) ∙ read-one (n / 10) (n % 10) n bs (omega arith) (omega arith) h)
 
-pub read-back : (n : ℕ) → n < 2 ^ 64 → numberOf (shown n) ≡ Number n
-unfolding behind
+pub read-back : (n : ℕ) → n < 2 ^ 64 → numberSpelled (shown n) ≡ Number n
+unfolding withDigits
 read-back n h =
     sym (behind-all (shown n) (some n))
-    ∙ ap (behind (Number 0)) (sym (append-nil (shown n)))
+    ∙ ap (withDigits (Number 0)) (sym (append-nil (shown n)))
     ∙ tenfold Read read-small read-large n h []

@@ -8,7 +8,7 @@ use native.Mathlib.Omega.{arith}
 use borrow.Author.Tests.{lt-ltb, le-ltb, le-leb, lt-leb}
 use lib.ListN.{length, getD, drop, drop-of-length-le}
 use lib.Seq.{drop-cons}
-use Rattle.decimal.specs.Decimal.{withDigit, extended, behind, numberOf, between}
+use Rattle.decimal.specs.Decimal.{withDigit, extended, withDigits, numberSpelled, between}
 use Rattle.decimal.specs.declared.Parsed.{Parsed}
 use Rattle.decimal.specs.declared.Parsed.the-variants.{Number, Bad}
 
@@ -29,26 +29,26 @@ module _ (n b : ℕ) where
   unfolding withDigit
   one-more l h f = simp (le-leb 48 b l, le-leb b 57 h, lt-ltb _ _ f)
 
-pub behind-bad : (bs : List ℕ) → behind Bad bs ≡ Bad
-unfolding behind
+pub behind-bad : (bs : List ℕ) → withDigits Bad bs ≡ Bad
+unfolding withDigits
 behind-bad [] = refl
 behind-bad (b ∷ bs) = refl
 
-pub behind-next : (text : List ℕ) (i n : ℕ) → i < length text → behind (Number n) (drop i text) ≡ behind (withDigit n (getD text i 0)) (drop (i + 1) text)
-unfolding behind
+pub behind-next : (text : List ℕ) (i n : ℕ) → i < length text → withDigits (Number n) (drop i text) ≡ withDigits (withDigit n (getD text i 0)) (drop (i + 1) text)
+unfolding withDigits
 behind-next text i n h = rw (add-one, drop-cons text i 0)
 
-pub behind-all : (text : List ℕ) → 0 < length text → behind (Number 0) (drop 0 text) ≡ numberOf text
-unfolding numberOf
+pub behind-all : (text : List ℕ) → 0 < length text → withDigits (Number 0) (drop 0 text) ≡ numberSpelled text
+unfolding numberSpelled
 behind-all [] h = absurd (not-suc-le-zero h)
 behind-all (b ∷ bs) h = refl
 
-pub behind-end : (p : Parsed) (text : List ℕ) (i : ℕ) → length text ≤ i → behind p (drop i text) ≡ p
-unfolding behind
+pub behind-end : (p : Parsed) (text : List ℕ) (i : ℕ) → length text ≤ i → withDigits p (drop i text) ≡ p
+unfolding withDigits
 behind-end p text i h = rw (drop-of-length-le text {i = i} h)
 
-pub empty : (text : List ℕ) → length text ≡ 0 → Bad ≡ numberOf text
-unfolding numberOf
+pub empty : (text : List ℕ) → length text ≡ 0 → Bad ≡ numberSpelled text
+unfolding numberSpelled
 empty [] h = refl
 empty (b ∷ bs) h = absurd (omega (arith, h))
 

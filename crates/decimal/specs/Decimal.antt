@@ -1,6 +1,6 @@
 -- Which number a text of decimal digits spells. A text is the list of its bytes. Assumes nothing.
---     withDigit   a number with one more digit behind it
---     numberOf    the number that a text spells
+--     withDigit   a number with one more digit withDigits it
+--     numberSpelled    the number that a text spells
 --     between     a number in a range, and nothing else
 use Prim.Native.Nat.{ℕ, _+_, _*_, _-_, _^_}
 use mathlib.Core.List.{List, [], _∷_}
@@ -21,15 +21,15 @@ unfoldable pub withDigit : ℕ → ℕ → Parsed
 withDigit n b = cond (isDigit b && ltb (extended n b) (2 ^ 64)) (Number (extended n b)) Bad
 
 -- the digits behind what was read so far
-unfoldable pub behind : Parsed → List ℕ → Parsed
-behind p [] = p
-behind (Number n) (b ∷ bs) = behind (withDigit n b) bs
-behind Bad (b ∷ bs) = Bad
+unfoldable pub withDigits : Parsed → List ℕ → Parsed
+withDigits p [] = p
+withDigits (Number n) (b ∷ bs) = withDigits (withDigit n b) bs
+withDigits Bad (b ∷ bs) = Bad
 
 -- at least one
-unfoldable pub numberOf : List ℕ → Parsed
-numberOf [] = Bad
-numberOf (b ∷ bs) = behind (Number 0) (b ∷ bs)
+unfoldable pub numberSpelled : List ℕ → Parsed
+numberSpelled [] = Bad
+numberSpelled (b ∷ bs) = withDigits (Number 0) (b ∷ bs)
 
 -- not below least and not above most
 unfoldable pub between : ℕ → ℕ → Parsed → Parsed

@@ -1,6 +1,6 @@
 // Decimal numbers in texts.
 ghost use mathlib.Core.Path.{_≡_};
-ghost use Rattle.decimal.specs.Decimal.{numberOf, between, withDigit};
+ghost use Rattle.decimal.specs.Decimal.{numberSpelled, between, withDigit};
 
 // A number that was read, or a text that is none.
 pub enum Parsed {
@@ -13,7 +13,7 @@ const MOST: u64 = 1844674407370955161;
 
 // The number that a text spells: digits only, at least one, and below 2^64.
 pub fn number(text: &[u8]) -> Parsed
-    ensures { λ r. ⌜ r ≡ numberOf (now (text .entry)) ⌝ }
+    ensures { λ r. ⌜ r ≡ numberSpelled (now (text .entry)) ⌝ }
 {
     if text.len() == 0 {
         return Parsed::Bad;
@@ -32,7 +32,7 @@ pub fn number(text: &[u8]) -> Parsed
 
 // The number that a text spells, if it is not below `least` and not above `most`.
 pub fn number_between(text: &[u8], least: u64, most: u64) -> Parsed
-    ensures { λ r. ⌜ r ≡ between least most (numberOf (now (text .entry))) ⌝ }
+    ensures { λ r. ⌜ r ≡ between least most (numberSpelled (now (text .entry))) ⌝ }
 {
     let Parsed::Number(value) = number(text) else {
         return Parsed::Bad;

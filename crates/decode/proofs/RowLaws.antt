@@ -154,11 +154,11 @@ with-mut-made cells r h w e0 e1 e2 e3 = h ∙ rw (e0, e1, e2, e3, ← w) (simp (
 pub with-mut-refused : (cells : ℕ) (r : Row) {w : Decoded rules.Change} → refused ≡ w → refused ≡ withMutRow cells r w
 with-mut-refused cells r w = rw (← w)
 
-pub fence-made : (r : Row) {p q : Bool} {d : Decoded Op} →
-    d ≡ onlyIf (isFenceOrder (r .order) && eqb (r .object) 0 && p && eqb (r .register) 0 && eqb (r .target) 0 && q) (fence (r .order)) →
-    p ≡ unchanging r → q ≡ bare r →
+pub fence-made : (r : Row) {o p q : Bool} {d : Decoded Op} →
+    d ≡ onlyIf (o && eqb (r .object) 0 && p && eqb (r .register) 0 && eqb (r .target) 0 && q) (fence (r .order)) →
+    o ≡ isFenceOrder (r .order) → p ≡ unchanging r → q ≡ bare r →
     d ≡ fenceRow r
-fence-made r h e0 e1 = h ∙ rw (e0, e1) (simp (and-assoc, and-true))
+fence-made r h e0 e1 e2 = h ∙ rw (e0, e1, e2) (simp (and-assoc, and-true))
 
 pub bare-made : (r : Row) (op : Op) {p q : Bool} {d : Decoded Op} →
     d ≡ onlyIf (eqb (r .object) 0 && eqb (r .order) 0 && p && eqb (r .register) 0 && eqb (r .target) 0 && q) (op) →

@@ -54,8 +54,8 @@ rowMeant r = record {
   b = r .b;
 }
 
-abbrev pub roomOf : Room → rules.Room
-roomOf r = record { threads = r .threads; cells = r .cells; plains = r .plains; rows = r .rows; row = r .row }
+abbrev pub roomMeant : Room → rules.Room
+roomMeant r = record { threads = r .threads; cells = r .cells; plains = r .plains; rows = r .rows; row = r .row }
 
 -- every cell, plain cell and register that is named is below 4, every thread below 5
 abbrev pub inRange : rules.Op → Type 0

@@ -6,12 +6,24 @@ ghost use Rattle.rules.specs.Table as rules;
 ghost use Rattle.change.specs.Changes.{changeMeant};
 ghost use Rattle.decode.specs.Ops.{changeDecodedOf};
 use crate::Row;
+use crate::kinds::ADD;
+use crate::kinds::AND;
 use crate::kinds::COMPARE;
 use crate::kinds::DECREMENT;
+use crate::kinds::MAX;
+use crate::kinds::MIN;
+use crate::kinds::NAND;
+use crate::kinds::OR;
+use crate::kinds::SIGNED_MAX;
+use crate::kinds::SIGNED_MIN;
+use crate::kinds::SUBTRACT;
+use crate::kinds::SWAP;
+use crate::kinds::XOR;
 use change::Change;
 use layout::REGISTERS;
 use layout::order::ACQ_REL;
 use layout::order::ACQUIRE;
+use layout::order::RELAXED;
 use layout::order::RELEASE;
 use layout::order::SEQ_CST;
 
@@ -26,19 +38,19 @@ pub fn change_of(kind: u8, a: u64, b: u64) -> ChangeDecoded
     ensures { λ r. ⌜ changeDecodedOf r ≡ rules.changeDecoded kind a b ⌝ }
 {
     match kind {
-        0 => change_if(b == 0, Change::Swap(a)),
-        1 => change_if(b == 0, Change::Add(a)),
-        2 => change_if(b == 0, Change::Subtract(a)),
-        3 => change_if(b == 0, Change::And(a)),
-        4 => change_if(b == 0, Change::Or(a)),
-        5 => change_if(b == 0, Change::Xor(a)),
-        6 => change_if(b == 0, Change::Nand(a)),
-        7 => change_if(b == 0, Change::Max(a)),
-        8 => change_if(b == 0, Change::Min(a)),
-        9 => change_if(b == 0, Change::SignedMax(a)),
-        10 => change_if(b == 0, Change::SignedMin(a)),
-        11 => ChangeDecoded::Change(Change::Compare(a, b)),
-        12 => change_if((a == 0) & (b == 0), Change::Decrement),
+        SWAP => change_if(b == 0, Change::Swap(a)),
+        ADD => change_if(b == 0, Change::Add(a)),
+        SUBTRACT => change_if(b == 0, Change::Subtract(a)),
+        AND => change_if(b == 0, Change::And(a)),
+        OR => change_if(b == 0, Change::Or(a)),
+        XOR => change_if(b == 0, Change::Xor(a)),
+        NAND => change_if(b == 0, Change::Nand(a)),
+        MAX => change_if(b == 0, Change::Max(a)),
+        MIN => change_if(b == 0, Change::Min(a)),
+        SIGNED_MAX => change_if(b == 0, Change::SignedMax(a)),
+        SIGNED_MIN => change_if(b == 0, Change::SignedMin(a)),
+        COMPARE => ChangeDecoded::Change(Change::Compare(a, b)),
+        DECREMENT => change_if((a == 0) & (b == 0), Change::Decrement),
         13..=255 => ChangeDecoded::Refused,
     }
 }
@@ -54,7 +66,7 @@ fn change_if(fine: bool, change: Change) -> ChangeDecoded
 }
 
 // Whether a cell or a thread exists, where there are this many.
-pub fn named(object: u8, present: usize) -> bool
+pub fn named(present: usize, object: u8) -> bool
     ensures { λ r. ⌜ r ≡ ltb object present ⌝ }
 {
     (object as usize) < present
@@ -67,14 +79,14 @@ pub fn is_register(register: u8) -> bool
 }
 
 // Whether a jump ends at a row or at the row count.
-pub fn reached(target: u16, count: usize) -> bool
+pub fn reached(count: usize, target: u16) -> bool
     ensures { λ r. ⌜ r ≡ leb target count ⌝ }
 {
     (target as usize) <= count
 }
 
 // Whether a jump ends at another row than its own.
-pub fn leads_on(target: u16, own: usize) -> bool
+pub fn leads_on(own: usize, target: u16) -> bool
     ensures { λ r. ⌜ r ≡ not (eqb target own) ⌝ }
 {
     (target as usize) != own
@@ -91,6 +103,12 @@ pub fn is_store_order(order: u8) -> bool
     ensures { λ r. ⌜ r ≡ rules.isStoreOrder order ⌝ }
 {
     (order <= SEQ_CST) & (order != ACQUIRE) & (order != ACQ_REL)
+}
+
+pub fn is_fence_order(order: u8) -> bool
+    ensures { λ r. ⌜ r ≡ rules.isFenceOrder order ⌝ }
+{
+    (order <= SEQ_CST) & (order != RELAXED)
 }
 
 // Only a change that may fail uses a failure order.

@@ -23,7 +23,7 @@ use Rattle.rules.specs.Explorer as explorer
 use Rattle.rules.specs.Explorer.{Walk, Execution, executionOf, Tick, goes, over, faulted, stopsHere, goesOn, stop, nextLedger, after}
 use Rattle.ledger.specs.History.{leftBy}
 use Rattle.layout.specs.Tables.{state}
-use Rattle.condition.specs.Reads.{registerIn}
+use Rattle.condition.specs.Reads.{registerValue}
 use Rattle.path.specs.Holds.{Holds}
 use Rattle.path.specs.Steps.{AnyOpen}
 use Rattle.event.specs.declared.Fault.{Fault}
@@ -46,7 +46,7 @@ no-threads (b ∷ table) e = absurd (omega arith)
 
 -- The end of an execution
 
-pub held-by : (table condition : List ℕ) (values : Values) {threads : ℕ} {held : Bool} → threads ≡ threadsOf table → held ≡ claims.holds threads (registerIn values) condition → held ≡ metBy table condition values
+pub held-by : (table condition : List ℕ) (values : Values) {threads : ℕ} {held : Bool} → threads ≡ threadsOf table → held ≡ claims.holds threads (registerValue values) condition → held ≡ metBy table condition values
 held-by table condition values e h = rw e at h
 
 module _ (path : List ℕ) (met : Bool) (o : Outcome) (len : ℕ) (last : Bool) where

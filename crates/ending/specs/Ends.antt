@@ -15,7 +15,7 @@ use Rattle.rules.specs.Condition as claims
 use Rattle.rules.specs.Event.{noSite}
 use Rattle.rules.specs.Path.{Branch, openIn}
 use Rattle.layout.specs.Tables.{state}
-use Rattle.condition.specs.Reads.{registerIn}
+use Rattle.condition.specs.Reads.{registerValue}
 use Rattle.path.specs.Holds.{Holds}
 use Rattle.event.specs.declared.Fault.the-variants as fault
 use Rattle.event.specs.declared.Site.{Site}
@@ -31,7 +31,7 @@ use Rattle.ending.specs.declared.After.the-variants as afterwards
 
 -- whether the final condition holds of the registers in these values
 abbrev pub metBy : List ℕ → List ℕ → Values → Bool
-metBy table condition values = claims.holds (threadsOf table) (registerIn values) condition
+metBy table condition values = claims.holds (threadsOf table) (registerValue values) condition
 
 -- the site of a fault that no thread meets
 abbrev pub atNoSite : Site

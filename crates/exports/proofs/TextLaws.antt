@@ -8,7 +8,7 @@ use lib.ListN.{length, getD}
 use borrow.Author.Tests.{eq-eqb, ne-eqb}
 use Rattle.rules.specs.Text.{readInto}
 use Rattle.rules.specs.Writer.{writtenInto}
-use Rattle.reader.specs.Lines.{answerOf, readOf}
+use Rattle.reader.specs.Lines.{textAnswerOf, withBuffers}
 use Rattle.reader.specs.declared.TextAnswer.{TextAnswer}
 use Rattle.writer.specs.Answers.{writtenOf, withText}
 use Rattle.writer.specs.declared.Written.{Written}
@@ -24,8 +24,8 @@ module _ (text table condition numbers : List ℕ) where
   read-so n = rw (eq-eqb (length numbers) 5 n) refl
 
   pub read-made : length numbers ≡ 5 → (r : TextAnswer) (five : List ℕ) {exitTable exitCondition left : List ℕ}
-      → readOf r exitTable exitCondition ≡ readInto text table condition
-      → five ≡ readNumbers (answerOf r) → left ≡ five
+      → withBuffers r exitTable exitCondition ≡ readInto text table condition
+      → five ≡ readNumbers (textAnswerOf r) → left ≡ five
       → readLeft (getD five 0 0) exitTable exitCondition left ≡ readEntered text table condition numbers
   read-made n r five e f g = rw (g, f) (ap readBy e ∙ sym (read-so n))
 

@@ -1,6 +1,6 @@
 // The entries for texts. What the reader and the writer answer goes out as numbers.
 ghost use mathlib.Core.Path.{_≡_};
-ghost use Rattle.reader.specs.Lines.{answerOf};
+ghost use Rattle.reader.specs.Lines.{textAnswerOf};
 ghost use Rattle.writer.specs.Answers.{writtenOf};
 ghost use Rattle.exports.specs.Texts.{readNumbers, writtenNumbers, readLeft, readEntered, writtenLeft, writtenEntered};
 use crate::NO_RUN;
@@ -63,7 +63,7 @@ pub extern "C" fn chjirvollu_write(
 
 // The reader's answer as numbers.
 fn read_numbers(read: TextAnswer) -> [u64; READ_NUMBERS]
-    ensures { λ r. ⌜ r ≡ readNumbers (answerOf read) ⌝ }
+    ensures { λ r. ⌜ r ≡ readNumbers (textAnswerOf read) ⌝ }
 {
     match read {
         TextAnswer::NoRoom => [NO_ROOM, TABLE_BYTES as u64, CONDITION_BYTES as u64, 0, 0],

@@ -18,7 +18,7 @@ use Rattle.rules.specs.Event.{little}
 use Rattle.rules.specs.Form.{fieldsAsBytes}
 use Rattle.rules.specs.Text.{Draft, tableOf, filled, withCell, withPlain, withThread, withRow, rowsSoFar, tableBytes}
 use Rattle.rules.proofs.LittleLaws.{little-long}
-use Rattle.filling.specs.Tables.{Held, Counts, howMany, oneMore}
+use Rattle.filling.specs.Tables.{HeldTable, CountsAt, howMany, withValue}
 
 -- Bytes behind those that are there
 
@@ -58,7 +58,7 @@ length-tableOf m h = simp length-append (omega arith)
 
 pub so-held : (exit : List ℕ) (room n : ℕ) (m : Draft) → exit ≡ filled room (tableOf m) → tableBytes ≤ room → m .threads ≤ 5 → m .cells ≤ 4 → m .plains ≤ 4
     → length (m .counts) ≡ 5 → ((i : ℕ) → getD (m .counts) i 0 ≤ maxRows) → n ≡ 8 + length (m .body) → length (m .body) ≡ 8 * (m .cells + m .plains) + 24 * total (m .counts)
-    → Held exit n m
+    → HeldTable exit n m
 so-held exit room n m e r threads cells plains five few long body =
     let most = total-most (m .counts) few in
     let fits : length (tableOf m) ≤ room = omega (arith, length-tableOf m five) in
@@ -103,7 +103,7 @@ module _ (room : ℕ) (m : Draft) (five : length (m .counts) ≡ 5) where
       ∙ sym (append-assoc (m .counts) (v ∷ m .body) zeros))
       ∙ ap (λ (k : ℕ). tableOf (plained m v) ++ replicate (room - k) 0) same
 
-module _ (b : List ℕ) (n : ℕ) (m : Draft) (held : Held b n m) where
+module _ (b : List ℕ) (n : ℕ) (m : Draft) (held : HeldTable b n m) where
   pub held-threads : getD b 0 0 ≡ m .threads
   held-threads = ap (λ (x : List ℕ). getD x 0 0) (held .is)
 
@@ -113,7 +113,7 @@ module _ (b : List ℕ) (n : ℕ) (m : Draft) (held : Held b n m) where
   pub held-plains : getD b 7 0 ≡ m .plains
   held-plains = ap (λ (x : List ℕ). getD x 7 0) (held .is) ∙ get-plains (length b) m (held .five)
 
-  pub held-many : (place : ℕ) → Counts place → getD b place 0 ≡ howMany place m
+  pub held-many : (place : ℕ) → CountsAt place → getD b place 0 ≡ howMany place m
   held-many place (inl e) = rw e held-cells
   held-many place (inr e) = rw e held-plains
 
@@ -138,7 +138,7 @@ module _ (b : List ℕ) (n : ℕ) (m : Draft) (held : Held b n m) where
     pub mid-threads : getD mid 0 0 ≡ m .threads
     mid-threads = ap (λ (x : List ℕ). getD x 0 0) mid-is
 
-    pub mid-many : (place : ℕ) → Counts place → getD mid place 0 ≡ howMany place m
+    pub mid-many : (place : ℕ) → CountsAt place → getD mid place 0 ≡ howMany place m
     mid-many place (inl e) = rw e (ap (λ (x : List ℕ). getD x 1 0) mid-is)
     mid-many place (inr e) = rw e (ap (λ (x : List ℕ). getD x 7 0) mid-is ∙ get-plains (length b) (grown m bytes) (held .five))
 
@@ -149,7 +149,7 @@ module _ (b : List ℕ) (n : ℕ) (m : Draft) (held : Held b n m) where
   value-fits : m .cells + m .plains < 8 → n + 8 ≤ length b
   value-fits h = omega (arith, held .room, held .long, held .body, held .five, total-most (m .counts) (held .few))
 
-  pub value-room : (place : ℕ) → Counts place → howMany place m < 4 → n + 8 ≤ length b
+  pub value-room : (place : ℕ) → CountsAt place → howMany place m < 4 → n + 8 ≤ length b
   value-room place (inl e) h = let few : m .cells < 4 = rw e at h in value-fits (omega (arith, held .plains))
   value-room place (inr e) h = let few : m .plains < 4 = rw e at h in value-fits (omega (arith, held .cells))
 
@@ -160,14 +160,14 @@ module _ (b : List ℕ) (n : ℕ) (m : Draft) (held : Held b n m) where
     value-is : mid ≡ filled (length b) (tableOf (grown m (little 8 v)))
     value-is = p ∙ grown-held bytes (omega (arith, ap length e, eight)) ∙ ap (λ (x : List ℕ). filled (length b) (tableOf (grown m x))) e
 
-    held-cell : m .cells < 4 → Held (set mid 1 (getD mid 1 0 + 1)) (n + 8) (withCell m v)
+    held-cell : m .cells < 4 → HeldTable (set mid 1 (getD mid 1 0 + 1)) (n + 8) (withCell m v)
     held-cell h =
         let size = length-append (m .body) (little 8 v) in
         so-held (set mid 1 (getD mid 1 0 + 1)) (length b) (n + 8) (withCell m v) (ap (λ (x : List ℕ). set x 1 (getD x 1 0 + 1)) value-is) (held .room) (held .threads) (omega arith) (held .plains) (held .five) (held .few)
         (omega (arith, held .long, eight))
         (omega (arith, held .body, eight))
 
-    held-plain : m .plains < 4 → Held (set mid 7 (getD mid 7 0 + 1)) (n + 8) (withPlain m v)
+    held-plain : m .plains < 4 → HeldTable (set mid 7 (getD mid 7 0 + 1)) (n + 8) (withPlain m v)
     held-plain h =
         let size = length-append (m .body) (little 8 v) in
         so-held (set mid 7 (getD mid 7 0 + 1)) (length b) (n + 8) (withPlain m v)
@@ -178,19 +178,19 @@ module _ (b : List ℕ) (n : ℕ) (m : Draft) (held : Held b n m) where
         (omega (arith, held .long, eight))
         (omega (arith, held .body, eight))
 
-    pub held-value : (place : ℕ) → Counts place → howMany place m < 4 → Held (set mid place (getD mid place 0 + 1)) (n + 8) (oneMore place m v)
+    pub held-value : (place : ℕ) → CountsAt place → howMany place m < 4 → HeldTable (set mid place (getD mid place 0 + 1)) (n + 8) (withValue place m v)
     held-value place (inl e) h = rw e (held-cell (rw e at h))
     held-value place (inr e) h = rw e (held-plain (rw e at h))
 
-  pub held-thread : m .threads < 5 → Held (set b 0 (getD b 0 0 + 1)) n (withThread m)
+  pub held-thread : m .threads < 5 → HeldTable (set b 0 (getD b 0 0 + 1)) n (withThread m)
   held-thread h =
       so-held (set b 0 (getD b 0 0 + 1)) (length b) n (withThread m) (ap (λ (x : List ℕ). set x 0 (getD x 0 0 + 1)) (held .is)) (held .room) (omega arith) (held .cells) (held .plains) (held .five) (held .few) (held .long) (held .body)
 
-pub counts-low : (place : ℕ) → Counts place → place ≤ 7
+pub counts-low : (place : ℕ) → CountsAt place → place ≤ 7
 counts-low place (inl e) = omega arith
 counts-low place (inr e) = omega arith
 
-pub more-many : (place : ℕ) (m : Draft) (v : ℕ) → howMany place (oneMore place m v) ≡ howMany place m + 1
+pub more-many : (place : ℕ) (m : Draft) (v : ℕ) → howMany place (withValue place m v) ≡ howMany place m + 1
 more-many place m v =
     elim (eqb place 1) as (λ t. cond t ((cond t (withCell m v) (withPlain m v)) .cells) ((cond t (withCell m v) (withPlain m v)) .plains) ≡ cond t (m .cells) (m .plains) + 1) [
       | true ↦ refl
@@ -234,7 +234,7 @@ length-rowBytes (f0 ∷ f1 ∷ f2 ∷ f3 ∷ f4 ∷ f5 ∷ f6 ∷ []) h = absurd
 length-rowBytes (f0 ∷ f1 ∷ f2 ∷ f3 ∷ f4 ∷ f5 ∷ f6 ∷ f7 ∷ []) h = absurd (omega arith)
 length-rowBytes (f0 ∷ f1 ∷ f2 ∷ f3 ∷ f4 ∷ f5 ∷ f6 ∷ f7 ∷ f8 ∷ f9 ∷ fs) h = absurd (omega arith)
 
-module _ (b : List ℕ) (n : ℕ) (m : Draft) (held : Held b n m) (some : 1 ≤ getD b 0 0) where
+module _ (b : List ℕ) (n : ℕ) (m : Draft) (held : HeldTable b n m) (some : 1 ≤ getD b 0 0) where
   pub begun : 1 ≤ m .threads
   begun = omega (arith, held-threads b n m held)
 
@@ -248,7 +248,7 @@ module _ (b : List ℕ) (n : ℕ) (m : Draft) (held : Held b n m) (some : 1 ≤ 
       ∙ ap (λ (x : List ℕ). getD x (suc (suc (m .threads - 1))) 0) (held .is)
       ∙ get-count (length b) m (m .threads - 1) last
 
-module _ (b : List ℕ) (n : ℕ) (m : Draft) (held : Held b n m) (some : 1 ≤ getD b 0 0) (fewer : getD b (1 + getD b 0 0) 0 < maxRows) where
+module _ (b : List ℕ) (n : ℕ) (m : Draft) (held : HeldTable b n m) (some : 1 ≤ getD b 0 0) (fewer : getD b (1 + getD b 0 0) 0 < maxRows) where
   row-some : 1 ≤ m .threads
   row-some = begun b n m held some
 
@@ -291,7 +291,7 @@ module _ (b : List ℕ) (n : ℕ) (m : Draft) (held : Held b n m) (some : 1 ≤ 
       ∙ get-count (length b) (grown m bytes) (m .threads - 1) inside
 
   pub held-row : (fields bytes mid : List ℕ) → bytes ≡ fieldsAsBytes fields → length fields ≡ 9 → mid ≡ paste b n bytes (length bytes)
-      → Held (set mid (1 + getD mid 0 0) (getD mid (1 + getD mid 0 0) 0 + 1)) (n + 24) (withRow m fields)
+      → HeldTable (set mid (1 + getD mid 0 0) (getD mid (1 + getD mid 0 0) 0 + 1)) (n + 24) (withRow m fields)
   held-row fields bytes mid e nine p =
       let long : length (fieldsAsBytes fields) ≡ 24 = length-rowBytes fields nine in
       let all : length bytes ≡ 24 = ap length e ∙ long in

@@ -20,9 +20,9 @@ use Rattle.form.specs.Rows.{followedOf}
 use Rattle.form.specs.declared.RowRead.{RowRead}
 use Rattle.token.specs.Places.{part}
 use Rattle.token.proofs.PlaceLaws.{left-by, part-token}
-use Rattle.filling.specs.Tables.{Held, howMany, oneMore}
+use Rattle.filling.specs.Tables.{HeldTable, howMany, withValue}
 use Rattle.filling.proofs.HeldLaws.{held-threads}
-use Rattle.filling.specs.Steps.{Lined, Steps, Bare, threadLine, rowLine}
+use Rattle.filling.specs.Steps.{Lined, LineSteps, Bare, aThreadAt, aRowAt}
 use Rattle.filling.specs.declared.Line.{Line}
 use Rattle.filling.specs.declared.Line.the-variants.{GoesOn, Refused, Concludes}
 
@@ -34,7 +34,7 @@ module _ (text : List ℕ) (from here rows : ℕ) (skipped : drop here text ≡ 
   bare-is m t e = ap (λ (bs : List ℕ). bareBy rows m bs (endsLine bs)) (sym skipped) ∙ ap (bareBy rows m (drop here text)) e
 
   pub bare-on : (next more : ℕ) → drop next text ≡ nextLine (drop here text) → endsLine (drop here text) ≡ true
-      → (table : List ℕ) (n : ℕ) (m : Draft) → Held table more m → Lined text table n (bareThen rows m (drop from text)) (GoesOn rows more next)
+      → (table : List ℕ) (n : ℕ) (m : Draft) → HeldTable table more m → Lined text table n (bareThen rows m (drop from text)) (GoesOn (record { rows = rows; length = more; at = next }))
   bare-on next more onward e table n m held = (m, (bare-is m true e ∙ ap (rules.goesOn rows m) (sym onward), held))
 
   pub bare-refused : endsLine (drop here text) ≡ false
@@ -45,15 +45,15 @@ pub lined-by : (text table : List ℕ) (n : ℕ) (line other : rules.Line) (r : 
 lined-by text table n line other r e x = subst (λ (l : rules.Line). Lined text table n l r) e x
 
 pub lined-bare : (text : List ℕ) (from rows more : ℕ) (r : Line) → Bare text from rows more r
-    → (table : List ℕ) (n : ℕ) (m : Draft) → Held table more m → (other : rules.Line) → bareThen rows m (drop from text) ≡ other → Lined text table n other r
+    → (table : List ℕ) (n : ℕ) (m : Draft) → HeldTable table more m → (other : rules.Line) → bareThen rows m (drop from text) ≡ other → Lined text table n other r
 lined-bare text from rows more r bare table n m held other e = lined-by text table n (bareThen rows m (drop from text)) other r e (bare table n m held)
 
-pub lined-steps : (text entry exit : List ℕ) (n : ℕ) (r : Line) (line : Draft → rules.Line) → Steps text entry exit n r line
-    → (m : Draft) → Held entry n m → (other : rules.Line) → line m ≡ other → Lined text exit n other r
+pub lined-steps : (text entry exit : List ℕ) (n : ℕ) (r : Line) (line : Draft → rules.Line) → LineSteps text entry exit n r line
+    → (m : Draft) → HeldTable entry n m → (other : rules.Line) → line m ≡ other → Lined text exit n other r
 lined-steps text entry exit n r line steps m held other e = lined-by text exit n (line m) other r e (steps .is m held)
 
 -- `finally`: by whether the buffer has a thread
-module _ (text table : List ℕ) (n here to : ℕ) (line : rules.Line) (m : Draft) (held : Held table n m)
+module _ (text table : List ℕ) (n here to : ℕ) (line : rules.Line) (m : Draft) (held : HeldTable table n m)
     (some : 1 ≤ m .threads → line ≡ rules.concludes m (drop to text)) (none : m .threads < 1 → line ≡ rules.refusedLine (drop here text)) where
   condition-by : (b : Bool) → ltb 0 (getD table 0 0) ≡ b → Lined text table n line (cond b (Concludes to) (Refused here))
   condition-by true e = (m, (some (omega (arith, ltb-true 0 (getD table 0 0) e, held-threads table n m held)), held))
@@ -67,9 +67,9 @@ module _ (text table : List ℕ) (n here to : ℕ) (line : rules.Line) (m : Draf
 -- on the way, with so many more that may come
 pub record Underway (text table : List ℕ) (place n left from : ℕ) (whole : rules.Line) : Type 0 where
   pub made : Draft
-  pub held : Held table n made
+  pub held : HeldTable table n made
   pub count : howMany place made + left ≤ 4
-  pub same : valuesLine (oneMore place) (howMany place) left made (drop from text) ≡ whole
+  pub same : valuesLine (withValue place) (howMany place) left made (drop from text) ≡ whole
 
 module _ (more : Draft → ℕ → Draft) (many : Draft → ℕ) where
   abbrev valuesBy : ℕ → Draft → List ℕ → List ℕ → Found → rules.Line
@@ -115,10 +115,10 @@ module _ (more : Draft → ℕ → Draft) (many : Draft → ℕ) where
 -- A thread, a row
 
 module _ (lines : ℕ) (m : Draft) (here past : List ℕ) where
-  pub thread-refused : 5 ≤ m .threads → threadLine lines m here past ≡ rules.refusedLine here
+  pub thread-refused : 5 ≤ m .threads → aThreadAt lines m here past ≡ rules.refusedLine here
   thread-refused h = rw (le-ltb (m .threads) 5 h)
 
-  pub thread-begun : m .threads < 5 → rules.bareThen (rules.rowsAhead lines (nextLine here)) (rules.withThread m) past ≡ threadLine lines m here past
+  pub thread-begun : m .threads < 5 → rules.bareThen (rules.rowsAhead lines (nextLine here)) (rules.withThread m) past ≡ aThreadAt lines m here past
   thread-begun h = rw (lt-ltb (m .threads) 5 h)
 
 module _ (all rows : ℕ) (m : Draft) (bs here : List ℕ) where
@@ -130,23 +130,23 @@ module _ (all rows : ℕ) (m : Draft) (bs here : List ℕ) where
   rowBy s t f = cond (s && t) (rules.rowLine rows m f) (rules.refusedLine here)
 
   row-by : (s t : Bool) → leb 1 (m .threads) ≡ s → ltb (rowsSoFar m) maxRows ≡ t → (f : Followed) → rowIn room bs ≡ f
-      → rowLine all rows m bs here ≡ rowBy s t f
+      → aRowAt all rows m bs here ≡ rowBy s t f
   row-by s t e d f g =
       ap (λ (b : Bool). rowBy b (ltb (rowsSoFar m) maxRows) (rowIn room bs)) e
       ∙ ap (λ (b : Bool). rowBy s b (rowIn room bs)) d
       ∙ ap (rowBy s t) g
 
-  pub row-early : m .threads < 1 → rowLine all rows m bs here ≡ rules.refusedLine here
+  pub row-early : m .threads < 1 → aRowAt all rows m bs here ≡ rules.refusedLine here
   row-early h = row-by false _ (lt-leb 1 (m .threads) h) refl _ refl
 
-  pub row-full : 1 ≤ m .threads → maxRows ≤ rowsSoFar m → rowLine all rows m bs here ≡ rules.refusedLine here
+  pub row-full : 1 ≤ m .threads → maxRows ≤ rowsSoFar m → aRowAt all rows m bs here ≡ rules.refusedLine here
   row-full h l = row-by true false (le-leb 1 (m .threads) h) (le-ltb (rowsSoFar m) maxRows l) _ refl
 
-  pub row-stuck : 1 ≤ m .threads → rowsSoFar m < maxRows → (rest : List ℕ) → rowIn room bs ≡ stuck rest → rowLine all rows m bs here ≡ rules.refusedLine rest
+  pub row-stuck : 1 ≤ m .threads → rowsSoFar m < maxRows → (rest : List ℕ) → rowIn room bs ≡ stuck rest → aRowAt all rows m bs here ≡ rules.refusedLine rest
   row-stuck h l rest e = row-by true true (le-leb 1 (m .threads) h) (lt-ltb (rowsSoFar m) maxRows l) (stuck rest) e
 
   pub row-fits : 1 ≤ m .threads → rowsSoFar m < maxRows → (fields rest : List ℕ) → rowIn room bs ≡ fits fields rest
-      → rowLine all rows m bs here ≡ rules.goesOn rows (withRow m fields) rest
+      → aRowAt all rows m bs here ≡ rules.goesOn rows (withRow m fields) rest
   row-fits h l fields rest e = row-by true true (le-leb 1 (m .threads) h) (lt-ltb (rowsSoFar m) maxRows l) (fits fields rest) e
 
 pub followed-stuck : (text : List ℕ) (r : RowRead) → r .fits ≡ false → followedOf text r ≡ stuck (drop (r .at) text)

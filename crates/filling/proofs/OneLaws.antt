@@ -17,8 +17,8 @@ use Rattle.rules.specs.Text.{Draft, lineOf, valuesLine}
 use Rattle.token.specs.Places.{part}
 use Rattle.token.proofs.PlaceLaws.{left-by, part-token}
 use Rattle.ahead.proofs.AheadLaws.{is}
-use Rattle.filling.specs.Tables.{Held, howMany, oneMore}
-use Rattle.filling.specs.Steps.{isPlains, threadLine, rowLine}
+use Rattle.filling.specs.Tables.{HeldTable, howMany, withValue}
+use Rattle.filling.specs.Steps.{isPlains, aThreadAt, aRowAt}
 use Rattle.filling.proofs.HeldLaws.{held-threads, held-plains}
 
 pub cells-bytes : bytesOf "cells" ≡ 99 ∷ 101 ∷ 108 ∷ 108 ∷ 115 ∷ []
@@ -30,7 +30,7 @@ says-cells text at to r e t h = ap (equal (part at to text)) cells-bytes ∙ sym
 
 -- start values that the header counts at this place
 abbrev pub values : ℕ → Draft → List ℕ → rules.Line
-values place m bs = valuesLine (oneMore place) (howMany place) 4 m bs
+values place m bs = valuesLine (withValue place) (howMany place) 4 m bs
 
 -- the line of the plain cells, by its first word
 abbrev pub plains : Draft → List ℕ → Bool
@@ -52,7 +52,7 @@ module _ (b word : List ℕ) where
       let none = and-eq-true-iff (eqb (getD b 0 0) 0 && eqb (getD b 7 0) 0) (equal word (bytesOf "plain")) .0 (sym e ∙ h) .0 in
       eqb-true (getD b 7 0) 0 (and-eq-true-iff (eqb (getD b 0 0) 0) (eqb (getD b 7 0) 0) .0 none .1)
 
-  pub plains-held : (n : ℕ) (m : Draft) → Held b n m → (r : Bool) → r ≡ isPlains b word → (t : Bool) → r ≡ t → plains m word ≡ t
+  pub plains-held : (n : ℕ) (m : Draft) → HeldTable b n m → (r : Bool) → r ≡ isPlains b word → (t : Bool) → r ≡ t → plains m word ≡ t
   plains-held n m held r e t h = rw (← held-threads b n m held, ← held-plains b n m held) (sym e ∙ h)
 
 module _ (lines all rows : ℕ) (m : Draft) (bs : List ℕ) where
@@ -71,8 +71,8 @@ module _ (lines all rows : ℕ) (m : Draft) (bs : List ℕ) where
       (cond b (rules.goesOn rows m (nextLine here))
       (cond z (cellsBy here past w)
       (cond x (values 7 m past)
-      (cond t (threadLine lines m here past)
-      (cond f (finallyBy here past begun) (rowLine all rows m bs here))))))
+      (cond t (aThreadAt lines m here past)
+      (cond f (finallyBy here past begun) (aRowAt all rows m bs here))))))
 
   line-next : lineOf lines all rows m bs
       ≡ lineBy (pastBlanks bs) (pastToken (pastBlanks bs)) (leb 1 (m .threads)) (isEmpty (pastBlanks bs)) (endsLine (pastBlanks bs)) (eqb (m .cells) 0) (equal (token (pastBlanks bs)) (bytesOf "cells")) (plains m (token (pastBlanks bs))) (equal (token (pastBlanks bs)) (bytesOf "thread")) (equal (token (pastBlanks bs)) (bytesOf "finally"))
@@ -144,7 +144,7 @@ module _ (text : List ℕ) (lines all rows : ℕ) (m : Draft) (from here : ℕ) 
         line-plains e = sym (line-is (drop to text) past-to _ false false false _ true _ _ refl some says (ne-eqb (m .cells) 0 z) refl (first-word true e) refl refl)
 
         module _ (past-plains : plains m (part here to text) ≡ false) where
-          pub line-thread : is "thread" here to text ≡ true → threadLine lines m (drop here text) (drop to text) ≡ lineOf lines all rows m (drop from text)
+          pub line-thread : is "thread" here to text ≡ true → aThreadAt lines m (drop here text) (drop to text) ≡ lineOf lines all rows m (drop from text)
           line-thread e = sym (line-is (drop to text) past-to _ false false false _ false true _ refl some says (ne-eqb (m .cells) 0 z) refl (first-word false past-plains) (word "thread" true e) refl)
 
           module _ (other : is "thread" here to text ≡ false) where
@@ -154,5 +154,5 @@ module _ (text : List ℕ) (lines all rows : ℕ) (m : Draft) (from here : ℕ) 
             pub line-finally : is "finally" here to text ≡ true → 1 ≤ m .threads → lineOf lines all rows m (drop from text) ≡ rules.concludes m (drop to text)
             line-finally e l = line-is (drop to text) past-to true false false false _ false false true (le-leb 1 (m .threads) l) some says (ne-eqb (m .cells) 0 z) refl (first-word false past-plains) (word "thread" false other) (word "finally" true e)
 
-            pub line-row : is "finally" here to text ≡ false → rowLine all rows m (drop from text) (drop here text) ≡ lineOf lines all rows m (drop from text)
+            pub line-row : is "finally" here to text ≡ false → aRowAt all rows m (drop from text) (drop here text) ≡ lineOf lines all rows m (drop from text)
             line-row e = sym (line-is (drop to text) past-to _ false false false _ false false false refl some says (ne-eqb (m .cells) 0 z) refl (first-word false past-plains) (word "thread" false other) (word "finally" false e))

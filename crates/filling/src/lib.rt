@@ -8,11 +8,10 @@ ghost use lib.Seq.{paste};
 ghost use Rattle.rules.specs.Table.{headerBytes};
 ghost use Rattle.rules.specs.Text as rules;
 ghost use Rattle.token.specs.Places.{part};
-ghost use Rattle.filling.specs.Tables.{Holds, RowFits, Counts, howMany, oneMore, Grows};
-ghost use Rattle.filling.specs.Steps.{Bare, Steps, isPlains, threadLine, rowLine};
+ghost use Rattle.filling.specs.Tables.{HoldsTable, RowFits, CountsAt, howMany, withValue, Grows};
+ghost use Rattle.filling.specs.Steps.{Bare, LineSteps, isPlains, aThreadAt, aRowAt};
 use form::Fields;
 use form::Room;
-use form::low_bytes;
 use layout::MAX_CELLS;
 use layout::MAX_PLAINS;
 use layout::MAX_THREADS;
@@ -23,57 +22,61 @@ use table::limits::PLAIN_COUNT;
 use table::limits::ROW_BYTES;
 use table::limits::THREAD_COUNT;
 use table::limits::VALUE_BYTES;
+use table::little::low_bytes;
 use token::Found;
 
-// How a line comes out: the next one follows, in a thread of so many rows, behind a table of so many bytes; it is refused at a place; the
-// text ends; the condition follows.
+// How far a text is read: to a line that begins at this place, in a thread of so many rows, behind a table of so many bytes.
+pub struct Reached {
+    pub rows: usize,
+    pub length: usize,
+    pub at: usize,
+}
+
+// How a line comes out: the next one follows; it is refused at a place; the text ends; the condition follows.
 pub enum Line {
-    GoesOn(usize, usize, usize),
+    GoesOn(Reached),
     Refused(usize),
     Ended,
     Concludes(usize),
 }
 
-// One line, in a text of so many lines at most and so many threads, in a thread of so many rows.
-pub fn line_of(
-    text: &[u8],
-    table: &mut [u8],
-    from: usize,
-    lines: usize,
-    all: usize,
-    rows: usize,
-    length: usize,
-) -> Line
-    requires { ⌜ Holds (now table) length ⌝ }
-    ensures { λ r. ⌜ Steps (now (text .entry)) (now (table .entry)) (now (table .exit)) length r (λ m. rules.lineOf lines all rows m (drop from (now (text .entry)))) ⌝ }
+// One line, in a text of so many lines at most and so many threads.
+pub fn line_of(text: &[u8], table: &mut [u8], lines: usize, all: usize, reached: Reached) -> Line
+    requires { ⌜ HoldsTable (now table) (reached .length) ⌝ }
+    ensures { λ r. ⌜ LineSteps (now (text .entry)) (now (table .entry)) (now (table .exit)) (reached .length) r (λ m. rules.lineOf lines all (reached .rows) m (drop (reached .at) (now (text .entry)))) ⌝ }
 {
-    let here = token::past_blanks(text, from);
+    let here = token::past_blanks(text, reached.at);
     if text.len() <= here {
         if table[THREAD_COUNT] == 0 {
             return Line::Refused(here);
         }
         return Line::Ended;
     }
+    let length = reached.length;
     if token::ends_line(text, here) {
-        return Line::GoesOn(rows, length, token::next_line(text, here));
+        return Line::GoesOn(Reached {
+            rows: reached.rows,
+            length,
+            at: token::next_line(text, here),
+        });
     }
     let to = token::token_end(text, here);
     if table[CELL_COUNT] == 0 {
         if token::is_word(text, b"cells", here, to) {
-            return values_line(text, table, to, length, CELL_COUNT, MAX_CELLS);
+            return values_line(text, table, MAX_CELLS, CELL_COUNT, length, to);
         }
         return Line::Refused(here);
     }
     if is_plain_line(text, table, here, to) {
-        return values_line(text, table, to, length, PLAIN_COUNT, MAX_PLAINS);
+        return values_line(text, table, MAX_PLAINS, PLAIN_COUNT, length, to);
     }
     if token::is_word(text, b"thread", here, to) {
-        return a_thread(text, table, here, to, lines, length);
+        return a_thread(text, table, lines, length, here, to);
     }
     if token::is_word(text, b"finally", here, to) {
         return the_condition(table, here, to);
     }
-    a_row(text, table, from, here, all, rows, length)
+    a_row(text, table, all, reached, here)
 }
 
 // `finally`, once there is a thread.
@@ -91,13 +94,13 @@ fn the_condition(header: &[u8], here: usize, to: usize) -> Line
 fn a_thread(
     text: &[u8],
     table: &mut [u8],
-    here: usize,
-    to: usize,
     lines: usize,
     length: usize,
+    here: usize,
+    to: usize,
 ) -> Line
-    requires { ⌜ Holds (now table) length ⌝ }
-    ensures { λ r. ⌜ Steps (now (text .entry)) (now (table .entry)) (now (table .exit)) length r (λ m. threadLine lines m (drop here (now (text .entry))) (drop to (now (text .entry)))) ⌝ }
+    requires { ⌜ HoldsTable (now table) length ⌝ }
+    ensures { λ r. ⌜ LineSteps (now (text .entry)) (now (table .entry)) (now (table .exit)) length r (λ m. aThreadAt lines m (drop here (now (text .entry))) (drop to (now (text .entry)))) ⌝ }
 {
     let threads = table[THREAD_COUNT] as usize;
     if MAX_THREADS <= threads {
@@ -105,21 +108,20 @@ fn a_thread(
     }
     let rows = ahead::rows_ahead(text, token::next_line(text, here), lines);
     add_thread(table, length);
-    bare_then(text, to, rows, length)
+    bare_then(
+        text,
+        Reached {
+            rows,
+            length,
+            at: to,
+        },
+    )
 }
 
 // A row: only in a thread, and no more than a thread may have.
-fn a_row(
-    text: &[u8],
-    table: &mut [u8],
-    from: usize,
-    here: usize,
-    all: usize,
-    rows: usize,
-    length: usize,
-) -> Line
-    requires { ⌜ Holds (now table) length ⌝ }
-    ensures { λ r. ⌜ Steps (now (text .entry)) (now (table .entry)) (now (table .exit)) length r (λ m. rowLine all rows m (drop from (now (text .entry))) (drop here (now (text .entry)))) ⌝ }
+fn a_row(text: &[u8], table: &mut [u8], all: usize, reached: Reached, here: usize) -> Line
+    requires { ⌜ HoldsTable (now table) (reached .length) ⌝ }
+    ensures { λ r. ⌜ LineSteps (now (text .entry)) (now (table .entry)) (now (table .exit)) (reached .length) r (λ m. aRowAt all (reached .rows) m (drop (reached .at) (now (text .entry))) (drop here (now (text .entry)))) ⌝ }
 {
     let threads = table[THREAD_COUNT] as usize;
     if threads == 0 {
@@ -130,19 +132,23 @@ fn a_row(
         return Line::Refused(here);
     }
     let room = Room {
-        threads: all as u64,
-        cells: table[CELL_COUNT] as u64,
-        plains: table[PLAIN_COUNT] as u64,
-        rows: rows as u64,
-        row: before as u64,
+        threads: all,
+        cells: table[CELL_COUNT] as usize,
+        plains: table[PLAIN_COUNT] as usize,
+        rows: reached.rows,
+        row: before,
     };
-    let row = form::row_in(text, from, room);
+    let row = form::row_in(text, room, reached.at);
     if !row.fits {
         return Line::Refused(row.at);
     }
     let fields = row.fields;
-    add_row(table, length, fields);
-    Line::GoesOn(rows, length + ROW_BYTES, row.at)
+    add_row(table, reached.length, fields);
+    Line::GoesOn(Reached {
+        rows: reached.rows,
+        length: reached.length + ROW_BYTES,
+        at: row.at,
+    })
 }
 
 // Whether it is the line of the plain cells: behind the cells, ahead of the threads, once.
@@ -163,13 +169,13 @@ fn is_plain_line(text: &[u8], table: &[u8], here: usize, to: usize) -> bool
 fn values_line(
     text: &[u8],
     table: &mut [u8],
-    at: usize,
-    length: usize,
-    place: usize,
     most: usize,
+    place: usize,
+    length: usize,
+    at: usize,
 ) -> Line
-    requires { ⌜ Holds (now table) length × Counts place × (getD (now table) place 0 ≡ 0) × (most ≤ 4) ⌝ }
-    ensures { λ r. ⌜ Steps (now (text .entry)) (now (table .entry)) (now (table .exit)) length r (λ m. rules.valuesLine (oneMore place) (howMany place) most m (drop at (now (text .entry)))) ⌝ }
+    requires { ⌜ HoldsTable (now table) length × CountsAt place × (getD (now table) place 0 ≡ 0) × (most ≤ 4) ⌝ }
+    ensures { λ r. ⌜ LineSteps (now (text .entry)) (now (table .entry)) (now (table .exit)) length r (λ m. rules.valuesLine (withValue place) (howMany place) most m (drop at (now (text .entry)))) ⌝ }
 {
     let mut from = at;
     let mut long = length;
@@ -181,31 +187,49 @@ fn values_line(
             if table[place] == 0 {
                 return Line::Refused(here);
             }
-            return bare_then(text, from, 0, long);
+            return behind_values(text, long, from);
         };
         add_value(table, long, place, value);
         long += VALUE_BYTES;
         from = to;
         left -= 1;
     }
-    bare_then(text, from, 0, long)
+    behind_values(text, long, from)
+}
+
+// Behind start values nothing else may stand in the line, and no thread is begun.
+fn behind_values(text: &[u8], length: usize, from: usize) -> Line
+    ensures { λ r. ⌜ Bare (now (text .entry)) from 0 length r ⌝ }
+{
+    bare_then(
+        text,
+        Reached {
+            rows: 0,
+            length,
+            at: from,
+        },
+    )
 }
 
 // Nothing else may stand in the line.
-fn bare_then(text: &[u8], from: usize, rows: usize, length: usize) -> Line
-    ensures { λ r. ⌜ Bare (now (text .entry)) from rows length r ⌝ }
+fn bare_then(text: &[u8], reached: Reached) -> Line
+    ensures { λ r. ⌜ Bare (now (text .entry)) (reached .at) (reached .rows) (reached .length) r ⌝ }
 {
-    let here = token::past_blanks(text, from);
+    let here = token::past_blanks(text, reached.at);
     if token::ends_line(text, here) {
-        return Line::GoesOn(rows, length, token::next_line(text, here));
+        return Line::GoesOn(Reached {
+            rows: reached.rows,
+            length: reached.length,
+            at: token::next_line(text, here),
+        });
     }
     Line::Refused(here)
 }
 
 // One start value more, which the header counts at this place.
 fn add_value(table: &mut [u8], length: usize, place: usize, value: u64)
-    requires { ⌜ Holds (now table) length × Counts place × (getD (now table) place 0 < 4) ⌝ }
-    ensures { λ _. ⌜ Grows (now (table .entry)) (now (table .exit)) length (length + 8) (λ m. oneMore place m value) ⌝ }
+    requires { ⌜ HoldsTable (now table) length × CountsAt place × (getD (now table) place 0 < 4) ⌝ }
+    ensures { λ _. ⌜ Grows (now (table .entry)) (now (table .exit)) length (length + 8) (λ m. withValue place m value) ⌝ }
 {
     let bytes = low_bytes(value);
     append(table, length, &bytes);
@@ -215,7 +239,7 @@ fn add_value(table: &mut [u8], length: usize, place: usize, value: u64)
 
 // One thread more.
 fn add_thread(table: &mut [u8], length: usize)
-    requires { ⌜ Holds (now table) length × (getD (now table) 0 0 < 5) ⌝ }
+    requires { ⌜ HoldsTable (now table) length × (getD (now table) 0 0 < 5) ⌝ }
     ensures { λ _. ⌜ Grows (now (table .entry)) (now (table .exit)) length length rules.withThread ⌝ }
 {
     let threads = table[THREAD_COUNT];

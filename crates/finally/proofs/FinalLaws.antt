@@ -23,7 +23,7 @@ use Rattle.put.specs.Puts.{last, Puts}
 use Rattle.page.specs.Pages.{Page, putText}
 use Rattle.unmet.specs.Parts.{nextFrom, partAt, claimShown}
 use Rattle.unmet.specs.declared.Part.{Part}
-use Rattle.finally.specs.Finals.{wordsIn, putComparison, putParts}
+use Rattle.finally.specs.Finals.{conditionWords, putCompared, putParts}
 
 -- How long a line is
 
@@ -146,8 +146,8 @@ module _ (threads : ℕ) (bs entry exit : List ℕ) (end : ℕ) (puts : Puts ent
   pub never-past : 4160 < end → ⊥
   never-past h = omega (arith, at-end, line-fits threads bs)
 
-  pub words-none : end ≤ 8 → wordsIn line ≡ []
-  unfolding wordsIn
+  pub words-none : end ≤ 8 → conditionWords line ≡ []
+  unfolding conditionWords
   words-none h = let e : length line - 1 - 8 ≡ 0 = omega (arith, at-end) in rw e
 
   module _ (room : length entry ≡ 4160) where
@@ -157,8 +157,8 @@ module _ (threads : ℕ) (bs entry exit : List ℕ) (end : ℕ) (puts : Puts ent
     pub whole-cut : take end exit ≡ line
     whole-cut = rw left (take-at line (drop (0 + length line) entry) end (sym at-end))
 
-    pub words-cut : 8 < end → take (end - 1 - 8) (drop 8 exit) ≡ wordsIn line
-    unfolding wordsIn
+    pub words-cut : 8 < end → take (end - 1 - 8) (drop 8 exit) ≡ conditionWords line
+    unfolding conditionWords
     words-cut h =
         let more : 8 ≤ length line = omega (arith, at-end) in
         rw (at-end, left, drop-append-le 8 line (drop (0 + length line) entry) more)
@@ -177,7 +177,7 @@ module _ (n : ℕ) (l : Page) (bs : List ℕ) (threads : ℕ) (h : List ℕ) (at
 
   module _ (more : 0 < n) where
     one : (k : ℕ) → n ≡ suc k → putParts n l bs threads h at
-        ≡ cond (leb (at + 11) (length bs)) (putParts k (putComparison l (take 11 (drop at bs)) threads (partAt bs h at)) bs threads h (nextFrom bs (at + 11))) l
+        ≡ cond (leb (at + 11) (length bs)) (putParts k (putCompared l (take 11 (drop at bs)) threads (partAt bs h at)) bs threads h (nextFrom bs (at + 11))) l
     unfolding putParts
     one k e = rw e
 
@@ -188,7 +188,7 @@ module _ (n : ℕ) (l : Page) (bs : List ℕ) (threads : ℕ) (h : List ℕ) (at
     parts-out k = rw (one (n - 1) next, lt-leb (at + 11) (length bs) k) at left
 
     pub parts-on : at + 11 ≤ length bs → (part : Part) (m : Page) (to : ℕ) → part ≡ partAt bs h at →
-        m ≡ putComparison l (take (at + 11 - at) (drop at bs)) threads part → to ≡ nextFrom bs (at + 11) →
+        m ≡ putCompared l (take (at + 11 - at) (drop at bs)) threads part → to ≡ nextFrom bs (at + 11) →
         putParts (n - 1) m bs threads h to ≡ whole
     parts-on k part m to p put f =
         let e : at + 11 - at ≡ 11 = omega arith in

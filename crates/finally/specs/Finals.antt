@@ -1,7 +1,7 @@
 -- Answer 18, in words: the final condition is false. Assumes nothing.
 --     truth           whether a comparison is true
---     wordsIn         a condition's words
---     putComparison   a comparison, its truth, and what its register holds
+--     conditionWords         a condition's words
+--     putCompared   a comparison, its truth, and what its register holds
 --     putParts        each comparison of a condition from a place on
 --     putFinally      that the condition is false, its line, and each comparison
 use Prim.Native.Nat.{ℕ, zero, suc, _+_, _-_}
@@ -23,13 +23,13 @@ abbrev pub truth : Bool → String
 truth holds = cond holds "  true: " "  false: "
 
 -- what stands in a condition's line between `finally` with a blank and the line's end
-unfoldable pub wordsIn : List ℕ → List ℕ
-wordsIn line = take (length line - 1 - 8) (drop 8 line)
+unfoldable pub conditionWords : List ℕ → List ℕ
+conditionWords line = take (length line - 1 - 8) (drop 8 line)
 
-unfoldable pub putComparison : Page → List ℕ → ℕ → Part → Page
-putComparison p bs threads part =
+unfoldable pub putCompared : Page → List ℕ → ℕ → Part → Page
+putCompared p bs threads part =
     filled
-    (putText (putText p (bytesOf (truth (part .holds)))) (wordsIn (claimShown threads bs)))
+    (putText (putText p (bytesOf (truth (part .holds)))) (conditionWords (claimShown threads bs)))
     (bytesOf ", for #.r# is #\n")
     (part .thread)
     (part .register)
@@ -40,7 +40,7 @@ unfoldable pub putParts : ℕ → Page → List ℕ → ℕ → List ℕ → ℕ
 putParts zero p bs threads h at = p
 putParts (suc n) p bs threads h at =
     cond (leb (at + comparisonBytes) (length bs))
-    (putParts n (putComparison p (take comparisonBytes (drop at bs)) threads (partAt bs h at)) bs threads h (nextFrom bs (at + comparisonBytes)))
+    (putParts n (putCompared p (take comparisonBytes (drop at bs)) threads (partAt bs h at)) bs threads h (nextFrom bs (at + comparisonBytes)))
     p
 
 -- by the header's count of threads, and by what is held after the last step. A condition has fewer comparisons than bytes

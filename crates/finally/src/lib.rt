@@ -4,8 +4,9 @@ ghost use lib.ListN.{length};
 ghost use Rattle.rules.specs.Token.{bytesOf};
 ghost use Rattle.page.specs.Pages.{ended, putText};
 ghost use Rattle.unmet.specs.Parts.{nextFrom, claimShown};
-ghost use Rattle.finally.specs.Finals.{truth, wordsIn, putComparison, putParts, putFinally};
+ghost use Rattle.finally.specs.Finals.{truth, conditionWords, putCompared, putParts, putFinally};
 use condition::COMPARISON;
+use condition::CONDITION_BYTES;
 use layout::wide16;
 use page::Page;
 use steps::held::Held;
@@ -15,8 +16,9 @@ use unmet::Part;
 // The bytes before the words in a condition's line: `finally` and a blank.
 const WORD: usize = 8;
 
-// No condition's line has more bytes: a condition has 1,024 at most, which are four bytes of text each at most.
-const LONGEST: usize = 4160;
+// No condition's line has more bytes: a byte of the longest condition is four of its line at most, and its first word and its end have
+// room in the rest.
+const CONDITION_LINE: usize = 4 * CONDITION_BYTES + 64;
 
 // Puts that it is false, the whole of it, and each part.
 pub fn put(page: &mut Page, at: usize, table: &[u8], condition: &[u8], trace: &[u8]) -> usize
@@ -38,9 +40,9 @@ pub fn put(page: &mut Page, at: usize, table: &[u8], condition: &[u8], trace: &[
 fn put_whole(page: &mut Page, at: usize, condition: &[u8], threads: usize) -> usize
     ensures { λ r. ⌜ ended (now (page .exit)) r ≡ putText (ended (now (page .entry)) at) (claimShown threads (now (condition .entry))) ⌝ }
 {
-    let mut text = [0u8; LONGEST];
+    let mut text = [0u8; CONDITION_LINE];
     let end = unmet::put(&mut text, 0, condition, threads);
-    if LONGEST < end {
+    if CONDITION_LINE < end {
         return at;
     }
     page::put(page, at, &text[..end])
@@ -61,7 +63,7 @@ fn put_parts(page: &mut Page, at: usize, condition: &[u8], held: &Held, threads:
             return to;
         }
         let part = unmet::part_at(condition, held, from);
-        to = put_comparison(page, to, &condition[from..from + COMPARISON], threads, part);
+        to = put_compared(page, to, &condition[from..from + COMPARISON], threads, part);
         from = unmet::next_comparison(condition, from + COMPARISON);
         left -= 1;
     }
@@ -69,8 +71,8 @@ fn put_parts(page: &mut Page, at: usize, condition: &[u8], held: &Held, threads:
 }
 
 // One: whether it is true, its words, and what its register holds.
-fn put_comparison(page: &mut Page, at: usize, bytes: &[u8], threads: usize, part: Part) -> usize
-    ensures { λ r. ⌜ ended (now (page .exit)) r ≡ putComparison (ended (now (page .entry)) at) (now (bytes .entry)) threads part ⌝ }
+fn put_compared(page: &mut Page, at: usize, bytes: &[u8], threads: usize, part: Part) -> usize
+    ensures { λ r. ⌜ ended (now (page .exit)) r ≡ putCompared (ended (now (page .entry)) at) (now (bytes .entry)) threads part ⌝ }
 {
     let to = put_truth(page, at, part.holds);
     let to = put_words(page, to, bytes, threads);
@@ -96,11 +98,11 @@ fn put_truth(page: &mut Page, at: usize, holds: bool) -> usize
 
 // A condition's words: its line without the first word and the end.
 fn put_words(page: &mut Page, at: usize, bytes: &[u8], threads: usize) -> usize
-    ensures { λ r. ⌜ ended (now (page .exit)) r ≡ putText (ended (now (page .entry)) at) (wordsIn (claimShown threads (now (bytes .entry)))) ⌝ }
+    ensures { λ r. ⌜ ended (now (page .exit)) r ≡ putText (ended (now (page .entry)) at) (conditionWords (claimShown threads (now (bytes .entry)))) ⌝ }
 {
-    let mut text = [0u8; LONGEST];
+    let mut text = [0u8; CONDITION_LINE];
     let end = unmet::put(&mut text, 0, bytes, threads);
-    if LONGEST < end {
+    if CONDITION_LINE < end {
         return at;
     }
     if end <= WORD {

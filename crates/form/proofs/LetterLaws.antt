@@ -1,5 +1,6 @@
 -- What may stand for a piece of a form. Assumes nothing.
---     field-none, kind-.., may-be-any       a letter's field, kind and values
+--     field-none, kind-.., may-stand-any       a letter's field, kind and values
+--     as-..                                 an order as a row has it
 --     letter-steps, letter-by               what may stand for a letter, in two steps
 --     field-long, field-one                 the field of a piece
 --     letter-there, value-.., with-..       a piece that is a letter, and one that is a word
@@ -13,10 +14,10 @@ use borrow.Author.Tests.{eq-eqb, ne-eqb, lt-ltb, le-ltb, eqb-true}
 use lib.Dec.{ltb, eqb}
 use lib.ListN.{length, getD, set}
 use Rattle.rules.specs.Vector.{equal}
-use Rattle.rules.specs.Table.{Room}
+use Rattle.rules.specs.Table.{Room, anyOrder, isLoadOrder, isStoreOrder, isFenceOrder}
 use Rattle.rules.specs.Token.{Found, nothing, found, only, numberIn, registerIn, plainIn}
 use Rattle.rules.specs.Form.{orderIn, fieldOf, letterIn, isField, valueOf, withField}
-use Rattle.form.specs.Letters.{fieldIn, kindIn, mayBe}
+use Rattle.form.specs.Letters.{fieldIn, kindIn, mayStand}
 
 -- Letters
 
@@ -50,9 +51,32 @@ module _ (b : ℕ) where
   unfolding kindIn
   kind-none word r p c t j g x y = rw (ne-eqb b 82 r, ne-eqb b 80 p, ne-eqb b 67 c, ne-eqb b 84 t, ne-eqb b 74 j, ne-eqb b 71 g, ne-eqb b 65 x, ne-eqb b 66 y)
 
-  pub may-be-any : (room : Room) (v : ℕ) → No b 67 → No b 80 → No b 84 → No b 74 → No b 71 → No b 76 → No b 88 → No b 83 → No b 70 → true ≡ mayBe room b v
-  unfolding mayBe
-  may-be-any room v c p t j g l z s f = rw (ne-eqb b 67 c, ne-eqb b 80 p, ne-eqb b 84 t, ne-eqb b 74 j, ne-eqb b 71 g, ne-eqb b 76 l, ne-eqb b 88 z, ne-eqb b 83 s, ne-eqb b 70 f)
+  pub may-stand-any : (room : Room) (v : ℕ) → No b 67 → No b 80 → No b 84 → No b 74 → No b 71 → No b 76 → No b 88 → No b 83 → No b 70 → true ≡ mayStand room b v
+  unfolding mayStand
+  may-stand-any room v c p t j g l z s f = rw (ne-eqb b 67 c, ne-eqb b 80 p, ne-eqb b 84 t, ne-eqb b 74 j, ne-eqb b 71 g, ne-eqb b 76 l, ne-eqb b 88 z, ne-eqb b 83 s, ne-eqb b 70 f)
+
+-- an order as a row has it is one of a load, a store or a fence where its number is
+module _ (v : ℕ) where
+  pub as-load : isLoadOrder (cond (anyOrder v) v 255) ≡ isLoadOrder v
+  as-load = on (anyOrder v) refl
+    where
+      on : (t : Bool) → anyOrder v ≡ t → isLoadOrder (cond t v 255) ≡ isLoadOrder v
+      on true e = refl
+      on false e = rw e
+
+  pub as-store : isStoreOrder (cond (anyOrder v) v 255) ≡ isStoreOrder v
+  as-store = on (anyOrder v) refl
+    where
+      on : (t : Bool) → anyOrder v ≡ t → isStoreOrder (cond t v 255) ≡ isStoreOrder v
+      on true e = refl
+      on false e = rw e
+
+  pub as-fence : isFenceOrder (cond (anyOrder v) v 255) ≡ isFenceOrder v
+  as-fence = on (anyOrder v) refl
+    where
+      on : (t : Bool) → anyOrder v ≡ t → isFenceOrder (cond t v 255) ≡ isFenceOrder v
+      on true e = refl
+      on false e = rw e
 
 -- which values may be, where that is known
 only-by : (p q : ℕ → Bool) (x : Found) → ((v : ℕ) → p v ≡ q v) → only p x ≡ only q x
@@ -69,11 +93,11 @@ case b k f g = elim (ℕ-discrete b k) [ yes e ↦ f e | no n ↦ g n ]
 
 module _ (room : Room) (word : List ℕ) where
   abbrev Steps : ℕ → Type 0
-  Steps b = only (mayBe room b) (kindIn b word) ≡ letterIn room b word
+  Steps b = only (mayStand room b) (kindIn b word) ≡ letterIn room b word
 
   -- at each letter both sides compute
   at-letter : Steps 82 × Steps 67 × Steps 80 × Steps 84 × Steps 74 × Steps 71 × Steps 65 × Steps 66 × Steps 76 × Steps 88 × Steps 83 × Steps 70
-  unfolding kindIn mayBe letterIn
+  unfolding kindIn mayStand letterIn
   at-letter = (
     only-any _ (registerIn word) (λ v. refl),
     only-by _ _ (numberIn word) (λ v. refl),
@@ -94,7 +118,7 @@ module _ (room : Room) (word : List ℕ) where
   unfolding letterIn
   at-none b r c p t j g x y l z s f =
       rw (ne-eqb b 82 r, ne-eqb b 67 c, ne-eqb b 80 p, ne-eqb b 84 t, ne-eqb b 74 j, ne-eqb b 71 g, ne-eqb b 65 x, ne-eqb b 66 y, ne-eqb b 76 l, ne-eqb b 88 z, ne-eqb b 83 s, ne-eqb b 70 f, ← kind-none b word r p c t j g x y)
-      (only-any (mayBe room b) (orderIn word) (λ v. may-be-any b room v c p t j g l z s f))
+      (only-any (mayStand room b) (orderIn word) (λ v. may-stand-any b room v c p t j g l z s f))
 
   letter-steps : (b : ℕ) → Steps b
   letter-steps b =
@@ -114,8 +138,8 @@ module _ (room : Room) (word : List ℕ) where
       at-none b r c p t j g x y l z s f
 
   -- by the kind of word that stands there
-  pub letter-by : (b : ℕ) (x : Found) → kindIn b word ≡ x → only (mayBe room b) x ≡ letterIn room b word
-  letter-by b x e = ap (only (mayBe room b)) (sym e) ∙ letter-steps b
+  pub letter-by : (b : ℕ) (x : Found) → kindIn b word ≡ x → only (mayStand room b) x ≡ letterIn room b word
+  letter-by b x e = ap (only (mayStand room b)) (sym e) ∙ letter-steps b
 
 -- Pieces
 

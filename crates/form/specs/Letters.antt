@@ -1,7 +1,7 @@
 -- What may stand for a letter, in two steps: which kind of word, and which values. Assumes nothing.
 --     fieldIn     the field that a piece of a form stands for
 --     kindIn      the register, plain cell, number or order that a word is
---     mayBe       whether a field may have a value
+--     mayStand       whether a field may have a value
 use Prim.Native.Nat.{ℕ}
 use mathlib.Core.List.{List}
 use mathlib.Core.Bool.{Bool, true, cond, not, _&&_, _||_}
@@ -21,8 +21,8 @@ kindIn b word =
     (cond (eqb b 67 || eqb b 84 || eqb b 74 || eqb b 71 || eqb b 65 || eqb b 66) (numberIn word)
     (orderIn word)))
 
-unfoldable pub mayBe : Room → ℕ → ℕ → Bool
-mayBe room b v =
+unfoldable pub mayStand : Room → ℕ → ℕ → Bool
+mayStand room b v =
     cond (eqb b 67) (ltb v (room .cells))
     (cond (eqb b 80) (ltb v (room .plains))
     (cond (eqb b 84) (ltb v (room .threads))

@@ -4,41 +4,48 @@ ghost use mathlib.Core.List.{[], _∷_};
 ghost use mathlib.Core.Bool.{false, cond};
 ghost use lib.Dec.{ltb};
 ghost use lib.ListN.{drop, replicate};
-ghost use Rattle.rules.specs.Event.{little};
+ghost use Rattle.rules.specs.Table.{anyOrder};
 ghost use Rattle.rules.specs.Token.{endsLine, nextLine};
 ghost use Rattle.rules.specs.Form as Form;
 ghost use Rattle.rules.specs.Form.{fieldOf, letterIn, valueOf, withField, fits, stuck, follow, mostWords, rowIn, fieldsAsBytes};
 ghost use Rattle.token.specs.Places.{part};
 ghost use Rattle.token.specs.Finds.{foundOf};
-ghost use Rattle.form.specs.Rows.{roomOf, Follows, Reads};
-ghost use Rattle.form.specs.Letters.{fieldIn, kindIn, mayBe};
+ghost use Rattle.decode.specs.Ops.{roomMeant};
+ghost use Rattle.form.specs.Rows.{FollowsForm, ReadsRow};
+ghost use Rattle.form.specs.Letters.{fieldIn, kindIn, mayStand};
 ghost use Rattle.form.specs.Lines.{coded};
-use layout::order::ACQ_REL;
-use layout::order::ACQUIRE;
-use layout::order::RELAXED;
-use layout::order::RELEASE;
+pub use decode::Room;
+use decode::is_fence_order;
+use decode::is_load_order;
+use decode::is_store_order;
 use layout::order::SEQ_CST;
+use table::fields::FAILURE;
+use table::fields::KIND;
+use table::fields::OBJECT;
+use table::fields::OPCODE;
+use table::fields::ORDER;
+use table::fields::REGISTER;
+use table::fields::TARGET;
 use table::limits::ROW_BYTES;
+use table::little::low_bytes;
 use token::Found;
 
 // No form has as many words.
 const MOST_WORDS: usize = 10;
 
-// What a row may name: so many threads, cells and plain cells, and the rows that a jump may lead to; and the row's own number, which a
-// jump without a test may not have as its target.
-pub struct Room {
-    pub threads: u64,
-    pub cells: u64,
-    pub plains: u64,
-    pub rows: u64,
-    pub row: u64,
-}
+// What stands for a number that is no order.
+const NO_ORDER: u8 = 255;
 
 // A row's fields in the order in which they stand in its bytes: opcode, cell or thread, order, failure order, change kind, register, jump
 // target, a, b.
 pub type Fields = [u64; FIELDS];
 
 pub const FIELDS: usize = 9;
+
+// The numbers of the operands' fields; those before them have their places for numbers.
+const OPERAND_A: usize = TARGET + 1;
+
+const OPERAND_B: usize = TARGET + 2;
 
 // A line that was read: of a form, with its fields and the place of the next line; or of none, with the place of the first token that no
 // form has there.
@@ -47,6 +54,11 @@ pub struct RowRead {
     pub at: usize,
     pub fields: Fields,
 }
+
+// Where a form's line has its change kind and its words, behind its opcode.
+pub const FORM_KIND: usize = 1;
+
+pub const FORM_WORDS: usize = 2;
 
 // The forms, a line for each: its opcode, its change kind and its words. A capital letter stands for a field.
 pub const FORMS: [u8; 904] = *b"\
@@ -96,10 +108,10 @@ pub const FORMS: [u8; 904] = *b"\
 ";
 
 // The row that stands in this line. Where it is of no form the fields are zeros.
-pub fn row_in(text: &[u8], at: usize, room: Room) -> RowRead
-    ensures { λ r. ⌜ Reads (now (text .entry)) at (rowIn (roomOf room) (drop at (now (text .entry)))) r ⌝ }
+pub fn row_in(text: &[u8], room: Room, at: usize) -> RowRead
+    ensures { λ r. ⌜ ReadsRow (now (text .entry)) at (rowIn (roomMeant room) (drop at (now (text .entry)))) r ⌝ }
 {
-    tried(text, &FORMS, at, room)
+    tried(text, &FORMS, room, at)
 }
 
 // A row's bytes: opcode, cell or thread, order, failure order, change kind, register, the jump target's two, and eight of each operand.
@@ -107,16 +119,16 @@ pub fn row_in(text: &[u8], at: usize, room: Room) -> RowRead
 pub fn row_bytes(fields: Fields) -> [u8; ROW_BYTES]
     ensures { λ r. ⌜ r ≡ fieldsAsBytes fields ⌝ }
 {
-    let target = low_bytes(fields[6]);
-    let a = low_bytes(fields[7]);
-    let b = low_bytes(fields[8]);
+    let target = low_bytes(fields[TARGET]);
+    let a = low_bytes(fields[OPERAND_A]);
+    let b = low_bytes(fields[OPERAND_B]);
     [
-        (fields[0] % 256) as u8,
-        (fields[1] % 256) as u8,
-        (fields[2] % 256) as u8,
-        (fields[3] % 256) as u8,
-        (fields[4] % 256) as u8,
-        (fields[5] % 256) as u8,
+        (fields[OPCODE] % 256) as u8,
+        (fields[OBJECT] % 256) as u8,
+        (fields[ORDER] % 256) as u8,
+        (fields[FAILURE] % 256) as u8,
+        (fields[KIND] % 256) as u8,
+        (fields[REGISTER] % 256) as u8,
         target[0],
         target[1],
         a[0],
@@ -138,35 +150,23 @@ pub fn row_bytes(fields: Fields) -> [u8; ROW_BYTES]
     ]
 }
 
-// A number's bytes, its least first.
-pub fn low_bytes(value: u64) -> [u8; 8]
-    ensures { λ r. ⌜ r ≡ little 8 value ⌝ }
-{
-    let low = value % 0x1_0000_0000;
-    let high = value / 0x1_0000_0000;
-    [
-        (low % 256) as u8,
-        (low / 256 % 256) as u8,
-        (low / 65536 % 256) as u8,
-        (low / 16777216 % 256) as u8,
-        (high % 256) as u8,
-        (high / 256 % 256) as u8,
-        (high / 65536 % 256) as u8,
-        (high / 16777216 % 256) as u8,
-    ]
-}
-
 // Tries one form after the other, and keeps the furthest place.
-fn tried(text: &[u8], forms: &[u8], at: usize, room: Room) -> RowRead
+fn tried(text: &[u8], forms: &[u8], room: Room, at: usize) -> RowRead
     requires { ⌜ now forms ≡ coded Form.forms ⌝ }
-    ensures { λ r. ⌜ Reads (now (text .entry)) at (rowIn (roomOf room) (drop at (now (text .entry)))) r ⌝ }
+    ensures { λ r. ⌜ ReadsRow (now (text .entry)) at (rowIn (roomMeant room) (drop at (now (text .entry)))) r ⌝ }
 {
     let mut best = token::past_blanks(text, at);
     let mut from = 0;
     while from < forms.len() {
-        let to = token::next_line(forms, from + 2);
-        let words = token::part(forms, from + 2, to - 1);
-        let row = followed(text, words, blank(forms[from], forms[from + 1]), at, room);
+        let to = token::next_line(forms, from + FORM_WORDS);
+        let words = token::part(forms, from + FORM_WORDS, to - 1);
+        let row = followed(
+            text,
+            words,
+            room,
+            blank(forms[from], forms[from + FORM_KIND]),
+            at,
+        );
         if row.fits {
             return row;
         }
@@ -197,9 +197,9 @@ fn blank(opcode: u8, kind: u8) -> Fields
     [opcode as u64, 0, 0, 0, kind as u64, 0, 0, 0, 0]
 }
 
-// Follows a form along the line, word by word.
-fn followed(text: &[u8], words: &[u8], blank: Fields, at: usize, room: Room) -> RowRead
-    ensures { λ r. ⌜ Follows (now (text .entry)) at (follow mostWords (roomOf room) (now (words .entry)) blank (drop at (now (text .entry)))) r ⌝ }
+// FollowsForm a form along the line, word by word.
+fn followed(text: &[u8], words: &[u8], room: Room, blank: Fields, at: usize) -> RowRead
+    ensures { λ r. ⌜ FollowsForm (now (text .entry)) at (follow mostWords (roomMeant room) (now (words .entry)) blank (drop at (now (text .entry)))) r ⌝ }
 {
     let mut fields = blank;
     let mut from = 0;
@@ -209,12 +209,12 @@ fn followed(text: &[u8], words: &[u8], blank: Fields, at: usize, room: Room) -> 
         let start = token::past_blanks(words, from);
         let here = token::past_blanks(text, to);
         if words.len() <= start {
-            return ended(text, here, fields);
+            return ended(text, fields, here);
         }
         from = token::token_end(words, start);
         to = token::token_end(text, here);
         let piece = token::part(words, start, from);
-        let Found::Value(value) = value_of(text, piece, here, to, room) else {
+        let Found::Value(value) = value_of(text, piece, room, here, to) else {
             return stuck(here);
         };
         let more = with_field(piece, fields, value);
@@ -225,8 +225,8 @@ fn followed(text: &[u8], words: &[u8], blank: Fields, at: usize, room: Room) -> 
 }
 
 // Past the last word nothing else may stand in the line.
-fn ended(text: &[u8], at: usize, fields: Fields) -> RowRead
-    ensures { λ r. ⌜ Follows (now (text .entry)) at (cond (endsLine (drop at (now (text .entry)))) (fits fields (nextLine (drop at (now (text .entry))))) (stuck (drop at (now (text .entry))))) r ⌝ }
+fn ended(text: &[u8], fields: Fields, at: usize) -> RowRead
+    ensures { λ r. ⌜ FollowsForm (now (text .entry)) at (cond (endsLine (drop at (now (text .entry)))) (fits fields (nextLine (drop at (now (text .entry))))) (stuck (drop at (now (text .entry))))) r ⌝ }
 {
     if token::ends_line(text, at) {
         return RowRead {
@@ -249,11 +249,11 @@ fn stuck(at: usize) -> RowRead
 }
 
 // What a token stands for where a form has this piece: a letter alone stands for a field, every other word for itself.
-fn value_of(text: &[u8], piece: &[u8], at: usize, to: usize, room: Room) -> Found
-    ensures { λ r. ⌜ foundOf r ≡ valueOf (roomOf room) (now (piece .entry)) (part at to (now (text .entry))) ⌝ }
+fn value_of(text: &[u8], piece: &[u8], room: Room, at: usize, to: usize) -> Found
+    ensures { λ r. ⌜ foundOf r ≡ valueOf (roomMeant room) (now (piece .entry)) (part at to (now (text .entry))) ⌝ }
 {
     if field_in(piece) < FIELDS {
-        return letter_in(text, piece[0], at, to, room);
+        return letter_in(text, room, piece[0], at, to);
     }
     if token::is_word(text, piece, at, to) {
         return Found::Value(0);
@@ -288,25 +288,25 @@ pub fn field_of(letter: u8) -> usize
     ensures { λ r. ⌜ r ≡ fieldOf letter ⌝ }
 {
     match letter {
-        b'R' => 5,
-        b'C' | b'T' | b'P' => 1,
-        b'J' | b'G' => 6,
-        b'A' => 7,
-        b'B' => 8,
-        b'L' | b'S' | b'O' | b'F' => 2,
-        b'X' => 3,
+        b'R' => REGISTER,
+        b'C' | b'T' | b'P' => OBJECT,
+        b'J' | b'G' => TARGET,
+        b'A' => OPERAND_A,
+        b'B' => OPERAND_B,
+        b'L' | b'S' | b'O' | b'F' => ORDER,
+        b'X' => FAILURE,
         _ => FIELDS,
     }
 }
 
 // What a word stands for where a form has this letter.
-fn letter_in(text: &[u8], letter: u8, at: usize, to: usize, room: Room) -> Found
-    ensures { λ r. ⌜ foundOf r ≡ letterIn (roomOf room) letter (part at to (now (text .entry))) ⌝ }
+fn letter_in(text: &[u8], room: Room, letter: u8, at: usize, to: usize) -> Found
+    ensures { λ r. ⌜ foundOf r ≡ letterIn (roomMeant room) letter (part at to (now (text .entry))) ⌝ }
 {
     let Found::Value(value) = kind_in(text, letter, at, to) else {
         return Found::Nothing;
     };
-    if may_be(letter, value, room) {
+    if may_stand(room, letter, value) {
         return Found::Value(value);
     }
     Found::Nothing
@@ -335,20 +335,28 @@ fn kind_in(text: &[u8], letter: u8, at: usize, to: usize) -> Found
 }
 
 // Whether the field may have this value.
-fn may_be(letter: u8, value: u64, room: Room) -> bool
-    ensures { λ r. ⌜ r ≡ mayBe (roomOf room) letter value ⌝ }
+fn may_stand(room: Room, letter: u8, value: u64) -> bool
+    ensures { λ r. ⌜ r ≡ mayStand (roomMeant room) letter value ⌝ }
 {
     match letter {
-        b'C' => value < room.cells,
-        b'P' => value < room.plains,
-        b'T' => value < room.threads,
-        b'J' => value <= room.rows,
-        b'G' => (value <= room.rows) & (value != room.row),
-        b'L' | b'X' => (value <= SEQ_CST as u64)
-            & (value != RELEASE as u64)
-            & (value != ACQ_REL as u64),
-        b'S' => (value <= SEQ_CST as u64) & (value != ACQUIRE as u64) & (value != ACQ_REL as u64),
-        b'F' => (value <= SEQ_CST as u64) & (value != RELAXED as u64),
+        b'C' => value < room.cells as u64,
+        b'P' => value < room.plains as u64,
+        b'T' => value < room.threads as u64,
+        b'J' => value <= room.rows as u64,
+        b'G' => (value <= room.rows as u64) & (value != room.row as u64),
+        b'L' | b'X' => is_load_order(order_of(value)),
+        b'S' => is_store_order(order_of(value)),
+        b'F' => is_fence_order(order_of(value)),
         _ => true,
     }
+}
+
+// The order of this number as a row has it; of any other number, one that no row has.
+fn order_of(value: u64) -> u8
+    ensures { λ r. ⌜ r ≡ cond (anyOrder value) value 255 ⌝ }
+{
+    if value <= SEQ_CST as u64 {
+        return value as u8;
+    }
+    NO_ORDER
 }

@@ -1,7 +1,6 @@
 -- A number's digits as the definition has them are those that crate digits spells. Assumes nothing.
 --     same-digits     before any bytes, where there are steps enough
 --     same-shown      of a number of 64 bits
---     order-none      an order that has no name
 use Prim.Native.Nat.{ℕ, zero, suc, _/_, _%_, _^_, _≤_, _<_}
 use mathlib.Core.List.{List, [], _∷_, _++_, append-assoc, append-nil}
 use mathlib.Core.Path.{_≡_, refl, sym, _∙_}
@@ -10,7 +9,7 @@ use native.Mathlib.Decide.{decLt}
 use borrow.Author.Tests.{lt-ltb, le-ltb}
 use lib.ListN.{length, length-append}
 use Rattle.rules.specs.Writer as rules
-use Rattle.rules.specs.Writer.{digitsOf, orderShown}
+use Rattle.rules.specs.Writer.{digitsOf}
 use Rattle.digits.specs.Shown.{digit, shown}
 use Rattle.digits.proofs.ShownLaws.{shown-small, shown-large, some, at-most}
 
@@ -28,11 +27,3 @@ same-digits (suc k) v behind h =
 
 pub same-shown : (v : ℕ) → v < 2 ^ 64 → shown v ≡ rules.shown v
 same-shown v h = sym (same-digits 20 v [] (at-most v h) ∙ append-nil (shown v))
-
-pub order-none : (o : ℕ) → (o ≡ 0 → ⊥) → (o ≡ 1 → ⊥) → (o ≡ 2 → ⊥) → (o ≡ 3 → ⊥) → (o ≡ 4 → ⊥) → [] ≡ orderShown o
-order-none zero a b c d e = absurd (a refl)
-order-none (suc zero) a b c d e = absurd (b refl)
-order-none (suc (suc zero)) a b c d e = absurd (c refl)
-order-none (suc (suc (suc zero))) a b c d e = absurd (d refl)
-order-none (suc (suc (suc (suc zero)))) a b c d e = absurd (e refl)
-order-none (suc (suc (suc (suc (suc o))))) a b c d e = refl

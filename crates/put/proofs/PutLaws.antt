@@ -12,7 +12,7 @@ use native.Mathlib.Numerals.{add-one}
 use borrow.Author.Tests.{le-leb, lt-leb}
 use lib.ListN.{length, getD, set, drop, length-append}
 use lib.Seq.{drop-cons, sets, set-out, length-sets}
-use Rattle.put.specs.Puts.{last, upToLast, Puts, Coming}
+use Rattle.put.specs.Puts.{last, upToLast, Puts, ToPut}
 
 low : (n : ℕ) → n ≤ last → upToLast n ≡ n
 low n h = rw (le-leb n last h)
@@ -80,10 +80,10 @@ puts-fits l m at r a p =
       | no h ↦ omega (arith, p .behind ∙ high (at + length a) (omega arith))
     ]
 
-pub coming-all : (l : List ℕ) (at : ℕ) (all : List ℕ) → at ≤ last → length l ≤ last → Coming l l at at all all
+pub coming-all : (l : List ℕ) (at : ℕ) (all : List ℕ) → at ≤ last → length l ≤ last → ToPut l l at at all all
 coming-all l at all h k = record { whole = λ exit r p. p; fits = h; long = refl; short = k }
 
-pub coming-on : (l m n : List ℕ) (at to mid : ℕ) (all rest part more : List ℕ) → rest ≡ part ++ more → Coming l m at to all rest → Puts m n to part mid → Coming l n at mid all more
+pub coming-on : (l m n : List ℕ) (at to mid : ℕ) (all rest part more : List ℕ) → rest ≡ part ++ more → ToPut l m at to all rest → Puts m n to part mid → ToPut l n at mid all more
 coming-on l m n at to mid all rest part more e c p = record {
   whole = λ exit r q. c .whole exit r (rw e (puts-then m n exit to mid r part more (omega (arith, c .long, c .short)) p q));
   fits = puts-fits m n to mid part p;
@@ -95,5 +95,5 @@ coming-on l m n at to mid all rest part more e c p = record {
 pub byte-next : (bytes : List ℕ) (i : ℕ) → i < length bytes → drop i bytes ≡ (getD bytes i 0 ∷ []) ++ drop (i + 1) bytes
 byte-next bytes i h = rw (add-one, drop-cons bytes i 0)
 
-pub come : (l m : List ℕ) (at to : ℕ) (all rest : List ℕ) → rest ≡ [] → Coming l m at to all rest → Puts l m at all to
+pub come : (l m : List ℕ) (at to : ℕ) (all rest : List ℕ) → rest ≡ [] → ToPut l m at to all rest → Puts l m at all to
 come l m at to all rest e c = c .whole m to (rw e (puts-none m to (c .fits)))

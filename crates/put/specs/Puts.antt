@@ -1,6 +1,6 @@
 -- Bytes put into a lent buffer as far as there is room, and counted all the same. Assumes nothing.
 --     Puts        what is left in the buffer, and the place behind the bytes
---     Coming      what is still to be put here, of all that was to be put there
+--     ToPut      what is still to be put here, of all that was to be put there
 use Prim.Native.Nat.{ℕ, _+_, _≤_}
 use mathlib.Core.List.{List}
 use mathlib.Core.Bool.{cond}
@@ -22,7 +22,7 @@ pub record Puts (entry exit : List ℕ) (at : ℕ) (bytes : List ℕ) (r : ℕ) 
   pub behind : r ≡ upToLast (at + length bytes)
 
 -- no place or buffer is past the last
-pub record Coming (entry now : List ℕ) (at to : ℕ) (all rest : List ℕ) : Type 0 where
+pub record ToPut (entry now : List ℕ) (at to : ℕ) (all rest : List ℕ) : Type 0 where
   pub whole : (exit : List ℕ) (r : ℕ) → Puts now exit to rest r → Puts entry exit at all r
   pub fits : to ≤ last
   pub long : length now ≡ length entry

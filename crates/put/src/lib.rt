@@ -4,6 +4,8 @@ ghost use mathlib.Core.List.{[], _∷_};
 ghost use Rattle.rules.specs.Writer.{shown, orderShown};
 ghost use Rattle.put.specs.Puts.{Puts};
 use digits::MOST_DIGITS;
+use token::ORDERS;
+use token::word_at;
 
 // The last place that is counted: no buffer is longer.
 const LAST: usize = 0xFFFF_FFFF_FFFF_FFFF;
@@ -47,12 +49,5 @@ pub fn put_number(text: &mut [u8], at: usize, value: u64) -> usize
 pub fn put_order(text: &mut [u8], at: usize, order: u64) -> usize
     ensures { λ r. ⌜ Puts (now (text .entry)) (now (text .exit)) at (orderShown order) r ⌝ }
 {
-    match order {
-        0 => put_bytes(text, at, b"relaxed"),
-        1 => put_bytes(text, at, b"release"),
-        2 => put_bytes(text, at, b"acquire"),
-        3 => put_bytes(text, at, b"acqrel"),
-        4 => put_bytes(text, at, b"seqcst"),
-        _ => at,
-    }
+    put_bytes(text, at, word_at(&ORDERS, order))
 }

@@ -16,18 +16,19 @@ use Rattle.rules.specs.Text.{Draft, nothingMade, tableOf, filled, TextRead, ref
 use Rattle.token.specs.Places.{part}
 use Rattle.claims.specs.Units.{Concludes, concludedOf}
 use Rattle.claims.specs.declared.Conclusion.{Conclusion}
-use Rattle.filling.specs.Tables.{Held, Blank}
-use Rattle.filling.specs.Steps.{Lined, Steps}
-use Rattle.reader.specs.Lines.{Took, Answered, Answers, Closes}
+use Rattle.filling.specs.Tables.{HeldTable, Blank}
+use Rattle.filling.specs.Steps.{Lined, LineSteps}
+use Rattle.reader.specs.Lines.{Took, TextAnswered, TextAnswers, Closes}
 use Rattle.reader.specs.declared.Lines.{Lines}
 use Rattle.filling.specs.declared.Line.{Line}
+use Rattle.filling.specs.declared.Reached.{Reached}
 use Rattle.filling.specs.declared.Line.the-variants.{GoesOn, Refused, Ended, Concludes as Goes}
 use Rattle.filling.proofs.HeldLaws.{so-held, filled-on, length-filled, length-tableOf}
 
 -- on the way, with so many lines that may still come
 pub record Going (text table : List ℕ) (lines all n rows from left : ℕ) (whole : TextRead) : Type 0 where
   pub made : Draft
-  pub held : Held table n made
+  pub held : HeldTable table n made
   pub same : linesFrom left lines all rows made (drop from text) ≡ whole
 
 none-most : (i : ℕ) → getD (replicate 5 0) i 0 ≤ maxRows
@@ -42,7 +43,7 @@ none-total : total (replicate 5 0) ≡ 0
 unfolding total
 none-total = refl
 
-blank-table : (table : List ℕ) → Blank tableBytes table → Held table 8 nothingMade
+blank-table : (table : List ℕ) → Blank tableBytes table → HeldTable table 8 nothingMade
 blank-table table b =
     let e : length table ≡ suc (suc (suc (suc (suc (suc (suc (suc (length table - 8)))))))) = omega (arith, b .room) in
     so-held table (length table) 8 nothingMade (b .is ∙ ap (λ (n : ℕ). replicate n 0) e) (b .room) (omega arith) (omega arith) (omega arith) refl none-most refl (omega (arith, none-total))
@@ -80,7 +81,7 @@ module _ (text entry : List ℕ) (lines all n rows from left : ℕ) (whole : Tex
       let e : left ≡ 0 = omega arith in
       sym (g .same) ∙ ap (λ (k : ℕ). linesFrom k lines all rows (g .made) (drop from text)) e ∙ lines-zero lines all rows (g .made) (drop from text)
 
-  module _ (exit : List ℕ) (r : Line) (steps : Steps text entry exit n r (λ m. lineOf lines all rows m (drop from text))) (some : 0 < left) where
+  module _ (exit : List ℕ) (r : Line) (steps : LineSteps text entry exit n r (λ m. lineOf lines all rows m (drop from text))) (some : 0 < left) where
     whole-by : (l : rules.Line) → lineOf lines all rows (g .made) (drop from text) ≡ l → whole ≡ linesBy (left - 1) lines all l
     whole-by l e =
         let s : left ≡ suc (left - 1) = omega arith in
@@ -92,9 +93,9 @@ module _ (text entry : List ℕ) (lines all n rows from left : ℕ) (whole : Tex
     lined : (q : Line) → r ≡ q → Lined text exit n (lineOf lines all rows (g .made) (drop from text)) q
     lined q e = subst (λ (x : Line). Lined text exit n (lineOf lines all rows (g .made) (drop from text)) x) e (steps .is (g .made) (g .held))
 
-    pub step-goes : (more long to : ℕ) → r ≡ GoesOn more long to → Going text exit lines all long more to (left - 1) whole
-    step-goes more long to e =
-        let x = lined (GoesOn more long to) e in
+    pub step-goes : (more : Reached) → r ≡ GoesOn more → Going text exit lines all (more .length) (more .rows) (more .at) (left - 1) whole
+    step-goes more e =
+        let x = lined (GoesOn more) e in
         record { made = x .0; held = x .1 .1; same = sym (whole-by _ (x .1 .0)) }
 
     pub step-refused : (at : ℕ) → r ≡ Refused at → whole ≡ refusedAt (drop at text)
@@ -113,7 +114,7 @@ module _ (text entry : List ℕ) (lines all n rows from left : ℕ) (whole : Tex
           conditionLong = refl;
         }
 
-    pub step-made : (at : ℕ) → r ≡ Goes at → (m : Draft) × ((whole ≡ rules.concluded lines m (drop at text)) × Held exit n m)
+    pub step-made : (at : ℕ) → r ≡ Goes at → (m : Draft) × ((whole ≡ rules.concluded lines m (drop at text)) × HeldTable exit n m)
     step-made at e = let x = lined (Goes at) e in (x .0, (whole-by _ (x .1 .0), x .1 .1))
 
 -- The condition
@@ -121,7 +122,7 @@ module _ (text entry : List ℕ) (lines all n rows from left : ℕ) (whole : Tex
 pub piece-most : (bytes : List ℕ) (n : ℕ) (piece : List ℕ) → piece ≡ part 0 n bytes → length piece ≤ n
 piece-most bytes n piece p = omega (arith, ap length p, length-take (n - 0) (drop 0 bytes))
 
-module _ (text table : List ℕ) (at lines threads n : ℕ) (c : Conclusion) (closes : Concludes text at lines threads c) (m : Draft) (held : Held table n m) (t : m .threads ≡ threads) where
+module _ (text table : List ℕ) (at lines threads n : ℕ) (c : Conclusion) (closes : Concludes text at lines threads c) (m : Draft) (held : HeldTable table n m) (t : m .threads ≡ threads) where
   pub closes-refused : c .taken ≡ false → rules.concluded lines m (drop at text) ≡ refusedAt (drop (c .at) text)
   closes-refused e =
       sym (closes .is m t) ∙ ap (λ (b : Bool). cond b (accepted (tableOf m) (take (c .length) (c .bytes))) (refusedAt (drop (c .at) text))) e
@@ -153,5 +154,5 @@ module _ (text table : List ℕ) (at lines threads n : ℕ) (c : Conclusion) (cl
       }
 
 pub answered-by : (text table condition : List ℕ) (n : ℕ) (r : Lines) (read : Draft → TextRead) → Closes text table condition n r read
-    → (m : Draft) → Held table n m → (whole : TextRead) → read m ≡ whole → Answers text table condition r whole
-answered-by text table condition n r read closes m held whole e = record { is = subst (Answered text table condition r) e (closes .is m held) }
+    → (m : Draft) → HeldTable table n m → (whole : TextRead) → read m ≡ whole → TextAnswers text table condition r whole
+answered-by text table condition n r read closes m held whole e = record { is = subst (TextAnswered text table condition r) e (closes .is m held) }

@@ -4,10 +4,11 @@ ghost use mathlib.Core.Path.{_≡_};
 ghost use lib.ListN.{drop};
 ghost use Rattle.rules.specs.Condition.{conditionBytes};
 ghost use Rattle.rules.specs.Text as rules;
-ghost use Rattle.filling.specs.Tables.{Holds, Blank};
-ghost use Rattle.reader.specs.Lines.{Closes, Answers, readOf};
+ghost use Rattle.filling.specs.Tables.{HoldsTable, Blank};
+ghost use Rattle.reader.specs.Lines.{Closes, TextAnswers, withBuffers};
 use condition::CONDITION_BYTES;
 use filling::Line;
+use filling::Reached;
 use table::limits::HEADER_BYTES;
 pub use table::limits::TABLE_BYTES;
 use table::limits::THREAD_COUNT;
@@ -29,7 +30,7 @@ enum Lines {
 // Reads a text. A refusal leaves zeros in both buffers, and a text that is taken zeros behind its bytes; without room they stay as they
 // are.
 pub fn read(text: &[u8], table: &mut [u8], condition: &mut [u8]) -> TextAnswer
-    ensures { λ r. ⌜ readOf r (now (table .exit)) (now (condition .exit)) ≡ rules.readInto (now (text .entry)) (now (table .entry)) (now (condition .entry)) ⌝ }
+    ensures { λ r. ⌜ withBuffers r (now (table .exit)) (now (condition .exit)) ≡ rules.readInto (now (text .entry)) (now (table .entry)) (now (condition .entry)) ⌝ }
 {
     if table.len() < TABLE_BYTES {
         return TextAnswer::NoRoom;
@@ -53,28 +54,28 @@ pub fn read(text: &[u8], table: &mut [u8], condition: &mut [u8]) -> TextAnswer
 // All lines, over buffers of zeros.
 fn lines_from(text: &[u8], table: &mut [u8], condition: &mut [u8]) -> Lines
     requires { ⌜ Blank rules.tableBytes (now table) × Blank conditionBytes (now condition) ⌝ }
-    ensures { λ r. ⌜ Answers (now (text .entry)) (now (table .exit)) (now (condition .exit)) r (rules.readText (now (text .entry))) ⌝ }
+    ensures { λ r. ⌜ TextAnswers (now (text .entry)) (now (table .exit)) (now (condition .exit)) r (rules.readText (now (text .entry))) ⌝ }
 {
     let lines = text.len() + 1;
     let all = ahead::threads_ahead(text, 0, lines);
-    let mut from = 0;
-    let mut rows = 0;
-    let mut length = HEADER_BYTES;
+    let mut reached = Reached {
+        rows: 0,
+        length: HEADER_BYTES,
+        at: 0,
+    };
     let mut left = lines;
     while 0 < left {
-        match filling::line_of(text, table, from, lines, all, rows, length) {
-            Line::GoesOn(more, long, to) => {
-                rows = more;
-                length = long;
-                from = to;
-            }
+        match filling::line_of(text, table, lines, all, reached) {
+            Line::GoesOn(more) => reached = more,
             Line::Refused(at) => return Lines::Refused(at),
-            Line::Ended => return Lines::Taken(length, 0),
-            Line::Concludes(at) => return concluded(text, table, condition, at, lines, length),
+            Line::Ended => return Lines::Taken(reached.length, 0),
+            Line::Concludes(at) => {
+                return concluded(text, table, condition, lines, reached.length, at);
+            }
         }
         left -= 1;
     }
-    Lines::Refused(from)
+    Lines::Refused(reached.at)
 }
 
 // The condition is read and judged, and its bytes are written.
@@ -82,15 +83,15 @@ fn concluded(
     text: &[u8],
     table: &[u8],
     condition: &mut [u8],
-    at: usize,
     lines: usize,
     length: usize,
+    at: usize,
 ) -> Lines
-    requires { ⌜ Holds (now table) length × Blank conditionBytes (now condition) ⌝ }
+    requires { ⌜ HoldsTable (now table) length × Blank conditionBytes (now condition) ⌝ }
     ensures { λ r. ⌜ Closes (now (text .entry)) (now (table .entry)) (now (condition .exit)) length r (λ m. rules.concluded lines m (drop at (now (text .entry)))) ⌝ }
 {
     let threads = table[THREAD_COUNT] as usize;
-    let end = claims::concluded(text, at, lines, threads);
+    let end = claims::concluded(text, lines, threads, at);
     if !end.taken {
         return Lines::Refused(end.at);
     }

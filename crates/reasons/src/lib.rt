@@ -2,7 +2,7 @@
 // of the bad one, one after the other, and the first with which it is refused is the one that is wrong.
 ghost use mathlib.Core.Path.{_≡_};
 ghost use mathlib.Core.Bool.{cond};
-ghost use Rattle.decode.specs.Ops.{rowMeant, roomOf};
+ghost use Rattle.decode.specs.Ops.{rowMeant, roomMeant};
 ghost use Rattle.reasons.specs.Wrong.{blankOrder, blankTarget, firstFields, isFit, isOpcode, wrongIn, hasCell, hasPlain, isJump, hasRegister, isChange, mayObject, mayOrder, mayFailure, mayTarget, mayBe};
 pub use decode::Room;
 use decode::Row;
@@ -40,6 +40,23 @@ pub enum Field {
     B,
 }
 
+// How many fields behind the opcode are judged before each.
+const OBJECT: usize = 0;
+
+const ORDER: usize = 1;
+
+const KIND: usize = 2;
+
+const FAILURE: usize = 3;
+
+const REGISTER: usize = 4;
+
+const TARGET: usize = 5;
+
+const A: usize = 6;
+
+const B: usize = 7;
+
 // What a field may be: one of those that there are, or zero, where the opcode or the change kind does not use it.
 pub enum May {
     AnyOpcode,
@@ -59,39 +76,39 @@ pub enum May {
 }
 
 // The field that is wrong first.
-pub fn wrong(row: Row, room: Room) -> Field
-    ensures { λ r. ⌜ r ≡ wrongIn (roomOf room) (rowMeant row) ⌝ }
+pub fn wrong(room: Room, row: Row) -> Field
+    ensures { λ r. ⌜ r ≡ wrongIn (roomMeant room) (rowMeant row) ⌝ }
 {
-    if !is_opcode(row, room) {
+    if !is_opcode(room, row) {
         return Field::Opcode;
     }
-    if !is_fit(row, room, 1) {
+    if !is_fit(room, row, ORDER) {
         return Field::Object;
     }
-    if !is_fit(row, room, 2) {
+    if !is_fit(room, row, KIND) {
         return Field::Order;
     }
-    if !is_fit(row, room, 3) {
+    if !is_fit(room, row, FAILURE) {
         return Field::Kind;
     }
-    if !is_fit(row, room, 4) {
+    if !is_fit(room, row, REGISTER) {
         return Field::Failure;
     }
-    if !is_fit(row, room, 5) {
+    if !is_fit(room, row, TARGET) {
         return Field::Register;
     }
-    if !is_fit(row, room, 6) {
+    if !is_fit(room, row, A) {
         return Field::Target;
     }
-    if !is_fit(row, room, 7) {
+    if !is_fit(room, row, B) {
         return Field::A;
     }
     Field::B
 }
 
 // Whether there is this opcode, be there plain cells or not: a row of it is taken where there is one to name.
-fn is_opcode(row: Row, room: Room) -> bool
-    ensures { λ r. ⌜ r ≡ isOpcode (roomOf room) (rowMeant row) ⌝ }
+fn is_opcode(room: Room, row: Row) -> bool
+    ensures { λ r. ⌜ r ≡ isOpcode (roomMeant room) (rowMeant row) ⌝ }
 {
     let one = Room {
         threads: room.threads,
@@ -100,30 +117,30 @@ fn is_opcode(row: Row, room: Room) -> bool
         rows: room.rows,
         row: room.row,
     };
-    is_fit(row, one, 0)
+    is_fit(one, row, OBJECT)
 }
 
 // Whether the library takes a row with the first `n` fields of this one.
-fn is_fit(row: Row, room: Room, n: usize) -> bool
-    ensures { λ r. ⌜ r ≡ isFit (roomOf room) (rowMeant row) n ⌝ }
+fn is_fit(room: Room, row: Row, n: usize) -> bool
+    ensures { λ r. ⌜ r ≡ isFit (roomMeant room) (rowMeant row) n ⌝ }
 {
-    is_row(first_fields(row, room.row, n), room)
+    is_row(room, first_fields(room.row, row, n))
 }
 
 // The row's opcode and its first `n` fields, on a row that is accepted, if there is one of this opcode. `own` is its number.
-fn first_fields(row: Row, own: usize, n: usize) -> Row
+fn first_fields(own: usize, row: Row, n: usize) -> Row
     ensures { λ r. ⌜ rowMeant r ≡ firstFields own (rowMeant row) n ⌝ }
 {
     Row {
         opcode: row.opcode,
-        object: byte_if(0 < n, row.object, 0),
-        order: byte_if(1 < n, row.order, blank_order(row.opcode)),
-        failure: byte_if(3 < n, row.failure, 0),
-        kind: byte_if(2 < n, row.kind, 0),
-        register: byte_if(4 < n, row.register, 0),
-        target: target_if(5 < n, row.target, blank_target(row.opcode, own)),
-        a: operand_if(6 < n, row.a),
-        b: operand_if(7 < n, row.b),
+        object: byte_if(OBJECT < n, row.object, 0),
+        order: byte_if(ORDER < n, row.order, blank_order(row.opcode)),
+        failure: byte_if(FAILURE < n, row.failure, 0),
+        kind: byte_if(KIND < n, row.kind, 0),
+        register: byte_if(REGISTER < n, row.register, 0),
+        target: target_if(TARGET < n, row.target, blank_target(row.opcode, own)),
+        a: operand_if(A < n, row.a),
+        b: operand_if(B < n, row.b),
     }
 }
 

@@ -9,6 +9,8 @@ ghost use Rattle.form.specs.Lines.{coded};
 ghost use Rattle.put.specs.Puts.{Puts};
 ghost use Rattle.row_line.specs.Pieces.{pieceShown};
 use form::FIELDS;
+use form::FORM_KIND;
+use form::FORM_WORDS;
 use form::FORMS;
 use form::Fields;
 use layout::long8;
@@ -17,6 +19,10 @@ use put::put_byte;
 use put::put_bytes;
 use put::put_number;
 use put::put_order;
+use table::fields::FAILURE;
+use table::fields::KIND;
+use table::fields::OPCODE;
+use table::fields::ORDER;
 
 // The row of this number among all rows of a table with so many start values.
 pub fn put_row(text: &mut [u8], at: usize, table: &[u8], values: usize, index: usize) -> usize
@@ -51,13 +57,18 @@ fn put_form(text: &mut [u8], at: usize, forms: &[u8], fields: Fields) -> usize
     requires { ⌜ now forms ≡ coded Form.forms ⌝ }
     ensures { λ r. ⌜ Puts (now (text .entry)) (now (text .exit)) at (formShown (formIn (getD fields 0 0) (getD fields 4 0) Form.forms .words) fields) r ⌝ }
 {
-    let opcode = fields[0];
-    let kind = fields[4];
+    let opcode = fields[OPCODE];
+    let kind = fields[KIND];
     let mut from = 0;
     while from < forms.len() {
-        let to = token::next_line(forms, from + 2);
-        if (long8(forms[from]) == opcode) & (long8(forms[from + 1]) == kind) {
-            return put_words(text, at, token::part(forms, from + 2, to - 1), fields);
+        let to = token::next_line(forms, from + FORM_WORDS);
+        if (long8(forms[from]) == opcode) & (long8(forms[from + FORM_KIND]) == kind) {
+            return put_words(
+                text,
+                at,
+                token::part(forms, from + FORM_WORDS, to - 1),
+                fields,
+            );
         }
         from = to;
     }
@@ -94,7 +105,7 @@ fn put_piece(text: &mut [u8], at: usize, byte: u8, fields: Fields) -> usize
         let behind = put_byte(text, at, b'p');
         return put_number(text, behind, value);
     }
-    if (field == 2) | (field == 3) {
+    if (field == ORDER) | (field == FAILURE) {
         return put_order(text, at, value);
     }
     put_number(text, at, value)

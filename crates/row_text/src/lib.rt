@@ -12,7 +12,7 @@ use table::FIRSTS;
 use table::PLAINS;
 
 // The longest row's line has fewer bytes.
-const LONGEST: usize = 256;
+const ROW_LINE: usize = 256;
 
 // How many blanks a text has before a row.
 const BLANKS: usize = 2;
@@ -35,9 +35,9 @@ pub fn put(page: &mut Page, at: usize, table: &[u8], thread: u8, number: u8) -> 
 fn put_at(page: &mut Page, at: usize, table: &[u8], values: usize, index: usize) -> usize
     ensures { λ r. ⌜ ended (now (page .exit)) r ≡ putText (ended (now (page .entry)) at) (rowWords (rowAt (now (table .entry)) values index)) ⌝ }
 {
-    let mut text = [0u8; LONGEST];
+    let mut text = [0u8; ROW_LINE];
     let to = row_line::put_row(&mut text, 0, table, values, index);
-    if LONGEST < to {
+    if ROW_LINE < to {
         return at;
     }
     if to <= BLANKS {

@@ -11,7 +11,7 @@ use Rattle.rules.specs.Vector.{equal}
 use Rattle.rules.specs.Table.{Judged, headerBytes, maxThreads, judged, good, badHeader, headerFine, rowsJudged, countsOf}
 use Rattle.rules.specs.Token.{runLength, endsLine, tokenLength, bytesOf}
 use Rattle.rules.specs.Text.{Draft, Line, goesOn, refusedLine, ended, concludes, TextRead, refusedAt, accepted, tableOf, concluded, nothingMade, lineOf, linesFrom, readText, linesIn, threadsAhead}
-use Rattle.source.specs.Told.{holdsTable, Told}
+use Rattle.source.specs.Told.{holdsTable, ToldApart}
 
 -- whatever a test says, where both its ways are the same
 either : {A : Type 0} (x : A) (t : Bool) → cond t x x ≡ x
@@ -100,5 +100,5 @@ table-told : (bytes : List ℕ) → judged bytes ≡ good → holdsTable bytes �
 unfolding judged
 table-told bytes e = fine bytes (by-header (headerFine bytes) (rowsJudged bytes 0 0 (countsOf bytes)) e)
 
-pub told : Told
+pub told : ToldApart
 told = record { text = text-told; table = table-told }

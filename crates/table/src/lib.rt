@@ -5,9 +5,10 @@ ghost use Prim.Native.Nat.{_+_, _<_, _≤_, _^_};
 ghost use lib.ListN.{length, getD};
 ghost use Rattle.rules.specs.Table as rules;
 ghost use Rattle.rules.specs.Table.{headerBytes, rowBytes, headerFine, countFine, countsFine, countsOf, firstBad, judged, shapeOf, startValue, rowFrom, opAt, isFine};
-ghost use Rattle.decode.specs.Ops.{rowMeant, roomOf};
+ghost use Rattle.decode.specs.Ops.{rowMeant, roomMeant};
 ghost use Rattle.table.specs.Answers.{judgedOf, roomIn, OpAt, PlaceOf};
 
+pub mod fields;
 pub mod limits;
 pub mod little;
 
@@ -18,6 +19,14 @@ use decode::is_row;
 pub use decode::opcode;
 use decode::opcodes::NO_OPCODE;
 use decode::row_decoded;
+use fields::A;
+use fields::B;
+use fields::FAILURE;
+use fields::KIND;
+use fields::OBJECT;
+use fields::ORDER;
+use fields::REGISTER;
+use fields::TARGET;
 use layout::MAX_CELLS;
 use layout::MAX_PLAINS;
 use layout::MAX_THREADS;
@@ -26,6 +35,10 @@ use layout::wide8;
 use layout::wide16;
 use limits::ALL_ROWS;
 use limits::CELL_COUNT;
+use limits::COUNT_OF_1;
+use limits::COUNT_OF_2;
+use limits::COUNT_OF_3;
+use limits::COUNT_OF_4;
 use limits::HEADER_BYTES;
 use limits::MAX_ROWS;
 use limits::MAX_VALUES;
@@ -99,11 +112,11 @@ pub fn shape(table: &[u8]) -> Shape
     }
     let threads = short8(table[THREAD_COUNT]);
     let cells = short8(table[CELL_COUNT]);
-    let n0 = short8(table[2]);
-    let n1 = short8(table[3]);
-    let n2 = short8(table[4]);
-    let n3 = short8(table[5]);
-    let n4 = short8(table[6]);
+    let n0 = short8(table[ROW_COUNTS]);
+    let n1 = short8(table[COUNT_OF_1]);
+    let n2 = short8(table[COUNT_OF_2]);
+    let n3 = short8(table[COUNT_OF_3]);
+    let n4 = short8(table[COUNT_OF_4]);
     let plains = short8(table[PLAIN_COUNT]);
     let first2 = n0 + n1;
     let first3 = first2 + n2;
@@ -162,27 +175,27 @@ pub fn row_of(table: &[u8], shape: &Shape, thread: usize, number: u16) -> Decode
 // What the row of this number among all rows does, in this room. Refused where the table does not hold it, and where there are
 // more threads, cells or plain cells than there can be.
 pub fn op_at(table: &[u8], room: Room, index: usize) -> Decoded
-    ensures { λ r. ⌜ OpAt (now (table .entry)) (roomOf room) index r ⌝ }
+    ensures { λ r. ⌜ OpAt (now (table .entry)) (roomMeant room) index r ⌝ }
 {
     let RowStart::At(at) = place_of(table, room, index) else {
         return Decoded::Refused;
     };
-    row_decoded(row_from(table, at), room)
+    row_decoded(room, row_from(table, at))
 }
 
 // Whether that row says something.
 fn is_fine(table: &[u8], room: Room, index: usize) -> bool
-    ensures { λ r. ⌜ r ≡ isFine (opAt (now (table .entry)) (roomOf room) index) ⌝ }
+    ensures { λ r. ⌜ r ≡ isFine (opAt (now (table .entry)) (roomMeant room) index) ⌝ }
 {
     let RowStart::At(at) = place_of(table, room, index) else {
         return false;
     };
-    is_row(row_from(table, at), room)
+    is_row(room, row_from(table, at))
 }
 
 // Where the row of this number among all rows stands.
 fn place_of(table: &[u8], room: Room, index: usize) -> RowStart
-    ensures { λ r. ⌜ PlaceOf (now (table .entry)) (roomOf room) index r ⌝ }
+    ensures { λ r. ⌜ PlaceOf (now (table .entry)) (roomMeant room) index r ⌝ }
 {
     let threads = room.threads;
     let cells = room.cells;
@@ -234,14 +247,14 @@ fn row_from(table: &[u8], at: usize) -> Row
 {
     Row {
         opcode: table[at],
-        object: table[at + 1],
-        order: table[at + 2],
-        failure: table[at + 3],
-        kind: table[at + 4],
-        register: table[at + 5],
-        target: little::u16_at(table, at + 6),
-        a: little::u64_at(table, at + 8),
-        b: little::u64_at(table, at + 16),
+        object: table[at + OBJECT],
+        order: table[at + ORDER],
+        failure: table[at + FAILURE],
+        kind: table[at + KIND],
+        register: table[at + REGISTER],
+        target: little::u16_at(table, at + TARGET),
+        a: little::u64_at(table, at + A),
+        b: little::u64_at(table, at + B),
     }
 }
 
@@ -311,7 +324,7 @@ fn first_bad(table: &[u8], first: usize, count: usize) -> usize
 // What the row of this number, in a thread of so many rows, may name.
 fn room_of(table: &[u8], rows: usize, row: usize) -> Room
     requires { ⌜ headerBytes ≤ length (now table) ⌝ }
-    ensures { λ r. ⌜ roomOf r ≡ rules.roomOf (now (table .entry)) rows row ⌝ }
+    ensures { λ r. ⌜ roomMeant r ≡ rules.roomOf (now (table .entry)) rows row ⌝ }
 {
     Room {
         threads: wide8(table[THREAD_COUNT]),

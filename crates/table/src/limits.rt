@@ -18,6 +18,15 @@ pub const CELL_COUNT: usize = 1;
 
 pub const ROW_COUNTS: usize = 2;
 
+// Those of the threads behind the first.
+pub const COUNT_OF_1: usize = ROW_COUNTS + 1;
+
+pub const COUNT_OF_2: usize = ROW_COUNTS + 2;
+
+pub const COUNT_OF_3: usize = ROW_COUNTS + 3;
+
+pub const COUNT_OF_4: usize = ROW_COUNTS + 4;
+
 // With the number of threads added: where it counts the rows of the last.
 pub const COUNT_OF_LAST: usize = ROW_COUNTS - 1;
 

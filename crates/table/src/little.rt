@@ -2,6 +2,7 @@
 ghost use mathlib.Core.Path.{_≡_};
 ghost use Prim.Native.Nat.{_+_, _≤_};
 ghost use lib.ListN.{length};
+ghost use Rattle.rules.specs.Event.{little};
 ghost use Rattle.rules.specs.Table.{u16At, u32At, u64At};
 use layout::short8;
 
@@ -25,4 +26,22 @@ pub fn u64_at(bytes: &[u8], at: usize) -> u64
     ensures { λ r. ⌜ r ≡ u64At (now (bytes .entry)) at ⌝ }
 {
     (u32_at(bytes, at) as u64) + 4294967296 * (u32_at(bytes, at + 4) as u64)
+}
+
+// A number's bytes, its least first.
+pub fn low_bytes(value: u64) -> [u8; 8]
+    ensures { λ r. ⌜ r ≡ little 8 value ⌝ }
+{
+    let low = value % 0x1_0000_0000;
+    let high = value / 0x1_0000_0000;
+    [
+        (low % 256) as u8,
+        (low / 256 % 256) as u8,
+        (low / 65536 % 256) as u8,
+        (low / 16777216 % 256) as u8,
+        (high % 256) as u8,
+        (high / 256 % 256) as u8,
+        (high / 65536 % 256) as u8,
+        (high / 16777216 % 256) as u8,
+    ]
 }

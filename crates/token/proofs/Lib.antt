@@ -1,3 +1,3 @@
-mod ListLaws
+pub mod ListLaws
 pub mod PlaceLaws
 mod WordLaws

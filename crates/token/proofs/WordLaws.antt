@@ -13,7 +13,7 @@ use lib.Dec.{ltb, leb, eqb}
 use lib.ListN.{length, getD}
 use Rattle.rules.specs.Token.{Found, nothing, found, foundIf, isBetween, isDigit, digitsBehind, numberIn, fourth}
 use Rattle.rules.specs.Text.{threadRegisterIn}
-use Rattle.decimal.specs.Decimal.{numberOf, behind, withDigit, extended}
+use Rattle.decimal.specs.Decimal.{numberSpelled, withDigits, withDigit, extended}
 use Rattle.decimal.specs.declared.Parsed.{Parsed}
 use Rattle.decimal.specs.declared.Parsed.the-variants.{Number, Bad}
 
@@ -23,17 +23,17 @@ abbrev pub parsedOf : Parsed → Found
 parsedOf (Number n) = found n
 parsedOf Bad = nothing
 
-behind-bad : (bs : List ℕ) → behind Bad bs ≡ Bad
-unfolding behind
+behind-bad : (bs : List ℕ) → withDigits Bad bs ≡ Bad
+unfolding withDigits
 behind-bad [] = refl
 behind-bad (b ∷ bs) = refl
 
-digits-behind : (v : ℕ) (bs : List ℕ) → parsedOf (behind (Number v) bs) ≡ digitsBehind v bs
-unfolding behind digitsBehind withDigit
+digits-behind : (v : ℕ) (bs : List ℕ) → parsedOf (withDigits (Number v) bs) ≡ digitsBehind v bs
+unfolding withDigits digitsBehind withDigit
 digits-behind v [] = refl
 digits-behind v (b ∷ bs) =
     elim (isDigit b && ltb (extended v b) (2 ^ 64))
-    as (λ t. parsedOf (behind (cond t (Number (extended v b)) Bad) bs) ≡ elim t [ true ↦ digitsBehind (extended v b) bs | false ↦ nothing ]) [
+    as (λ t. parsedOf (withDigits (cond t (Number (extended v b)) Bad) bs) ≡ elim t [ true ↦ digitsBehind (extended v b) bs | false ↦ nothing ]) [
       | true ↦ digits-behind (extended v b) bs
       | false ↦ ap parsedOf (behind-bad bs)
     ]
@@ -46,15 +46,15 @@ module _ (word : List ℕ) where
       let some = ne-eqb (length word) 0 (λ (z : length word ≡ 0). omega arith) in
       simp (some, many, eq-eqb _ _ e)
 
-pub number-first : (word : List ℕ) → 1 < length word → (getD word 0 0 ≡ 48 → ⊥) → parsedOf (numberOf word) ≡ numberIn word
-unfolding numberIn numberOf
+pub number-first : (word : List ℕ) → 1 < length word → (getD word 0 0 ≡ 48 → ⊥) → parsedOf (numberSpelled word) ≡ numberIn word
+unfolding numberIn numberSpelled
 number-first [] h n = absurd (omega arith)
 number-first (b ∷ bs) h n =
     let some = ne-eqb (length (b ∷ bs)) 0 (λ (z : length (b ∷ bs) ≡ 0). omega arith) in
     rw (some, ne-eqb b 48 n) (digits-behind 0 (b ∷ bs))
 
-pub number-short : (word : List ℕ) → length word ≤ 1 → parsedOf (numberOf word) ≡ numberIn word
-unfolding numberIn numberOf
+pub number-short : (word : List ℕ) → length word ≤ 1 → parsedOf (numberSpelled word) ≡ numberIn word
+unfolding numberIn numberSpelled
 number-short [] h = refl
 number-short (b ∷ []) h =
     digits-behind 0 (b ∷ [])

@@ -1,8 +1,9 @@
 // Tokens of a text, and what a word stands for. A place in a text is a number of bytes from its start; any number is one, and past the
 // end nothing is left.
+ghost use mathlib.Core.List.{[]};
 ghost use mathlib.Core.Path.{_≡_};
 ghost use Prim.Native.Nat.{_+_, _-_, _<_};
-ghost use lib.ListN.{length, drop};
+ghost use lib.ListN.{length, getD, drop};
 ghost use Rattle.rules.specs.Vector.{equal};
 ghost use Rattle.rules.specs.Token.{runLength, isBlank, isLetter, isBetween, endsLine, tokenLength, lineLength, foundIf, numberIn, fourth, registerIn, plainIn, placeIn};
 ghost use Rattle.rules.specs.Form.{orderIn};
@@ -19,6 +20,14 @@ enum Kind {
     Symbol,
 }
 
+// The words of the orders, each at its number's place; the signs and words of a condition, whose bytes count from FIRST_SYMBOL on. Texts
+// are read and written by these lists.
+pub const ORDERS: [u8; 37] = *b"relaxed release acquire acqrel seqcst";
+
+pub const SYMBOLS: [u8; 25] = *b"= != < <= > >= ( ) and or";
+
+pub const FIRST_SYMBOL: u64 = 1;
+
 // What a word stands for, if anything.
 pub enum Found {
     Nothing,
@@ -29,7 +38,7 @@ pub enum Found {
 pub fn past_blanks(text: &[u8], at: usize) -> usize
     ensures { λ r. ⌜ r ≡ at + runLength isBlank (drop at (now (text .entry))) ⌝ }
 {
-    run_end(text, at, Kind::Blank)
+    run_end(text, Kind::Blank, at)
 }
 
 // The end of the token that stands here, which is no further where the line ends.
@@ -40,11 +49,11 @@ pub fn token_end(text: &[u8], at: usize) -> usize
         return at;
     }
     let byte = text[at];
-    if is_of(byte, Kind::Letter) {
-        return run_end(text, at, Kind::Letter);
+    if is_of(Kind::Letter, byte) {
+        return run_end(text, Kind::Letter, at);
     }
-    if is_of(byte, Kind::Symbol) {
-        return run_end(text, at, Kind::Symbol);
+    if is_of(Kind::Symbol, byte) {
+        return run_end(text, Kind::Symbol, at);
     }
     at + 1
 }
@@ -87,7 +96,7 @@ pub fn next_line(text: &[u8], at: usize) -> usize
 }
 
 // Past blanks and line ends, so many lines at most: where the next token stands.
-pub fn content(text: &[u8], at: usize, lines: usize) -> usize
+pub fn content(text: &[u8], lines: usize, at: usize) -> usize
     ensures { λ r. ⌜ Content (now (text .entry)) at lines r ⌝ }
 {
     let mut from = at;
@@ -173,10 +182,10 @@ pub fn thread_register(text: &[u8], from: usize, to: usize) -> Found
     if word[2] != b'r' {
         return Found::Nothing;
     }
-    let Found::Value(thread) = digit(word[0], b'4') else {
+    let Found::Value(thread) = digit(b'4', word[0]) else {
         return Found::Nothing;
     };
-    let Found::Value(register) = digit(word[3], b'3') else {
+    let Found::Value(register) = digit(b'3', word[3]) else {
         return Found::Nothing;
     };
     Found::Value(REGISTERS as u64 * thread + register)
@@ -186,18 +195,14 @@ pub fn thread_register(text: &[u8], from: usize, to: usize) -> Found
 pub fn order(text: &[u8], from: usize, to: usize) -> Found
     ensures { λ r. ⌜ foundOf r ≡ orderIn (part from to (now (text .entry))) ⌝ }
 {
-    place_in(
-        part(text, from, to),
-        b"relaxed release acquire acqrel seqcst",
-        0,
-    )
+    place_in(part(text, from, to), &ORDERS, 0)
 }
 
 // The byte that a sign or word of a condition is.
 pub fn symbol(text: &[u8], from: usize, to: usize) -> Found
     ensures { λ r. ⌜ foundOf r ≡ symbolIn (part from to (now (text .entry))) ⌝ }
 {
-    place_in(part(text, from, to), b"= != < <= > >= ( ) and or", 1)
+    place_in(part(text, from, to), &SYMBOLS, FIRST_SYMBOL)
 }
 
 // The place of a word in a list of words, which begins with place `first`.
@@ -223,6 +228,28 @@ fn place_in(word: &[u8], words: &[u8], first: u64) -> Found
     Found::Nothing
 }
 
+// The word that stands at a place of a list of words, the first at 0; none past the last.
+pub fn word_at(words: &[u8], place: u64) -> &[u8]
+    ensures { λ r. ⌜ now r ≡ getD (wordsIn (length (now (words .entry))) (now (words .entry))) place [] ⌝ }
+{
+    let mut before = place;
+    let mut from = 0;
+    let mut left = words.len();
+    while 0 < left {
+        let at = past_blanks(words, from);
+        if words.len() <= at {
+            return &words[0..0];
+        }
+        from = token_end(words, at);
+        if before == 0 {
+            return part(words, at, from);
+        }
+        before -= 1;
+        left -= 1;
+    }
+    &words[0..0]
+}
+
 // A letter, and a number from 0 to 3 behind it.
 fn fourth(word: &[u8], letter: u8) -> Found
     ensures { λ r. ⌜ foundOf r ≡ fourth letter (now (word .entry)) ⌝ }
@@ -233,11 +260,11 @@ fn fourth(word: &[u8], letter: u8) -> Found
     if word[0] != letter {
         return Found::Nothing;
     }
-    digit(word[1], b'3')
+    digit(b'3', word[1])
 }
 
 // The number of a digit that is not above the last.
-fn digit(byte: u8, last: u8) -> Found
+fn digit(last: u8, byte: u8) -> Found
     ensures { λ r. ⌜ foundOf r ≡ foundIf (isBetween 48 last byte) (byte - 48) ⌝ }
 {
     if byte < b'0' {
@@ -267,12 +294,12 @@ fn same(word: &[u8], other: &[u8]) -> bool
 }
 
 // The end of a run of such bytes.
-fn run_end(text: &[u8], at: usize, kind: Kind) -> usize
+fn run_end(text: &[u8], kind: Kind, at: usize) -> usize
     ensures { λ r. ⌜ r ≡ at + runLength (isOf kind) (drop at (now (text .entry))) ⌝ }
 {
     let mut to = at;
     while to < text.len() {
-        if !is_of(text[to], kind) {
+        if !is_of(kind, text[to]) {
             return to;
         }
         to += 1;
@@ -281,7 +308,7 @@ fn run_end(text: &[u8], at: usize, kind: Kind) -> usize
 }
 
 // Whether it is such a byte.
-fn is_of(byte: u8, kind: Kind) -> bool
+fn is_of(kind: Kind, byte: u8) -> bool
     ensures { λ r. ⌜ r ≡ isOf kind byte ⌝ }
 {
     match kind {

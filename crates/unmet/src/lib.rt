@@ -84,7 +84,7 @@ pub fn put(text: &mut [u8], at: usize, condition: &[u8], threads: usize) -> usiz
 {
     if threads <= ONE_DIGIT {
         if condition::is_condition(condition, threads) {
-            return claim::put_condition(text, at, condition);
+            return condition_line::put_condition(text, at, condition);
         }
     }
     at

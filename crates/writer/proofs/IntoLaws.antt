@@ -21,7 +21,7 @@ use Rattle.table.specs.declared.Judged.{Judged}
 use Rattle.table.specs.declared.Judged.the-variants.{Header, Row}
 use Rattle.table.specs.Answers.{judgedOf}
 use Rattle.put.specs.Puts.{last, upToLast, Puts}
-use Rattle.claim.proofs.FineLaws.{fine-claim}
+use Rattle.condition_line.proofs.FineLaws.{fine-claim}
 use Rattle.writer.specs.Answers.{withText, Fit}
 use Rattle.writer.specs.declared.Written.the-variants.{Unfit, Short, Text}
 use Rattle.writer.proofs.LengthLaws.{text-short}

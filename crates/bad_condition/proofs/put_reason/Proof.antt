@@ -11,14 +11,14 @@ shared-slice-read-byte c = search needs
 is-sign-requires : tie.Need-is-sign-requires
 is-sign-requires c κs = search needs
 
-put-comparison-requires : tie.Need-put-comparison-requires
-put-comparison-requires c κs = search needs
+put-bad-comparison-requires : tie.Need-put-bad-comparison-requires
+put-bad-comparison-requires c κs = search needs
 
 returns : tie.Need-returns
 unfolding putReason
 returns c =
     let first = c .before .before in
-    rw (← first .before .is-sign .ensures, first .if1 .taken) (c .put-comparison .ensures)
+    rw (← first .before .is-sign .ensures, first .if1 .taken) (c .put-bad-comparison .ensures)
 
 slice-aggregate-fill : tie.Need-slice-aggregate-fill
 slice-aggregate-fill c = search needs
@@ -42,7 +42,7 @@ put-reason-spec =
     (tie.spec
     shared-slice-read-byte
     is-sign-requires
-    put-comparison-requires
+    put-bad-comparison-requires
     returns
     slice-aggregate-fill
     fill-requires

@@ -19,8 +19,8 @@ shape-requires c κs = search needs
 room-in-requires : tie.Need-room-in-requires
 room-in-requires c κs = search needs
 
-row-in-requires : tie.Need-row-in-requires
-row-in-requires c κs = search needs
+thread-row-requires : tie.Need-thread-row-requires
+thread-row-requires c κs = search needs
 
 slice-aggregate-fill : tie.Need-slice-aggregate-fill
 slice-aggregate-fill c = search needs
@@ -57,7 +57,7 @@ returns-2 c =
       ← shape .shape .ensures,
       ← same,
       ← room .room-in .ensures,
-      ← row .row-in .ensures,
+      ← row .thread-row .ensures,
       ← wrong .wrong .ensures,
       ← put .put .ensures,
     ) (c .put2 .ensures)
@@ -70,7 +70,7 @@ put-spec =
     returns
     shape-requires
     room-in-requires
-    row-in-requires
+    thread-row-requires
     slice-aggregate-fill
     fill-requires
     wrong-requires

@@ -15,11 +15,11 @@ use Rattle.claims.proofs.claimed.Statement.{statement}
 use Rattle.claims.proofs.claimed.Tie as tie
 
 abbrev Inv-loop : tie.InvT-loop
-Inv-loop text at lines stop bytes₀ n₀ from₀ left₀ bytes n from left =
+Inv-loop text lines stop at bytes₀ n₀ from₀ left₀ bytes n from left =
     (n ≤ conditionBytes) × (length bytes ≡ mostClaimed) × (claimed lines left stop (take n bytes) (drop from text) ≡ claimed lines lines stop [] (drop at text))
 
 abbrev μ-loop : tie.MeasureT-loop
-μ-loop text at lines stop bytes₀ n₀ from₀ left₀ bytes n from left = left
+μ-loop text lines stop at bytes₀ n₀ from₀ left₀ bytes n from left = left
 
 -- how long that is which was made before a turn
 long : (at : tie.At-loop Inv-loop μ-loop) → length (take (at .loop .length) (at .loop .bytes)) ≡ at .loop .length

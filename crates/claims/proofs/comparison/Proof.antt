@@ -1,10 +1,13 @@
 use Prim.Native.Nat.{ℕ, _/_, _%_}
 use mathlib.Core.List.{List, _∷_}
 use mathlib.Core.Path.{ap}
-use Rattle.rules.proofs.LittleLaws.{low-eight}
+use Rattle.claims.proofs.UnitLaws.{eight-bytes}
 use borrow.Author.Needs.{needs}
 use Rattle.claims.proofs.comparison.Statement.{statement}
 use Rattle.claims.proofs.comparison.Tie as tie
+
+low-bytes-requires : tie.Need-low-bytes-requires
+low-bytes-requires c κs = search needs
 
 cast-t6 : tie.Need-cast-t6
 cast-t6 c = search needs
@@ -21,48 +24,51 @@ rem-t11 c = search needs
 cast-t12 : tie.Need-cast-t12
 cast-t12 c = search needs
 
-cast-t14 : tie.Need-cast-t14
-cast-t14 c = search needs
+array-read-t15 : tie.Need-array-read-t15
+array-read-t15 c = search needs
 
-cast-t17 : tie.Need-cast-t17
-cast-t17 c = search needs
+array-read-t18 : tie.Need-array-read-t18
+array-read-t18 c = search needs
 
-cast-t20 : tie.Need-cast-t20
-cast-t20 c = search needs
+array-read-t21 : tie.Need-array-read-t21
+array-read-t21 c = search needs
 
-cast-t23 : tie.Need-cast-t23
-cast-t23 c = search needs
+array-read-t24 : tie.Need-array-read-t24
+array-read-t24 c = search needs
 
-cast-t25 : tie.Need-cast-t25
-cast-t25 c = search needs
+array-read-t27 : tie.Need-array-read-t27
+array-read-t27 c = search needs
 
-cast-t28 : tie.Need-cast-t28
-cast-t28 c = search needs
+array-read-t30 : tie.Need-array-read-t30
+array-read-t30 c = search needs
 
-cast-t31 : tie.Need-cast-t31
-cast-t31 c = search needs
+array-read-t33 : tie.Need-array-read-t33
+array-read-t33 c = search needs
 
-cast-t34 : tie.Need-cast-t34
-cast-t34 c = search needs
+array-read-t36 : tie.Need-array-read-t36
+array-read-t36 c = search needs
 
 returns : tie.Need-returns
-returns c = ap (λ (bs : List ℕ). c .args .sign ∷ c .args .register / 4 ∷ c .args .register % 4 ∷ bs) (low-eight (c .args .n))
+returns c =
+    let a = c .before .args in
+    ap (λ (bs : List ℕ). a .sign ∷ a .register / 4 ∷ a .register % 4 ∷ bs) (eight-bytes (c .low-bytes .result) (a .n) (c .low-bytes .ensures))
 
 pub comparison-spec : {M : Type 1} → statement M
 comparison-spec =
     tie.close
     (tie.spec
+    low-bytes-requires
     cast-t6
     div-t8
     cast-t9
     rem-t11
     cast-t12
-    cast-t14
-    cast-t17
-    cast-t20
-    cast-t23
-    cast-t25
-    cast-t28
-    cast-t31
-    cast-t34
+    array-read-t15
+    array-read-t18
+    array-read-t21
+    array-read-t24
+    array-read-t27
+    array-read-t30
+    array-read-t33
+    array-read-t36
     returns)

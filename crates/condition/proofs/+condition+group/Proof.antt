@@ -7,7 +7,7 @@ use lib.ListN.{length}
 use borrow.Fn.Kinds.{In}
 use borrow.Fn.PlainCycle.{Measures, is, falls, and}
 use Rattle.rules.specs.Condition.{conditionAt}
-use Rattle.condition.specs.Reads.{registerIn}
+use Rattle.condition.specs.Reads.{registerValue}
 use Rattle.condition.proofs.ReadLaws.{bare, alone, opened}
 use Rattle.condition.proofs.GroupLaws as laws
 use Rattle.condition.proofs.condition.Reads as condition
@@ -51,11 +51,11 @@ abbrev group-calls : ℕ → group-lts.Claims
 group-calls t = (condition-below t, condition.Post, byte-at-reads.Asked, byte-at-reads.Learnt, may-join-reads.Asked, may-join-reads.Learnt, joined-by-reads.Asked, joined-by-reads.Learnt)
 
 abbrev Inv-loop : group-lts.InvT-loop
-Inv-loop bytes values start deep threads value behind holds₀ at₀ joint₀ holds at joint =
-    laws.Goes bytes start (conditionAt threads (registerIn values) deep) at joint holds
+Inv-loop bytes values threads deep start value behind holds₀ at₀ joint₀ holds at joint =
+    laws.Goes bytes start (conditionAt threads (registerValue values) deep) at joint holds
 
 abbrev μ-loop : group-lts.MeasureT-loop
-μ-loop bytes values start deep threads value behind holds₀ at₀ joint₀ holds at joint = length bytes - at
+μ-loop bytes values threads deep start value behind holds₀ at₀ joint₀ holds at joint = length bytes - at
 
 module _ (t : ℕ) where
   condition-comparison-requires : condition-lts.Need-comparison-requires (condition-calls t) (condition-at t) condition.Post
@@ -69,11 +69,11 @@ module _ (t : ℕ) where
   condition-byte-at-requires : condition-lts.Need-byte-at-requires (condition-calls t) (condition-at t) condition.Post
   condition-byte-at-requires c κs = search needs
 
-  condition-add-group : condition-lts.Need-add-group (condition-calls t) (condition-at t) condition.Post
-  condition-add-group c = search needs
-
   condition-sub-group : condition-lts.Need-sub-group (condition-calls t) (condition-at t) condition.Post
   condition-sub-group c = search needs
+
+  condition-add-group : condition-lts.Need-add-group (condition-calls t) (condition-at t) condition.Post
+  condition-add-group c = search needs
 
   condition-group-requires : condition-lts.Need-group-requires (condition-calls t) (condition-at t) condition.Post
   condition-group-requires c κs = (search needs, omega (arith, c .before .byte-at .ensures .there (omega (arith, c .if2 .taken))))
@@ -105,7 +105,7 @@ module _ (t : ℕ) where
   group-returns : group-lts.Need-returns (group-calls t) (group-at t) group.Post Inv-loop μ-loop
   group-returns c =
       let g = c .before .before .before .before .args in
-      laws.first-bad (g .bytes .now) (g .start) (conditionAt (g .threads) (registerIn (g .values .now)) (g .deep)) (c .before .before .condition .ensures) (c .enum-told .given .1)
+      laws.first-bad (g .bytes .now) (g .start) (conditionAt (g .threads) (registerValue (g .values .now)) (g .deep)) (c .before .before .condition .ensures) (c .enum-told .given .1)
 
   group-loop-holds : group-lts.Need-loop-holds (group-calls t) (group-at t) group.Post Inv-loop μ-loop
   group-loop-holds c =
@@ -149,7 +149,7 @@ module _ (t : ℕ) where
       let joins = call .before .before .before in
       let loop = joins .before .before in
       let g = at-start loop .args in
-      laws.goes-bad (g .bytes .now) (g .start) (conditionAt (g .threads) (registerIn (g .values .now)) (g .deep)) _ _ _ (loop .loop .inv) (joins .before .byte-at .ensures) (joins .may-join .ensures) (call .before .before .if1 .taken) (call .condition2 .ensures) (c .enum-told2 .given .1)
+      laws.goes-bad (g .bytes .now) (g .start) (conditionAt (g .threads) (registerValue (g .values .now)) (g .deep)) _ _ _ (loop .loop .inv) (joins .before .byte-at .ensures) (joins .may-join .ensures) (call .before .before .if1 .taken) (call .condition2 .ensures) (c .enum-told2 .given .1)
 
   group-joined-by-requires : group-lts.Need-joined-by-requires (group-calls t) (group-at t) group.Post Inv-loop μ-loop
   group-joined-by-requires c κs = search needs
@@ -160,7 +160,7 @@ module _ (t : ℕ) where
       let joins = call .before .before .before in
       let loop = joins .before .before in
       let g = at-start loop .args in
-      laws.further (g .bytes .now) (g .start) (conditionAt (g .threads) (registerIn (g .values .now)) (g .deep)) _ _ _ (loop .loop .inv) (joins .before .byte-at .ensures) (joins .may-join .ensures) (call .before .before .if1 .taken) (call .condition2 .ensures) (c .before .before .member .given .1)
+      laws.further (g .bytes .now) (g .start) (conditionAt (g .threads) (registerValue (g .values .now)) (g .deep)) _ _ _ (loop .loop .inv) (joins .before .byte-at .ensures) (joins .may-join .ensures) (call .before .before .if1 .taken) (call .condition2 .ensures) (c .before .before .member .given .1)
 
   group-loop-again : group-lts.Need-loop-again (group-calls t) (group-at t) group.Post Inv-loop μ-loop
   group-loop-again c =
@@ -168,7 +168,7 @@ module _ (t : ℕ) where
       let joins = call .before .before .before in
       let loop = joins .before .before in
       let g = at-start loop .args in
-      laws.goes-on (g .bytes .now) (g .start) (conditionAt (g .threads) (registerIn (g .values .now)) (g .deep)) _ _ _ (loop .loop .inv) (joins .before .byte-at .ensures) (joins .may-join .ensures) (call .before .before .if1 .taken) (call .condition2 .ensures) (call .before .byte-at2 .ensures) (c .before .before .member .given .1) (c .joined-by .ensures)
+      laws.goes-on (g .bytes .now) (g .start) (conditionAt (g .threads) (registerValue (g .values .now)) (g .deep)) _ _ _ (loop .loop .inv) (joins .before .byte-at .ensures) (joins .may-join .ensures) (call .before .before .if1 .taken) (call .condition2 .ensures) (call .before .byte-at2 .ensures) (c .before .before .member .given .1) (c .joined-by .ensures)
 
   group-byte-at-requires-3 : group-lts.Need-byte-at-requires-3 (group-calls t) (group-at t) group.Post Inv-loop μ-loop
   group-byte-at-requires-3 c κs = search needs
@@ -181,14 +181,14 @@ module _ (t : ℕ) where
       let joins = c .before .before .before in
       let loop = joins .before .before in
       let g = at-start loop .args in
-      laws.closed (g .bytes .now) (g .start) (conditionAt (g .threads) (registerIn (g .values .now)) (g .deep)) _ _ _ (loop .loop .inv) (joins .before .byte-at .ensures) (joins .may-join .ensures) (c .before .before .if1 .left) (c .before .byte-at3 .ensures) (c .if2 .taken)
+      laws.closed (g .bytes .now) (g .start) (conditionAt (g .threads) (registerValue (g .values .now)) (g .deep)) _ _ _ (loop .loop .inv) (joins .before .byte-at .ensures) (joins .may-join .ensures) (c .before .before .if1 .left) (c .before .byte-at3 .ensures) (c .if2 .taken)
 
   group-returns-4 : group-lts.Need-returns-4 (group-calls t) (group-at t) group.Post Inv-loop μ-loop
   group-returns-4 c =
       let joins = c .before .before .before in
       let loop = joins .before .before in
       let g = at-start loop .args in
-      laws.stuck (g .bytes .now) (g .start) (conditionAt (g .threads) (registerIn (g .values .now)) (g .deep)) _ _ _ (loop .loop .inv) (joins .before .byte-at .ensures) (joins .may-join .ensures) (c .before .before .if1 .left) (c .before .byte-at3 .ensures) (c .if2 .left)
+      laws.stuck (g .bytes .now) (g .start) (conditionAt (g .threads) (registerValue (g .values .now)) (g .deep)) _ _ _ (loop .loop .inv) (joins .before .byte-at .ensures) (joins .may-join .ensures) (c .before .before .if1 .left) (c .before .byte-at3 .ensures) (c .if2 .left)
 
 pub +condition+group-spec : {M : Type 1} → statement M
 +condition+group-spec =
@@ -197,8 +197,8 @@ pub +condition+group-spec : {M : Type 1} → statement M
     (condition-comparison-requires t)
     (condition-returns t)
     (condition-byte-at-requires t)
-    (condition-add-group t)
     (condition-sub-group t)
+    (condition-add-group t)
     (condition-group-requires t)
     (condition-returns-2 t)
     (condition-comparison-requires-2 t)

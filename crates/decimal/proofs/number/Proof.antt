@@ -3,14 +3,14 @@ use native.Mathlib.Omega.{arith}
 use mathlib.Core.Path.{_≡_, refl, sym, _∙_}
 use borrow.Author.Needs.{needs}
 use lib.ListN.{length, drop}
-use Rattle.decimal.specs.Decimal.{behind, numberOf}
+use Rattle.decimal.specs.Decimal.{withDigits, numberSpelled}
 use Rattle.decimal.specs.declared.Parsed.the-variants.{Number, Bad}
 use Rattle.decimal.proofs.Laws.{empty, behind-all, behind-next, behind-bad, behind-end}
 use Rattle.decimal.proofs.number.Statement.{statement}
 use Rattle.decimal.proofs.number.Tie as tie
 
 abbrev Inv-loop : tie.InvT-loop
-Inv-loop text value₀ i₀ value i = (i ≤ length text) × (behind (Number value) (drop i text) ≡ numberOf text)
+Inv-loop text value₀ i₀ value i = (i ≤ length text) × (withDigits (Number value) (drop i text) ≡ numberSpelled text)
 
 abbrev μ-loop : tie.MeasureT-loop
 μ-loop text value₀ i₀ value i = length text - i

@@ -2,7 +2,7 @@ use Prim.Native.Nat.{_-_}
 use mathlib.Core.List.{map}
 use native.Mathlib.Omega.{arith}
 use lib.ListN.{length, drop}
-use Rattle.put.specs.Puts.{Coming}
+use Rattle.put.specs.Puts.{ToPut}
 use Rattle.put.proofs.PutLaws.{coming-all, coming-on, come}
 use Rattle.excerpt.specs.Excerpts.{seenAs}
 use Rattle.excerpt.proofs.SeenLaws.{mapped-next, mapped-end}
@@ -11,7 +11,7 @@ use Rattle.excerpt.proofs.put_seen.Statement.{statement}
 use Rattle.excerpt.proofs.put_seen.Tie as tie
 
 abbrev Inv-loop : tie.InvT-loop
-Inv-loop out₀ at bytes below to₀ i₀ out to i = Coming out₀ out at to (map (seenAs below) bytes) (map (seenAs below) (drop i bytes))
+Inv-loop out₀ at bytes below to₀ i₀ out to i = ToPut out₀ out at to (map (seenAs below) bytes) (map (seenAs below) (drop i bytes))
 
 abbrev μ-loop : tie.MeasureT-loop
 μ-loop out₀ at bytes below to₀ i₀ out to i = length bytes - i

@@ -4,17 +4,17 @@ use native.Mathlib.Omega.{arith}
 use lib.ListN.{length}
 use Rattle.rules.specs.Text.{Draft}
 use Rattle.rules.proofs.LittleLaws.{little-long}
-use Rattle.filling.specs.Tables.{Held, howMany}
+use Rattle.filling.specs.Tables.{HeldTable, howMany}
 use Rattle.filling.proofs.HeldLaws.{held-many, mid-many, mid-long, counts-low, value-room, held-value}
 use borrow.Author.Needs.{needs}
 use Rattle.filling.proofs.add_value.Statement.{statement}
 use Rattle.filling.proofs.add_value.Tie as tie
 
 -- another is not too many, and there is room for it
-few : (c : tie.Start) (m : Draft) → Held (c .args .table .now) (c .args .length) m → howMany (c .args .place) m < 4
+few : (c : tie.Start) (m : Draft) → HeldTable (c .args .table .now) (c .args .length) m → howMany (c .args .place) m < 4
 few c m held = omega (arith, c .pre .2, held-many (c .args .table .now) (c .args .length) m held (c .args .place) (c .pre .1))
 
-fits : (c : tie.Start) (m : Draft) → Held (c .args .table .now) (c .args .length) m → c .args .length + 8 ≤ length (c .args .table .now)
+fits : (c : tie.Start) (m : Draft) → HeldTable (c .args .table .now) (c .args .length) m → c .args .length + 8 ≤ length (c .args .table .now)
 fits c m held = value-room (c .args .table .now) (c .args .length) m held (c .args .place) (c .pre .1) (few c m held)
 
 room : (c : tie.After-low-bytes) → c .before .before .args .length + length (c .low-bytes .result) ≤ length (c .before .before .args .table .now)

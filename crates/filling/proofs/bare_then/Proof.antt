@@ -19,14 +19,14 @@ returns c =
     let ends = c .before .before in
     let got = ends .before in
     let a = got .before .before .args in
-    bare-on (a .text .now) (a .from) (got .past-blanks .result) (a .rows) (left-by (a .text .now) (a .from) (got .past-blanks .result) _ (got .past-blanks .ensures)) (c .next-line .result) (a .length) (left-by (a .text .now) (got .past-blanks .result) (c .next-line .result) _ (c .next-line .ensures)) (sym (ends .ends-line .ensures) ∙ c .before .if1 .taken)
+    bare-on (a .text .now) (a .reached .at) (got .past-blanks .result) (a .reached .rows) (left-by (a .text .now) (a .reached .at) (got .past-blanks .result) _ (got .past-blanks .ensures)) (c .next-line .result) (a .reached .length) (left-by (a .text .now) (got .past-blanks .result) (c .next-line .result) _ (c .next-line .ensures)) (sym (ends .ends-line .ensures) ∙ c .before .if1 .taken)
 
 returns-2 : tie.Need-returns-2
 returns-2 c = λ table n m held.
     let ends = c .before in
     let got = ends .before in
     let a = got .before .before .args in
-    bare-refused (a .text .now) (a .from) (got .past-blanks .result) (a .rows) (left-by (a .text .now) (a .from) (got .past-blanks .result) _ (got .past-blanks .ensures)) (sym (ends .ends-line .ensures) ∙ c .if1 .left) table n m
+    bare-refused (a .text .now) (a .reached .at) (got .past-blanks .result) (a .reached .rows) (left-by (a .text .now) (a .reached .at) (got .past-blanks .result) _ (got .past-blanks .ensures)) (sym (ends .ends-line .ensures) ∙ c .if1 .left) table n m
 
 pub bare-then-spec : {M : Type 1} → statement M
 bare-then-spec =

@@ -14,8 +14,8 @@ use borrow.Author.Needs.{needs}
 use Rattle.filling.proofs.line_of.Statement.{statement}
 use Rattle.filling.proofs.line_of.Tie as tie
 
-skipped : (c : tie.After-past-blanks) → drop (c .past-blanks .result) (c .before .before .before .args .text .now) ≡ pastBlanks (drop (c .before .before .before .args .from) (c .before .before .before .args .text .now))
-skipped c = left-by (c .before .before .before .args .text .now) (c .before .before .before .args .from) (c .past-blanks .result) _ (c .past-blanks .ensures)
+skipped : (c : tie.After-past-blanks) → drop (c .past-blanks .result) (c .before .before .before .args .text .now) ≡ pastBlanks (drop (c .before .before .before .args .reached .at) (c .before .before .before .args .text .now))
+skipped c = left-by (c .before .before .before .args .text .now) (c .before .before .before .args .reached .at) (c .past-blanks .result) _ (c .past-blanks .ensures)
 
 past-blanks-requires : tie.Need-past-blanks-requires
 past-blanks-requires c κs = search needs
@@ -30,7 +30,7 @@ returns c = record {
       let got = c .before .before .before in
       let start = got .before .before .before in
       let a = start .args in
-      line-early-end (a .text .now) (a .lines) (a .all) (a .rows) m (a .from) (got .past-blanks .result) (skipped got) (c .before .before .if1 .taken) (omega (arith, c .if2 .taken, held-threads (a .table .now) (a .length) m held));
+      line-early-end (a .text .now) (a .lines) (a .all) (a .reached .rows) m (a .reached .at) (got .past-blanks .result) (skipped got) (c .before .before .if1 .taken) (omega (arith, c .if2 .taken, held-threads (a .table .now) (a .reached .length) m held));
 }
 
 returns-2 : tie.Need-returns-2
@@ -39,7 +39,7 @@ returns-2 c = record {
       let got = c .before .before .before in
       let start = got .before .before .before in
       let a = start .args in
-      (m, (line-end (a .text .now) (a .lines) (a .all) (a .rows) m (a .from) (got .past-blanks .result) (skipped got) (c .before .before .if1 .taken) (omega (arith, c .if2 .left, held-threads (a .table .now) (a .length) m held)), held));
+      (m, (line-end (a .text .now) (a .lines) (a .all) (a .reached .rows) m (a .reached .at) (got .past-blanks .result) (skipped got) (c .before .before .if1 .taken) (omega (arith, c .if2 .left, held-threads (a .table .now) (a .reached .length) m held)), held));
 }
 
 ends-line-requires : tie.Need-ends-line-requires
@@ -57,8 +57,8 @@ returns-3 c = record {
       let a = start .args in (
         m,
         (
-          line-bare (a .text .now) (a .lines) (a .all) (a .rows) m (a .from) (got .past-blanks .result) (skipped got) (ends .before .if1 .left) (sym (ends .ends-line .ensures) ∙ c .before .if3 .taken)
-              ∙ ap (goesOn (a .rows) m) (sym (left-by (a .text .now) (got .past-blanks .result) (c .next-line .result) _ (c .next-line .ensures))),
+          line-bare (a .text .now) (a .lines) (a .all) (a .reached .rows) m (a .reached .at) (got .past-blanks .result) (skipped got) (ends .before .if1 .left) (sym (ends .ends-line .ensures) ∙ c .before .if3 .taken)
+              ∙ ap (goesOn (a .reached .rows) m) (sym (left-by (a .text .now) (got .past-blanks .result) (c .next-line .result) _ (c .next-line .ensures))),
           held,
         ),
       );
@@ -96,7 +96,7 @@ returns-4 c = record {
       let got = ends .before .before in
       let start = got .before .before .before in
       let a = start .args in
-      lined-steps (a .text .now) _ _ (a .length) (put .values-line .result) _ (put .values-line .ensures) m held _ (line-cells (a .text .now) (a .lines) (a .all) (a .rows) m (a .from) (got .past-blanks .result) (skipped got) (ends .before .if1 .left) (sym (ends .ends-line .ensures) ∙ tok .before .if3 .left) (tok .token-end .result) (tok .token-end .ensures) (sym (held-cells (a .table .now) (a .length) m held) ∙ four .if4 .taken) (says-cells (a .text .now) (got .past-blanks .result) (tok .token-end .result) _ (five .before .is-word .ensures) true (five .if5 .taken)));
+      lined-steps (a .text .now) _ _ (a .reached .length) (put .values-line .result) _ (put .values-line .ensures) m held _ (line-cells (a .text .now) (a .lines) (a .all) (a .reached .rows) m (a .reached .at) (got .past-blanks .result) (skipped got) (ends .before .if1 .left) (sym (ends .ends-line .ensures) ∙ tok .before .if3 .left) (tok .token-end .result) (tok .token-end .ensures) (sym (held-cells (a .table .now) (a .reached .length) m held) ∙ four .if4 .taken) (says-cells (a .text .now) (got .past-blanks .result) (tok .token-end .result) _ (five .before .is-word .ensures) true (five .if5 .taken)));
 }
 
 returns-5 : tie.Need-returns-5
@@ -108,7 +108,7 @@ returns-5 c = record {
       let got = ends .before .before in
       let start = got .before .before .before in
       let a = start .args in
-      line-no-cells (a .text .now) (a .lines) (a .all) (a .rows) m (a .from) (got .past-blanks .result) (skipped got) (ends .before .if1 .left) (sym (ends .ends-line .ensures) ∙ tok .before .if3 .left) (tok .token-end .result) (tok .token-end .ensures) (sym (held-cells (a .table .now) (a .length) m held) ∙ four .if4 .taken) (says-cells (a .text .now) (got .past-blanks .result) (tok .token-end .result) _ (c .before .is-word .ensures) false (c .if5 .left));
+      line-no-cells (a .text .now) (a .lines) (a .all) (a .reached .rows) m (a .reached .at) (got .past-blanks .result) (skipped got) (ends .before .if1 .left) (sym (ends .ends-line .ensures) ∙ tok .before .if3 .left) (tok .token-end .result) (tok .token-end .ensures) (sym (held-cells (a .table .now) (a .reached .length) m held) ∙ four .if4 .taken) (says-cells (a .text .now) (got .past-blanks .result) (tok .token-end .result) _ (c .before .is-word .ensures) false (c .if5 .left));
 }
 
 is-plain-line-requires : tie.Need-is-plain-line-requires
@@ -137,7 +137,7 @@ returns-6 c = record {
       let got = ends .before .before in
       let start = got .before .before .before in
       let a = start .args in
-      lined-steps (a .text .now) _ _ (a .length) (put .values-line2 .result) _ (put .values-line2 .ensures) m held _ (line-plains (a .text .now) (a .lines) (a .all) (a .rows) m (a .from) (got .past-blanks .result) (skipped got) (ends .before .if1 .left) (sym (ends .ends-line .ensures) ∙ tok .before .if3 .left) (tok .token-end .result) (tok .token-end .ensures) (λ (z : m .cells ≡ 0). four .if4 .left (held-cells (a .table .now) (a .length) m held ∙ z)) (plains-held (a .table .now) _ (a .length) m held _ (six .before .is-plain-line .ensures) true (six .if6 .taken)));
+      lined-steps (a .text .now) _ _ (a .reached .length) (put .values-line2 .result) _ (put .values-line2 .ensures) m held _ (line-plains (a .text .now) (a .lines) (a .all) (a .reached .rows) m (a .reached .at) (got .past-blanks .result) (skipped got) (ends .before .if1 .left) (sym (ends .ends-line .ensures) ∙ tok .before .if3 .left) (tok .token-end .result) (tok .token-end .ensures) (λ (z : m .cells ≡ 0). four .if4 .left (held-cells (a .table .now) (a .reached .length) m held ∙ z)) (plains-held (a .table .now) _ (a .reached .length) m held _ (six .before .is-plain-line .ensures) true (six .if6 .taken)));
 }
 
 slice-aggregate-is-word-2 : tie.Need-slice-aggregate-is-word-2
@@ -164,7 +164,7 @@ returns-7 c = record {
       let got = ends .before .before in
       let start = got .before .before .before in
       let a = start .args in
-      lined-steps (a .text .now) _ _ (a .length) (put .a-thread .result) _ (put .a-thread .ensures) m held _ (line-thread (a .text .now) (a .lines) (a .all) (a .rows) m (a .from) (got .past-blanks .result) (skipped got) (ends .before .if1 .left) (sym (ends .ends-line .ensures) ∙ tok .before .if3 .left) (tok .token-end .result) (tok .token-end .ensures) (λ (z : m .cells ≡ 0). four .if4 .left (held-cells (a .table .now) (a .length) m held ∙ z)) (plains-held (a .table .now) _ (a .length) m held _ (six .before .is-plain-line .ensures) false (six .if6 .left)) (says-thread (a .text .now) (got .past-blanks .result) (tok .token-end .result) _ (seven .before .is-word2 .ensures) true (seven .if7 .taken)));
+      lined-steps (a .text .now) _ _ (a .reached .length) (put .a-thread .result) _ (put .a-thread .ensures) m held _ (line-thread (a .text .now) (a .lines) (a .all) (a .reached .rows) m (a .reached .at) (got .past-blanks .result) (skipped got) (ends .before .if1 .left) (sym (ends .ends-line .ensures) ∙ tok .before .if3 .left) (tok .token-end .result) (tok .token-end .ensures) (λ (z : m .cells ≡ 0). four .if4 .left (held-cells (a .table .now) (a .reached .length) m held ∙ z)) (plains-held (a .table .now) _ (a .reached .length) m held _ (six .before .is-plain-line .ensures) false (six .if6 .left)) (says-thread (a .text .now) (got .past-blanks .result) (tok .token-end .result) _ (seven .before .is-word2 .ensures) true (seven .if7 .taken)));
 }
 
 slice-aggregate-is-word-3 : tie.Need-slice-aggregate-is-word-3
@@ -192,9 +192,9 @@ returns-8 c = record {
       let got = ends .before .before in
       let start = got .before .before .before in
       let a = start .args in
-      lined-condition (a .text .now) (a .table .now) (a .length) (got .past-blanks .result) (tok .token-end .result) _ m held
-      (λ l. line-finally (a .text .now) (a .lines) (a .all) (a .rows) m (a .from) (got .past-blanks .result) (skipped got) (ends .before .if1 .left) (sym (ends .ends-line .ensures) ∙ tok .before .if3 .left) (tok .token-end .result) (tok .token-end .ensures) (λ (z : m .cells ≡ 0). four .if4 .left (held-cells (a .table .now) (a .length) m held ∙ z)) (plains-held (a .table .now) _ (a .length) m held _ (six .before .is-plain-line .ensures) false (six .if6 .left)) (says-thread (a .text .now) (got .past-blanks .result) (tok .token-end .result) _ (seven .before .is-word2 .ensures) false (seven .if7 .left)) (says-finally (a .text .now) (got .past-blanks .result) (tok .token-end .result) _ (eight .before .is-word3 .ensures) true (eight .if8 .taken)) l)
-      (λ l. line-early-finally (a .text .now) (a .lines) (a .all) (a .rows) m (a .from) (got .past-blanks .result) (skipped got) (ends .before .if1 .left) (sym (ends .ends-line .ensures) ∙ tok .before .if3 .left) (tok .token-end .result) (tok .token-end .ensures) (λ (z : m .cells ≡ 0). four .if4 .left (held-cells (a .table .now) (a .length) m held ∙ z)) (plains-held (a .table .now) _ (a .length) m held _ (six .before .is-plain-line .ensures) false (six .if6 .left)) (says-thread (a .text .now) (got .past-blanks .result) (tok .token-end .result) _ (seven .before .is-word2 .ensures) false (seven .if7 .left)) (says-finally (a .text .now) (got .past-blanks .result) (tok .token-end .result) _ (eight .before .is-word3 .ensures) true (eight .if8 .taken)) l)
+      lined-condition (a .text .now) (a .table .now) (a .reached .length) (got .past-blanks .result) (tok .token-end .result) _ m held
+      (λ l. line-finally (a .text .now) (a .lines) (a .all) (a .reached .rows) m (a .reached .at) (got .past-blanks .result) (skipped got) (ends .before .if1 .left) (sym (ends .ends-line .ensures) ∙ tok .before .if3 .left) (tok .token-end .result) (tok .token-end .ensures) (λ (z : m .cells ≡ 0). four .if4 .left (held-cells (a .table .now) (a .reached .length) m held ∙ z)) (plains-held (a .table .now) _ (a .reached .length) m held _ (six .before .is-plain-line .ensures) false (six .if6 .left)) (says-thread (a .text .now) (got .past-blanks .result) (tok .token-end .result) _ (seven .before .is-word2 .ensures) false (seven .if7 .left)) (says-finally (a .text .now) (got .past-blanks .result) (tok .token-end .result) _ (eight .before .is-word3 .ensures) true (eight .if8 .taken)) l)
+      (λ l. line-early-finally (a .text .now) (a .lines) (a .all) (a .reached .rows) m (a .reached .at) (got .past-blanks .result) (skipped got) (ends .before .if1 .left) (sym (ends .ends-line .ensures) ∙ tok .before .if3 .left) (tok .token-end .result) (tok .token-end .ensures) (λ (z : m .cells ≡ 0). four .if4 .left (held-cells (a .table .now) (a .reached .length) m held ∙ z)) (plains-held (a .table .now) _ (a .reached .length) m held _ (six .before .is-plain-line .ensures) false (six .if6 .left)) (says-thread (a .text .now) (got .past-blanks .result) (tok .token-end .result) _ (seven .before .is-word2 .ensures) false (seven .if7 .left)) (says-finally (a .text .now) (got .past-blanks .result) (tok .token-end .result) _ (eight .before .is-word3 .ensures) true (eight .if8 .taken)) l)
       _ (c .the-condition .ensures);
 }
 
@@ -217,7 +217,7 @@ returns-9 c = record {
       let got = ends .before .before in
       let start = got .before .before .before in
       let a = start .args in
-      lined-steps (a .text .now) _ _ (a .length) (put .a-row .result) _ (put .a-row .ensures) m held _ (line-row (a .text .now) (a .lines) (a .all) (a .rows) m (a .from) (got .past-blanks .result) (skipped got) (ends .before .if1 .left) (sym (ends .ends-line .ensures) ∙ tok .before .if3 .left) (tok .token-end .result) (tok .token-end .ensures) (λ (z : m .cells ≡ 0). four .if4 .left (held-cells (a .table .now) (a .length) m held ∙ z)) (plains-held (a .table .now) _ (a .length) m held _ (six .before .is-plain-line .ensures) false (six .if6 .left)) (says-thread (a .text .now) (got .past-blanks .result) (tok .token-end .result) _ (seven .before .is-word2 .ensures) false (seven .if7 .left)) (says-finally (a .text .now) (got .past-blanks .result) (tok .token-end .result) _ (eight .before .is-word3 .ensures) false (eight .if8 .left)));
+      lined-steps (a .text .now) _ _ (a .reached .length) (put .a-row .result) _ (put .a-row .ensures) m held _ (line-row (a .text .now) (a .lines) (a .all) (a .reached .rows) m (a .reached .at) (got .past-blanks .result) (skipped got) (ends .before .if1 .left) (sym (ends .ends-line .ensures) ∙ tok .before .if3 .left) (tok .token-end .result) (tok .token-end .ensures) (λ (z : m .cells ≡ 0). four .if4 .left (held-cells (a .table .now) (a .reached .length) m held ∙ z)) (plains-held (a .table .now) _ (a .reached .length) m held _ (six .before .is-plain-line .ensures) false (six .if6 .left)) (says-thread (a .text .now) (got .past-blanks .result) (tok .token-end .result) _ (seven .before .is-word2 .ensures) false (seven .if7 .left)) (says-finally (a .text .now) (got .past-blanks .result) (tok .token-end .result) _ (eight .before .is-word3 .ensures) false (eight .if8 .left)));
 }
 
 pub line-of-spec : {M : Type 1} → statement M

@@ -5,7 +5,7 @@ use Rattle.rules.specs.Token.{pastBlanks}
 use Rattle.rules.specs.Text.{Line, Draft, valuesLine}
 use Rattle.token.specs.Finds.{foundOf}
 use Rattle.token.proofs.PlaceLaws.{left-by}
-use Rattle.filling.specs.Tables.{Held, howMany, oneMore}
+use Rattle.filling.specs.Tables.{HeldTable, howMany, withValue}
 use Rattle.filling.proofs.HeldLaws.{held-many, counts-low, more-many, within}
 use Rattle.filling.proofs.LineLaws.{Underway, lined-bare, values-out, values-found, values-bare, values-none}
 use borrow.Author.Needs.{needs}
@@ -13,25 +13,25 @@ use Rattle.filling.proofs.values_line.Statement.{statement}
 use Rattle.filling.proofs.values_line.Tie as tie
 
 abbrev Inv-loop : tie.InvT-loop
-Inv-loop text table₀ at n place most from₀ long₀ left₀ table from long left =
+Inv-loop text table₀ most place n at from₀ long₀ left₀ table from long left =
     (length table ≡ length table₀)
-    × ((m : Draft) → Held table₀ n m → Underway text table place long left from (valuesLine (oneMore place) (howMany place) most m (drop at text)))
+    × ((m : Draft) → HeldTable table₀ n m → Underway text table place long left from (valuesLine (withValue place) (howMany place) most m (drop at text)))
 
 abbrev μ-loop : tie.MeasureT-loop
-μ-loop text table₀ at n place most from₀ long₀ left₀ table from long left = left
+μ-loop text table₀ most place n at from₀ long₀ left₀ table from long left = left
 
 -- what the line comes to, from a table that the buffer holds
 abbrev whole : (at : tie.At-loop Inv-loop μ-loop) → Draft → Line
 whole at m =
     let a = at .before .before .before .args in
-    valuesLine (oneMore (a .place)) (howMany (a .place)) (a .most) m (drop (a .at) (a .text .now))
+    valuesLine (withValue (a .place)) (howMany (a .place)) (a .most) m (drop (a .at) (a .text .now))
 
 -- a table that the buffer holds on the way
 way : (at : tie.At-loop Inv-loop μ-loop) → Underway (at .before .before .before .args .text .now) (at .loop .table) (at .before .before .before .args .place) (at .loop .long) (at .loop .left) (at .loop .from) (whole at (at .before .before .before .pre .0 .made))
 way at = at .loop .inv .1 (at .before .before .before .pre .0 .made) (at .before .before .before .pre .0 .held)
 
 -- how many start values it has
-many : (at : tie.At-loop Inv-loop μ-loop) (m : Draft) → Held (at .loop .table) (at .loop .long) m → getD (at .loop .table) (at .before .before .before .args .place) 0 ≡ howMany (at .before .before .before .args .place) m
+many : (at : tie.At-loop Inv-loop μ-loop) (m : Draft) → HeldTable (at .loop .table) (at .loop .long) m → getD (at .loop .table) (at .before .before .before .args .place) 0 ≡ howMany (at .before .before .before .args .place) m
 many at m held = held-many (at .loop .table) (at .loop .long) m held (at .before .before .before .args .place) (at .before .before .before .pre .1)
 
 skipped : (c : tie.After-past-blanks Inv-loop μ-loop) → drop (c .past-blanks .result) (c .before .before .before .before .before .args .text .now) ≡ pastBlanks (drop (c .before .before .loop .from) (c .before .before .before .before .before .args .text .now))
@@ -83,11 +83,11 @@ returns c = record {
       let at = got .before .before in
       let a = at .before .before .before .args in
       let w = at .loop .inv .1 m held in
-      sym (w .same) ∙ values-none (oneMore (a .place)) (howMany (a .place)) (a .text .now) (at .loop .from) (at .loop .left) (w .made) (got .past-blanks .result) (long .token-end .result) (skipped got) (long .token-end .ensures) (got .before .loop-test .taken) (sym (num .number .ensures) ∙ ap foundOf (told .enum-told .given .1)) (omega (arith, c .if1 .taken, many at (w .made) (w .held)));
+      sym (w .same) ∙ values-none (withValue (a .place)) (howMany (a .place)) (a .text .now) (at .loop .from) (at .loop .left) (w .made) (got .past-blanks .result) (long .token-end .result) (skipped got) (long .token-end .ensures) (got .before .loop-test .taken) (sym (num .number .ensures) ∙ ap foundOf (told .enum-told .given .1)) (omega (arith, c .if1 .taken, many at (w .made) (w .held)));
 }
 
-bare-then-requires : tie.Need-bare-then-requires Inv-loop μ-loop
-bare-then-requires c κs = search needs
+behind-values-requires : tie.Need-behind-values-requires Inv-loop μ-loop
+behind-values-requires c κs = search needs
 
 same-length-2 : tie.Need-same-length-2 Inv-loop μ-loop
 same-length-2 c = search needs
@@ -102,7 +102,7 @@ returns-2 c = record {
       let at = got .before .before in
       let a = at .before .before .before .args in
       let w = at .loop .inv .1 m held in
-      lined-bare (a .text .now) (at .loop .from) 0 (at .loop .long) (c .bare-then .result) (c .bare-then .ensures) (at .loop .table) (a .length) (w .made) (w .held) _ (values-bare (oneMore (a .place)) (howMany (a .place)) (a .text .now) (at .loop .from) (at .loop .left) (w .made) (got .past-blanks .result) (long .token-end .result) (skipped got) (long .token-end .ensures) (got .before .loop-test .taken) (sym (num .number .ensures) ∙ ap foundOf (told .enum-told .given .1)) (omega (arith, c .before .if1 .left, many at (w .made) (w .held))) ∙ w .same);
+      lined-bare (a .text .now) (at .loop .from) 0 (at .loop .long) (c .behind-values .result) (c .behind-values .ensures) (at .loop .table) (a .length) (w .made) (w .held) _ (values-bare (withValue (a .place)) (howMany (a .place)) (a .text .now) (at .loop .from) (at .loop .left) (w .made) (got .past-blanks .result) (long .token-end .result) (skipped got) (long .token-end .ensures) (got .before .loop-test .taken) (sym (num .number .ensures) ∙ ap foundOf (told .enum-told .given .1)) (omega (arith, c .before .if1 .left, many at (w .made) (w .held))) ∙ w .same);
 }
 
 add-value-requires : tie.Need-add-value-requires Inv-loop μ-loop
@@ -135,15 +135,15 @@ loop-again c =
       λ m held.
           let w = at .loop .inv .1 m held in
           record {
-            made = oneMore (a .place) (w .made) (val .value .given .0 .0);
+            made = withValue (a .place) (w .made) (val .value .given .0 .0);
             held = put .add-value .ensures (w .made) (w .held);
             count = omega (arith, w .count, got .before .loop-test .taken, more-many (a .place) (w .made) (val .value .given .0 .0));
-            same = values-found (oneMore (a .place)) (howMany (a .place)) (a .text .now) (at .loop .from) (at .loop .left) (w .made) (got .past-blanks .result) (long .token-end .result) (skipped got) (long .token-end .ensures) (got .before .loop-test .taken) _ (sym (num .number .ensures) ∙ ap foundOf (val .value .given .1)) ∙ w .same;
+            same = values-found (withValue (a .place)) (howMany (a .place)) (a .text .now) (at .loop .from) (at .loop .left) (w .made) (got .past-blanks .result) (long .token-end .result) (skipped got) (long .token-end .ensures) (got .before .loop-test .taken) _ (sym (num .number .ensures) ∙ ap foundOf (val .value .given .1)) ∙ w .same;
           },
     )
 
-bare-then-requires-2 : tie.Need-bare-then-requires-2 Inv-loop μ-loop
-bare-then-requires-2 c κs = search needs
+behind-values-requires-2 : tie.Need-behind-values-requires-2 Inv-loop μ-loop
+behind-values-requires-2 c κs = search needs
 
 same-length-3 : tie.Need-same-length-3 Inv-loop μ-loop
 same-length-3 c = search needs
@@ -154,7 +154,7 @@ returns-3 c = record {
       let at = c .before .before in
       let a = at .before .before .before .args in
       let w = at .loop .inv .1 m held in
-      lined-bare (a .text .now) (at .loop .from) 0 (at .loop .long) (c .bare-then2 .result) (c .bare-then2 .ensures) (at .loop .table) (a .length) (w .made) (w .held) _ (values-out (oneMore (a .place)) (howMany (a .place)) (a .text .now) (at .loop .from) (at .loop .left) (w .made) (c .before .loop-test .left) ∙ w .same);
+      lined-bare (a .text .now) (at .loop .from) 0 (at .loop .long) (c .behind-values2 .result) (c .behind-values2 .ensures) (at .loop .table) (a .length) (w .made) (w .held) _ (values-out (withValue (a .place)) (howMany (a .place)) (a .text .now) (at .loop .from) (at .loop .left) (w .made) (c .before .loop-test .left) ∙ w .same);
 }
 
 pub values-line-spec : {M : Type 1} → statement M
@@ -172,7 +172,7 @@ values-line-spec =
     slice-read-if1
     same-length
     returns
-    bare-then-requires
+    behind-values-requires
     same-length-2
     returns-2
     add-value-requires
@@ -180,6 +180,6 @@ values-line-spec =
     sub-left
     loop-less
     loop-again
-    bare-then-requires-2
+    behind-values-requires-2
     same-length-3
     returns-3)

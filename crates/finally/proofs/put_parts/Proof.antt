@@ -40,20 +40,20 @@ returns-2 c =
 part-at-requires : tie.Need-part-at-requires Inv-loop μ-loop
 part-at-requires c κs = search needs
 
-add-put-comparison : tie.Need-add-put-comparison Inv-loop μ-loop
-add-put-comparison c = search needs
+add-put-compared : tie.Need-add-put-compared Inv-loop μ-loop
+add-put-compared c = search needs
 
-sub-put-comparison : tie.Need-sub-put-comparison Inv-loop μ-loop
-sub-put-comparison c = search needs
+sub-put-compared : tie.Need-sub-put-compared Inv-loop μ-loop
+sub-put-compared c = search needs
 
-part-put-comparison-start : tie.Need-part-put-comparison-start Inv-loop μ-loop
-part-put-comparison-start c = search needs
+part-put-compared-start : tie.Need-part-put-compared-start Inv-loop μ-loop
+part-put-compared-start c = search needs
 
-part-put-comparison-end : tie.Need-part-put-comparison-end Inv-loop μ-loop
-part-put-comparison-end c = search needs
+part-put-compared-end : tie.Need-part-put-compared-end Inv-loop μ-loop
+part-put-compared-end c = search needs
 
-put-comparison-requires : tie.Need-put-comparison-requires Inv-loop μ-loop
-put-comparison-requires c κs = search needs
+put-compared-requires : tie.Need-put-compared-requires Inv-loop μ-loop
+put-compared-requires c κs = search needs
 
 add-next-comparison : tie.Need-add-next-comparison Inv-loop μ-loop
 add-next-comparison c = search needs
@@ -73,7 +73,7 @@ loop-again c =
     let part = said .before .before .before in
     let turn = part .before .before .before in (
       search needs,
-      parts-on _ _ _ _ _ _ _ (turn .before .loop .inv .1) (turn .loop-test .taken) (omega arith) _ _ _ (part .part-at .ensures) (said .put-comparison .ensures) (c .next-comparison2 .ensures),
+      parts-on _ _ _ _ _ _ _ (turn .before .loop .inv .1) (turn .loop-test .taken) (omega arith) _ _ _ (part .part-at .ensures) (said .put-compared .ensures) (c .next-comparison2 .ensures),
     )
 
 returns-3 : tie.Need-returns-3 Inv-loop μ-loop
@@ -91,11 +91,11 @@ put-parts-spec =
     sub-if2
     returns-2
     part-at-requires
-    add-put-comparison
-    sub-put-comparison
-    part-put-comparison-start
-    part-put-comparison-end
-    put-comparison-requires
+    add-put-compared
+    sub-put-compared
+    part-put-compared-start
+    part-put-compared-end
+    put-compared-requires
     add-next-comparison
     next-comparison-requires-2
     sub-left

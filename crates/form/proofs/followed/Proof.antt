@@ -7,7 +7,7 @@ use Rattle.rules.specs.Form.{valueOf, withField, follow, mostWords}
 use Rattle.token.specs.Places.{part, Between}
 use Rattle.token.specs.Finds.{foundOf}
 use Rattle.token.proofs.PlaceLaws.{left-by, between-here, between-on, between-run, between-token}
-use Rattle.form.specs.Rows.{roomOf}
+use Rattle.decode.specs.Ops.{roomMeant}
 use Rattle.form.proofs.FollowLaws.{ended, follow-out, follow-ended, follow-stuck, follow-on}
 use Rattle.form.proofs.RowLaws.{follows-stuck, follows-on}
 use borrow.Author.Needs.{needs}
@@ -15,10 +15,10 @@ use Rattle.form.proofs.followed.Statement.{statement}
 use Rattle.form.proofs.followed.Tie as tie
 
 abbrev Inv-loop : tie.InvT-loop
-Inv-loop text words at room fields₀ from₀ to₀ left₀ fields from to left = (follow left (roomOf room) (drop from words) fields (drop to text) ≡ follow mostWords (roomOf room) words fields₀ (drop at text)) × Between text at to
+Inv-loop text words room at fields₀ from₀ to₀ left₀ fields from to left = (follow left (roomMeant room) (drop from words) fields (drop to text) ≡ follow mostWords (roomMeant room) words fields₀ (drop at text)) × Between text at to
 
 abbrev μ-loop : tie.MeasureT-loop
-μ-loop text words at room fields₀ from₀ to₀ left₀ fields from to left = left
+μ-loop text words room at fields₀ from₀ to₀ left₀ fields from to left = left
 
 -- the places of a turn's words
 left-words : (c : tie.After-past-blanks2 Inv-loop μ-loop) → drop (c .before .past-blanks .result) (c .before .before .before .before .before .before .args .words .now) ≡ pastBlanks (drop (c .before .before .before .loop .from) (c .before .before .before .before .before .before .args .words .now))
@@ -32,12 +32,12 @@ so-far c = between-on _ _ (c .before .before .before .loop .to) _ (c .before .be
 
 -- what the turn's token stands for
 valued : (c : tie.After-value-of Inv-loop μ-loop) →
-    valueOf (roomOf (c .before .before .before .before .before .before .before .before .before .before .before .args .room)) (part (c .before .before .before .before .before .before .past-blanks .result) (c .before .before .before .token-end .result) (c .before .before .before .before .before .before .before .before .before .before .before .args .words .now)) (part (c .before .before .before .before .before .past-blanks2 .result) (c .before .before .token-end2 .result) (c .before .before .before .before .before .before .before .before .before .before .before .args .text .now))
+    valueOf (roomMeant (c .before .before .before .before .before .before .before .before .before .before .before .args .room)) (part (c .before .before .before .before .before .before .past-blanks .result) (c .before .before .before .token-end .result) (c .before .before .before .before .before .before .before .before .before .before .before .args .words .now)) (part (c .before .before .before .before .before .past-blanks2 .result) (c .before .before .token-end2 .result) (c .before .before .before .before .before .before .before .before .before .before .before .args .text .now))
     ≡ foundOf (c .value-of .result)
 valued c =
     sym
     (c .value-of .ensures
-    ∙ ap (λ (piece : List ℕ). valueOf (roomOf (c .before .before .before .before .before .before .before .before .before .before .before .args .room)) piece (part (c .before .before .before .before .before .past-blanks2 .result) (c .before .before .token-end2 .result) (c .before .before .before .before .before .before .before .before .before .before .before .args .text .now))) (c .before .part .ensures))
+    ∙ ap (λ (piece : List ℕ). valueOf (roomMeant (c .before .before .before .before .before .before .before .before .before .before .before .args .room)) piece (part (c .before .before .before .before .before .past-blanks2 .result) (c .before .before .token-end2 .result) (c .before .before .before .before .before .before .before .before .before .before .before .args .text .now))) (c .before .part .ensures))
 
 loop-holds : tie.Need-loop-holds Inv-loop μ-loop
 loop-holds c = (refl, between-here _ _)
@@ -57,7 +57,7 @@ returns c =
     let at = got .before .before .before in
     let a = at .before .before .before .args in
     follows-on (a .text .now) (c .ended .result) (a .at) (got .past-blanks2 .result) {some = ended (at .loop .fields) (drop (got .past-blanks2 .result) (a .text .now))} (c .ended .ensures)
-    (follow-ended (roomOf (a .room)) (at .loop .fields) (a .words .now) (a .text .now) (at .loop .from) (at .loop .to) (at .loop .left) (got .before .past-blanks .result) (got .past-blanks2 .result) (left-words got) (left-text got) (got .before .before .loop-test .taken) (c .before .if1 .taken)
+    (follow-ended (roomMeant (a .room)) (at .loop .fields) (a .words .now) (a .text .now) (at .loop .from) (at .loop .to) (at .loop .left) (got .before .past-blanks .result) (got .past-blanks2 .result) (left-words got) (left-text got) (got .before .before .loop-test .taken) (c .before .if1 .taken)
     ∙ at .loop .inv .0)
     (so-far got)
 
@@ -89,7 +89,7 @@ returns-2 c =
     let at = got .before .before .before in
     let a = at .before .before .before .args in
     follows-stuck (a .text .now) (c .stuck .result) (a .at) (got .past-blanks2 .result) (c .stuck .ensures .0) (c .stuck .ensures .1)
-    (follow-stuck (roomOf (a .room)) (at .loop .fields) (a .words .now) (a .text .now) (at .loop .from) (at .loop .to) (at .loop .left) (got .before .past-blanks .result) (got .past-blanks2 .result) (left-words got) (left-text got) (got .before .before .loop-test .taken)
+    (follow-stuck (roomMeant (a .room)) (at .loop .fields) (a .words .now) (a .text .now) (at .loop .from) (at .loop .to) (at .loop .left) (got .before .past-blanks .result) (got .past-blanks2 .result) (left-words got) (left-text got) (got .before .before .loop-test .taken)
     (value .before .before .before .before .if1 .left) (value .before .before .before .token-end .result) (value .before .before .token-end2 .result) (value .before .before .before .token-end .ensures) (value .before .before .token-end2 .ensures)
     (valued value ∙ ap foundOf (c .before .enum-told .given .1))
     ∙ at .loop .inv .0)
@@ -111,7 +111,7 @@ loop-again c =
     let got = value .before .before .before .before .before in
     let at = got .before .before .before in
     let a = at .before .before .before .args in (
-      follow-on (roomOf (a .room)) (at .loop .fields) (a .words .now) (a .text .now) (at .loop .from) (at .loop .to) (at .loop .left) (got .before .past-blanks .result) (got .past-blanks2 .result) (left-words got) (left-text got) (got .before .before .loop-test .taken)
+      follow-on (roomMeant (a .room)) (at .loop .fields) (a .words .now) (a .text .now) (at .loop .from) (at .loop .to) (at .loop .left) (got .before .past-blanks .result) (got .past-blanks2 .result) (left-words got) (left-text got) (got .before .before .loop-test .taken)
           (value .before .before .before .before .if1 .left) (value .before .before .before .token-end .result) (value .before .before .token-end2 .result) (value .before .before .before .token-end .ensures) (value .before .before .token-end2 .ensures)
           (known .value .given .0 .0) (c .with-field .result) (valued value ∙ ap foundOf (known .value .given .1)) (c .with-field .ensures ∙ ap (λ (piece : List ℕ). withField (at .loop .fields) piece (known .value .given .0 .0)) (value .before .part .ensures))
           ∙ at .loop .inv .0,
@@ -130,7 +130,7 @@ returns-3 c =
     let at = skipped .before .before in
     let a = at .before .before .before .args in
     follows-stuck (a .text .now) (c .stuck2 .result) (a .at) (skipped .past-blanks3 .result) (c .stuck2 .ensures .0) (c .stuck2 .ensures .1)
-    (follow-out (roomOf (a .room)) (at .loop .fields) (drop (at .loop .from) (a .words .now)) (a .text .now) (at .loop .to) (at .loop .left) (skipped .past-blanks3 .result) (left-by (a .text .now) (at .loop .to) (skipped .past-blanks3 .result) _ (skipped .past-blanks3 .ensures)) (skipped .before .loop-test .left)
+    (follow-out (roomMeant (a .room)) (at .loop .fields) (drop (at .loop .from) (a .words .now)) (a .text .now) (at .loop .to) (at .loop .left) (skipped .past-blanks3 .result) (left-by (a .text .now) (at .loop .to) (skipped .past-blanks3 .result) _ (skipped .past-blanks3 .ensures)) (skipped .before .loop-test .left)
     ∙ at .loop .inv .0)
     (between-on _ _ (at .loop .to) _ (at .loop .inv .1) (between-run _ _ _ isBlank (skipped .past-blanks3 .ensures)))
 

@@ -6,7 +6,8 @@ use lib.ListN.{length, drop}
 use Rattle.rules.specs.Token.{isBlank}
 use Rattle.rules.specs.Form.{follow, mostWords, blankFields}
 use Rattle.token.proofs.PlaceLaws.{left-by, between-run}
-use Rattle.form.specs.Rows.{roomOf, followedOf}
+use Rattle.decode.specs.Ops.{roomMeant}
+use Rattle.form.specs.Rows.{followedOf}
 use Rattle.form.proofs.RowLaws.{said-fits, said-stuck}
 use Rattle.form.proofs.TriedLaws.{Trying, Next, by-these, two-there, opcode-there, kind-there, words-there, past-two, trying-none, trying-all, trying-next, tried-fits, tried-on}
 use borrow.Author.Needs.{needs}
@@ -14,10 +15,10 @@ use Rattle.form.proofs.tried.Statement.{statement}
 use Rattle.form.proofs.tried.Tie as tie
 
 abbrev Inv-loop : tie.InvT-loop
-Inv-loop text forms at room best₀ from₀ best from = Trying (roomOf room) forms text at from best
+Inv-loop text forms room at best₀ from₀ best from = Trying (roomMeant room) forms text at from best
 
 abbrev μ-loop : tie.MeasureT-loop
-μ-loop text forms at room best₀ from₀ best from = length forms - from
+μ-loop text forms room at best₀ from₀ best from = length forms - from
 
 -- a turn, and its form
 abbrev line : tie.After-followed Inv-loop μ-loop → tie.After-next-line Inv-loop μ-loop
@@ -26,12 +27,12 @@ line c = c .before .before .before .before .before
 abbrev round : tie.After-followed Inv-loop μ-loop → tie.In-loop Inv-loop μ-loop
 round c = line c .before
 
-turn : (c : tie.In-loop Inv-loop μ-loop) → Next (roomOf (c .before .before .before .before .before .args .room)) (c .before .before .before .before .before .args .forms .now) (c .before .before .before .before .before .args .text .now) (c .before .before .before .before .before .args .at) (c .before .loop .from) (c .before .loop .best)
+turn : (c : tie.In-loop Inv-loop μ-loop) → Next (roomMeant (c .before .before .before .before .before .args .room)) (c .before .before .before .before .before .args .forms .now) (c .before .before .before .before .before .args .text .now) (c .before .before .before .before .before .args .at) (c .before .loop .from) (c .before .loop .best)
 turn c = trying-next _ _ _ _ _ _ (c .loop-test .taken) (c .before .loop .inv)
 
 by-form : (c : tie.After-followed Inv-loop μ-loop) →
     followedOf (round c .before .before .before .before .before .args .text .now) (c .followed .result)
-    ≡ follow mostWords (roomOf (round c .before .before .before .before .before .args .room)) (turn (round c) .form .words) (blankFields (turn (round c) .form)) (drop (round c .before .before .before .before .before .args .at) (round c .before .before .before .before .before .args .text .now))
+    ≡ follow mostWords (roomMeant (round c .before .before .before .before .before .args .room)) (turn (round c) .form .words) (blankFields (turn (round c) .form)) (drop (round c .before .before .before .before .before .args .at) (round c .before .before .before .before .before .args .text .now))
 by-form c =
     let n = turn (round c) in
     let a = round c .before .before .before .before .before .args in
@@ -47,7 +48,7 @@ past-blanks-requires c κs = search needs
 loop-holds : tie.Need-loop-holds Inv-loop μ-loop
 loop-holds c =
     let a = c .before .before .before .args in
-    trying-none (roomOf (a .room)) (a .forms .now) (a .text .now) (a .at) (c .before .before .before .pre) (c .past-blanks .result) (left-by (a .text .now) (a .at) (c .past-blanks .result) _ (c .past-blanks .ensures)) (between-run _ _ _ isBlank (c .past-blanks .ensures))
+    trying-none (roomMeant (a .room)) (a .forms .now) (a .text .now) (a .at) (c .before .before .before .pre) (c .past-blanks .result) (left-by (a .text .now) (a .at) (c .past-blanks .result) _ (c .past-blanks .ensures)) (between-run _ _ _ isBlank (c .past-blanks .ensures))
 
 add-next-line : tie.Need-add-next-line Inv-loop μ-loop
 add-next-line c = search needs
@@ -112,7 +113,7 @@ loop-again c =
     let got = c .before .before in
     let n = turn (round got) in
     let a = round got .before .before .before .before .before .args in
-    tried-on (roomOf (a .room)) (a .forms .now) (a .text .now) (a .at) (round got .before .loop .from) (round got .before .loop .best) n (line got .next-line .result) (got .followed .result .at) (c .further .result) (line got .next-line .ensures) (sym (said-stuck (a .text .now) (got .followed .result) (c .before .if1 .left)) ∙ by-form got) (got .followed .ensures .between) (c .further .ensures)
+    tried-on (roomMeant (a .room)) (a .forms .now) (a .text .now) (a .at) (round got .before .loop .from) (round got .before .loop .best) n (line got .next-line .result) (got .followed .result .at) (c .further .result) (line got .next-line .ensures) (sym (said-stuck (a .text .now) (got .followed .result) (c .before .if1 .left)) ∙ by-form got) (got .followed .ensures .between) (c .further .ensures)
 
 returns-2 : tie.Need-returns-2 Inv-loop μ-loop
 returns-2 c =

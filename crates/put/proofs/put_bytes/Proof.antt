@@ -1,14 +1,14 @@
 use Prim.Native.Nat.{_-_}
 use native.Mathlib.Omega.{arith}
 use lib.ListN.{length, drop, drop-of-length-le}
-use Rattle.put.specs.Puts.{Coming}
+use Rattle.put.specs.Puts.{ToPut}
 use Rattle.put.proofs.PutLaws.{byte-next, coming-all, coming-on, come}
 use borrow.Author.Needs.{needs}
 use Rattle.put.proofs.put_bytes.Statement.{statement}
 use Rattle.put.proofs.put_bytes.Tie as tie
 
 abbrev Inv-loop : tie.InvT-loop
-Inv-loop text₀ at bytes to₀ i₀ text to i = Coming text₀ text at to bytes (drop i bytes)
+Inv-loop text₀ at bytes to₀ i₀ text to i = ToPut text₀ text at to bytes (drop i bytes)
 
 abbrev μ-loop : tie.MeasureT-loop
 μ-loop text₀ at bytes to₀ i₀ text to i = length bytes - i

@@ -10,11 +10,11 @@ use Rattle.reader.proofs.lines_from.Statement.{statement}
 use Rattle.reader.proofs.lines_from.Tie as tie
 
 abbrev Inv-loop : tie.InvT-loop
-Inv-loop text table₀ condition₀ lines all from₀ rows₀ n₀ left₀ table condition from rows n left =
-    (length table ≡ length table₀) × (condition ≡ condition₀) × Going text table lines all n rows from left (readText text)
+Inv-loop text table₀ condition₀ lines all reached₀ left₀ table condition reached left =
+    (length table ≡ length table₀) × (condition ≡ condition₀) × Going text table lines all (reached .length) (reached .rows) (reached .at) left (readText text)
 
 abbrev μ-loop : tie.MeasureT-loop
-μ-loop text table₀ condition₀ lines all from₀ rows₀ n₀ left₀ table condition from rows n left = left
+μ-loop text table₀ condition₀ lines all reached₀ left₀ table condition reached left = left
 
 add-lines : tie.Need-add-lines Inv-loop μ-loop
 add-lines c = search needs
@@ -120,7 +120,7 @@ loop-again c =
     let at = turn .before in
     let a = at .before .before .before .before .before .args in
     let g = at .loop .inv .2 in
-    (search needs, at .loop .inv .1, step-goes (a .text .now) _ _ _ _ _ _ _ _ g _ (line .line-of .result) (line .line-of .ensures) (turn .loop-test .taken) _ _ _ (told .more .given .1))
+    (search needs, at .loop .inv .1, step-goes (a .text .now) _ _ _ _ _ _ _ _ g _ (line .line-of .result) (line .line-of .ensures) (turn .loop-test .taken) _ (told .more .given .1))
 
 same-length-7 : tie.Need-same-length-7 Inv-loop μ-loop
 same-length-7 c = search needs

@@ -2,7 +2,7 @@ use Prim.Native.Nat.{_-_}
 use native.Mathlib.Omega.{arith}
 use lib.ListN.{length, drop}
 use Rattle.rules.specs.Writer.{formShown}
-use Rattle.put.specs.Puts.{Coming}
+use Rattle.put.specs.Puts.{ToPut}
 use Rattle.put.proofs.PutLaws.{coming-all, coming-on, come}
 use Rattle.row_line.proofs.LineLaws.{words-next, words-end}
 use borrow.Author.Needs.{needs}
@@ -10,7 +10,7 @@ use Rattle.row_line.proofs.put_words.Statement.{statement}
 use Rattle.row_line.proofs.put_words.Tie as tie
 
 abbrev Inv-loop : tie.InvT-loop
-Inv-loop text₀ at words fields to₀ i₀ text to i = Coming text₀ text at to (formShown words fields) (formShown (drop i words) fields)
+Inv-loop text₀ at words fields to₀ i₀ text to i = ToPut text₀ text at to (formShown words fields) (formShown (drop i words) fields)
 
 abbrev μ-loop : tie.MeasureT-loop
 μ-loop text₀ at words fields to₀ i₀ text to i = length words - i

@@ -2,7 +2,7 @@ use borrow.Author.Needs.{needs}
 use mathlib.Core.Path.{ap, refl, _∙_}
 use Rattle.rules.specs.Table.{Row, rowDecoded, isFine}
 use Rattle.decode.proofs.RowLaws.{fine}
-use Rattle.decode.specs.Ops.{roomOf}
+use Rattle.decode.specs.Ops.{roomMeant}
 use Rattle.table.proofs.Places.{op-nowhere, op-there}
 use Rattle.table.proofs.is_fine.Statement.{statement}
 use Rattle.table.proofs.is_fine.Tie as tie
@@ -30,7 +30,7 @@ returns-2 c =
     let place = c .before .before .before .before .before in
     let g = place .before .before .args in
     fine (c .is-row .ensures)
-    (ap (λ (r : Row). rowDecoded (roomOf (g .room)) r) (c .before .row-from .ensures)
+    (ap (λ (r : Row). rowDecoded (roomMeant (g .room)) r) (c .before .row-from .ensures)
     ∙ op-there _ _ _ (place .place-of .ensures) (c .before .before .before .at .given .1) .1)
 
 pub is-fine-spec : {M : Type 1} → statement M

@@ -1,7 +1,7 @@
 use borrow.Author.Needs.{needs}
 use mathlib.Core.Path.{ap, _∙_}
 use Rattle.rules.specs.Table.{Row, rowDecoded}
-use Rattle.decode.specs.Ops.{roomOf}
+use Rattle.decode.specs.Ops.{roomMeant}
 use Rattle.table.proofs.Places.{op-nowhere, op-there}
 use Rattle.table.proofs.Within.{op-made}
 use Rattle.table.proofs.op_at.Statement.{statement}
@@ -30,7 +30,7 @@ returns-2 c =
     let place = c .before .before .before .before .before in
     let g = place .before .before .args in
     op-made _ _ _ _
-    (c .row-decoded .ensures ∙ ap (λ (r : Row). rowDecoded (roomOf (g .room)) r) (c .before .row-from .ensures)
+    (c .row-decoded .ensures ∙ ap (λ (r : Row). rowDecoded (roomMeant (g .room)) r) (c .before .row-from .ensures)
     ∙ op-there _ _ _ (place .place-of .ensures) (c .before .before .before .at .given .1) .1)
 
 pub op-at-spec : {M : Type 1} → statement M

@@ -10,10 +10,10 @@ use Rattle.token.proofs.content.Statement.{statement}
 use Rattle.token.proofs.content.Tie as tie
 
 abbrev Inv-loop : tie.InvT-loop
-Inv-loop text at lines from₀ left₀ from left = (content left (drop from text) ≡ content lines (drop at text)) × Between text at from
+Inv-loop text lines at from₀ left₀ from left = (content left (drop from text) ≡ content lines (drop at text)) × Between text at from
 
 abbrev μ-loop : tie.MeasureT-loop
-μ-loop text at lines from₀ left₀ from left = left
+μ-loop text lines at from₀ left₀ from left = left
 
 -- the place past the blanks of a turn
 skipped : (c : tie.After-past-blanks Inv-loop μ-loop) → drop (c .past-blanks .result) (c .before .before .before .before .args .text .now) ≡ pastBlanks (drop (c .before .before .loop .from) (c .before .before .before .before .args .text .now))

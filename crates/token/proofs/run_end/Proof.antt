@@ -11,10 +11,10 @@ use Rattle.token.proofs.run_end.Statement.{statement}
 use Rattle.token.proofs.run_end.Tie as tie
 
 abbrev Inv-loop : tie.InvT-loop
-Inv-loop text at kind to₀ to = to + runLength (isOf kind) (drop to text) ≡ at + runLength (isOf kind) (drop at text)
+Inv-loop text kind at to₀ to = to + runLength (isOf kind) (drop to text) ≡ at + runLength (isOf kind) (drop at text)
 
 abbrev μ-loop : tie.MeasureT-loop
-μ-loop text at kind to₀ to = length text - to
+μ-loop text kind at to₀ to = length text - to
 
 loop-holds : tie.Need-loop-holds Inv-loop μ-loop
 loop-holds c = search needs

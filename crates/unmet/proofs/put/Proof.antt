@@ -1,7 +1,7 @@
 use mathlib.Core.Path.{sym, _∙_}
 use native.Mathlib.Omega.{arith}
 use Rattle.put.proofs.PutLaws.{puts-are}
-use Rattle.claim.proofs.FineLaws.{fine-claim}
+use Rattle.condition_line.proofs.FineLaws.{fine-claim}
 use Rattle.unmet.proofs.PartLaws.{claim-is, claim-none, claim-many}
 use borrow.Author.Needs.{needs}
 use Rattle.unmet.proofs.put.Statement.{statement}

@@ -2,7 +2,7 @@ use Prim.Native.Nat.{_+_}
 use mathlib.Core.Path.{_≡_}
 use native.Mathlib.Omega.{arith}
 use Rattle.rules.specs.Writer.{rowsShown}
-use Rattle.put.specs.Puts.{Coming}
+use Rattle.put.specs.Puts.{ToPut}
 use Rattle.put.proofs.PutLaws.{coming-all, coming-on, come}
 use Rattle.writer.proofs.TextLaws.{rows-out, rows-next}
 use borrow.Author.Needs.{needs}
@@ -10,7 +10,7 @@ use Rattle.writer.proofs.put_rows.Statement.{statement}
 use Rattle.writer.proofs.put_rows.Tie as tie
 
 abbrev Inv-loop : tie.InvT-loop
-Inv-loop text₀ at table first count values to₀ index₀ left₀ text to index left = Coming text₀ text at to (rowsShown table count first) (rowsShown table left index) × (index + left ≡ first + count)
+Inv-loop text₀ at table first count values to₀ index₀ left₀ text to index left = ToPut text₀ text at to (rowsShown table count first) (rowsShown table left index) × (index + left ≡ first + count)
 
 abbrev μ-loop : tie.MeasureT-loop
 μ-loop text₀ at table first count values to₀ index₀ left₀ text to index left = left

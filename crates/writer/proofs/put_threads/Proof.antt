@@ -4,7 +4,7 @@ use native.Mathlib.Omega.{arith}
 use Rattle.rules.specs.Table.{threadsOf}
 use Rattle.rules.specs.Token.{bytesOf}
 use Rattle.rules.specs.Writer.{threadsShown}
-use Rattle.put.specs.Puts.{Coming}
+use Rattle.put.specs.Puts.{ToPut}
 use Rattle.put.proofs.PutLaws.{coming-all, coming-on, come}
 use Rattle.writer.proofs.TextLaws.{threads-out, threads-next, shape-count, shape-first}
 use borrow.Author.Needs.{needs}
@@ -13,7 +13,7 @@ use Rattle.writer.proofs.put_threads.Tie as tie
 
 abbrev Inv-loop : tie.InvT-loop
 Inv-loop text₀ at table shape to₀ thread₀ left₀ t11 text to thread left =
-    Coming text₀ text at to (threadsShown table (threadsOf table) 0) (threadsShown table left thread) × (thread + left ≤ 5)
+    ToPut text₀ text at to (threadsShown table (threadsOf table) 0) (threadsShown table left thread) × (thread + left ≤ 5)
 
 abbrev μ-loop : tie.MeasureT-loop
 μ-loop text₀ at table shape to₀ thread₀ left₀ t11 text to thread left = left

@@ -3,7 +3,7 @@ use mathlib.Core.List.{_++_}
 use mathlib.Core.Path.{_≡_, ap, sym}
 use native.Mathlib.Omega.{arith}
 use Rattle.rules.specs.Writer.{shown, valuesShown}
-use Rattle.put.specs.Puts.{Coming}
+use Rattle.put.specs.Puts.{ToPut}
 use Rattle.put.proofs.PutLaws.{coming-all, coming-on, come}
 use Rattle.writer.proofs.TextLaws.{values-out, values-next}
 use borrow.Author.Needs.{needs}
@@ -11,7 +11,7 @@ use Rattle.writer.proofs.put_values.Statement.{statement}
 use Rattle.writer.proofs.put_values.Tie as tie
 
 abbrev Inv-loop : tie.InvT-loop
-Inv-loop text₀ at table first count to₀ i₀ left₀ text to i left = Coming text₀ text at to (valuesShown table count first) (valuesShown table left i) × (i + left ≡ first + count)
+Inv-loop text₀ at table first count to₀ i₀ left₀ text to i left = ToPut text₀ text at to (valuesShown table count first) (valuesShown table left i) × (i + left ≡ first + count)
 
 abbrev μ-loop : tie.MeasureT-loop
 μ-loop text₀ at table first count to₀ i₀ left₀ text to i left = left

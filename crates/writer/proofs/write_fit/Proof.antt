@@ -6,8 +6,8 @@ use borrow.Author.Tests.{not-true, not-false}
 use lib.ListN.{getD}
 use Rattle.rules.specs.Table.{threadsOf}
 use Rattle.rules.specs.Condition.{isCondition}
-use Rattle.claim.specs.Units.{Units}
-use Rattle.claim.proofs.FineLaws.{fine-claim}
+use Rattle.condition_line.specs.Units.{Units}
+use Rattle.condition_line.proofs.FineLaws.{fine-claim}
 use Rattle.writer.specs.Answers.{Fit}
 use Rattle.writer.proofs.IntoLaws.{fit-good, into-condition, into-short, into-written}
 use borrow.Author.Needs.{needs}

@@ -5,8 +5,8 @@ use borrow.Author.Needs.{needs}
 use Rattle.bad_row.proofs.words.put.Statement.{statement}
 use Rattle.bad_row.proofs.words.put.Tie as tie
 
-value-of-requires : tie.Need-value-of-requires
-value-of-requires c κs = search needs
+field-value-requires : tie.Need-field-value-requires
+field-value-requires c κs = search needs
 
 put-field-requires : tie.Need-put-field-requires
 put-field-requires c κs = search needs
@@ -47,7 +47,7 @@ returns c =
     let told = c .before .before in
     let may = told .before .before in
     let field = may .before in
-    rw (← may .may-be .ensures, ← field .put-field .ensures, ← field .before .before .value-of .ensures, told .enum-told .given .1) (c .put-unused .ensures)
+    rw (← may .may-be .ensures, ← field .put-field .ensures, ← field .before .before .field-value .ensures, told .enum-told .given .1) (c .put-unused .ensures)
 
 returns-2 : tie.Need-returns-2
 unfolding putWrong putValue bytesOf
@@ -55,7 +55,7 @@ returns-2 c =
     let told = c .before .before .before in
     let may = told .before .before in
     let field = may .before in
-    rw (← may .may-be .ensures, ← field .put-field .ensures, ← field .before .before .value-of .ensures, told .enum-told2 .given .1) (c .fill .ensures)
+    rw (← may .may-be .ensures, ← field .put-field .ensures, ← field .before .before .field-value .ensures, told .enum-told2 .given .1) (c .fill .ensures)
 
 returns-3 : tie.Need-returns-3
 unfolding putWrong bytesOf
@@ -64,13 +64,13 @@ returns-3 c =
     let told = none .before .before .before in
     let may = told .before in
     let field = may .before in
-    rw (← may .may-be .ensures, ← field .put-field .ensures, ← field .before .before .value-of .ensures, ← may-used _ _ _ _ _ (told .match .keys3), ← none .fill2 .ensures) (c .put-may .ensures)
+    rw (← may .may-be .ensures, ← field .put-field .ensures, ← field .before .before .field-value .ensures, ← may-used _ _ _ _ _ (told .match .keys3), ← none .fill2 .ensures) (c .put-may .ensures)
 
 pub put-spec : {M : Type 1} → statement M
 put-spec =
     tie.close
     (tie.spec
-    value-of-requires
+    field-value-requires
     put-field-requires
     may-be-requires
     enum-told

@@ -17,20 +17,20 @@ put-requires c κs = search needs
 enum-told-2 : tie.Need-enum-told-2
 enum-told-2 c = search needs
 
-put-count-requires : tie.Need-put-count-requires
-put-count-requires c κs = search needs
+put-present-requires : tie.Need-put-present-requires
+put-present-requires c κs = search needs
 
 enum-told-3 : tie.Need-enum-told-3
 enum-told-3 c = search needs
 
-put-count-requires-2 : tie.Need-put-count-requires-2
-put-count-requires-2 c κs = search needs
+put-present-requires-2 : tie.Need-put-present-requires-2
+put-present-requires-2 c κs = search needs
 
 enum-told-4 : tie.Need-enum-told-4
 enum-told-4 c = search needs
 
-put-count-requires-3 : tie.Need-put-count-requires-3
-put-count-requires-3 c κs = search needs
+put-present-requires-3 : tie.Need-put-present-requires-3
+put-present-requires-3 c κs = search needs
 
 enum-told-5 : tie.Need-enum-told-5
 enum-told-5 c = search needs
@@ -110,15 +110,15 @@ returns c = rw (c .before .before .before .enum-told .given .1) (c .put .ensures
 
 returns-2 : tie.Need-returns-2
 unfolding putMay
-returns-2 c = rw (c .before .before .enum-told2 .given .1) (c .put-count .ensures)
+returns-2 c = rw (c .before .before .enum-told2 .given .1) (c .put-present .ensures)
 
 returns-3 : tie.Need-returns-3
 unfolding putMay
-returns-3 c = rw (c .before .before .enum-told3 .given .1) (c .put-count2 .ensures)
+returns-3 c = rw (c .before .before .enum-told3 .given .1) (c .put-present2 .ensures)
 
 returns-4 : tie.Need-returns-4
 unfolding putMay
-returns-4 c = rw (c .before .before .enum-told4 .given .1) (c .put-count3 .ensures)
+returns-4 c = rw (c .before .before .enum-told4 .given .1) (c .put-present3 .ensures)
 
 returns-5 : tie.Need-returns-5
 unfolding putMay bytesOf
@@ -163,11 +163,11 @@ put-may-spec =
     slice-aggregate-put
     put-requires
     enum-told-2
-    put-count-requires
+    put-present-requires
     enum-told-3
-    put-count-requires-2
+    put-present-requires-2
     enum-told-4
-    put-count-requires-3
+    put-present-requires-3
     enum-told-5
     slice-aggregate-put-2
     put-requires-2

@@ -1,5 +1,5 @@
 use mathlib.Core.Path.{sym, ap}
-use Rattle.reader.specs.Lines.{answerOf}
+use Rattle.reader.specs.Lines.{textAnswerOf}
 use Rattle.reader.specs.declared.TextAnswer.{TextAnswer}
 use Rattle.exports.specs.Texts.{readNumbers}
 use borrow.Author.Needs.{needs}
@@ -16,13 +16,13 @@ enum-known-read-2 : tie.Need-enum-known-read-2
 enum-known-read-2 c = search needs
 
 returns : tie.Need-returns
-returns c = sym (ap (λ (r : TextAnswer). readNumbers (answerOf r)) (c .enum-told .given .1))
+returns c = sym (ap (λ (r : TextAnswer). readNumbers (textAnswerOf r)) (c .enum-told .given .1))
 
 returns-2 : tie.Need-returns-2
-returns-2 c = sym (ap (λ (r : TextAnswer). readNumbers (answerOf r)) (c .before .read .given .1))
+returns-2 c = sym (ap (λ (r : TextAnswer). readNumbers (textAnswerOf r)) (c .before .read .given .1))
 
 returns-3 : tie.Need-returns-3
-returns-3 c = sym (ap (λ (r : TextAnswer). readNumbers (answerOf r)) (c .before .read2 .given .1))
+returns-3 c = sym (ap (λ (r : TextAnswer). readNumbers (textAnswerOf r)) (c .before .read2 .given .1))
 
 pub read-numbers-spec : {M : Type 1} → statement M
 read-numbers-spec =
