@@ -12,7 +12,7 @@ use lib.ListN.{length, getD}
 use Rattle.rules.specs.Token.{bytesOf}
 use Rattle.rules.specs.Table.{registers, shapeOf}
 use Rattle.rules.specs.Condition.{opens, comparisonBytes, conditionBytes, groupsDeep, isSign, conditionAt}
-use Rattle.page.specs.Pages.{Page, putText, filled}
+use Rattle.page.specs.Pages.{Page, putText, putFilled}
 use Rattle.condition.specs.Reads.{foundIn}
 use Rattle.condition.specs.declared.Extent.{Extent}
 use Rattle.condition.specs.declared.Extent.the-variants.{Bad, Ends}
@@ -22,9 +22,9 @@ unfoldable pub putBadComparison : Page → List ℕ → ℕ → ℕ → Page
 putBadComparison p condition at threads =
     cond (ltb (length condition) (at + comparisonBytes)) (putText p (bytesOf ": its comparison breaks off"))
     (cond (leb threads (getD condition (at + 1) 0))
-    (filled p (bytesOf ": thread # is none: they count from 0, and the table has #") (getD condition (at + 1) 0) threads 0)
+    (putFilled p (bytesOf ": thread # is none: they count from 0, and the table has #") (getD condition (at + 1) 0) threads 0)
     (cond (leb registers (getD condition (at + 2) 0))
-    (filled p (bytesOf ": register # is none") (getD condition (at + 2) 0) 0 0)
+    (putFilled p (bytesOf ": register # is none") (getD condition (at + 2) 0) 0 0)
     p))
 
 -- the sign of a comparison, or a group that would stand too deep
@@ -32,29 +32,29 @@ unfoldable pub putReason : Page → List ℕ → ℕ → ℕ → Page
 putReason p condition at threads =
     cond (isSign (getD condition at 0)) (putBadComparison p condition at threads)
     (cond (eqb (getD condition at 0) opens)
-    (filled p (bytesOf ": groups stand in each other at most # deep") groupsDeep 0 0)
+    (putFilled p (bytesOf ": groups stand in each other at most # deep") groupsDeep 0 0)
     p)
 
 -- a condition may break off: then it is the place behind the last byte
 unfoldable pub putBad : Page → List ℕ → ℕ → ℕ → Page
 putBad p condition at threads =
     cond (leb (length condition) at)
-    (filled p (bytesOf "answer 5: refused: the condition breaks off behind its last byte: it has #\n") (length condition) 0 0)
+    (putFilled p (bytesOf "answer 5: refused: the condition breaks off behind its last byte: it has #\n") (length condition) 0 0)
     (putText
     (putReason
-    (filled p (bytesOf "answer 5: refused: the condition: byte # is #, which cannot stand there") at (getD condition at 0) 0)
+    (putFilled p (bytesOf "answer 5: refused: the condition: byte # is #, which cannot stand there") at (getD condition at 0) 0)
     condition at threads)
     (bytesOf "\n"))
 
 unfoldable pub putFound : Page → List ℕ → ℕ → Extent → Page
 putFound p condition threads (Bad at) = putBad p condition at threads
 putFound p condition threads (Ends at) =
-    filled p (bytesOf "answer 5: refused: the condition ends before byte #, and # bytes were given\n") at (length condition) 0
+    putFilled p (bytesOf "answer 5: refused: the condition ends before byte #, and # bytes were given\n") at (length condition) 0
 
 -- the number of threads is the first of the table's shape
 unfoldable pub putBadCondition : Page → List ℕ → List ℕ → Page
 putBadCondition p table condition =
     cond (ltb conditionBytes (length condition))
-    (filled p (bytesOf "answer 5: refused: the condition has # bytes: there may be up to #\n") (length condition) conditionBytes 0)
+    (putFilled p (bytesOf "answer 5: refused: the condition has # bytes: there may be up to #\n") (length condition) conditionBytes 0)
     (putFound p condition (getD (shapeOf table) 0 0)
     (foundIn (length condition) (conditionAt (getD (shapeOf table) 0 0) (λ t r. 0) groupsDeep condition)))

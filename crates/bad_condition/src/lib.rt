@@ -2,7 +2,7 @@
 ghost use mathlib.Core.Path.{_≡_};
 ghost use Prim.Native.Nat.{_<_};
 ghost use lib.ListN.{length};
-ghost use Rattle.page.specs.Pages.{ended};
+ghost use Rattle.page.specs.Pages.{pageOf};
 ghost use Rattle.bad_condition.specs.Conditions.{putBadComparison, putReason, putBad, putBadCondition};
 use condition::COMPARISON;
 use condition::CONDITION_BYTES;
@@ -19,7 +19,7 @@ use table::THREADS;
 
 // Says what is wrong first.
 pub fn put(page: &mut Page, at: usize, table: &[u8], condition: &[u8]) -> usize
-    ensures { λ r. ⌜ ended (now (page .exit)) r ≡ putBadCondition (ended (now (page .entry)) at) (now (table .entry)) (now (condition .entry)) ⌝ }
+    ensures { λ r. ⌜ pageOf (now (page .exit)) r ≡ putBadCondition (pageOf (now (page .entry)) at) (now (table .entry)) (now (condition .entry)) ⌝ }
 {
     if CONDITION_BYTES < condition.len() {
         return page::fill(
@@ -48,7 +48,7 @@ pub fn put(page: &mut Page, at: usize, table: &[u8], condition: &[u8]) -> usize
 
 // The byte that cannot stand there, with the reason where it is plain.
 fn put_bad(page: &mut Page, at: usize, condition: &[u8], threads: usize, from: usize) -> usize
-    ensures { λ r. ⌜ ended (now (page .exit)) r ≡ putBad (ended (now (page .entry)) at) (now (condition .entry)) from threads ⌝ }
+    ensures { λ r. ⌜ pageOf (now (page .exit)) r ≡ putBad (pageOf (now (page .entry)) at) (now (condition .entry)) from threads ⌝ }
 {
     if condition.len() <= from {
         return page::fill(
@@ -75,7 +75,7 @@ fn put_bad(page: &mut Page, at: usize, condition: &[u8], threads: usize, from: u
 // The reason: that of a comparison that begins there; or how deep groups may stand in each other, where one opens.
 fn put_reason(page: &mut Page, at: usize, condition: &[u8], threads: usize, from: usize) -> usize
     requires { ⌜ from < length (now condition) ⌝ }
-    ensures { λ r. ⌜ ended (now (page .exit)) r ≡ putReason (ended (now (page .entry)) at) (now (condition .entry)) from threads ⌝ }
+    ensures { λ r. ⌜ pageOf (now (page .exit)) r ≡ putReason (pageOf (now (page .entry)) at) (now (condition .entry)) from threads ⌝ }
 {
     let byte = condition[from];
     if condition::is_sign(byte) {
@@ -103,7 +103,7 @@ fn put_bad_comparison(
     from: usize,
 ) -> usize
     requires { ⌜ from < length (now condition) ⌝ }
-    ensures { λ r. ⌜ ended (now (page .exit)) r ≡ putBadComparison (ended (now (page .entry)) at) (now (condition .entry)) from threads ⌝ }
+    ensures { λ r. ⌜ pageOf (now (page .exit)) r ≡ putBadComparison (pageOf (now (page .entry)) at) (now (condition .entry)) from threads ⌝ }
 {
     if condition.len() - from < COMPARISON {
         return page::put(page, at, b": its comparison breaks off");

@@ -9,7 +9,7 @@ use lib.ListN.{getD}
 use Rattle.rules.specs.Token.{bytesOf}
 use Rattle.rules.specs.Table.{maxThreads, Row, Room, rowAt, shapeOf}
 use Rattle.table.specs.Answers.{roomIn}
-use Rattle.page.specs.Pages.{Page, putText, filled}
+use Rattle.page.specs.Pages.{Page, putText, putFilled}
 use Rattle.reasons.specs.Wrong.{wrongIn}
 use Rattle.bad_row.specs.Words.{putWrong}
 
@@ -19,7 +19,7 @@ threadRow t shape thread number = rowAt t (getD shape 1 0 + getD shape 12 0) (ge
 -- in one line, with the field that is wrong first
 abbrev pub putRefusedRow : Page → ℕ → ℕ → Row → Room → Page
 putRefusedRow l thread number r room =
-    putText (putWrong (filled l (bytesOf "answer 5: refused: thread #, row #: ") thread number 0) (wrongIn room r) r room) (bytesOf "\n")
+    putText (putWrong (putFilled l (bytesOf "answer 5: refused: thread #, row #: ") thread number 0) (wrongIn room r) r room) (bytesOf "\n")
 
 -- nothing where there can be no such thread
 unfoldable pub putBadRow : Page → List ℕ → ℕ → ℕ → Page

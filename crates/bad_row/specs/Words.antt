@@ -11,7 +11,7 @@ use mathlib.Core.Bool.{cond}
 use lib.Dec.{eqb}
 use Rattle.rules.specs.Token.{bytesOf}
 use Rattle.rules.specs.Table.{Row, Room}
-use Rattle.page.specs.Pages.{Page, putText, filled}
+use Rattle.page.specs.Pages.{Page, putText, putFilled}
 use Rattle.reasons.specs.Wrong.{hasCell, hasPlain, mayBe}
 use Rattle.reasons.specs.declared.Field.{Field}
 use Rattle.reasons.specs.declared.Field.the-variants.{Opcode, Object, Order, Kind, Failure, Register, Target, A, B}
@@ -62,7 +62,7 @@ opcodeName opcode =
 
 -- how many of them the table has
 abbrev pub putPresent : Page → ℕ → Page
-putPresent l n = filled l (bytesOf ": they count from 0, and the table has #") n 0 0
+putPresent l n = putFilled l (bytesOf ": they count from 0, and the table has #") n 0 0
 
 -- what it may be, where it is used
 unfoldable pub putMay : Page → Room → May → Page
@@ -76,21 +76,21 @@ putMay l room may.StoreOrder = putText l (bytesOf " that a store may have (0, 1 
 putMay l room may.FenceOrder = putText l (bytesOf " that a fence may have (1 to 4)")
 putMay l room may.AnyKind = putText l (bytesOf ": there are 0 to 12")
 putMay l room may.AnyRegister = putText l (bytesOf ": there are 0 to 3")
-putMay l room may.AnyTarget = filled l (bytesOf ": it may be up to #, the thread's end") (room .rows) 0 0
+putMay l room may.AnyTarget = putFilled l (bytesOf ": it may be up to #, the thread's end") (room .rows) 0 0
 putMay l room may.OtherTarget =
-    filled l (bytesOf ": it may be up to #, the thread's end, but not #: a jump to its own row never ends") (room .rows) (room .row) 0
+    putFilled l (bytesOf ": it may be up to #, the thread's end, but not #: a jump to its own row never ends") (room .rows) (room .row) 0
 putMay l room may.ZeroByOpcode = l
 putMay l room may.ZeroByKind = l
 
 -- a field that the opcode, which is named, does not use
 unfoldable pub putUnused : Page → ℕ → ℕ → Page
 putUnused l value opcode =
-    putText (putText (filled l (bytesOf " is #, and opcode # (") value opcode 0) (opcodeName opcode))
+    putText (putText (putFilled l (bytesOf " is #, and opcode # (") value opcode 0) (opcodeName opcode))
     (bytesOf ") does not use it: it must be 0")
 
 -- the value, and what it may be
 abbrev pub putUsed : Page → ℕ → Room → May → Page
-putUsed l value room m = putMay (filled l (bytesOf " # is none") value 0 0) room m
+putUsed l value room m = putMay (putFilled l (bytesOf " # is none") value 0 0) room m
 
 unfoldable pub putValue : Page → ℕ → Row → Room → May → Page
 putValue l value r room may.AnyOpcode = putUsed l value room may.AnyOpcode
@@ -107,7 +107,7 @@ putValue l value r room may.AnyTarget = putUsed l value room may.AnyTarget
 putValue l value r room may.OtherTarget = putUsed l value room may.OtherTarget
 putValue l value r room may.ZeroByOpcode = putUnused l value (r .opcode)
 putValue l value r room may.ZeroByKind =
-    filled l (bytesOf " is #, and change kind # does not use it: it must be 0") value (r .kind) 0
+    putFilled l (bytesOf " is #, and change kind # does not use it: it must be 0") value (r .kind) 0
 
 unfoldable pub putWrong : Page → Field → Row → Room → Page
 putWrong l field r room =

@@ -3,7 +3,7 @@ ghost use mathlib.Core.Path.{_≡_};
 ghost use Prim.Native.Nat.{_<_};
 ghost use Rattle.decode.specs.Ops.{rowMeant, roomMeant};
 ghost use Rattle.table.specs.Answers.{roomIn};
-ghost use Rattle.page.specs.Pages.{ended};
+ghost use Rattle.page.specs.Pages.{pageOf};
 ghost use Rattle.bad_row.specs.Rows.{threadRow, putBadRow};
 use decode::Row;
 use layout::MAX_THREADS;
@@ -22,7 +22,7 @@ mod words;
 
 // Puts what is wrong with this row of this thread, in one line; nothing where there can be no such thread.
 pub fn put(page: &mut Page, at: usize, table: &[u8], thread: u8, number: u8) -> usize
-    ensures { λ r. ⌜ ended (now (page .exit)) r ≡ putBadRow (ended (now (page .entry)) at) (now (table .entry)) thread number ⌝ }
+    ensures { λ r. ⌜ pageOf (now (page .exit)) r ≡ putBadRow (pageOf (now (page .entry)) at) (now (table .entry)) thread number ⌝ }
 {
     let t = wide8(thread);
     if MAX_THREADS <= t {

@@ -1,7 +1,7 @@
 // What is wrong with a field of a row, in words.
 ghost use mathlib.Core.Path.{_≡_};
 ghost use Rattle.rules.specs.Token.{bytesOf};
-ghost use Rattle.page.specs.Pages.{ended, putText};
+ghost use Rattle.page.specs.Pages.{pageOf, putText};
 ghost use Rattle.decode.specs.Ops.{rowMeant, roomMeant};
 ghost use Rattle.bad_row.specs.Words.{fieldValue, objectName, fieldName, partPast, putPresent, putMay, putUnused, putWrong};
 use decode::Row;
@@ -12,7 +12,7 @@ use reasons::Room;
 
 // Puts the field, what it is and what it may be.
 pub fn put(page: &mut Page, at: usize, room: Room, row: Row, field: Field) -> usize
-    ensures { λ r. ⌜ ended (now (page .exit)) r ≡ putWrong (ended (now (page .entry)) at) field (rowMeant row) (roomMeant room) ⌝ }
+    ensures { λ r. ⌜ pageOf (now (page .exit)) r ≡ putWrong (pageOf (now (page .entry)) at) field (rowMeant row) (roomMeant room) ⌝ }
 {
     let opcode = row.opcode;
     let kind = row.kind;
@@ -54,7 +54,7 @@ fn field_value(row: Row, field: Field) -> u64
 
 // The field's name.
 fn put_field(page: &mut Page, at: usize, opcode: u8, field: Field) -> usize
-    ensures { λ r. ⌜ ended (now (page .exit)) r ≡ putText (ended (now (page .entry)) at) (bytesOf (fieldName field opcode)) ⌝ }
+    ensures { λ r. ⌜ pageOf (now (page .exit)) r ≡ putText (pageOf (now (page .entry)) at) (bytesOf (fieldName field opcode)) ⌝ }
 {
     match field {
         Field::Opcode => page::put(page, at, b"opcode"),
@@ -71,7 +71,7 @@ fn put_field(page: &mut Page, at: usize, opcode: u8, field: Field) -> usize
 
 // A row names a cell, a plain cell, a thread, or none.
 fn put_object(page: &mut Page, at: usize, opcode: u8) -> usize
-    ensures { λ r. ⌜ ended (now (page .exit)) r ≡ putText (ended (now (page .entry)) at) (bytesOf (objectName opcode)) ⌝ }
+    ensures { λ r. ⌜ pageOf (now (page .exit)) r ≡ putText (pageOf (now (page .entry)) at) (bytesOf (objectName opcode)) ⌝ }
 {
     match reasons::may_be(Field::Object, opcode, 0) {
         May::AnyCell => page::put(page, at, b"cell"),
@@ -83,7 +83,7 @@ fn put_object(page: &mut Page, at: usize, opcode: u8) -> usize
 
 // What it may be, where it is used.
 fn put_may(page: &mut Page, at: usize, room: Room, may: May) -> usize
-    ensures { λ r. ⌜ ended (now (page .exit)) r ≡ putMay (ended (now (page .entry)) at) (roomMeant room) may ⌝ }
+    ensures { λ r. ⌜ pageOf (now (page .exit)) r ≡ putMay (pageOf (now (page .entry)) at) (roomMeant room) may ⌝ }
 {
     match may {
         May::AnyOpcode => page::put(page, at, b": there are 0 to 18"),
@@ -118,7 +118,7 @@ fn put_may(page: &mut Page, at: usize, room: Room, may: May) -> usize
 
 // How many of them the table has.
 fn put_present(page: &mut Page, at: usize, count: usize) -> usize
-    ensures { λ r. ⌜ ended (now (page .exit)) r ≡ putPresent (ended (now (page .entry)) at) count ⌝ }
+    ensures { λ r. ⌜ pageOf (now (page .exit)) r ≡ putPresent (pageOf (now (page .entry)) at) count ⌝ }
 {
     page::fill(
         page,
@@ -132,7 +132,7 @@ fn put_present(page: &mut Page, at: usize, count: usize) -> usize
 
 // A field that the opcode, which is named, does not use.
 fn put_unused(page: &mut Page, at: usize, opcode: u8, value: u64) -> usize
-    ensures { λ r. ⌜ ended (now (page .exit)) r ≡ putUnused (ended (now (page .entry)) at) value opcode ⌝ }
+    ensures { λ r. ⌜ pageOf (now (page .exit)) r ≡ putUnused (pageOf (now (page .entry)) at) value opcode ⌝ }
 {
     let to = page::fill(page, at, b" is #, and opcode # (", value, opcode as u64, 0);
     let to = put_nth(
@@ -146,7 +146,7 @@ fn put_unused(page: &mut Page, at: usize, opcode: u8, value: u64) -> usize
 
 // Puts the part of a list that stands past so many commas.
 fn put_nth(page: &mut Page, at: usize, list: &[u8], n: usize) -> usize
-    ensures { λ r. ⌜ ended (now (page .exit)) r ≡ putText (ended (now (page .entry)) at) (partPast n (now (list .entry))) ⌝ }
+    ensures { λ r. ⌜ pageOf (now (page .exit)) r ≡ putText (pageOf (now (page .entry)) at) (partPast n (now (list .entry))) ⌝ }
 {
     let mut to = at;
     let mut past = 0;

@@ -22,7 +22,7 @@ use Rattle.decode.specs.declared.Op.the-variants as code
 use Rattle.decode.specs.declared.Decoded.{Decoded}
 use Rattle.decode.specs.declared.Decoded.the-variants.{Refused, Row as Says}
 use Rattle.decode.specs.Ops.{opOf, decodedOf}
-use Rattle.coverage.specs.Covered.{countOf, rowOp, switches, firstIn, firstFrom, firstSwitch, storesAs, storesTo, oneIf, summed, storesIn, stores}
+use Rattle.coverage.specs.Covered.{countOf, rowOp, switches, firstInThread, firstFrom, firstSwitch, storesPending, storesTo, oneIf, summed, storesIn, storeCount}
 use Rattle.coverage.specs.declared.search.Switch.{Switch}
 use Rattle.coverage.specs.declared.search.Switch.the-variants.{Nowhere, At}
 
@@ -32,8 +32,8 @@ abbrev pub stays : List ℕ → List ℕ → Bool → ℕ → ℕ → Bool
 stays t shape on thread row = not (switches on (rowOp t shape thread row))
 
 pub first-all : (t shape : List ℕ) (on : Bool) (thread count : ℕ) → count ≡ countOf shape thread →
-    firstNot (stays t shape on thread) (count - 0) 0 ≡ firstIn t shape on thread
-unfolding firstIn
+    firstNot (stays t shape on thread) (count - 0) 0 ≡ firstInThread t shape on thread
+unfolding firstInThread
 first-all t shape on thread count e = rw (sub-zero, e)
 
 -- by what the code found of the row
@@ -43,7 +43,7 @@ told on d e r b q p s = ap (λ (x : rules.Decoded rules.Op). not (switches on x)
 -- The first thread that has such a row: what is left to be asked at thread i
 
 module _ (t shape : List ℕ) (on : Bool) (i row count : ℕ) (whole : Switch) (left : firstFrom t shape on (5 - i) i ≡ whole)
-    (h : i < 5) (found : row ≡ firstIn t shape on i) (counted : count ≡ countOf shape i) where
+    (h : i < 5) (found : row ≡ firstInThread t shape on i) (counted : count ≡ countOf shape i) where
   from-one : firstFrom t shape on (5 - i) i ≡ cond (ltb row count) (At i row) (firstFrom t shape on (5 - (i + 1)) (i + 1))
   unfolding firstFrom
   from-one = let e : 5 - i ≡ suc (5 - (i + 1)) = omega arith in rw (e, found, counted)
@@ -88,7 +88,7 @@ pub sum-all : (t shape : List ℕ) (cell thread count : ℕ) → count ≡ count
 unfolding storesIn
 sum-all t shape cell thread count e = rw (sub-zero, e, zero-add)
 
-pub stores-all : (t shape : List ℕ) (cell : ℕ) → shape ≡ shapeOf t → 0 + summed (storesIn t shape cell) 5 0 ≡ stores t cell
+pub stores-all : (t shape : List ℕ) (cell : ℕ) → shape ≡ shapeOf t → 0 + summed (storesIn t shape cell) 5 0 ≡ storeCount t cell
 stores-all t shape cell e = rw (e, zero-add)
 
 at-most-one : (b : Bool) → oneIf b ≤ 1
@@ -115,7 +115,7 @@ stores-none op cell k = by-role (roleOf (opOf op)) (role.told (opOf op))
     not-this : (m : rules.Op) → opOf op ≡ m → T (not (hasKey others (opcodeOf m))) → ⊥
     not-this m e h = missed others (opOf op) m e h (by-number others op k)
 
-    by-role : (role : Role) → Told role (opOf op) → storesAs cell (pendingAs role) ≡ false
+    by-role : (role : Role) → Told role (opOf op) → storesPending cell (pendingAs role) ≡ false
     by-role (loads c o r) e = refl
     by-role (storesOperand c o a) e = absurd (not-this (rules.store c o a) e tt)
     by-role (storesRegister c o r) e = absurd (not-this (rules.storeRegister c o r) e tt)

@@ -2,7 +2,7 @@
 -- nothing.
 --     rowOp          what a row of a thread does
 --     firstSwitch    the first row, thread by thread, that switches exploring on, or off
---     stores         how many rows may store to a cell
+--     storeCount     how many rows may store to a cell
 use Prim.Native.Nat.{ℕ, zero, suc, _+_}
 use mathlib.Core.List.{List}
 use mathlib.Core.Bool.{Bool, true, false, cond, not, _&&_, _||_}
@@ -30,14 +30,14 @@ switches true row = eqb (opcodeIn row) 14
 switches false row = eqb (opcodeIn row) 13 || eqb (opcodeIn row) 15
 
 -- the first row of a thread that does, or its row count
-unfoldable pub firstIn : List ℕ → List ℕ → Bool → ℕ → ℕ
-firstIn t shape on thread = firstNot (λ (row : ℕ). not (switches on (rowOp t shape thread row))) (countOf shape thread) 0
+unfoldable pub firstInThread : List ℕ → List ℕ → Bool → ℕ → ℕ
+firstInThread t shape on thread = firstNot (λ (row : ℕ). not (switches on (rowOp t shape thread row))) (countOf shape thread) 0
 
 -- of the n threads from this one on
 unfoldable pub firstFrom : List ℕ → List ℕ → Bool → ℕ → ℕ → Switch
 firstFrom t shape on zero thread = Nowhere
 firstFrom t shape on (suc n) thread =
-    cond (ltb (firstIn t shape on thread) (countOf shape thread)) (At thread (firstIn t shape on thread))
+    cond (ltb (firstInThread t shape on thread) (countOf shape thread)) (At thread (firstInThread t shape on thread))
     (firstFrom t shape on n (thread + 1))
 
 abbrev pub firstSwitch : List ℕ → Bool → Switch
@@ -46,12 +46,12 @@ firstSwitch t on = firstFrom t (shapeOf t) on maxThreads 0
 -- Rows that store
 
 -- rows whose pending operation is a store or an RMW; a plain cell keeps no stores
-abbrev pub storesAs : ℕ → Pending → Bool
-storesAs cell nothing = false
-storesAs cell (pends operation c) = not (eqb operation aLoad) && eqb c cell
+abbrev pub storesPending : ℕ → Pending → Bool
+storesPending cell nothing = false
+storesPending cell (pends operation c) = not (eqb operation aLoad) && eqb c cell
 
 abbrev pub storesTo : ℕ → Decoded Op → Bool
-storesTo cell row = storesAs cell (pendingAs (roleIn row))
+storesTo cell row = storesPending cell (pendingAs (roleIn row))
 
 abbrev pub oneIf : Bool → ℕ
 oneIf b = cond b 1 0
@@ -64,5 +64,5 @@ summed f (suc n) i = f i + summed f n (i + 1)
 unfoldable pub storesIn : List ℕ → List ℕ → ℕ → ℕ → ℕ
 storesIn t shape cell thread = summed (λ (row : ℕ). oneIf (storesTo cell (rowOp t shape thread row))) (countOf shape thread) 0
 
-abbrev pub stores : List ℕ → ℕ → ℕ
-stores t cell = summed (storesIn t (shapeOf t) cell) maxThreads 0
+abbrev pub storeCount : List ℕ → ℕ → ℕ
+storeCount t cell = summed (storesIn t (shapeOf t) cell) maxThreads 0

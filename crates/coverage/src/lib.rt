@@ -1,7 +1,7 @@
 // Answer 0: nothing failed, and what that covers.
 ghost use mathlib.Core.Path.{_≡_};
 ghost use Rattle.rules.specs.Table.{maxCells};
-ghost use Rattle.page.specs.Pages.{ended};
+ghost use Rattle.page.specs.Pages.{pageOf};
 ghost use Rattle.path.specs.Bounds.{boundOf};
 ghost use Rattle.settings.specs.Given.{settingsOf};
 ghost use Rattle.coverage.specs.Says.{putExecutions, putFirst, putOff, putExhausted, putExplored, putTried, putBounded, putStores};
@@ -20,7 +20,7 @@ const KEPT: u64 = MAX_ATOMIC_HISTORY as u64;
 
 // Says that nothing failed, within what, and what was left out.
 pub fn put(page: &mut Page, at: usize, table: &[u8], settings: Settings, begun: u64) -> usize
-    ensures { λ r. ⌜ ended (now (page .exit)) r ≡ putCovered (ended (now (page .entry)) at) (now (table .entry)) (settingsOf settings) begun ⌝ }
+    ensures { λ r. ⌜ pageOf (now (page .exit)) r ≡ putCovered (pageOf (now (page .entry)) at) (now (table .entry)) (settingsOf settings) begun ⌝ }
 {
     let bound = settings.bound;
     let to = put_tried(page, at, table, settings, begun);
@@ -30,18 +30,18 @@ pub fn put(page: &mut Page, at: usize, table: &[u8], settings: Settings, begun: 
 
 // What was tried, by whether exploring was on at the start.
 fn put_tried(page: &mut Page, at: usize, table: &[u8], settings: Settings, begun: u64) -> usize
-    ensures { λ r. ⌜ ended (now (page .exit)) r ≡ putTried (ended (now (page .entry)) at) (now (table .entry)) (settingsOf settings) begun ⌝ }
+    ensures { λ r. ⌜ pageOf (now (page .exit)) r ≡ putTried (pageOf (now (page .entry)) at) (now (table .entry)) (settingsOf settings) begun ⌝ }
 {
     let bound = settings.bound;
     if settings.exploring {
-        return put_explored(page, at, begun, bound, search::first_switch(table, false));
+        return put_explored(page, at, bound, search::first_switch(table, false), begun);
     }
-    put_off(page, at, begun, search::first_switch(table, true))
+    put_off(page, at, search::first_switch(table, true), begun)
 }
 
 // The first line, with what is said before the count of executions.
 fn put_first(page: &mut Page, at: usize, what: &[u8], n: u64, begun: u64) -> usize
-    ensures { λ r. ⌜ ended (now (page .exit)) r ≡ putFirst (ended (now (page .entry)) at) (now (what .entry)) n begun ⌝ }
+    ensures { λ r. ⌜ pageOf (now (page .exit)) r ≡ putFirst (pageOf (now (page .entry)) at) (now (what .entry)) n begun ⌝ }
 {
     let to = page::fill(page, at, what, n, 0, 0);
     let to = put_executions(page, to, begun);
@@ -50,7 +50,7 @@ fn put_first(page: &mut Page, at: usize, what: &[u8], n: u64, begun: u64) -> usi
 
 // How many executions were begun.
 fn put_executions(page: &mut Page, at: usize, begun: u64) -> usize
-    ensures { λ r. ⌜ ended (now (page .exit)) r ≡ putExecutions (ended (now (page .entry)) at) begun ⌝ }
+    ensures { λ r. ⌜ pageOf (now (page .exit)) r ≡ putExecutions (pageOf (now (page .entry)) at) begun ⌝ }
 {
     if begun == 1 {
         return page::put(page, at, b"1 execution");
@@ -59,8 +59,8 @@ fn put_executions(page: &mut Page, at: usize, begun: u64) -> usize
 }
 
 // Exploring was off at the start.
-fn put_off(page: &mut Page, at: usize, begun: u64, on: Switch) -> usize
-    ensures { λ r. ⌜ ended (now (page .exit)) r ≡ putOff (ended (now (page .entry)) at) begun on ⌝ }
+fn put_off(page: &mut Page, at: usize, on: Switch, begun: u64) -> usize
+    ensures { λ r. ⌜ pageOf (now (page .exit)) r ≡ putOff (pageOf (now (page .entry)) at) on begun ⌝ }
 {
     let to = put_first(
         page,
@@ -87,11 +87,11 @@ fn put_off(page: &mut Page, at: usize, begun: u64, on: Switch) -> usize
 }
 
 // Exploring was on at the start; the program may switch it off.
-fn put_explored(page: &mut Page, at: usize, begun: u64, bound: Bound, switched: Switch) -> usize
-    ensures { λ r. ⌜ ended (now (page .exit)) r ≡ putExplored (ended (now (page .entry)) at) begun (boundOf bound) switched ⌝ }
+fn put_explored(page: &mut Page, at: usize, bound: Bound, switched: Switch, begun: u64) -> usize
+    ensures { λ r. ⌜ pageOf (now (page .exit)) r ≡ putExplored (pageOf (now (page .entry)) at) (boundOf bound) switched begun ⌝ }
 {
     let Switch::At { thread, row } = switched else {
-        return put_exhausted(page, at, begun, bound);
+        return put_exhausted(page, at, bound, begun);
     };
     let to = put_first(
         page,
@@ -111,8 +111,8 @@ fn put_explored(page: &mut Page, at: usize, begun: u64, bound: Bound, switched: 
 }
 
 // Exploring was on throughout.
-fn put_exhausted(page: &mut Page, at: usize, begun: u64, bound: Bound) -> usize
-    ensures { λ r. ⌜ ended (now (page .exit)) r ≡ putExhausted (ended (now (page .entry)) at) begun (boundOf bound) ⌝ }
+fn put_exhausted(page: &mut Page, at: usize, bound: Bound, begun: u64) -> usize
+    ensures { λ r. ⌜ pageOf (now (page .exit)) r ≡ putExhausted (pageOf (now (page .entry)) at) (boundOf bound) begun ⌝ }
 {
     let Bound::AtMost(most) = bound else {
         let to = put_first(page, at, b"answer 0: exhausted after ", 0, begun);
@@ -133,7 +133,7 @@ fn put_exhausted(page: &mut Page, at: usize, begun: u64, bound: Bound) -> usize
 
 // What a bound leaves. A branch with as many preemptions as the bound allows tries no other thread.
 fn put_bounded(page: &mut Page, at: usize, bound: Bound) -> usize
-    ensures { λ r. ⌜ ended (now (page .exit)) r ≡ putBounded (ended (now (page .entry)) at) (boundOf bound) ⌝ }
+    ensures { λ r. ⌜ pageOf (now (page .exit)) r ≡ putBounded (pageOf (now (page .entry)) at) (boundOf bound) ⌝ }
 {
     let Bound::AtMost(most) = bound else {
         return at;
@@ -157,7 +157,7 @@ fn put_bounded(page: &mut Page, at: usize, bound: Bound) -> usize
 
 // Warns of each cell that has more stores than are kept.
 fn put_old_stores(page: &mut Page, at: usize, table: &[u8]) -> usize
-    ensures { λ r. ⌜ ended (now (page .exit)) r ≡ putOldStores (ended (now (page .entry)) at) (now (table .entry)) maxCells 0 ⌝ }
+    ensures { λ r. ⌜ pageOf (now (page .exit)) r ≡ putOldStores (pageOf (now (page .entry)) at) (now (table .entry)) maxCells 0 ⌝ }
 {
     let mut to = at;
     let mut cell = 0;
@@ -170,7 +170,7 @@ fn put_old_stores(page: &mut Page, at: usize, table: &[u8]) -> usize
 
 // Warns of this one, where it has. The start value counts as a store that is kept.
 fn put_stores(page: &mut Page, at: usize, table: &[u8], cell: u64) -> usize
-    ensures { λ r. ⌜ ended (now (page .exit)) r ≡ putStores (ended (now (page .entry)) at) (now (table .entry)) cell ⌝ }
+    ensures { λ r. ⌜ pageOf (now (page .exit)) r ≡ putStores (pageOf (now (page .entry)) at) (now (table .entry)) cell ⌝ }
 {
     let stores = search::stores(table, cell);
     if stores < KEPT {

@@ -2,7 +2,7 @@
 ghost use Prim.Native.Nat.{_≤_, _<_};
 ghost use mathlib.Core.Path.{_≡_};
 ghost use Rattle.decode.specs.Ops.{decodedOf};
-ghost use Rattle.coverage.specs.Covered.{firstSwitch, firstIn, stores, storesIn, oneIf, storesTo};
+ghost use Rattle.coverage.specs.Covered.{firstSwitch, firstInThread, storeCount, storesIn, oneIf, storesTo};
 ghost use Rattle.coverage.specs.Covered.{switches as switchesTo};
 use decode::Decoded;
 use decode::Op;
@@ -36,7 +36,7 @@ pub fn first_switch(table: &[u8], on: bool) -> Switch
 // The first such row of a thread, or its row count.
 fn first_in(table: &[u8], shape: &Shape, thread: usize, on: bool) -> usize
     requires { ⌜ thread < 5 ⌝ }
-    ensures { λ r. ⌜ r ≡ firstIn (now (table .entry)) (now (shape .entry)) on thread ⌝ }
+    ensures { λ r. ⌜ r ≡ firstInThread (now (table .entry)) (now (shape .entry)) on thread ⌝ }
 {
     let count = wide16(shape[COUNTS + thread]);
     let mut row = 0;
@@ -66,7 +66,7 @@ fn switches(row: Decoded, on: bool) -> bool
 
 // How many rows of all threads may store to a cell.
 pub fn stores(table: &[u8], cell: u64) -> u64
-    ensures { λ r. ⌜ r ≡ stores (now (table .entry)) cell ⌝ }
+    ensures { λ r. ⌜ r ≡ storeCount (now (table .entry)) cell ⌝ }
 {
     let shape = table::shape(table);
     let mut sum = 0;

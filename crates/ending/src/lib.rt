@@ -83,7 +83,7 @@ pub fn finish(
     let counts = Counts {
         begun,
         opened: cursor.opened,
-        open: path::open(path, cursor.len),
+        still_open: path::open(path, cursor.len),
     };
     report::finished(clocks, numbers, answer, counts)
 }

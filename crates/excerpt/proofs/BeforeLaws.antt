@@ -8,14 +8,14 @@ use borrow.Author.Tests.{le-leb, lt-leb}
 use lib.Dec.{leb}
 use lib.ListN.{drop}
 use Rattle.rules.specs.Token.{tokenLength}
-use Rattle.excerpt.specs.Excerpts.{skipped, tokenBefore}
+use Rattle.excerpt.specs.Excerpts.{pastBlanksFrom, tokenBefore}
 
 module _ (text : List ℕ) (at : ℕ) where
   -- what comes of a token at this place
   abbrev onward : ℕ → ℕ → ℕ → Bool → ℕ
   onward n found here t = cond t found (tokenBefore text at n here (here + tokenLength (drop here text)))
 
-  onward-next : (n found from : ℕ) → tokenBefore text at (suc n) found from ≡ onward n found (skipped text from) (leb at (skipped text from))
+  onward-next : (n found from : ℕ) → tokenBefore text at (suc n) found from ≡ onward n found (pastBlanksFrom text from) (leb at (pastBlanksFrom text from))
   unfolding tokenBefore
   onward-next n found from = refl
 
@@ -26,7 +26,7 @@ module _ (text : List ℕ) (at : ℕ) where
   pub before-out : (left found from : ℕ) → left ≤ 0 → tokenBefore text at left found from ≡ found
   before-out left found from h = let e : left ≡ 0 = omega arith in ap (λ (n : ℕ). tokenBefore text at n found from) e ∙ none found from
 
-  module _ (left found from here : ℕ) (more : 0 < left) (is : here ≡ skipped text from) where
+  module _ (left found from here : ℕ) (more : 0 < left) (is : here ≡ pastBlanksFrom text from) where
     one : (t : Bool) → leb at here ≡ t → tokenBefore text at left found from ≡ onward (left - 1) found here t
     one t e =
         let s : left ≡ suc (left - 1) = omega arith in

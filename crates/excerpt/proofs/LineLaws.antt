@@ -14,26 +14,26 @@ use lib.ListN.{length, getD, drop, drop-of-length-le}
 use lib.Seq.{drop-cons, getD-drop}
 use Rattle.rules.specs.Token.{lineLength, nextLine}
 use Rattle.token.proofs.PlaceLaws.{left-by}
-use Rattle.excerpt.specs.Excerpts.{behind, feeds, shownLength, placeFrom, firstShown, lastShown}
+use Rattle.excerpt.specs.Excerpts.{behindLines, feeds, shownLength, placeFrom, firstShown, lastShown}
 
 -- Lines passed over
 
-behind-next : (n : ℕ) (bs : List ℕ) → behind (suc n) bs ≡ lineLength bs + behind n (nextLine bs)
-unfolding behind
+behind-next : (n : ℕ) (bs : List ℕ) → behindLines (suc n) bs ≡ lineLength bs + behindLines n (nextLine bs)
+unfolding behindLines
 behind-next n bs = refl
 
 module _ (text : List ℕ) (at left : ℕ) where
-  pub begin-on : (r : ℕ) → 1 < left → r ≡ at + lineLength (drop at text) → r + behind (left - 1 - 1) (drop r text) ≡ at + behind (left - 1) (drop at text)
+  pub begin-on : (r : ℕ) → 1 < left → r ≡ at + lineLength (drop at text) → r + behindLines (left - 1 - 1) (drop r text) ≡ at + behindLines (left - 1) (drop at text)
   begin-on r h e =
       let s : left - 1 ≡ suc (left - 1 - 1) = omega arith in
-      let one : behind (left - 1) (drop at text) ≡ lineLength (drop at text) + behind (left - 1 - 1) (drop r text) =
-      ap (λ (n : ℕ). behind n (drop at text)) s
+      let one : behindLines (left - 1) (drop at text) ≡ lineLength (drop at text) + behindLines (left - 1 - 1) (drop r text) =
+      ap (λ (n : ℕ). behindLines n (drop at text)) s
       ∙ behind-next (left - 1 - 1) (drop at text)
-      ∙ ap (λ (bs : List ℕ). lineLength (drop at text) + behind (left - 1 - 1) bs) (sym (left-by text at r _ e)) in
+      ∙ ap (λ (bs : List ℕ). lineLength (drop at text) + behindLines (left - 1 - 1) bs) (sym (left-by text at r _ e)) in
       omega arith
 
-  pub begin-end : left ≤ 1 → behind (left - 1) (drop at text) ≡ 0
-  unfolding behind
+  pub begin-end : left ≤ 1 → behindLines (left - 1) (drop at text) ≡ 0
+  unfolding behindLines
   begin-end h = let e : left - 1 ≡ 0 = omega arith in rw e
 
 -- The line's end

@@ -51,7 +51,7 @@ dots-some out exit to r from end b h p = puts-are out exit to r (b ∷ b ∷ b �
 
 module _ (text : List ℕ) (begin at from : ℕ) (first : from ≡ firstShown begin at) where
   pub line-whole : (end behind : ℕ) (seen : List ℕ) → behind ≡ lastShown from end → seen ≡ part from behind text
-      → lineShown text begin end at ≡ (32 ∷ 32 ∷ []) ++ (dots begin from 46 ++ (map (seenAs false) seen ++ (dots behind end 46 ++ (10 ∷ []))))
+      → lineShown text begin at end ≡ (32 ∷ 32 ∷ []) ++ (dots begin from 46 ++ (map (seenAs false) seen ++ (dots behind end 46 ++ (10 ∷ []))))
   unfolding bytesOf
   line-whole end behind seen e f = rw (f, e, first)
 
@@ -63,5 +63,5 @@ module _ (text : List ℕ) (begin at from : ℕ) (first : from ≡ firstShown be
 module _ (name text : List ℕ) (line column begin end at row before : ℕ) where
   pub refused-whole : begin ≡ beginOf line text → end ≡ begin + shownLength (drop begin text) → at ≡ placeFrom begin end column →
       row ≡ rowsBefore line text → before ≡ tokenBefore text at (length text) begin begin
-      → refusedShown name text line column ≡ placeShown name line column ++ (whatShown text row begin before at ++ (lineShown text begin end at ++ caretShown text begin at))
+      → refusedShown name text line column ≡ placeShown name line column ++ (whatShown text row begin before at ++ (lineShown text begin at end ++ caretShown text begin at))
   refused-whole b e a r f = rw (f, r, a, e, b)

@@ -18,13 +18,13 @@ use Rattle.token.specs.Places.{part}
 use Rattle.saying.specs.Sayings.{placeShown, whatShown}
 
 -- behind so many lines
-unfoldable pub behind : ℕ → List ℕ → ℕ
-behind zero bs = 0
-behind (suc n) bs = lineLength bs + behind n (nextLine bs)
+unfoldable pub behindLines : ℕ → List ℕ → ℕ
+behindLines zero bs = 0
+behindLines (suc n) bs = lineLength bs + behindLines n (nextLine bs)
 
 -- lines count from 1
 abbrev pub beginOf : ℕ → List ℕ → ℕ
-beginOf line text = behind (line - 1) text
+beginOf line text = behindLines (line - 1) text
 
 -- with one line more: each with a token is a row, and `thread` begins anew
 abbrev pub withLine : ℕ → List ℕ → ℕ
@@ -54,19 +54,19 @@ abbrev pub placeFrom : ℕ → ℕ → ℕ → ℕ
 placeFrom begin end column = cond (leb column (end - begin)) (begin + (column - 1)) end
 
 -- the place past blanks
-abbrev pub skipped : List ℕ → ℕ → ℕ
-skipped text from = from + runLength isBlank (drop from text)
+abbrev pub pastBlanksFrom : List ℕ → ℕ → ℕ
+pastBlanksFrom text from = from + runLength isBlank (drop from text)
 
 -- the last token that begins before a place, of those from here on, n at most; the one found so far, where none is left
 unfoldable pub tokenBefore : List ℕ → ℕ → ℕ → ℕ → ℕ → ℕ
-tokenBefore text at zero found from = found
-tokenBefore text at (suc n) found from =
-    cond (leb at (skipped text from)) found
-    (tokenBefore text at n (skipped text from) (skipped text from + tokenLength (drop (skipped text from) text)))
+tokenBefore text place zero found from = found
+tokenBefore text place (suc n) found from =
+    cond (leb place (pastBlanksFrom text from)) found
+    (tokenBefore text place n (pastBlanksFrom text from) (pastBlanksFrom text from + tokenLength (drop (pastBlanksFrom text from) text)))
 
 -- at most 100 bytes before a place, and 200 in all
 abbrev pub firstShown : ℕ → ℕ → ℕ
-firstShown begin at = cond (leb begin (at - 100)) (at - 100) begin
+firstShown begin place = cond (leb begin (place - 100)) (place - 100) begin
 
 abbrev pub lastShown : ℕ → ℕ → ℕ
 lastShown from end = cond (leb (end - from) 200) end (from + 200)
@@ -80,27 +80,27 @@ abbrev pub dots : ℕ → ℕ → ℕ → List ℕ
 dots from to b = cond (ltb from to) (b ∷ b ∷ b ∷ []) []
 
 abbrev pub lineShown : List ℕ → ℕ → ℕ → ℕ → List ℕ
-lineShown text begin end at =
+lineShown text begin place end =
     bytesOf "  "
-    ++ (dots begin (firstShown begin at) 46
-    ++ (map (seenAs false) (part (firstShown begin at) (lastShown (firstShown begin at) end) text)
-    ++ (dots (lastShown (firstShown begin at) end) end 46
+    ++ (dots begin (firstShown begin place) 46
+    ++ (map (seenAs false) (part (firstShown begin place) (lastShown (firstShown begin place) end) text)
+    ++ (dots (lastShown (firstShown begin place) end) end 46
     ++ (lineFeed ∷ []))))
 
 abbrev pub caretShown : List ℕ → ℕ → ℕ → List ℕ
-caretShown text begin at =
+caretShown text begin place =
     bytesOf "  "
-    ++ (dots begin (firstShown begin at) 32
-    ++ (map (seenAs true) (part (firstShown begin at) at text)
+    ++ (dots begin (firstShown begin place) 32
+    ++ (map (seenAs true) (part (firstShown begin place) place text)
     ++ (bytesOf "^" ++ (lineFeed ∷ []))))
 
 -- the sentence, the line between two places, and the caret
 abbrev pub refusedIn : List ℕ → List ℕ → ℕ → ℕ → ℕ → ℕ → ℕ → List ℕ
-refusedIn name text line column begin end at =
+refusedIn name text line column begin end place =
     placeShown name line column
-    ++ (whatShown text (rowsBefore line text) begin (tokenBefore text at (length text) begin begin) at
-    ++ (lineShown text begin end at
-    ++ caretShown text begin at))
+    ++ (whatShown text (rowsBefore line text) begin (tokenBefore text place (length text) begin begin) place
+    ++ (lineShown text begin place end
+    ++ caretShown text begin place))
 
 abbrev pub endOf : ℕ → List ℕ → ℕ
 endOf line text = beginOf line text + shownLength (drop (beginOf line text) text)

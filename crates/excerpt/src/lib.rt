@@ -7,26 +7,43 @@ ghost use Rattle.put.specs.Puts.{Puts};
 ghost use Rattle.excerpt.specs.Excerpts.{beginOf, withLine, rowsBefore, shownLength, feeds, placeFrom, tokenBefore, firstShown, lastShown, seenAs, dots, lineShown, caretShown, refusedShown};
 use put::put_byte;
 use put::put_bytes;
+use saying::Spot;
 
 // How many bytes of a line are shown at most, and how many of them before the caret.
 const WIDEST: usize = 200;
 
 const BEFORE: usize = 100;
 
+// ASCII's delete: it steers a terminal as those below the blank do.
+const DELETE: u8 = 127;
+
 // Puts that a text is refused at a line and column: what stands there, the line, and a caret. The name of the text's file comes first,
 // where there is one.
-pub fn put(out: &mut [u8], to: usize, name: &[u8], text: &[u8], line: usize, column: usize) -> usize
-    ensures { λ r. ⌜ Puts (now (out .entry)) (now (out .exit)) to (refusedShown (now (name .entry)) (now (text .entry)) line column) r ⌝ }
+pub fn put(
+    page: &mut [u8],
+    at: usize,
+    name: &[u8],
+    text: &[u8],
+    line: usize,
+    column: usize,
+) -> usize
+    ensures { λ r. ⌜ Puts (now (page .entry)) (now (page .exit)) at (refusedShown (now (name .entry)) (now (text .entry)) line column) r ⌝ }
 {
     let begin = line_begin(text, line);
     let end = line_end(text, begin);
-    let at = place_in(begin, end, column);
+    let place = place_in(begin, end, column);
     let row = rows_before(text, line);
-    let before = token_before(text, begin, at);
-    let place = saying::put_place(out, to, name, line, column);
-    let what = saying::put_what(out, place, text, row, begin, before, at);
-    let behind = put_line(out, what, text, begin, end, at);
-    put_caret(out, behind, text, begin, at)
+    let before = token_before(text, begin, place);
+    let spot = Spot {
+        row,
+        begin,
+        before,
+        place,
+    };
+    let named = saying::put_place(page, at, name, line, column);
+    let what = saying::put_what(page, named, text, spot);
+    let behind = put_line(page, what, text, begin, place, end);
+    put_caret(page, behind, text, begin, place)
 }
 
 // Where a line begins, the first being 1; the text's end where it has fewer.
@@ -123,15 +140,15 @@ pub fn place_in(begin: usize, end: usize, column: usize) -> usize
 }
 
 // Where the last token before a place begins, of those from here on in its line; here, where there is none.
-pub fn token_before(text: &[u8], begin: usize, at: usize) -> usize
-    ensures { λ r. ⌜ r ≡ tokenBefore (now (text .entry)) at (length (now (text .entry))) begin begin ⌝ }
+pub fn token_before(text: &[u8], begin: usize, place: usize) -> usize
+    ensures { λ r. ⌜ r ≡ tokenBefore (now (text .entry)) place (length (now (text .entry))) begin begin ⌝ }
 {
     let mut found = begin;
     let mut from = begin;
     let mut left = text.len();
     while 0 < left {
         let here = token::past_blanks(text, from);
-        if at <= here {
+        if place <= here {
             return found;
         }
         found = here;
@@ -143,46 +160,46 @@ pub fn token_before(text: &[u8], begin: usize, at: usize) -> usize
 
 // Puts the line between two places, set in by two; of a long one what is around a place.
 pub fn put_line(
-    out: &mut [u8],
-    to: usize,
+    page: &mut [u8],
+    at: usize,
     text: &[u8],
     begin: usize,
+    place: usize,
     end: usize,
-    at: usize,
 ) -> usize
-    ensures { λ r. ⌜ Puts (now (out .entry)) (now (out .exit)) to (lineShown (now (text .entry)) begin end at) r ⌝ }
+    ensures { λ r. ⌜ Puts (now (page .entry)) (now (page .exit)) at (lineShown (now (text .entry)) begin place end) r ⌝ }
 {
-    let from = first_shown(begin, at);
+    let from = first_shown(begin, place);
     let last = last_shown(from, end);
-    let indent = put_bytes(out, to, b"  ");
-    let cut = put_dots(out, indent, begin, from, b'.');
-    let seen = put_seen(out, cut, token::part(text, from, last), false);
-    let rest = put_dots(out, seen, last, end, b'.');
-    put_byte(out, rest, b'\n')
+    let indent = put_bytes(page, at, b"  ");
+    let cut = put_dots(page, indent, begin, from, b'.');
+    let seen = put_seen(page, cut, token::part(text, from, last), false);
+    let rest = put_dots(page, seen, last, end, b'.');
+    put_byte(page, rest, b'\n')
 }
 
 // Puts a caret below that line, under the byte at this place.
-pub fn put_caret(out: &mut [u8], to: usize, text: &[u8], begin: usize, at: usize) -> usize
-    ensures { λ r. ⌜ Puts (now (out .entry)) (now (out .exit)) to (caretShown (now (text .entry)) begin at) r ⌝ }
+pub fn put_caret(page: &mut [u8], at: usize, text: &[u8], begin: usize, place: usize) -> usize
+    ensures { λ r. ⌜ Puts (now (page .entry)) (now (page .exit)) at (caretShown (now (text .entry)) begin place) r ⌝ }
 {
-    let from = first_shown(begin, at);
-    let indent = put_bytes(out, to, b"  ");
-    let cut = put_dots(out, indent, begin, from, b' ');
-    let under = put_seen(out, cut, token::part(text, from, at), true);
-    put_bytes(out, under, b"^\n")
+    let from = first_shown(begin, place);
+    let indent = put_bytes(page, at, b"  ");
+    let cut = put_dots(page, indent, begin, from, b' ');
+    let under = put_seen(page, cut, token::part(text, from, place), true);
+    put_bytes(page, under, b"^\n")
 }
 
 // The first byte that is shown of a line that begins here, around a place.
-fn first_shown(begin: usize, at: usize) -> usize
-    ensures { λ r. ⌜ r ≡ firstShown begin at ⌝ }
+fn first_shown(begin: usize, place: usize) -> usize
+    ensures { λ r. ⌜ r ≡ firstShown begin place ⌝ }
 {
-    if at < BEFORE {
+    if place < BEFORE {
         return begin;
     }
-    if at - BEFORE < begin {
+    if place - BEFORE < begin {
         return begin;
     }
-    at - BEFORE
+    place - BEFORE
 }
 
 // Behind the last byte that is shown, from the first one on, of a line that ends here.
@@ -199,23 +216,23 @@ fn last_shown(from: usize, end: usize) -> usize
 }
 
 // Three dots, or blanks below them, where one place is before the other.
-fn put_dots(out: &mut [u8], to: usize, a: usize, b: usize, byte: u8) -> usize
-    ensures { λ r. ⌜ Puts (now (out .entry)) (now (out .exit)) to (dots a b byte) r ⌝ }
+fn put_dots(page: &mut [u8], at: usize, a: usize, b: usize, byte: u8) -> usize
+    ensures { λ r. ⌜ Puts (now (page .entry)) (now (page .exit)) at (dots a b byte) r ⌝ }
 {
     if b <= a {
-        return to;
+        return at;
     }
-    put_bytes(out, to, &[byte, byte, byte])
+    put_bytes(page, at, &[byte, byte, byte])
 }
 
 // Puts bytes as they are seen, or the blanks to stand below them.
-fn put_seen(out: &mut [u8], at: usize, bytes: &[u8], below: bool) -> usize
-    ensures { λ r. ⌜ Puts (now (out .entry)) (now (out .exit)) at (map (seenAs below) (now (bytes .entry))) r ⌝ }
+fn put_seen(page: &mut [u8], at: usize, bytes: &[u8], below: bool) -> usize
+    ensures { λ r. ⌜ Puts (now (page .entry)) (now (page .exit)) at (map (seenAs below) (now (bytes .entry))) r ⌝ }
 {
     let mut to = at;
     let mut i = 0;
     while i < bytes.len() {
-        to = put_byte(out, to, seen_as(bytes[i], below));
+        to = put_byte(page, to, seen_as(bytes[i], below));
         i += 1;
     }
     to
@@ -232,10 +249,10 @@ fn seen_as(byte: u8, below: bool) -> u8
     if below {
         return b' ';
     }
-    if byte < 32 {
+    if byte < b' ' {
         return b'?';
     }
-    if byte == 127 {
+    if byte == DELETE {
         return b'?';
     }
     byte

@@ -115,6 +115,6 @@ fn perform(table: &[u8], condition: &[u8], options: Options) {
     let task = options.task;
     match task {
         Task::Explore => run::run(table, condition, options.settings(), options.whole),
-        _ => writing::write(table, condition, task, options.settings()),
+        _ => writing::write(table, condition, options.settings(), task),
     }
 }

@@ -45,8 +45,11 @@ fn run_in(
     whole: bool,
 ) {
     let report = explore(table, condition, path, trace, settings);
-    tell::print_report(table, condition, trace, settings, report, whole);
+    tell::print_report(table, condition, trace, settings, whole, report);
 }
+
+// The first budget of executions: a run that needs no more says nothing before its answer.
+const FIRST_BUDGET: u64 = 8192;
 
 // Explores. The library gives no word before its answer, so a long run is made with budgets that double: one that is spent
 // is named on standard error.
@@ -57,7 +60,7 @@ fn explore(
     trace: &mut [u8],
     settings: Settings,
 ) -> Report {
-    let mut budget = 8192;
+    let mut budget = FIRST_BUDGET;
     while budget < MAX_EXECUTIONS {
         if settings.executions <= budget {
             return explorer::explore(table, condition, path, trace, settings);

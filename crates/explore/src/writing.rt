@@ -8,7 +8,7 @@ use source::FILE_BYTES;
 use writer::Written;
 
 // Writes it, unless it is refused: then what a run says of it is said, which is why.
-pub fn write(table: &[u8], condition: &[u8], task: Task, settings: Settings) {
+pub fn write(table: &[u8], condition: &[u8], settings: Settings, task: Task) {
     let mut text = [0u8; FILE_BYTES];
     match writer::write(table, condition, &mut text) {
         Written::Unfit => run::run(table, condition, settings, false),

@@ -3,7 +3,7 @@ ghost use mathlib.Core.Path.{_≡_};
 ghost use Prim.Native.Nat.{_≤_};
 ghost use lib.ListN.{length};
 ghost use Rattle.path.specs.Bounds.{boundOf};
-ghost use Rattle.exports.specs.Entry.{boundFor, noCondition, entered, left};
+ghost use Rattle.exports.specs.Entry.{boundFor, noCondition, entered, exploredLeft};
 use numbers::REPORT_NUMBERS;
 use path::Bound;
 use settings::MAX_BOUND;
@@ -31,7 +31,7 @@ pub extern "C" fn chjirvollu_explore(
     trace: &mut [u8],
     report: &mut [u64],
 ) -> u64
-    ensures { λ r. ⌜ left r (now (path .exit)) (now (trace .exit)) (now (report .exit)) ≡ entered (now (table .entry)) noCondition branches operations executions bound exploring (now (path .entry)) (now (trace .entry)) (now (report .entry)) ⌝ }
+    ensures { λ r. ⌜ exploredLeft r (now (path .exit)) (now (trace .exit)) (now (report .exit)) ≡ entered (now (table .entry)) noCondition branches operations executions bound exploring (now (path .entry)) (now (trace .entry)) (now (report .entry)) ⌝ }
 {
     let condition = &table[..0];
     enter(
@@ -62,7 +62,7 @@ pub extern "C" fn chjirvollu_explore_condition(
     trace: &mut [u8],
     report: &mut [u64],
 ) -> u64
-    ensures { λ r. ⌜ left r (now (path .exit)) (now (trace .exit)) (now (report .exit)) ≡ entered (now (table .entry)) (now (condition .entry)) branches operations executions bound exploring (now (path .entry)) (now (trace .entry)) (now (report .entry)) ⌝ }
+    ensures { λ r. ⌜ exploredLeft r (now (path .exit)) (now (trace .exit)) (now (report .exit)) ≡ entered (now (table .entry)) (now (condition .entry)) branches operations executions bound exploring (now (path .entry)) (now (trace .entry)) (now (report .entry)) ⌝ }
 {
     enter(
         table,
@@ -91,7 +91,7 @@ fn enter(
     bound: u64,
     exploring: u64,
 ) -> u64
-    ensures { λ r. ⌜ left r (now (path .exit)) (now (trace .exit)) (now (report .exit)) ≡ entered (now (table .entry)) (now (condition .entry)) branches operations executions bound exploring (now (path .entry)) (now (trace .entry)) (now (report .entry)) ⌝ }
+    ensures { λ r. ⌜ exploredLeft r (now (path .exit)) (now (trace .exit)) (now (report .exit)) ≡ entered (now (table .entry)) (now (condition .entry)) branches operations executions bound exploring (now (path .entry)) (now (trace .entry)) (now (report .entry)) ⌝ }
 {
     if NO_BOUND < bound {
         return NO_RUN;
@@ -119,14 +119,14 @@ fn enter(
 }
 
 // The bound that a number stands for: 256 is none.
-fn bound_of(number: u64) -> Bound
-    requires { ⌜ number ≤ 256 ⌝ }
-    ensures { λ r. ⌜ boundOf r ≡ boundFor number ⌝ }
+fn bound_of(given: u64) -> Bound
+    requires { ⌜ given ≤ 256 ⌝ }
+    ensures { λ r. ⌜ boundOf r ≡ boundFor given ⌝ }
 {
-    if MAX_BOUND < number {
+    if MAX_BOUND < given {
         return Bound::Unbounded;
     }
-    Bound::AtMost((number % 256) as u8)
+    Bound::AtMost((given % 256) as u8)
 }
 
 // Puts the numbers into a caller's buffer that takes as many.

@@ -13,7 +13,7 @@ use lib.ListN.{length, getD, take, drop}
 use Rattle.rules.specs.Condition.{comparisonBytes}
 use Rattle.rules.specs.Table.{shapeOf}
 use Rattle.rules.specs.Token.{bytesOf}
-use Rattle.page.specs.Pages.{Page, putText, filled}
+use Rattle.page.specs.Pages.{Page, putText, putFilled}
 use Rattle.steps.specs.Entries.{entries}
 use Rattle.steps.specs.Holds.{heldAfter}
 use Rattle.unmet.specs.Parts.{nextFrom, partAt, claimShown}
@@ -28,7 +28,7 @@ conditionWords line = take (length line - 1 - 8) (drop 8 line)
 
 unfoldable pub putCompared : Page → List ℕ → ℕ → Part → Page
 putCompared p bs threads part =
-    filled
+    putFilled
     (putText (putText p (bytesOf (truth (part .holds)))) (conditionWords (claimShown threads bs)))
     (bytesOf ", for #.r# is #\n")
     (part .thread)

@@ -14,11 +14,11 @@ use borrow.Author.Tests.{not-true, not-false, eqb-false}
 use Rattle.rules.specs.Explored as rules
 use Rattle.rules.specs.Explored.{Summary, explored, exploredInto, refused, copied, isRefusal, settingsFine}
 use Rattle.rules.proofs.ExploredLaws.{explored-2, explored-3}
-use Rattle.report.specs.Answers.{reportOf, refusal, numberOf, summaryOf, summariesOf}
+use Rattle.report.specs.Answers.{reportOf, refusal, answerNumber, summaryOf, summariesOf}
 use Rattle.report.specs.declared.Answer.{Answer}
 use Rattle.report.specs.declared.Answer.the-variants as answer
 use Rattle.report.specs.declared.Report.{Report}
-use Rattle.report.specs.declared.ThreadRecord.{ThreadRecord}
+use Rattle.report.specs.declared.Summary as ofThread
 use Rattle.report.proofs.AnswerLaws.{bad-trace}
 use Rattle.settings.specs.declared.Settings.{Settings}
 use Rattle.settings.specs.Given.{settingsOf}
@@ -29,7 +29,7 @@ pub miscounts-made : (s : rules.Settings) (bytes listed : ℕ) {fine held : Bool
     → not (eqb listed 5 || not fine || not held) ≡ miscounts s bytes listed
 miscounts-made s bytes listed p q = rw (p, q)
 
-pub refusal-made : (a : Answer) {n : ℕ} {b : Bool} → n ≡ numberOf a → b ≡ isRefusal n → not b ≡ not (isRefusal (numberOf a))
+pub refusal-made : (a : Answer) {n : ℕ} {b : Bool} → n ≡ answerNumber a → b ≡ isRefusal n → not b ≡ not (isRefusal (answerNumber a))
 refusal-made a e f = rw (f, e)
 
 -- the definition
@@ -107,13 +107,13 @@ module _ (table condition : List ℕ) (s : Settings) (path trace : List ℕ) (n 
   goes-on m e list l = e ∙ sym (not-by-list table condition (settingsOf s) path trace list (at-list m list l))
 
 -- the list: it holds the summaries where there was a run and it holds five
-module _ (table condition : List ℕ) (s : rules.Settings) (path trace exitPath exitTrace : List ℕ) (r : Report) (ys : List ThreadRecord)
+module _ (table condition : List ℕ) (s : rules.Settings) (path trace exitPath exitTrace : List ℕ) (r : Report) (ys : List ofThread.Summary)
     (e : (list : List Summary) → length list ≡ length ys → exploredOf r exitPath exitTrace ≡ exploredInto table condition s path trace list .explored) where
   abbrev were : List Summary
   were = summariesOf ys
 
   abbrev refusal-is : Bool
-  refusal-is = isRefusal (numberOf (r .answer))
+  refusal-is = isRefusal (answerNumber (r .answer))
 
   same : exploredOf r exitPath exitTrace ≡ exploredInto table condition s path trace were .explored
   same = e were (length-map ys summaryOf)
@@ -132,7 +132,7 @@ module _ (table condition : List ℕ) (s : rules.Settings) (path trace exitPath 
       by-case false a true b = refl
       by-case false a false b = absurd (true≢false (sym (refuses b) ∙ a))
 
-  pub listed : {ran : Bool} {zs : List ThreadRecord} → ran ≡ not refusal-is → zs ≡ cond (ran && eqb (length ys) 5) (r .threads) ys
+  pub listed : {ran : Bool} {zs : List ofThread.Summary} → ran ≡ not refusal-is → zs ≡ cond (ran && eqb (length ys) 5) (r .threads) ys
       → exploredIntoOf r exitPath exitTrace zs ≡ exploredInto table condition s path trace were
   listed a f =
       ap (λ (l : List Summary). record { explored = exploredOf r exitPath exitTrace; list = l })

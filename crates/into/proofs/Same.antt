@@ -3,11 +3,11 @@ use mathlib.Core.List.{List, [], _∷_}
 use mathlib.Core.Path.{_≡_, refl, ap, sym, subst, _∙_}
 use Rattle.rules.specs.Explored as rules
 use Rattle.report.specs.Answers.{summaryOf, summariesOf}
-use Rattle.report.specs.declared.ThreadRecord.{ThreadRecord}
+use Rattle.report.specs.declared.Summary.{Summary}
 use Rattle.into.specs.Same.{OneInto}
 
 -- a summary is a thread record's numbers, and no two records have the same
-same-record : (x y : ThreadRecord) → summaryOf x ≡ summaryOf y → x ≡ y
+same-record : (x y : Summary) → summaryOf x ≡ summaryOf y → x ≡ y
 same-record x y e = ap (λ (s : rules.Summary). record { state = s .state; rows = s .rows; yields = s .yields; version = s .version }) e
 
 abbrev first : List rules.Summary → rules.Summary
@@ -22,7 +22,7 @@ abbrev isNone : List rules.Summary → Type 0
 isNone [] = Unit
 isNone (x ∷ xs) = ⊥
 
-same-list : (xs ys : List ThreadRecord) → summariesOf xs ≡ summariesOf ys → xs ≡ ys
+same-list : (xs ys : List Summary) → summariesOf xs ≡ summariesOf ys → xs ≡ ys
 same-list [] [] e = refl
 same-list [] (y ∷ ys) e = absurd (subst isNone e tt)
 same-list (x ∷ xs) [] e = absurd (subst isNone (sym e) tt)

@@ -8,10 +8,10 @@ use lib.Dec.{eqb}
 use Rattle.rules.specs.Explored as rules
 use Rattle.report.specs.Answers.{summariesOf}
 use Rattle.report.specs.declared.Report.{Report}
-use Rattle.report.specs.declared.ThreadRecord.{ThreadRecord}
+use Rattle.report.specs.declared.Summary.{Summary}
 use Rattle.explorer.specs.Explores.{exploredOf}
 
-abbrev pub exploredIntoOf : Report → List ℕ → List ℕ → List ThreadRecord → rules.ExploredInto
+abbrev pub exploredIntoOf : Report → List ℕ → List ℕ → List Summary → rules.ExploredInto
 exploredIntoOf r path trace list = record { explored = exploredOf r path trace; list = summariesOf list }
 
 abbrev pub miscounts : rules.Settings → ℕ → ℕ → Bool

@@ -4,14 +4,14 @@ ghost use mathlib.Core.Bool.{not};
 ghost use mathlib.Core.List.{List};
 ghost use lib.ListN.{length};
 ghost use Rattle.rules.specs.Explored as rules;
-ghost use Rattle.report.specs.Answers.{numberOf, summariesOf};
+ghost use Rattle.report.specs.Answers.{answerNumber, summariesOf};
 ghost use Rattle.settings.specs.Given.{settingsOf};
 ghost use Rattle.explorer.specs.Explores.{exploredOf};
 ghost use Rattle.into.specs.Listed.{exploredIntoOf, miscounts};
 use layout::MAX_THREADS;
 use report::Answer;
 use report::Report;
-use report::ThreadRecord;
+use report::Summary;
 use settings::Settings;
 
 // Explores the program under a final condition, and copies the five summaries into the caller's list, which must hold exactly five. A refusal leaves
@@ -21,7 +21,7 @@ pub fn explore_into(
     condition: &[u8],
     path: &mut [u8],
     trace: &mut [u8],
-    list: &mut [ThreadRecord],
+    list: &mut [Summary],
     settings: Settings,
 ) -> Report
     ensures { λ r. ⌜ exploredIntoOf r (now (path .exit)) (now (trace .exit)) (now (list .exit)) ≡ rules.exploredInto (now (table .entry)) (now (condition .entry)) (settingsOf settings) (now (path .entry)) (now (trace .entry)) (summariesOf (now (list .entry))) ⌝ }
@@ -61,14 +61,14 @@ fn miscounted(settings: Settings, bytes: usize, listed: usize) -> bool
 
 // Whether there was a run: the answer is no refusal.
 fn ran(report: Report) -> bool
-    ensures { λ r. ⌜ r ≡ not (rules.isRefusal (numberOf (report .answer))) ⌝ }
+    ensures { λ r. ⌜ r ≡ not (rules.isRefusal (answerNumber (report .answer))) ⌝ }
 {
     let answer = report.answer;
     let number = report::number(answer);
     !report::is_refusal(number)
 }
 
-fn summaries_of(report: Report) -> [ThreadRecord; MAX_THREADS]
+fn summaries_of(report: Report) -> [Summary; MAX_THREADS]
     ensures { λ r. ⌜ r ≡ report .threads ⌝ }
 {
     report.threads

@@ -21,7 +21,7 @@ use Rattle.last_access.specs.Access.{cellIn, storesAs, storesAfter}
 
 -- the places among the variants of the rows that name no cell and no plain cell
 abbrev elsewhere : List ℕ
-elsewhere = 4 ∷ 7 ∷ 8 ∷ 9 ∷ 10 ∷ 11 ∷ 12 ∷ 13 ∷ 14 ∷ 15 ∷ 16 ∷ []
+elsewhere = allBut (0 ∷ 1 ∷ 2 ∷ 3 ∷ 5 ∷ 6 ∷ 17 ∷ 18 ∷ [])
 
 pub no-cell : (op : Op) → OneOf elsewhere (tagOf the-type op) → 255 ≡ cellIn (opOf op)
 no-cell (code.Load order cell register) k = absurd (miss elsewhere 0 tt k)

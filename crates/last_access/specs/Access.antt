@@ -1,6 +1,6 @@
 -- The steps that access a cell or a plain cell, as a race speaks of them. Assumes nothing.
 --     cellIn         the cell or the plain cell that a row names
---     lastAccess     the last step in which a thread so accesses a cell
+--     lastAccessStep  the last step in which a thread so accesses a cell
 use Prim.Native.Nat.{ℕ, zero, suc}
 use mathlib.Core.List.{List}
 use mathlib.Core.Bool.{Bool, true, false, cond, _&&_, _||_}
@@ -9,7 +9,7 @@ use Rattle.rules.specs.Change.{Changed, success, failure, applied}
 use Rattle.rules.specs.Event.{Entry}
 use Rattle.rules.specs.Table.{Op, Decoded, refused, decoded, opcodeOf, load, store, storeRegister, rmw, fence, unsyncLoad, withMut, yield, join, jump, jumpIf, jumpUnless, check, critical, exploreState, skipBranch, spurious, plainRead, plainWrite}
 use Rattle.rules.specs.Machine.{Role, loads, storesOperand, storesRegister, modifies, takesBit, otherwise, roleOf}
-use Rattle.steps.specs.Entries.{entryAt, operationAt}
+use Rattle.steps.specs.Entries.{entryRead, operationAt}
 use Rattle.last_access.specs.declared.AccessKind.{AccessKind}
 use Rattle.last_access.specs.declared.AccessKind.the-variants.{Load, UnsyncLoad, Store, Exclusive, PlainRead, PlainWrite}
 
@@ -73,8 +73,8 @@ lastOf test zero = 0
 lastOf test (suc n) = cond (test n) (suc n) (lastOf test n)
 
 unfoldable pub isAccess : List ℕ → List ℕ → ℕ → ℕ → AccessKind → ℕ → Bool
-isAccess table trace thread cell kind i = isAccessBy thread cell kind (entryAt trace i) (operationAt table trace i)
+isAccess table trace thread cell kind i = isAccessBy thread cell kind (entryRead trace i) (operationAt table trace i)
 
 -- the last of the first n steps that is such an access, counted from 1, or 0
-unfoldable pub lastAccess : List ℕ → List ℕ → ℕ → ℕ → ℕ → AccessKind → ℕ
-lastAccess table trace n thread cell kind = lastOf (isAccess table trace thread cell kind) n
+unfoldable pub lastAccessStep : List ℕ → List ℕ → ℕ → ℕ → AccessKind → ℕ → ℕ
+lastAccessStep table trace thread cell kind n = lastOf (isAccess table trace thread cell kind) n

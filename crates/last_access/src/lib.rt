@@ -4,7 +4,7 @@ ghost use mathlib.Core.Path.{_≡_};
 ghost use Rattle.rules.specs.Change.{applied};
 ghost use Rattle.change.specs.Changes.{changeMeant};
 ghost use Rattle.decode.specs.Ops.{opOf};
-ghost use Rattle.last_access.specs.Access.{cellIn, isSuccess, storesAfter, accesses, isAccess, lastAccess};
+ghost use Rattle.last_access.specs.Access.{cellIn, isSuccess, storesAfter, accesses, isAccess, lastAccessStep};
 use change::Change;
 use change::Changed;
 use decode::Decoded;
@@ -24,12 +24,12 @@ pub enum AccessKind {
 }
 
 // The last of the first `n` steps in which a thread so accesses a cell, counted from 1; 0 for none.
-pub fn last(table: &[u8], trace: &[u8], n: usize, thread: u64, cell: u64, kind: AccessKind) -> u64
-    ensures { λ r. ⌜ r ≡ lastAccess (now (table .entry)) (now (trace .entry)) n thread cell kind ⌝ }
+pub fn last(table: &[u8], trace: &[u8], thread: u64, cell: u64, kind: AccessKind, n: usize) -> u64
+    ensures { λ r. ⌜ r ≡ lastAccessStep (now (table .entry)) (now (trace .entry)) thread cell kind n ⌝ }
 {
     let mut i = n;
     while 0 < i {
-        if is_access(table, trace, i - 1, thread, cell, kind) {
+        if is_access(table, trace, thread, cell, kind, i - 1) {
             return i as u64;
         }
         i -= 1;
@@ -38,7 +38,7 @@ pub fn last(table: &[u8], trace: &[u8], n: usize, thread: u64, cell: u64, kind: 
 }
 
 // Whether step `i` is such an access.
-fn is_access(table: &[u8], trace: &[u8], i: usize, thread: u64, cell: u64, kind: AccessKind) -> bool
+fn is_access(table: &[u8], trace: &[u8], thread: u64, cell: u64, kind: AccessKind, i: usize) -> bool
     ensures { λ r. ⌜ r ≡ isAccess (now (table .entry)) (now (trace .entry)) thread cell kind i ⌝ }
 {
     let Decoded::Row(op) = steps::operation(table, trace, i) else {
@@ -46,11 +46,11 @@ fn is_access(table: &[u8], trace: &[u8], i: usize, thread: u64, cell: u64, kind:
     };
     (steps::thread(trace, i) as u64 == thread)
         & (cell_of(op) == cell)
-        & is_of(kind, op, steps::value(trace, i))
+        & is_of(op, kind, steps::value(trace, i))
 }
 
 // Whether a row so accesses its cell, where it has read this value.
-fn is_of(kind: AccessKind, op: Op, read: u64) -> bool
+fn is_of(op: Op, kind: AccessKind, read: u64) -> bool
     ensures { λ r. ⌜ r ≡ accesses kind read (opOf op) ⌝ }
 {
     match kind {

@@ -1,6 +1,6 @@
 // Answers 1, 11, 12 and 17: a limit ended the run, which is no verdict.
 ghost use mathlib.Core.Path.{_≡_};
-ghost use Rattle.page.specs.Pages.{ended};
+ghost use Rattle.page.specs.Pages.{pageOf};
 ghost use Rattle.settings.specs.Given.{settingsOf};
 ghost use Rattle.limit.specs.Limits.{isLimit, putBudget, putReached, putRaise, putSpent, putToDo, putSpin, putLimit};
 use page::Page;
@@ -25,15 +25,15 @@ pub fn put(
     page: &mut Page,
     at: usize,
     trace: &[u8],
-    number: u64,
     settings: Settings,
+    number: u64,
     thread: u64,
     row: u64,
 ) -> usize
-    ensures { λ r. ⌜ ended (now (page .exit)) r ≡ putLimit (ended (now (page .entry)) at) (now (trace .entry)) number (settingsOf settings) thread row ⌝ }
+    ensures { λ r. ⌜ pageOf (now (page .exit)) r ≡ putLimit (pageOf (now (page .entry)) at) (now (trace .entry)) (settingsOf settings) number thread row ⌝ }
 {
-    let to = put_reached(page, at, number, settings, thread, row);
-    let to = put_to_do(page, to, number, settings);
+    let to = put_reached(page, at, settings, number, thread, row);
+    let to = put_to_do(page, to, settings, number);
     put_spin(page, to, trace)
 }
 
@@ -41,12 +41,12 @@ pub fn put(
 fn put_reached(
     page: &mut Page,
     at: usize,
-    number: u64,
     settings: Settings,
+    number: u64,
     thread: u64,
     row: u64,
 ) -> usize
-    ensures { λ r. ⌜ ended (now (page .exit)) r ≡ putReached (ended (now (page .entry)) at) number (settingsOf settings) thread row ⌝ }
+    ensures { λ r. ⌜ pageOf (now (page .exit)) r ≡ putReached (pageOf (now (page .entry)) at) (settingsOf settings) number thread row ⌝ }
 {
     match number {
         answers::SPENT => put_budget(page, at, settings.executions),
@@ -79,7 +79,7 @@ fn put_reached(
 
 // The budget of executions, which no row reaches.
 fn put_budget(page: &mut Page, at: usize, executions: u64) -> usize
-    ensures { λ r. ⌜ ended (now (page .exit)) r ≡ putBudget (ended (now (page .entry)) at) executions ⌝ }
+    ensures { λ r. ⌜ pageOf (now (page .exit)) r ≡ putBudget (pageOf (now (page .entry)) at) executions ⌝ }
 {
     page::fill(
         page,
@@ -92,8 +92,8 @@ fn put_budget(page: &mut Page, at: usize, executions: u64) -> usize
 }
 
 // What to do about it.
-fn put_to_do(page: &mut Page, at: usize, number: u64, settings: Settings) -> usize
-    ensures { λ r. ⌜ ended (now (page .exit)) r ≡ putToDo (ended (now (page .entry)) at) number (settingsOf settings) ⌝ }
+fn put_to_do(page: &mut Page, at: usize, settings: Settings, number: u64) -> usize
+    ensures { λ r. ⌜ pageOf (now (page .exit)) r ≡ putToDo (pageOf (now (page .entry)) at) (settingsOf settings) number ⌝ }
 {
     match number {
         answers::SPENT => put_spent(page, at, settings.executions),
@@ -115,7 +115,7 @@ fn put_to_do(page: &mut Page, at: usize, number: u64, settings: Settings) -> usi
 
 // The budget can be raised, or fewer orders tried.
 fn put_spent(page: &mut Page, at: usize, executions: u64) -> usize
-    ensures { λ r. ⌜ ended (now (page .exit)) r ≡ putSpent (ended (now (page .entry)) at) executions ⌝ }
+    ensures { λ r. ⌜ pageOf (now (page .exit)) r ≡ putSpent (pageOf (now (page .entry)) at) executions ⌝ }
 {
     let to = put_raise(page, at, b"--executions", executions, MAX_EXECUTIONS);
     page::put(
@@ -127,7 +127,7 @@ fn put_spent(page: &mut Page, at: usize, executions: u64) -> usize
 
 // Which setting to raise, if it is not at its most.
 fn put_raise(page: &mut Page, at: usize, name: &[u8], given: u64, most: u64) -> usize
-    ensures { λ r. ⌜ ended (now (page .exit)) r ≡ putRaise (ended (now (page .entry)) at) (now (name .entry)) given most ⌝ }
+    ensures { λ r. ⌜ pageOf (now (page .exit)) r ≡ putRaise (pageOf (now (page .entry)) at) (now (name .entry)) given most ⌝ }
 {
     if given < most {
         let to = page::put(page, at, b"to do: raise ");
@@ -148,7 +148,7 @@ fn put_raise(page: &mut Page, at: usize, name: &[u8], given: u64, most: u64) -> 
 
 // Where the last steps repeat, a loop waits.
 fn put_spin(page: &mut Page, at: usize, trace: &[u8]) -> usize
-    ensures { λ r. ⌜ ended (now (page .exit)) r ≡ putSpin (ended (now (page .entry)) at) (now (trace .entry)) ⌝ }
+    ensures { λ r. ⌜ pageOf (now (page .exit)) r ≡ putSpin (pageOf (now (page .entry)) at) (now (trace .entry)) ⌝ }
 {
     let n = steps::count(trace);
     let p = spin::period(trace, n);

@@ -4,10 +4,10 @@ ghost use mathlib.Core.Bool.{cond, _&&_};
 ghost use lib.Dec.{eqb};
 ghost use lib.ListN.{length};
 use layout::MAX_THREADS;
-use report::ThreadRecord;
+use report::Summary;
 
 // Copies the five summaries of a run into the caller's list, if it holds exactly five.
-pub fn copy_into(list: &mut [ThreadRecord], ran: bool, threads: [ThreadRecord; MAX_THREADS])
+pub fn copy_into(list: &mut [Summary], ran: bool, threads: [Summary; MAX_THREADS])
     ensures { λ _. ⌜ now (list .exit) ≡ cond (ran && eqb (length (now (list .entry))) 5) threads (now (list .entry)) ⌝ }
 {
     if !(ran & (list.len() == MAX_THREADS)) {

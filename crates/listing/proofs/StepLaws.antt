@@ -21,9 +21,9 @@ use Rattle.rules.specs.Table.{Row}
 use Rattle.rules.specs.Form.{forms}
 use Rattle.rules.specs.Writer.{formIn, formShown, fieldsOf, rowShown}
 use Rattle.digits.specs.Shown.{shown}
-use Rattle.page.specs.Pages.{Page, ended, putText, filled, padded, rightAt}
+use Rattle.page.specs.Pages.{Page, pageOf, putText, putFilled, padded, rightAt}
 use Rattle.page.proofs.PageLaws.{text-put}
-use Rattle.steps.specs.Entries.{entryAt, entries}
+use Rattle.steps.specs.Entries.{entryRead, entries}
 use Rattle.outcome.specs.Comes.{cameOfStep}
 use Rattle.outcome.specs.declared.Came.{Came}
 use Rattle.row_text.specs.Rows.{rowWords, rowSaid}
@@ -57,11 +57,11 @@ said-low table thread number =
     ]
 
 row-low : (table trace : List ℕ) (i : ℕ) → length (rowOfStep table trace i) ≤ 253
-row-low table trace i = said-low table (entryAt trace i .thread) (entryAt trace i .row)
+row-low table trace i = said-low table (entryRead trace i .thread) (entryRead trace i .row)
 
 -- put at a page's begin it ends there
 pub row-long : (table trace : List ℕ) (i : ℕ) (bytes page : List ℕ) (to : ℕ) →
-    ended page to ≡ putText (ended bytes 0) (rowOfStep table trace i) → to ≡ length (rowOfStep table trace i)
+    pageOf page to ≡ putText (pageOf bytes 0) (rowOfStep table trace i) → to ≡ length (rowOfStep table trace i)
 row-long table trace i bytes page to put =
     let row : List ℕ = rowOfStep table trace i in
     let low : length row ≤ 16384 = omega (arith, row-low table trace i) in
@@ -106,25 +106,25 @@ unfolding putHead
 head-put width end l p q r s m e e1 e2 e3 e4 e5 = rw (e5, e4, e3, e2, e1, e)
 
 module _ (table trace : List ℕ) (i : ℕ) where
-  pub row-put : (thread row : ℕ) (l m : Page) → thread ≡ entryAt trace i .thread → row ≡ entryAt trace i .row →
+  pub row-put : (thread row : ℕ) (l m : Page) → thread ≡ entryRead trace i .thread → row ≡ entryRead trace i .row →
       m ≡ putText l (rowSaid table thread row) → m ≡ putText l (rowOfStep table trace i)
   row-put thread row l m t n put = rw (put, t, n)
 
   pub step-put : (held : List ℕ) (width end : ℕ) (came : Came) (l p q r s t u m : Page) → end ≡ rowsEnd width →
-      p ≡ putNumbers l i (entryAt trace i) → q ≡ padded p 19 → r ≡ putText q (rowOfStep table trace i) →
-      s ≡ putSlots r end (entryAt trace i) → t ≡ padded s (end + 23) → came ≡ cameOfStep table trace held i →
-      u ≡ putCame t came → m ≡ putText u (bytesOf "\n") → m ≡ putStep l table trace held i width
+      p ≡ putNumbers l i (entryRead trace i) → q ≡ padded p 19 → r ≡ putText q (rowOfStep table trace i) →
+      s ≡ putSlots r end (entryRead trace i) → t ≡ padded s (end + 23) → came ≡ cameOfStep table trace held i →
+      u ≡ putCame t came → m ≡ putText u (bytesOf "\n") → m ≡ putStep l table trace held width i
   unfolding putStep
   step-put held width end came l p q r s t u m e e1 e2 e3 e4 e5 e6 e7 e8 = rw (e8, e7, e6, e5, e4, e3, e2, e1, e)
 
 module _ (trace : List ℕ) (i : ℕ) where
-  pub numbers-put : (thread row : ℕ) (l p q m : Page) → p ≡ rightAt l 4 (i % 65536 + 1) → thread ≡ entryAt trace i .thread →
-      q ≡ rightAt p 12 thread → row ≡ entryAt trace i .row → m ≡ rightAt q 17 row → m ≡ putNumbers l i (entryAt trace i)
+  pub numbers-put : (thread row : ℕ) (l p q m : Page) → p ≡ rightAt l 4 (i % 65536 + 1) → thread ≡ entryRead trace i .thread →
+      q ≡ rightAt p 12 thread → row ≡ entryRead trace i .row → m ≡ rightAt q 17 row → m ≡ putNumbers l i (entryRead trace i)
   unfolding putNumbers
   numbers-put thread row l p q m e1 t e2 n e3 = rw (e3, e2, e1, t, n)
 
-  pub slots-put : (slot mask end : ℕ) (l p q m : Page) → slot ≡ entryAt trace i .slot → p ≡ putSlot l end slot →
-      q ≡ padded p (end + 8) → mask ≡ entryAt trace i .mask → m ≡ putOffers q mask → m ≡ putSlots l end (entryAt trace i)
+  pub slots-put : (slot mask end : ℕ) (l p q m : Page) → slot ≡ entryRead trace i .slot → p ≡ putSlot l end slot →
+      q ≡ padded p (end + 8) → mask ≡ entryRead trace i .mask → m ≡ putOffers q mask → m ≡ putSlots l end (entryRead trace i)
   unfolding putSlots
   slots-put slot mask end l p q m s e1 e2 k e3 = rw (e3, e2, e1, s, k)
 
@@ -177,17 +177,17 @@ module _ (l whole : Page) (first : Bool) (rest i : ℕ) (left : putEach l first 
 -- An execution that is shortened
 
 module _ (i n : ℕ) where
-  pub shown-first : i < 10 → true ≡ isShown i n
+  pub shown-first : i < 10 → true ≡ isShown n i
   shown-first h = rw (lt-ltb i 10 h)
 
-  pub shown-last : 10 ≤ i → leb (n - i) 10 ≡ isShown i n
+  pub shown-last : 10 ≤ i → leb (n - i) 10 ≡ isShown n i
   shown-last h = rw (le-ltb i 10 h)
 
-  pub shown-past : 10 ≤ i → n ≤ i → true ≡ isShown i n
+  pub shown-past : 10 ≤ i → n ≤ i → true ≡ isShown n i
   shown-past h k = let e : n - i ≤ 10 = omega arith in rw (le-ltb i 10 h, le-leb (n - i) 10 e)
 
 module _ (l : Page) (n : ℕ) where
-  pub between-some : (m : Page) → 20 < n → m ≡ filled l (bytesOf "   ..  # steps between; --all-rows shows them\n") (n - 20) 0 0 → m ≡ putBetween l n
+  pub between-some : (m : Page) → 20 < n → m ≡ putFilled l (bytesOf "   ..  # steps between; --all-rows shows them\n") (n - 20) 0 0 → m ≡ putBetween l n
   unfolding putBetween
   between-some m h put = rw (lt-ltb 20 n h) put
 

@@ -16,24 +16,24 @@ use lib.ListN.{length}
 use Rattle.rules.specs.Token.{bytesOf}
 use Rattle.rules.specs.Event.{Entry}
 use Rattle.digits.specs.Shown.{shown}
-use Rattle.page.specs.Pages.{Page, putText, filled, padded, rightAt}
-use Rattle.steps.specs.Entries.{entryAt, entries}
+use Rattle.page.specs.Pages.{Page, putText, putFilled, padded, rightAt}
+use Rattle.steps.specs.Entries.{entryRead, entries}
 use Rattle.outcome.specs.Comes.{cameOfStep}
 use Rattle.row_text.specs.Rows.{rowSaid}
 use Rattle.listing.specs.Words.{putCame}
 
 abbrev pub rowOfStep : List ℕ → List ℕ → ℕ → List ℕ
-rowOfStep table trace i = rowSaid table (entryAt trace i .thread) (entryAt trace i .row)
+rowOfStep table trace i = rowSaid table (entryRead trace i .thread) (entryRead trace i .row)
 
 -- The width
 
-abbrev pub greater : ℕ → ℕ → ℕ
-greater m n = cond (ltb m n) n m
+abbrev pub larger : ℕ → ℕ → ℕ
+larger m n = cond (ltb m n) n m
 
 -- the length of the longest row of the first n steps, and at least that of its heading, 'operation'
 unfoldable pub widest : List ℕ → List ℕ → ℕ → ℕ
 widest table trace zero = 9
-widest table trace (suc n) = greater (widest table trace n) (length (rowOfStep table trace n))
+widest table trace (suc n) = larger (widest table trace n) (length (rowOfStep table trace n))
 
 -- of all steps. It stays below 256 (proofs/StepLaws, width-low)
 abbrev pub widthOf : List ℕ → List ℕ → ℕ
@@ -90,11 +90,11 @@ putSlots l end e = putOffers (padded (putSlot l end (e .slot)) (end + 8)) (e .ma
 
 -- the numbers, the row, the slots, and what came of it by what was held before it
 unfoldable pub putStep : Page → List ℕ → List ℕ → List ℕ → ℕ → ℕ → Page
-putStep l table trace held i width =
+putStep l table trace held width i =
     putText
     (putCame
     (padded
-    (putSlots (textAt (putNumbers l i (entryAt trace i)) 19 (rowOfStep table trace i)) (rowsEnd width) (entryAt trace i))
+    (putSlots (textAt (putNumbers l i (entryRead trace i)) 19 (rowOfStep table trace i)) (rowsEnd width) (entryRead trace i))
     (rowsEnd width + 23))
     (cameOfStep table trace held i))
     (bytesOf "\n")
@@ -107,11 +107,11 @@ atEnd = 10
 
 -- whether step i is among the first of n or the last
 abbrev pub isShown : ℕ → ℕ → Bool
-isShown i n = ltb i atEnd || leb (n - i) atEnd
+isShown n i = ltb i atEnd || leb (n - i) atEnd
 
 -- how many are between them; nothing where there are none
 unfoldable pub putBetween : Page → ℕ → Page
 putBetween l n =
     cond (ltb (2 * atEnd) n)
-    (filled l (bytesOf "   ..  # steps between; --all-rows shows them\n") (n - 2 * atEnd) 0 0)
+    (putFilled l (bytesOf "   ..  # steps between; --all-rows shows them\n") (n - 2 * atEnd) 0 0)
     l

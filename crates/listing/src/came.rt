@@ -1,13 +1,13 @@
 // What came of a step, in words.
 ghost use mathlib.Core.Path.{_≡_};
-ghost use Rattle.page.specs.Pages.{ended};
+ghost use Rattle.page.specs.Pages.{pageOf};
 ghost use Rattle.listing.specs.Words.{putRead, putTaken, putCame};
 use outcome::Came;
 use page::Page;
 
 // Puts it; a dash where nothing came of it that could be said.
 pub fn put(page: &mut Page, at: usize, came: Came) -> usize
-    ensures { λ r. ⌜ ended (now (page .exit)) r ≡ putCame (ended (now (page .entry)) at) came ⌝ }
+    ensures { λ r. ⌜ pageOf (now (page .exit)) r ≡ putCame (pageOf (now (page .entry)) at) came ⌝ }
 {
     match came {
         Came::Nothing => page::put(page, at, b"-"),
@@ -31,7 +31,7 @@ pub fn put(page: &mut Page, at: usize, came: Came) -> usize
 
 // A value that was read, and the step that wrote it.
 fn put_read(page: &mut Page, at: usize, value: u64, writer: u64) -> usize
-    ensures { λ r. ⌜ ended (now (page .exit)) r ≡ putRead (ended (now (page .entry)) at) value writer ⌝ }
+    ensures { λ r. ⌜ pageOf (now (page .exit)) r ≡ putRead (pageOf (now (page .entry)) at) value writer ⌝ }
 {
     if writer == 0 {
         return page::fill(page, at, b"read #, the start value", value, 0, 0);
@@ -41,7 +41,7 @@ fn put_read(page: &mut Page, at: usize, value: u64, writer: u64) -> usize
 
 // Whether a jump was taken.
 fn put_taken(page: &mut Page, at: usize, taken: bool) -> usize
-    ensures { λ r. ⌜ ended (now (page .exit)) r ≡ putTaken (ended (now (page .entry)) at) taken ⌝ }
+    ensures { λ r. ⌜ pageOf (now (page .exit)) r ≡ putTaken (pageOf (now (page .entry)) at) taken ⌝ }
 {
     if taken {
         return page::put(page, at, b"taken");

@@ -7,16 +7,16 @@ use mathlib.Core.Path.{_≡_, refl, sym, ap, _∙_}
 use native.Mathlib.Omega.{arith}
 use lib.ListN.{length, getD}
 use lib.Seq.{ext-getD}
-use Rattle.report.specs.Answers.{reportOf, summaryOf, summariesOf, numberOf, kindOf, otherOf, threadAtFault, rowAtFault}
-use Rattle.report.specs.declared.ThreadRecord.{ThreadRecord}
+use Rattle.report.specs.Answers.{reportOf, summaryOf, summariesOf, answerNumber, raceKindOf, otherOf, threadAtFault, rowAtFault}
+use Rattle.report.specs.declared.Summary.{Summary}
 use Rattle.report.specs.declared.Report.{Report}
 use Rattle.numbers.specs.Numbers.{fourOf, summaryNumbers, numbersOf}
 
 -- five summaries, taken apart
-pub record Five (ts : List ThreadRecord) (none : ThreadRecord) : Type 0 where
+pub record Five (ts : List Summary) (none : Summary) : Type 0 where
   pub is : ts ≡ getD ts 0 none ∷ getD ts 1 none ∷ getD ts 2 none ∷ getD ts 3 none ∷ getD ts 4 none ∷ []
 
-five : (ts : List ThreadRecord) (none : ThreadRecord) → length ts ≡ 5 → Five ts none
+five : (ts : List Summary) (none : Summary) → length ts ≡ 5 → Five ts none
 five [] none e = let z : _≡_ {A = ℕ} 0 5 = e in absurd (omega arith)
 five (a ∷ []) none e = let z : _≡_ {A = ℕ} 1 5 = e in absurd (omega arith)
 five (a ∷ b ∷ []) none e = let z : _≡_ {A = ℕ} 2 5 = e in absurd (omega arith)
@@ -25,7 +25,7 @@ five (a ∷ b ∷ c ∷ d ∷ []) none e = let z : _≡_ {A = ℕ} 4 5 = e in ab
 five (a ∷ b ∷ c ∷ d ∷ f ∷ []) none e = record { is = refl }
 five (a ∷ b ∷ c ∷ d ∷ f ∷ g ∷ more) none e = absurd (omega (arith, e))
 
-pub twenty : (ts : List ThreadRecord) (none : ThreadRecord) → length ts ≡ 5 →
+pub twenty : (ts : List Summary) (none : Summary) → length ts ≡ 5 →
     (a b c d e : List ℕ) → a ≡ fourOf (summaryOf (getD ts 0 none)) → b ≡ fourOf (summaryOf (getD ts 1 none)) → c ≡ fourOf (summaryOf (getD ts 2 none)) →
     d ≡ fourOf (summaryOf (getD ts 3 none)) → e ≡ fourOf (summaryOf (getD ts 4 none)) →
     getD a 0 0 ∷ getD a 1 0 ∷ getD a 2 0 ∷ getD a 3 0
@@ -35,7 +35,7 @@ pub twenty : (ts : List ThreadRecord) (none : ThreadRecord) → length ts ≡ 5 
     ∷ getD e 0 0 ∷ getD e 1 0 ∷ getD e 2 0 ∷ getD e 3 0 ∷ []
     ≡ summaryNumbers (summariesOf ts)
 unfolding summaryNumbers
-twenty ts none l a b c d e p q r s t = rw (p, q, r, s, t) (ap (λ (xs : List ThreadRecord). summaryNumbers (summariesOf xs)) (sym (five ts none l .is)))
+twenty ts none l a b c d e p q r s t = rw (p, q, r, s, t) (ap (λ (xs : List Summary). summaryNumbers (summariesOf xs)) (sym (five ts none l .is)))
 
 -- the n numbers from k on
 unfoldable spread : ℕ → ℕ → List ℕ → List ℕ
@@ -65,13 +65,13 @@ unfolding spread
 twenty-spread t = refl
 
 module _ (r : Report) (answer thread row kind other : ℕ) (t : List ℕ) where
-  pub numbers-made : answer ≡ numberOf (r .answer) → thread ≡ threadAtFault (r .answer) → row ≡ rowAtFault (r .answer) → kind ≡ kindOf (r .answer) → other ≡ otherOf (r .answer)
+  pub numbers-made : answer ≡ answerNumber (r .answer) → thread ≡ threadAtFault (r .answer) → row ≡ rowAtFault (r .answer) → kind ≡ raceKindOf (r .answer) → other ≡ otherOf (r .answer)
       → (t ≡ summaryNumbers (summariesOf (r .threads))) × (length t ≡ 20)
-      → answer ∷ r .begun ∷ r .opened ∷ r .«open» ∷ r .rows ∷ thread ∷ row ∷ kind ∷ other
+      → answer ∷ r .begun ∷ r .opened ∷ r .still_open ∷ r .rows ∷ thread ∷ row ∷ kind ∷ other
       ∷ getD t 0 0 ∷ getD t 1 0 ∷ getD t 2 0 ∷ getD t 3 0 ∷ getD t 4 0 ∷ getD t 5 0 ∷ getD t 6 0 ∷ getD t 7 0 ∷ getD t 8 0 ∷ getD t 9 0
       ∷ getD t 10 0 ∷ getD t 11 0 ∷ getD t 12 0 ∷ getD t 13 0 ∷ getD t 14 0 ∷ getD t 15 0 ∷ getD t 16 0 ∷ getD t 17 0 ∷ getD t 18 0 ∷ getD t 19 0 ∷ []
       ≡ numbersOf (reportOf r)
   numbers-made f p q g h l =
       rw (f, p, q, g, h)
-      (ap (λ (xs : List ℕ). numberOf (r .answer) ∷ r .begun ∷ r .opened ∷ r .«open» ∷ r .rows ∷ threadAtFault (r .answer) ∷ rowAtFault (r .answer) ∷ kindOf (r .answer) ∷ otherOf (r .answer) ∷ xs)
+      (ap (λ (xs : List ℕ). answerNumber (r .answer) ∷ r .begun ∷ r .opened ∷ r .still_open ∷ r .rows ∷ threadAtFault (r .answer) ∷ rowAtFault (r .answer) ∷ raceKindOf (r .answer) ∷ otherOf (r .answer) ∷ xs)
       (sym (twenty-spread t) ∙ all-spread 20 t (l .1) ∙ l .0))

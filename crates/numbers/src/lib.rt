@@ -5,16 +5,18 @@ ghost use Rattle.report.specs.Answers.{reportOf, summaryOf, summariesOf};
 ghost use Rattle.numbers.specs.Numbers.{numbersOf, fourOf, summaryNumbers};
 use layout::MAX_THREADS;
 use report::Report;
-use report::ThreadRecord;
+use report::Summary;
+
+pub mod places;
 
 // How many numbers a thread's summary has, a report before the summaries, and with those of the five threads.
-pub const SUMMARY: usize = 4;
+pub const SUMMARY: usize = places::VERSION + 1;
 
-pub const BEFORE_SUMMARIES: usize = 9;
+pub const BEFORE_SUMMARIES: usize = places::OTHER + 1;
 
 pub const REPORT_NUMBERS: usize = BEFORE_SUMMARIES + MAX_THREADS * SUMMARY;
 
-// The report as numbers: the answer, the counts, the place, the race, and each thread's summary.
+// The report as numbers, each at its place (`places`): the answer, the counts, the place at fault, the race, and each thread's summary.
 pub fn of_report(done: Report) -> [u64; REPORT_NUMBERS]
     ensures { λ r. ⌜ r ≡ numbersOf (reportOf done) ⌝ }
 {
@@ -25,7 +27,7 @@ pub fn of_report(done: Report) -> [u64; REPORT_NUMBERS]
         report::number(answer),
         done.begun,
         done.opened,
-        done.open,
+        done.still_open,
         done.rows,
         report::thread_at_fault(answer),
         report::row_at_fault(answer),
@@ -55,7 +57,7 @@ pub fn of_report(done: Report) -> [u64; REPORT_NUMBERS]
 }
 
 // Those of the five threads.
-fn summaries(threads: [ThreadRecord; MAX_THREADS]) -> [u64; MAX_THREADS * SUMMARY]
+fn summaries(threads: [Summary; MAX_THREADS]) -> [u64; MAX_THREADS * SUMMARY]
     ensures { λ r. ⌜ (r ≡ summaryNumbers (summariesOf threads)) × (length r ≡ 20) ⌝ }
 {
     let a = summary(threads[0]);
@@ -88,7 +90,7 @@ fn summaries(threads: [ThreadRecord; MAX_THREADS]) -> [u64; MAX_THREADS * SUMMAR
 }
 
 // One thread's: its state, rows begun, yields and version.
-fn summary(thread: ThreadRecord) -> [u64; SUMMARY]
+fn summary(thread: Summary) -> [u64; SUMMARY]
     ensures { λ r. ⌜ r ≡ fourOf (summaryOf thread) ⌝ }
 {
     [

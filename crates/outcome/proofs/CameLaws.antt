@@ -11,18 +11,19 @@ use types.Run.{OneOf, miss}
 use denote.Enum.Declared.{tagOf}
 use Rattle.rules.specs.Change as changes
 use Rattle.rules.specs.Table as rules
+use Rattle.decode.proofs.NumberLaws.{allBut}
 use Rattle.decode.proofs.Op.{the-type}
 use Rattle.decode.specs.declared.Op.{Op}
 use Rattle.decode.specs.declared.Op.the-variants as code
 use Rattle.decode.specs.Ops.{opOf}
-use Rattle.steps.specs.Entries.{entryAt, operationAt}
+use Rattle.steps.specs.Entries.{entryRead, operationAt}
 use Rattle.outcome.specs.declared.Came.{Came}
 use Rattle.outcome.specs.declared.Came.the-variants as came
 use Rattle.outcome.specs.Comes.{changeCame, cameOf, cameBy, cameOfStep}
 
 -- the places among the variants of the rows that neither read, write, jump nor check
 abbrev quiet : List ℕ
-quiet = 4 ∷ 7 ∷ 8 ∷ 13 ∷ 14 ∷ 15 ∷ []
+quiet = allBut (0 ∷ 1 ∷ 2 ∷ 3 ∷ 5 ∷ 6 ∷ 9 ∷ 10 ∷ 11 ∷ 12 ∷ 16 ∷ 17 ∷ 18 ∷ [])
 
 module _ (h : List ℕ) (t s v : ℕ) where
   pub no-came : (op : Op) → OneOf quiet (tagOf the-type op) → came.Nothing ≡ cameOf h t s v (opOf op)
@@ -67,11 +68,11 @@ module _ (x y : ℕ) (e : x ≡ y) where
 module _ (table trace h : List ℕ) (i : ℕ) where
   pub came-none : operationAt table trace i ≡ rules.refused → came.Nothing ≡ cameOfStep table trace h i
   unfolding cameOfStep
-  came-none e = sym (ap (cameBy h (entryAt trace i)) e)
+  came-none e = sym (ap (cameBy h (entryRead trace i)) e)
 
   pub came-some : (op : rules.Op) (t s v : ℕ) → operationAt table trace i ≡ rules.decoded op →
-      t ≡ entryAt trace i .thread → s ≡ entryAt trace i .slot → v ≡ entryAt trace i .value →
+      t ≡ entryRead trace i .thread → s ≡ entryRead trace i .slot → v ≡ entryRead trace i .value →
       (r : Came) → r ≡ cameOf h t s v op → r ≡ cameOfStep table trace h i
   unfolding cameOfStep
   came-some op t s v e p q w r is =
-      is ∙ (ap (λ (x : ℕ). cameOf h x s v op) p ∙ ap (λ (x : ℕ). cameOf h (entryAt trace i .thread) x v op) q ∙ ap (λ (x : ℕ). cameOf h (entryAt trace i .thread) (entryAt trace i .slot) x op) w) ∙ sym (ap (cameBy h (entryAt trace i)) e)
+      is ∙ (ap (λ (x : ℕ). cameOf h x s v op) p ∙ ap (λ (x : ℕ). cameOf h (entryRead trace i .thread) x v op) q ∙ ap (λ (x : ℕ). cameOf h (entryRead trace i .thread) (entryRead trace i .slot) x op) w) ∙ sym (ap (cameBy h (entryRead trace i)) e)

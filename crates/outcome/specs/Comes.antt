@@ -8,8 +8,8 @@ use lib.Dec.{eqb}
 use Rattle.rules.specs.Change as changes
 use Rattle.rules.specs.Event.{Entry}
 use Rattle.rules.specs.Table.{Op, Decoded, refused, decoded, load, store, storeRegister, rmw, fence, unsyncLoad, withMut, yield, join, jump, jumpIf, jumpUnless, check, critical, exploreState, skipBranch, spurious, plainRead, plainWrite}
-use Rattle.steps.specs.Entries.{entryAt, operationAt}
-use Rattle.steps.specs.Holds.{held, writer, newest, register, plainWriter}
+use Rattle.steps.specs.Entries.{entryRead, operationAt}
+use Rattle.steps.specs.Holds.{held, writer, newestValue, register, plainWriter}
 use Rattle.outcome.specs.declared.Came.{Came}
 use Rattle.outcome.specs.declared.Came.the-variants as came
 
@@ -28,7 +28,7 @@ cameOf h t s v (storeRegister c o r) = came.Stored v
 cameOf h t s v (rmw c o f change r) = changeCame v (held h (writer c s)) (changes.applied change v)
 cameOf h t s v (fence o) = came.Nothing
 cameOf h t s v (unsyncLoad c r) = came.Read v (held h (writer c s))
-cameOf h t s v (withMut c change r) = came.Left (held h (newest c)) v
+cameOf h t s v (withMut c change r) = came.Left (held h (newestValue c)) v
 cameOf h t s v yield = came.Nothing
 cameOf h t s v (join thread) = came.Nothing
 cameOf h t s v (jump target) = came.Jumped true
@@ -48,4 +48,4 @@ cameBy h e refused = came.Nothing
 cameBy h e (decoded op) = cameOf h (e .thread) (e .slot) (e .value) op
 
 unfoldable pub cameOfStep : List ℕ → List ℕ → List ℕ → ℕ → Came
-cameOfStep table trace h i = cameBy h (entryAt trace i) (operationAt table trace i)
+cameOfStep table trace h i = cameBy h (entryRead trace i) (operationAt table trace i)

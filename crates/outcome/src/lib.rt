@@ -35,11 +35,11 @@ pub fn of_step(table: &[u8], trace: &[u8], held: &Held, i: usize) -> Came
     };
     let thread = steps::thread(trace, i);
     let slot = steps::slot(trace, i);
-    of_row(held, thread, slot, steps::value(trace, i), op)
+    of_row(held, thread, op, slot, steps::value(trace, i))
 }
 
 // What came of a row of this thread with this slot and value in its entry.
-fn of_row(held: &Held, thread: u8, slot: u8, value: u64, op: Op) -> Came
+fn of_row(held: &Held, thread: u8, op: Op, slot: u8, value: u64) -> Came
     ensures { λ r. ⌜ r ≡ cameOf (now (held .entry)) thread slot value (opOf op) ⌝ }
 {
     match op {

@@ -15,25 +15,25 @@ use lib.Dec.{eqb}
 use lib.ListN.{length, getD, set, take, drop, replicate, drop-of-length-le}
 use lib.Seq.{sets, drop-cons, take-nil}
 use Rattle.digits.specs.Shown.{shown}
-use Rattle.page.specs.Pages.{Page, ended, putByte, putText, putOne, filled, padded, rightAt}
+use Rattle.page.specs.Pages.{Page, pageOf, putByte, putText, putOne, putFilled, padded, rightAt}
 
 module _ (bytes : List ℕ) (at : ℕ) where
-  pub byte-fits : (b : ℕ) → at < 16384 → putByte (ended bytes at) b ≡ ended (set bytes at b) (at + 1)
+  pub byte-fits : (b : ℕ) → at < 16384 → putByte (pageOf bytes at) b ≡ pageOf (set bytes at b) (at + 1)
   unfolding putByte
   byte-fits b h = rw (lt-ltb at 16384 h)
 
-  pub byte-lost : (b : ℕ) → 16384 ≤ at → putByte (ended bytes at) b ≡ ended bytes at
+  pub byte-lost : (b : ℕ) → 16384 ≤ at → putByte (pageOf bytes at) b ≡ pageOf bytes at
   unfolding putByte
   byte-lost b h = rw (le-ltb at 16384 h)
 
-  pub text-lost : (bs : List ℕ) → 16384 ≤ at → putText (ended bytes at) bs ≡ ended bytes at
+  pub text-lost : (bs : List ℕ) → 16384 ≤ at → putText (pageOf bytes at) bs ≡ pageOf bytes at
   unfolding putText
   text-lost [] h = refl
   text-lost (b ∷ bs) h = rw (byte-lost b h) (text-lost bs h)
 
 -- a text as a whole: as much of it as there is room for stands behind the end, and every other byte is as it was
 pub text-put : (text bytes : List ℕ) (at : ℕ) →
-    putText (ended bytes at) text ≡ ended (sets bytes at (take (16384 - at) text)) (at + length (take (16384 - at) text))
+    putText (pageOf bytes at) text ≡ pageOf (sets bytes at (take (16384 - at) text)) (at + length (take (16384 - at) text))
 unfolding putText
 text-put [] bytes at = rw (take-nil (16384 - at), add-zero)
 text-put (b ∷ bs) bytes at =
@@ -60,31 +60,31 @@ module _ (text : List ℕ) (i : ℕ) where
   unfolding putText
   text-one l h = rw (add-one i, drop-cons text i 0 h)
 
-  module _ (bytes : List ℕ) (to : ℕ) (h : i < length text) (whole : Page) (left : putText (ended bytes to) (drop i text) ≡ whole) where
-    pub text-on : to < 16384 → putText (ended (set bytes to (getD text i 0)) (to + 1)) (drop (i + 1) text) ≡ whole
+  module _ (bytes : List ℕ) (to : ℕ) (h : i < length text) (whole : Page) (left : putText (pageOf bytes to) (drop i text) ≡ whole) where
+    pub text-on : to < 16384 → putText (pageOf (set bytes to (getD text i 0)) (to + 1)) (drop (i + 1) text) ≡ whole
     text-on room =
         ap (λ (l : Page). putText l (drop (i + 1) text)) (sym (byte-fits bytes to (getD text i 0) room))
-        ∙ sym (text-one (ended bytes to) h)
+        ∙ sym (text-one (pageOf bytes to) h)
         ∙ left
 
-    pub text-full : 16384 ≤ to → ended bytes to ≡ whole
+    pub text-full : 16384 ≤ to → pageOf bytes to ≡ whole
     text-full full = sym (text-lost bytes to (drop i text) full) ∙ left
 
 -- Spaces: what is left of them at a place
 
-module _ (bytes : List ℕ) (to column : ℕ) (whole : Page) (left : padded (ended bytes to) column ≡ whole) where
-  pub pad-on : to < column → to < 16384 → padded (ended (set bytes to 32) (to + 1)) column ≡ whole
+module _ (bytes : List ℕ) (to column : ℕ) (whole : Page) (left : padded (pageOf bytes to) column ≡ whole) where
+  pub pad-on : to < column → to < 16384 → padded (pageOf (set bytes to 32) (to + 1)) column ≡ whole
   unfolding putText
   pad-on h room =
       let e : column - to ≡ suc (column - (to + 1)) = omega arith in
       ap (λ (l : Page). putText l (replicate (column - (to + 1)) 32)) (sym (byte-fits bytes to 32 room))
-      ∙ ap (λ (k : ℕ). putText (ended bytes to) (replicate k 32)) (sym e)
+      ∙ ap (λ (k : ℕ). putText (pageOf bytes to) (replicate k 32)) (sym e)
       ∙ left
 
-  pub pad-full : 16384 ≤ to → ended bytes to ≡ whole
+  pub pad-full : 16384 ≤ to → pageOf bytes to ≡ whole
   pad-full full = sym (text-lost bytes to (replicate (column - to) 32) full) ∙ left
 
-  pub pad-end : column ≤ to → ended bytes to ≡ whole
+  pub pad-end : column ≤ to → pageOf bytes to ≡ whole
   unfolding putText
   pad-end h = let e : column - to ≡ 0 = omega arith in rw e at left
 
@@ -97,25 +97,25 @@ module _ (l m : Page) (b n : ℕ) where
   pub one-byte : (b ≡ 35 → ⊥) → m ≡ putByte l b → m ≡ putOne l b n
   one-byte e put = rw (ne-eqb b 35 e) put
 
-module _ (text : List ℕ) (i : ℕ) (l : Page) (p q r : ℕ) (whole : Page) (left : filled l (drop i text) p q r ≡ whole) where
-  fill-one : i < length text → filled l (drop i text) p q r
-      ≡ cond (eqb (getD text i 0) 35) (filled (putText l (shown p)) (drop (i + 1) text) q r r) (filled (putByte l (getD text i 0)) (drop (i + 1) text) p q r)
-  unfolding filled
+module _ (text : List ℕ) (i : ℕ) (l : Page) (p q r : ℕ) (whole : Page) (left : putFilled l (drop i text) p q r ≡ whole) where
+  fill-one : i < length text → putFilled l (drop i text) p q r
+      ≡ cond (eqb (getD text i 0) 35) (putFilled (putText l (shown p)) (drop (i + 1) text) q r r) (putFilled (putByte l (getD text i 0)) (drop (i + 1) text) p q r)
+  unfolding putFilled
   fill-one h = rw (add-one i, drop-cons text i 0 h)
 
   module _ (h : i < length text) (m : Page) (put : m ≡ putOne l (getD text i 0) p) where
-    pub fill-number : getD text i 0 ≡ 35 → filled m (drop (i + 1) text) q r r ≡ whole
+    pub fill-number : getD text i 0 ≡ 35 → putFilled m (drop (i + 1) text) q r r ≡ whole
     fill-number e =
         let t : eqb (getD text i 0) 35 ≡ true = eq-eqb (getD text i 0) 35 e in
         cc (fill-one h, ap (λ (b : Bool). cond b (putText l (shown p)) (putByte l (getD text i 0))) t)
 
-    pub fill-byte : (getD text i 0 ≡ 35 → ⊥) → filled m (drop (i + 1) text) p q r ≡ whole
+    pub fill-byte : (getD text i 0 ≡ 35 → ⊥) → putFilled m (drop (i + 1) text) p q r ≡ whole
     fill-byte e =
         let t : eqb (getD text i 0) 35 ≡ false = ne-eqb (getD text i 0) 35 e in
         cc (fill-one h, ap (λ (b : Bool). cond b (putText l (shown p)) (putByte l (getD text i 0))) t)
 
   pub fill-end : length text ≤ i → l ≡ whole
-  unfolding filled
+  unfolding putFilled
   fill-end h = rw (drop-of-length-le text {i = i} h) at left
 
 -- A number that ends at a column

@@ -3,7 +3,7 @@
 --     putByte     a byte behind the end, where there is room for it
 --     putText     a text, byte by byte
 --     putOne      a byte, or a number in its place
---     filled      a text in which each '#' stands for a number
+--     putFilled   a text in which each '#' stands for a number
 --     padded      spaces up to a column
 --     rightAt     a number that ends at a column
 use Prim.Native.Nat.{ℕ, _+_, _-_}
@@ -17,12 +17,12 @@ pub record Page : Type 0 where
   pub bytes : List ℕ
   pub end : ℕ
 
-abbrev pub ended : List ℕ → ℕ → Page
-ended bytes at = record { bytes = bytes; end = at }
+abbrev pub pageOf : List ℕ → ℕ → Page
+pageOf bytes at = record { bytes = bytes; end = at }
 
 -- what does not fit is left out
 unfoldable pub putByte : Page → ℕ → Page
-putByte l b = cond (ltb (l .end) 16384) (ended (set (l .bytes) (l .end) b) (l .end + 1)) l
+putByte l b = cond (ltb (l .end) 16384) (pageOf (set (l .bytes) (l .end) b) (l .end + 1)) l
 
 unfoldable pub putText : Page → List ℕ → Page
 putText l [] = l
@@ -33,9 +33,9 @@ abbrev pub putOne : Page → ℕ → ℕ → Page
 putOne l b n = cond (eqb b 35) (putText l (shown n)) (putByte l b)
 
 -- each byte so. The numbers are taken in turn; the last stands for every further '#' too
-unfoldable pub filled : Page → List ℕ → ℕ → ℕ → ℕ → Page
-filled l [] p q r = l
-filled l (b ∷ bs) p q r = cond (eqb b 35) (filled (putText l (shown p)) bs q r r) (filled (putByte l b) bs p q r)
+unfoldable pub putFilled : Page → List ℕ → ℕ → ℕ → ℕ → Page
+putFilled l [] p q r = l
+putFilled l (b ∷ bs) p q r = cond (eqb b 35) (putFilled (putText l (shown p)) bs q r r) (putFilled (putByte l b) bs p q r)
 
 -- ' ' is the byte 32
 abbrev pub padded : Page → ℕ → Page

@@ -4,21 +4,21 @@ ghost use mathlib.Core.Path.{_≡_};
 ghost use mathlib.Core.List.{[], _∷_};
 ghost use Prim.Native.Nat.{_-_};
 ghost use Rattle.digits.specs.Shown.{shown};
-ghost use Rattle.page.specs.Pages.{ended, putText, putOne, filled, padded, rightAt};
+ghost use Rattle.page.specs.Pages.{pageOf, putText, putOne, putFilled, padded, rightAt};
 use digits::MOST_DIGITS;
 
-pub const WIDTH: usize = 16384;
+pub const PAGE_BYTES: usize = 16384;
 
-pub type Page = [u8; WIDTH];
+pub type Page = [u8; PAGE_BYTES];
 
 // Puts a text behind the end, `at`; answers the new end.
 pub fn put(page: &mut Page, at: usize, text: &[u8]) -> usize
-    ensures { λ r. ⌜ ended (now (page .exit)) r ≡ putText (ended (now (page .entry)) at) (now (text .entry)) ⌝ }
+    ensures { λ r. ⌜ pageOf (now (page .exit)) r ≡ putText (pageOf (now (page .entry)) at) (now (text .entry)) ⌝ }
 {
     let mut to = at;
     let mut i = 0;
     while i < text.len() {
-        if WIDTH <= to {
+        if PAGE_BYTES <= to {
             return to;
         }
         page[to] = text[i];
@@ -30,7 +30,7 @@ pub fn put(page: &mut Page, at: usize, text: &[u8]) -> usize
 
 // Puts a number, in decimal.
 pub fn put_number(page: &mut Page, at: usize, n: u64) -> usize
-    ensures { λ r. ⌜ ended (now (page .exit)) r ≡ putText (ended (now (page .entry)) at) (shown n) ⌝ }
+    ensures { λ r. ⌜ pageOf (now (page .exit)) r ≡ putText (pageOf (now (page .entry)) at) (shown n) ⌝ }
 {
     let mut digits = [0u8; MOST_DIGITS];
     let k = digits::spell(&mut digits, n);
@@ -39,7 +39,7 @@ pub fn put_number(page: &mut Page, at: usize, n: u64) -> usize
 
 // Puts a text and a number behind it.
 pub fn put_with(page: &mut Page, at: usize, text: &[u8], n: u64) -> usize
-    ensures { λ r. ⌜ ended (now (page .exit)) r ≡ putText (putText (ended (now (page .entry)) at) (now (text .entry))) (shown n) ⌝ }
+    ensures { λ r. ⌜ pageOf (now (page .exit)) r ≡ putText (putText (pageOf (now (page .entry)) at) (now (text .entry))) (shown n) ⌝ }
 {
     let to = put(page, at, text);
     put_number(page, to, n)
@@ -47,7 +47,7 @@ pub fn put_with(page: &mut Page, at: usize, text: &[u8], n: u64) -> usize
 
 // Puts a text in which each `#` stands for a number: for the three in turn.
 pub fn fill(page: &mut Page, at: usize, text: &[u8], a: u64, b: u64, c: u64) -> usize
-    ensures { λ r. ⌜ ended (now (page .exit)) r ≡ filled (ended (now (page .entry)) at) (now (text .entry)) a b c ⌝ }
+    ensures { λ r. ⌜ pageOf (now (page .exit)) r ≡ putFilled (pageOf (now (page .entry)) at) (now (text .entry)) a b c ⌝ }
 {
     let mut to = at;
     let mut now = a;
@@ -66,12 +66,12 @@ pub fn fill(page: &mut Page, at: usize, text: &[u8], a: u64, b: u64, c: u64) -> 
 
 // Puts a byte, or the number where the byte stands for one.
 fn put_byte(page: &mut Page, at: usize, byte: u8, n: u64) -> usize
-    ensures { λ r. ⌜ ended (now (page .exit)) r ≡ putOne (ended (now (page .entry)) at) byte n ⌝ }
+    ensures { λ r. ⌜ pageOf (now (page .exit)) r ≡ putOne (pageOf (now (page .entry)) at) byte n ⌝ }
 {
     if byte == b'#' {
         return put_number(page, at, n);
     }
-    if WIDTH <= at {
+    if PAGE_BYTES <= at {
         return at;
     }
     page[at] = byte;
@@ -80,11 +80,11 @@ fn put_byte(page: &mut Page, at: usize, byte: u8, n: u64) -> usize
 
 // Puts spaces up to a column.
 pub fn pad(page: &mut Page, at: usize, column: usize) -> usize
-    ensures { λ r. ⌜ ended (now (page .exit)) r ≡ padded (ended (now (page .entry)) at) column ⌝ }
+    ensures { λ r. ⌜ pageOf (now (page .exit)) r ≡ padded (pageOf (now (page .entry)) at) column ⌝ }
 {
     let mut to = at;
     while to < column {
-        if WIDTH <= to {
+        if PAGE_BYTES <= to {
             return to;
         }
         page[to] = b' ';
@@ -95,7 +95,7 @@ pub fn pad(page: &mut Page, at: usize, column: usize) -> usize
 
 // Puts a number so that it ends at a column.
 pub fn put_right(page: &mut Page, at: usize, column: usize, n: u64) -> usize
-    ensures { λ r. ⌜ ended (now (page .exit)) r ≡ rightAt (ended (now (page .entry)) at) column n ⌝ }
+    ensures { λ r. ⌜ pageOf (now (page .exit)) r ≡ rightAt (pageOf (now (page .entry)) at) column n ⌝ }
 {
     let to = pad(page, at, less(column, digits::count(n)));
     put_number(page, to, n)

@@ -10,9 +10,9 @@ use mathlib.Core.Bool.{Bool, true, false, cond}
 use lib.Dec.{eqb}
 use Rattle.rules.specs.Token.{bytesOf}
 use Rattle.rules.specs.Table.{Op, Decoded, refused, decoded}
-use Rattle.page.specs.Pages.{Page, putText, filled}
-use Rattle.steps.specs.Entries.{entryAt, entries, rowSays}
-use Rattle.last_access.specs.Access.{cellIn, lastAccess}
+use Rattle.page.specs.Pages.{Page, putText, putFilled}
+use Rattle.steps.specs.Entries.{entryRead, entries, rowSays}
+use Rattle.last_access.specs.Access.{cellIn, lastAccessStep}
 use Rattle.last_access.specs.declared.AccessKind.{AccessKind}
 use Rattle.last_access.specs.declared.AccessKind.the-variants.{Load, UnsyncLoad, Store, Exclusive, PlainRead, PlainWrite}
 
@@ -70,24 +70,24 @@ isPlain PlainWrite = true
 
 unfoldable pub putWhere : Page → AccessKind → ℕ → Page
 putWhere l met cell =
-    cond (isPlain met) (filled l (bytesOf "answer 14: failed: race on plain cell #: ") cell 0 0)
-    (filled l (bytesOf "answer 14: failed: race on cell #: ") cell 0 0)
+    cond (isPlain met) (putFilled l (bytesOf "answer 14: failed: race on plain cell #: ") cell 0 0)
+    (putFilled l (bytesOf "answer 14: failed: race on cell #: ") cell 0 0)
 
 -- the access that met the race, of the row at fault
 unfoldable pub putMet : Page → ℕ → AccessKind → ℕ → ℕ → Page
 putMet l cell met thread row =
-    filled (putText (putWhere l met cell) (bytesOf (accessName met))) (bytesOf " of thread #, row #, against ") thread row 0
+    putFilled (putText (putWhere l met cell) (bytesOf (accessName met))) (bytesOf " of thread #, row #, against ") thread row 0
 
 -- the other thread, and the row of this step, counted from 1; 0 is none
 unfoldable pub putStep : Page → List ℕ → ℕ → ℕ → Page
 putStep l trace other step =
-    cond (eqb step 0) (filled l (bytesOf " of thread #\n") other 0 0)
-    (filled l (bytesOf " of thread #, row # (step #)\n") other (entryAt trace (step - 1) .row) step)
+    cond (eqb step 0) (putFilled l (bytesOf " of thread #\n") other 0 0)
+    (putFilled l (bytesOf " of thread #, row # (step #)\n") other (entryRead trace (step - 1) .row) step)
 
 -- the access before it: the other thread's last of this kind to the cell
 unfoldable pub putBefore : Page → List ℕ → List ℕ → ℕ → AccessKind → ℕ → Page
 putBefore l table trace cell before other =
-    putStep (putText l (bytesOf (accessName before))) trace other (lastAccess table trace (entries trace) other cell before)
+    putStep (putText l (bytesOf (accessName before))) trace other (lastAccessStep table trace other cell before (entries trace))
 
 unfoldable pub putRace : Page → List ℕ → List ℕ → ℕ → ℕ → ℕ → ℕ → Page
 putRace l table trace thread row kind other =

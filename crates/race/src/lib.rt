@@ -1,7 +1,7 @@
 // Answer 14: a race, by the access that met it and the one before it: document 01's nine kinds, and three of plain cells.
 ghost use mathlib.Core.Path.{_≡_};
 ghost use Rattle.rules.specs.Token.{bytesOf};
-ghost use Rattle.page.specs.Pages.{ended, putText};
+ghost use Rattle.page.specs.Pages.{pageOf, putText};
 ghost use Rattle.race.specs.Races.{cellAt, raceSaid, accessName, putWhere, putMet, putStep, putBefore, putRace};
 use decode::Decoded;
 use last_access::AccessKind;
@@ -19,7 +19,7 @@ pub fn put(
     kind: u64,
     other: u64,
 ) -> usize
-    ensures { λ r. ⌜ ended (now (page .exit)) r ≡ putRace (ended (now (page .entry)) at) (now (table .entry)) (now (trace .entry)) thread row kind other ⌝ }
+    ensures { λ r. ⌜ pageOf (now (page .exit)) r ≡ putRace (pageOf (now (page .entry)) at) (now (table .entry)) (now (trace .entry)) thread row kind other ⌝ }
 {
     let cell = cell_at(table, thread, row);
     let to = put_met(page, at, thread, row, cell, met(kind));
@@ -28,7 +28,7 @@ pub fn put(
 
 // The access that met the race, of the row at fault.
 fn put_met(page: &mut Page, at: usize, thread: u64, row: u64, cell: u64, kind: AccessKind) -> usize
-    ensures { λ r. ⌜ ended (now (page .exit)) r ≡ putMet (ended (now (page .entry)) at) cell kind thread row ⌝ }
+    ensures { λ r. ⌜ pageOf (now (page .exit)) r ≡ putMet (pageOf (now (page .entry)) at) cell kind thread row ⌝ }
 {
     let to = put_where(page, at, cell, kind);
     let to = put_kind(page, to, kind);
@@ -45,16 +45,16 @@ fn put_before(
     cell: u64,
     kind: AccessKind,
 ) -> usize
-    ensures { λ r. ⌜ ended (now (page .exit)) r ≡ putBefore (ended (now (page .entry)) at) (now (table .entry)) (now (trace .entry)) cell kind other ⌝ }
+    ensures { λ r. ⌜ pageOf (now (page .exit)) r ≡ putBefore (pageOf (now (page .entry)) at) (now (table .entry)) (now (trace .entry)) cell kind other ⌝ }
 {
     let to = put_kind(page, at, kind);
-    let step = last_access::last(table, trace, steps::count(trace), other, cell, kind);
+    let step = last_access::last(table, trace, other, cell, kind, steps::count(trace));
     put_step(page, to, trace, other, step)
 }
 
 // That it is a race on a cell, or on a plain cell.
 fn put_where(page: &mut Page, at: usize, cell: u64, met: AccessKind) -> usize
-    ensures { λ r. ⌜ ended (now (page .exit)) r ≡ putWhere (ended (now (page .entry)) at) met cell ⌝ }
+    ensures { λ r. ⌜ pageOf (now (page .exit)) r ≡ putWhere (pageOf (now (page .entry)) at) met cell ⌝ }
 {
     match met {
         AccessKind::PlainRead | AccessKind::PlainWrite => page::fill(
@@ -71,7 +71,7 @@ fn put_where(page: &mut Page, at: usize, cell: u64, met: AccessKind) -> usize
 
 // The other thread, and its row and step where the trace has them.
 fn put_step(page: &mut Page, at: usize, trace: &[u8], other: u64, step: u64) -> usize
-    ensures { λ r. ⌜ ended (now (page .exit)) r ≡ putStep (ended (now (page .entry)) at) (now (trace .entry)) other step ⌝ }
+    ensures { λ r. ⌜ pageOf (now (page .exit)) r ≡ putStep (pageOf (now (page .entry)) at) (now (trace .entry)) other step ⌝ }
 {
     if step == 0 {
         return page::fill(page, at, b" of thread #\n", other, 0, 0);
@@ -97,7 +97,8 @@ fn cell_at(table: &[u8], thread: u64, row: u64) -> u64
     last_access::cell_of(op)
 }
 
-// The access that met the race.
+// The access that met the race. Kinds stand here as document 01 numbers them: those that are named are bytes (crate track), and a pattern
+// has the type of what it is matched with, a report's number.
 fn met(kind: u64) -> AccessKind
     ensures { λ r. ⌜ r ≡ raceSaid kind .met ⌝ }
 {
@@ -126,7 +127,7 @@ fn against(kind: u64) -> AccessKind
 }
 
 fn put_kind(page: &mut Page, at: usize, kind: AccessKind) -> usize
-    ensures { λ r. ⌜ ended (now (page .exit)) r ≡ putText (ended (now (page .entry)) at) (bytesOf (accessName kind)) ⌝ }
+    ensures { λ r. ⌜ pageOf (now (page .exit)) r ≡ putText (pageOf (now (page .entry)) at) (bytesOf (accessName kind)) ⌝ }
 {
     match kind {
         AccessKind::Load => page::put(page, at, b"the load"),

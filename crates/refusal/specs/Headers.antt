@@ -8,7 +8,7 @@ use lib.Dec.{ltb, leb}
 use lib.ListN.{length, getD}
 use Rattle.rules.specs.Token.{bytesOf}
 use Rattle.rules.specs.Table.{maxThreads, maxCells, maxPlains, maxRows, headerBytes, threadsOf, cellsOf, plainsOf, valuesOf, countsOf, countFine, total, sizeOf, firstNot}
-use Rattle.page.specs.Pages.{Page, putText, filled}
+use Rattle.page.specs.Pages.{Page, putText, putFilled}
 
 -- "threads 1..5, cells 1..4"
 unfoldable pub isCount : ℕ → ℕ → Bool
@@ -21,9 +21,9 @@ badCount t threads = firstNot (λ (i : ℕ). countFine threads i (getD t (2 + i)
 -- a thread with too many rows, or one past the threads with any
 unfoldable pub putRows : Page → ℕ → ℕ → ℕ → Page
 putRows l threads thread count =
-    let said = filled l (bytesOf "answer 5: refused: byte # says that thread # has # rows") (2 + thread) thread count in
+    let said = putFilled l (bytesOf "answer 5: refused: byte # says that thread # has # rows") (2 + thread) thread count in
     cond (ltb thread threads)
-    (filled said (bytesOf ": there may be 0 to #\n") maxRows 0 0)
+    (putFilled said (bytesOf ": there may be 0 to #\n") maxRows 0 0)
     (putText said (bytesOf ", and there is no such thread: it must be 0\n"))
 
 -- behind the cell count: a row count, the plain cells, or else the length
@@ -32,16 +32,16 @@ putBehind l t threads =
     cond (ltb (badCount t threads) maxThreads)
     (putRows l threads (badCount t threads) (getD t (2 + badCount t threads) 0))
     (cond (ltb maxPlains (plainsOf t))
-    (filled l (bytesOf "answer 5: refused: byte 7 says # plain cells: there may be 0 to #\n") (plainsOf t) maxPlains 0)
-    (filled l (bytesOf "answer 5: refused: the table should have # bytes and has #\n")
+    (putFilled l (bytesOf "answer 5: refused: byte 7 says # plain cells: there may be 0 to #\n") (plainsOf t) maxPlains 0)
+    (putFilled l (bytesOf "answer 5: refused: the table should have # bytes and has #\n")
     (sizeOf (valuesOf t) (total (countsOf t))) (length t) 0))
 
 unfoldable pub putHeader : Page → List ℕ → Page
 putHeader l t =
     cond (ltb (length t) headerBytes)
-    (filled l (bytesOf "answer 5: refused: the table has # bytes, and its header alone has #\n") (length t) headerBytes 0)
+    (putFilled l (bytesOf "answer 5: refused: the table has # bytes, and its header alone has #\n") (length t) headerBytes 0)
     (cond (not (isCount (threadsOf t) maxThreads))
-    (filled l (bytesOf "answer 5: refused: byte 0 says # threads: there may be 1 to #\n") (threadsOf t) maxThreads 0)
+    (putFilled l (bytesOf "answer 5: refused: byte 0 says # threads: there may be 1 to #\n") (threadsOf t) maxThreads 0)
     (cond (not (isCount (cellsOf t) maxCells))
-    (filled l (bytesOf "answer 5: refused: byte 1 says # cells: there may be 1 to #\n") (cellsOf t) maxCells 0)
+    (putFilled l (bytesOf "answer 5: refused: byte 1 says # cells: there may be 1 to #\n") (cellsOf t) maxCells 0)
     (putBehind l t (threadsOf t))))

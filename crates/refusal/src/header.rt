@@ -3,7 +3,7 @@ ghost use mathlib.Core.Path.{_≡_};
 ghost use Prim.Native.Nat.{_<_, _≤_};
 ghost use lib.ListN.{length};
 ghost use Rattle.rules.specs.Table.{headerBytes, sizeOf, valuesOf, countsOf, countFine, total};
-ghost use Rattle.page.specs.Pages.{ended};
+ghost use Rattle.page.specs.Pages.{pageOf};
 ghost use Rattle.refusal.specs.Headers.{isCount, badCount, putRows, putBehind, putHeader};
 use layout::MAX_CELLS;
 use layout::MAX_PLAINS;
@@ -24,7 +24,7 @@ use table::limits::VALUE_BYTES;
 
 // Puts what is wrong first, in one line.
 pub fn put(page: &mut Page, at: usize, table: &[u8]) -> usize
-    ensures { λ r. ⌜ ended (now (page .exit)) r ≡ putHeader (ended (now (page .entry)) at) (now (table .entry)) ⌝ }
+    ensures { λ r. ⌜ pageOf (now (page .exit)) r ≡ putHeader (pageOf (now (page .entry)) at) (now (table .entry)) ⌝ }
 {
     if table.len() < HEADER_BYTES {
         return page::fill(
@@ -71,7 +71,7 @@ fn is_count(n: usize, most: usize) -> bool
 // What is wrong behind the cell count: a row count, the plain cells, or else the length.
 fn put_behind(page: &mut Page, at: usize, table: &[u8], threads: usize) -> usize
     requires { ⌜ headerBytes ≤ length (now table) ⌝ }
-    ensures { λ r. ⌜ ended (now (page .exit)) r ≡ putBehind (ended (now (page .entry)) at) (now (table .entry)) threads ⌝ }
+    ensures { λ r. ⌜ pageOf (now (page .exit)) r ≡ putBehind (pageOf (now (page .entry)) at) (now (table .entry)) threads ⌝ }
 {
     let thread = bad_count(table, threads);
     if thread < MAX_THREADS {
@@ -129,7 +129,7 @@ fn bad_count(table: &[u8], threads: usize) -> usize
 // A thread has more rows than there may be.
 fn put_rows(page: &mut Page, at: usize, threads: usize, thread: usize, count: usize) -> usize
     requires { ⌜ thread < 5 ⌝ }
-    ensures { λ r. ⌜ ended (now (page .exit)) r ≡ putRows (ended (now (page .entry)) at) threads thread count ⌝ }
+    ensures { λ r. ⌜ pageOf (now (page .exit)) r ≡ putRows (pageOf (now (page .entry)) at) threads thread count ⌝ }
 {
     let to = page::fill(
         page,

@@ -1,7 +1,7 @@
 // Why a table or a condition is refused: which field of the header, or of the first bad row, or which byte of the condition is wrong,
 // and what it may be.
 ghost use mathlib.Core.Path.{_≡_};
-ghost use Rattle.page.specs.Pages.{ended};
+ghost use Rattle.page.specs.Pages.{pageOf};
 ghost use Rattle.refusal.specs.Refusals.{putRefusal};
 use event::NO_PLACE;
 use page::Page;
@@ -19,7 +19,7 @@ pub fn put(
     thread: u64,
     number: u64,
 ) -> usize
-    ensures { λ r. ⌜ ended (now (page .exit)) r ≡ putRefusal (ended (now (page .entry)) at) (now (table .entry)) (now (condition .entry)) thread number ⌝ }
+    ensures { λ r. ⌜ pageOf (now (page .exit)) r ≡ putRefusal (pageOf (now (page .entry)) at) (now (table .entry)) (now (condition .entry)) thread number ⌝ }
 {
     if thread != NO_PLACE {
         return bad_row::put(page, at, table, (thread % 256) as u8, (number % 256) as u8);

@@ -2,6 +2,9 @@
 use crate::fields;
 use decimal::Parsed;
 
+// How long the two buffers are: as the settings' most, and more, for the cases that ask for a wrong length.
+pub const BUFFER_ROOM: usize = 70000;
+
 // The first place where a buffer is not as the list says, or none.
 pub enum Compared {
     Same,

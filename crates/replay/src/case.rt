@@ -4,11 +4,12 @@ use crate::fields::FIELDS;
 use crate::fields::NOT_GIVEN;
 use crate::fields::Starts;
 use decimal::Parsed;
+use numbers::REPORT_NUMBERS;
 use path::Bound;
 use settings::MAX_BOUND;
 use settings::Settings;
 
-// The fields' places. From ANSWER on stand the report's 29 numbers.
+// The fields' places. From ANSWER on stand the report's numbers.
 pub const BRANCHES: usize = 1;
 
 pub const OPERATIONS: usize = 2;
@@ -29,13 +30,13 @@ pub const TABLE: usize = 9;
 
 pub const ANSWER: usize = 10;
 
-pub const DIGEST: usize = 39;
+pub const DIGEST: usize = ANSWER + REPORT_NUMBERS;
 
-pub const LIST_LEFT: usize = 40;
+pub const LIST_LEFT: usize = DIGEST + 1;
 
-pub const PATH_LEFT: usize = 41;
+pub const PATH_LEFT: usize = LIST_LEFT + 1;
 
-pub const TRACE_LEFT: usize = 42;
+pub const TRACE_LEFT: usize = PATH_LEFT + 1;
 
 // Where a case has a condition, it stands behind the answer.
 pub const CONDITION: usize = FIELDS;
@@ -43,11 +44,16 @@ pub const CONDITION: usize = FIELDS;
 // The longest table that a line may hold, longer than any that is accepted.
 pub const MOST_TABLE: usize = 8192;
 
-// The number in each field that has one.
-pub type Numbers = [u64; FIELDS];
+// The longest path or trace buffer, and the longest thread list, that a line may ask for.
+const MOST_BUFFER: u64 = 1000000;
 
-// Reads every field that is a number and looks at the others; answers the first field that is wrong, or 43.
-pub fn read_fields(line: &[u8], starts: &Starts, numbers: &mut Numbers) -> usize {
+const MOST_LIST: u64 = 1000;
+
+// The number in each field that has one.
+pub type FieldNumbers = [u64; FIELDS];
+
+// Reads every field that is a number and looks at the others; answers the first field that is wrong, or FIELDS.
+pub fn read_fields(line: &[u8], starts: &Starts, numbers: &mut FieldNumbers) -> usize {
     let mut k = 0;
     while k < FIELDS {
         let from = starts[k];
@@ -101,14 +107,14 @@ fn most(k: usize) -> u64 {
     match k {
         BOUND => MAX_BOUND,
         EXPLORING => 1,
-        PATH | TRACE => 1000000,
-        LIST => 1000,
+        PATH | TRACE => MOST_BUFFER,
+        LIST => MOST_LIST,
         _ => NOT_GIVEN,
     }
 }
 
 // The settings of a case.
-pub fn settings(numbers: &Numbers) -> Settings {
+pub fn settings(numbers: &FieldNumbers) -> Settings {
     let bound = bound_of(numbers[BOUND]);
     Settings {
         branches: numbers[BRANCHES],
@@ -120,11 +126,11 @@ pub fn settings(numbers: &Numbers) -> Settings {
 }
 
 // No bound is a number above every bound.
-fn bound_of(number: u64) -> Bound {
-    if MAX_BOUND < number {
+fn bound_of(given: u64) -> Bound {
+    if MAX_BOUND < given {
         return Bound::Unbounded;
     }
-    Bound::AtMost((number % 256) as u8)
+    Bound::AtMost((given % 256) as u8)
 }
 
 // Writes a table's or a condition's bytes; answers how many there are, or more than fit.

@@ -2,8 +2,8 @@
 use crate::buffers;
 use crate::buffers::Compared;
 use crate::case;
+use crate::case::FieldNumbers;
 use crate::case::MOST_TABLE;
-use crate::case::Numbers;
 use crate::fields;
 use crate::fields::FIELDS;
 use crate::fields::NOT_GIVEN;
@@ -99,7 +99,7 @@ fn run_case(
     line: &[u8],
     starts: &Starts,
     table: &[u8; MOST_TABLE],
-    numbers: &Numbers,
+    numbers: &FieldNumbers,
     path: &mut [u8],
     trace: &mut [u8],
     size: usize,
@@ -122,7 +122,7 @@ fn run_case(
 fn ask(
     table: &[u8],
     condition: &[u8],
-    numbers: &Numbers,
+    numbers: &FieldNumbers,
     path: &mut [u8],
     trace: &mut [u8],
 ) -> Given {
@@ -135,7 +135,7 @@ fn ask(
 fn explored(
     table: &[u8],
     condition: &[u8],
-    numbers: &Numbers,
+    numbers: &FieldNumbers,
     path: &mut [u8],
     trace: &mut [u8],
 ) -> Report {
@@ -151,12 +151,12 @@ fn explored(
 fn judge(
     line: &[u8],
     starts: &Starts,
-    numbers: &Numbers,
+    numbers: &FieldNumbers,
     given: &Given,
     path: &[u8],
     trace: &[u8],
 ) -> Agreement {
-    let place = first_other(given, numbers);
+    let place = first_other(numbers, given);
     if place < REPORT_NUMBERS {
         return Agreement::Number {
             place,
@@ -192,7 +192,7 @@ fn byte_at(buffer: &[u8], at: usize) -> u64 {
 }
 
 // The first of the numbers that is not the list's, or REPORT_NUMBERS.
-fn first_other(given: &Given, numbers: &Numbers) -> usize {
+fn first_other(numbers: &FieldNumbers, given: &Given) -> usize {
     let mut i = 0;
     while i < REPORT_NUMBERS {
         if given[i] != numbers[case::ANSWER + i] {

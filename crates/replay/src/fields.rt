@@ -1,19 +1,22 @@
 // The fields of a line of the list: texts between single spaces, decimal numbers and lowercase hex.
+use crate::case::TRACE_LEFT;
 use decimal::Parsed;
 
 // A line with its answer has this many fields; a condition is one more, the last.
-pub const FIELDS: usize = 43;
+pub const FIELDS: usize = TRACE_LEFT + 1;
 
 // The places that are kept of a line.
 pub const STARTS: usize = FIELDS + 2;
 
-// What stands for the `-` of a number that is not given.
-pub const NOT_GIVEN: u64 = 18446744073709551615;
+// The largest number. It stands for the `-` of a number that is not given too.
+pub const MAX_U64: u64 = 18446744073709551615;
+
+pub const NOT_GIVEN: u64 = MAX_U64;
 
 // Where each field begins, and behind the last one past the line's end.
 pub type Starts = [usize; STARTS];
 
-// Finds where the fields begin; answers how many there are, 45 standing for every count above 44.
+// Finds where the fields begin; answers how many there are, FIELDS + 2 standing for every count above FIELDS + 1.
 pub fn split(line: &[u8], starts: &mut Starts) -> usize {
     let mut count = 1;
     starts[0] = 0;

@@ -1,8 +1,14 @@
 // The lines of standard input, through one buffer that must hold the longest of them.
 use crate::compare;
+use crate::fields::MAX_U64;
 use crate::tally;
 use crate::tally::Tally;
 use libc::STDIN_FILENO;
+
+// The longest line, and the buffer's size: where it is full, a line is longer.
+pub const LONGEST_LINE: usize = 262144;
+
+pub const LINE_ROOM: usize = LONGEST_LINE + 1;
 
 // How far the whole lines of a text reach, with the tally of them.
 pub struct Replayed {
@@ -22,7 +28,7 @@ enum More {
 pub fn replay(text: &mut [u8], path: &mut [u8], trace: &mut [u8]) -> Tally {
     let mut now = tally::nothing();
     let mut kept = 0;
-    let mut reads = 18446744073709551615u64;
+    let mut reads = MAX_U64;
     while 0 < reads {
         match read_more(text, kept) {
             More::To(to) => {

@@ -1,10 +1,13 @@
 // What was found so far, and what is said of it.
 use crate::compare::Agreement;
-use crate::fields;
+use crate::fields::FIELDS;
+use crate::fields::MAX_U64;
+use crate::lines::LONGEST_LINE;
 use libc::STDERR_FILENO;
 use libc::STDOUT_FILENO;
 use numbers::BEFORE_SUMMARIES;
 use numbers::SUMMARY;
+use numbers::places;
 
 // The most cases whose first difference is shown.
 const SHOWN: u64 = 20;
@@ -83,7 +86,9 @@ impl Tally {
         }
         let now = self.next_line();
         say_line(now.lines);
-        io::write_all(STDERR_FILENO, b"it is longer than 262144 bytes\n");
+        io::write_all(STDERR_FILENO, b"it is longer than ");
+        io::print_decimal(STDERR_FILENO, LONGEST_LINE as u64);
+        io::write_all(STDERR_FILENO, b" bytes\n");
         now.stop()
     }
 
@@ -96,7 +101,7 @@ impl Tally {
 
 // The next number, or the same where there is none.
 fn one_more(n: u64) -> u64 {
-    if n < 18446744073709551615 {
+    if n < MAX_U64 {
         return n + 1;
     }
     n
@@ -128,11 +133,12 @@ fn say_line(line: u64) {
 
 // It has another number of fields.
 fn say_count(count: usize) {
-    io::write_all(
-        STDERR_FILENO,
-        b"an answered case has 43 fields, or 44 with a condition, and this line ",
-    );
-    if fields::FIELDS < count {
+    io::write_all(STDERR_FILENO, b"an answered case has ");
+    io::print_decimal(STDERR_FILENO, FIELDS as u64);
+    io::write_all(STDERR_FILENO, b" fields, or ");
+    io::print_decimal(STDERR_FILENO, FIELDS as u64 + 1);
+    io::write_all(STDERR_FILENO, b" with a condition, and this line ");
+    if FIELDS < count {
         io::write_all(STDERR_FILENO, b"more\n");
         return;
     }
@@ -143,7 +149,7 @@ fn say_count(count: usize) {
 // A field of it has the wrong form.
 fn say_field(field: usize) {
     io::write_all(STDERR_FILENO, b"field ");
-    io::print_decimal(STDERR_FILENO, field as u64 % 44 + 1);
+    io::print_decimal(STDERR_FILENO, (field % (FIELDS + 1) + 1) as u64);
     io::write_all(STDERR_FILENO, b" is not what an answered case has there\n");
 }
 
@@ -188,15 +194,15 @@ fn show_both(given: u64, listed: u64) {
 // The name of a report's number.
 fn show_number(place: usize) -> bool {
     match place {
-        0 => io::write_all(STDOUT_FILENO, b"the answer"),
-        1 => io::write_all(STDOUT_FILENO, b"executions begun"),
-        2 => io::write_all(STDOUT_FILENO, b"choices opened"),
-        3 => io::write_all(STDOUT_FILENO, b"choices open"),
-        4 => io::write_all(STDOUT_FILENO, b"rows begun"),
-        5 => io::write_all(STDOUT_FILENO, b"the thread at fault"),
-        6 => io::write_all(STDOUT_FILENO, b"the row at fault"),
-        7 => io::write_all(STDOUT_FILENO, b"the race kind"),
-        8 => io::write_all(STDOUT_FILENO, b"the other thread"),
+        places::ANSWER => io::write_all(STDOUT_FILENO, b"the answer"),
+        places::BEGUN => io::write_all(STDOUT_FILENO, b"executions begun"),
+        places::OPENED => io::write_all(STDOUT_FILENO, b"choices opened"),
+        places::STILL_OPEN => io::write_all(STDOUT_FILENO, b"choices open"),
+        places::ROWS => io::write_all(STDOUT_FILENO, b"rows begun"),
+        places::THREAD => io::write_all(STDOUT_FILENO, b"the thread at fault"),
+        places::ROW => io::write_all(STDOUT_FILENO, b"the row at fault"),
+        places::KIND => io::write_all(STDOUT_FILENO, b"the race kind"),
+        places::OTHER => io::write_all(STDOUT_FILENO, b"the other thread"),
         _ => show_summary(place),
     }
 }
@@ -209,9 +215,9 @@ fn show_summary(place: usize) -> bool {
     io::write_all(STDOUT_FILENO, b"thread ");
     io::print_decimal(STDOUT_FILENO, ((place - BEFORE_SUMMARIES) / SUMMARY) as u64);
     match (place - BEFORE_SUMMARIES) % SUMMARY {
-        0 => io::write_all(STDOUT_FILENO, b"'s state"),
-        1 => io::write_all(STDOUT_FILENO, b"'s rows begun"),
-        2 => io::write_all(STDOUT_FILENO, b"'s yields"),
+        places::STATE => io::write_all(STDOUT_FILENO, b"'s state"),
+        places::THREAD_ROWS => io::write_all(STDOUT_FILENO, b"'s rows begun"),
+        places::YIELDS => io::write_all(STDOUT_FILENO, b"'s yields"),
         _ => io::write_all(STDOUT_FILENO, b"'s own version"),
     }
 }

@@ -11,9 +11,9 @@ use Rattle.rules.specs.Explored.{refused, reported, verdictSite}
 use Rattle.rules.specs.Explorer.{Stop, Verdict}
 use Rattle.report.specs.declared.Answer.{Answer}
 use Rattle.report.specs.declared.Answer.the-variants as answer
-use Rattle.report.specs.Answers.{Fits, answerFits, refusal, ranReport}
+use Rattle.report.specs.Answers.{SaysAs, answerFits, refusal, ranReport}
 
-pub fits : (a : Answer) (v : Verdict) → answerFits a v → Fits a v
+pub fits : (a : Answer) (v : Verdict) → answerFits a v → SaysAs a v
 unfolding verdictSite
 fits answer.Exhausted v e = rw e (record { number = refl; kind = refl; other = refl; thread = refl; row = refl })
 fits answer.Spent v e = rw e (record { number = refl; kind = refl; other = refl; thread = refl; row = refl })
@@ -24,7 +24,7 @@ fits (answer.BadTable t k) v e = absurd e
 fits (answer.Stopped f s) v e = rw e (record { number = refl; kind = refl; other = refl; thread = refl; row = refl })
 fits answer.Unmet v e = rw e (record { number = refl; kind = refl; other = refl; thread = refl; row = refl })
 
-so-reported : (a : Answer) (r : Stop State) → Fits a (r .verdict) → ranReport a (r .walk .ledger .begun) (r .walk .ledger .opened) (openIn (r .walk .ledger .path)) (r .walk .state) ≡ reported r
+so-reported : (a : Answer) (r : Stop State) → SaysAs a (r .verdict) → ranReport a (r .walk .ledger .begun) (r .walk .ledger .opened) (openIn (r .walk .ledger .path)) (r .walk .state) ≡ reported r
 unfolding reported
 so-reported a r h = cc
 

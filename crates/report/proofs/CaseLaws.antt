@@ -21,7 +21,7 @@ use Rattle.event.specs.Moves.{faultOf}
 use Rattle.report.proofs.Answer as Answer
 use Rattle.report.specs.declared.Answer.{Answer}
 use Rattle.report.specs.declared.Answer.the-variants as answer
-use Rattle.report.specs.Answers.{siteOf, kindOf, otherOf, threadAtFault, rowAtFault}
+use Rattle.report.specs.Answers.{siteOf, raceKindOf, otherOf, threadAtFault, rowAtFault}
 
 pub no-place : (a : Answer) → OneOf (0 ∷ 1 ∷ 2 ∷ 3 ∷ 4 ∷ 7 ∷ []) (tagOf Answer.the-type a) → (255 ≡ threadAtFault a) × (255 ≡ rowAtFault a)
 no-place answer.Exhausted k = (refl, refl)
@@ -33,7 +33,7 @@ no-place (answer.BadTable t r) k = absurd (miss (0 ∷ 1 ∷ 2 ∷ 3 ∷ 4 ∷ 7
 no-place (answer.Stopped f s) k = absurd (miss (0 ∷ 1 ∷ 2 ∷ 3 ∷ 4 ∷ 7 ∷ []) 6 tt k)
 no-place answer.Unmet k = (refl, refl)
 
-pub no-fault : (a : Answer) → OneOf (0 ∷ 1 ∷ 2 ∷ 3 ∷ 4 ∷ 5 ∷ 7 ∷ []) (tagOf Answer.the-type a) → (0 ≡ kindOf a) × (255 ≡ otherOf a)
+pub no-fault : (a : Answer) → OneOf (0 ∷ 1 ∷ 2 ∷ 3 ∷ 4 ∷ 5 ∷ 7 ∷ []) (tagOf Answer.the-type a) → (0 ≡ raceKindOf a) × (255 ≡ otherOf a)
 no-fault answer.Exhausted k = (refl, refl)
 no-fault answer.Spent k = (refl, refl)
 no-fault answer.BadSettings k = (refl, refl)
@@ -55,10 +55,10 @@ no-race fault.Preempted k = (refl, refl)
 no-race fault.Impossible k = (refl, refl)
 
 module _ (a : Answer) (f : Fault) (s : Site) (e : a ≡ answer.Stopped f s) where
-  pub raceless : OneOf (0 ∷ 1 ∷ 2 ∷ 3 ∷ 5 ∷ 6 ∷ 7 ∷ 8 ∷ []) (tagOf Fault.the-type f) → (0 ≡ kindOf a) × (255 ≡ otherOf a)
+  pub raceless : OneOf (0 ∷ 1 ∷ 2 ∷ 3 ∷ 5 ∷ 6 ∷ 7 ∷ 8 ∷ []) (tagOf Fault.the-type f) → (0 ≡ raceKindOf a) × (255 ≡ otherOf a)
   raceless k = rw e (no-race f k)
 
-  pub raced : {kind other : ℕ} → f ≡ fault.Race kind other → (kind ≡ kindOf a) × (other ≡ otherOf a)
+  pub raced : {kind other : ℕ} → f ≡ fault.Race kind other → (kind ≡ raceKindOf a) × (other ≡ otherOf a)
   raced d = rw (e, d) (refl, refl)
 
   module _ (b : Bool) (n : b ≡ leb 11 (faultNumber (faultOf f))) where

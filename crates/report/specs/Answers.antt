@@ -1,9 +1,9 @@
 -- What each answer of a run stands for: document 01's number, race kind, other thread, thread and row, for every case; and the
 -- report. Assumes nothing.
---     numberOf, kindOf, otherOf, threadAtFault, rowAtFault     of an answer
+--     answerNumber, raceKindOf, otherOf, threadAtFault, rowAtFault  of an answer
 --     summaryOf, reportOf                            the definition's summary and report
 --     refusal, ranReport                             the report of a refusal, and of a run that stopped
---     answerFits, Fits                               an answer that says what a verdict of the definition says
+--     answerFits, SaysAs                             an answer that says what a verdict of the definition says
 use Prim.Native.Nat.{ℕ}
 use mathlib.Core.List.{List, map}
 use mathlib.Core.Path.{_≡_}
@@ -20,32 +20,32 @@ pub use Rattle.event.specs.Moves.{siteOf}
 use Rattle.event.specs.declared.Site.{Site}
 use Rattle.report.specs.declared.Answer.{Answer}
 use Rattle.report.specs.declared.Answer.the-variants as answer
-use Rattle.report.specs.declared.ThreadRecord.{ThreadRecord}
+use Rattle.report.specs.declared.Summary as ofThread
 use Rattle.report.specs.declared.Report as code
 
 -- the answer's number: "0 an execution ended, no choice open", "1 N executions ended, some choice open", "2 B, L or N out of range",
 -- "3 path buffer length wrong", "4 trace buffer or thread list length wrong", "5 table refused", those of the faults, and "a false
 -- one is answer 18"
-abbrev pub numberOf : Answer → ℕ
-numberOf answer.Exhausted = verdictNumber explorer.exhausted
-numberOf answer.Spent = verdictNumber explorer.spent
-numberOf answer.BadSettings = 2
-numberOf answer.BadPath = 3
-numberOf answer.BadTrace = 4
-numberOf (answer.BadTable t k) = 5
-numberOf (answer.Stopped f s) = verdictNumber (explorer.stopped (faultOf f) (siteOf s))
-numberOf answer.Unmet = verdictNumber explorer.unmet
+abbrev pub answerNumber : Answer → ℕ
+answerNumber answer.Exhausted = verdictNumber explorer.exhausted
+answerNumber answer.Spent = verdictNumber explorer.spent
+answerNumber answer.BadSettings = 2
+answerNumber answer.BadPath = 3
+answerNumber answer.BadTrace = 4
+answerNumber (answer.BadTable t k) = 5
+answerNumber (answer.Stopped f s) = verdictNumber (explorer.stopped (faultOf f) (siteOf s))
+answerNumber answer.Unmet = verdictNumber explorer.unmet
 
 -- "race kind (else 0)"
-abbrev pub kindOf : Answer → ℕ
-kindOf answer.Exhausted = verdictKind explorer.exhausted
-kindOf answer.Spent = verdictKind explorer.spent
-kindOf answer.BadSettings = 0
-kindOf answer.BadPath = 0
-kindOf answer.BadTrace = 0
-kindOf (answer.BadTable t k) = 0
-kindOf (answer.Stopped f s) = verdictKind (explorer.stopped (faultOf f) (siteOf s))
-kindOf answer.Unmet = verdictKind explorer.unmet
+abbrev pub raceKindOf : Answer → ℕ
+raceKindOf answer.Exhausted = verdictKind explorer.exhausted
+raceKindOf answer.Spent = verdictKind explorer.spent
+raceKindOf answer.BadSettings = 0
+raceKindOf answer.BadPath = 0
+raceKindOf answer.BadTrace = 0
+raceKindOf (answer.BadTable t k) = 0
+raceKindOf (answer.Stopped f s) = verdictKind (explorer.stopped (faultOf f) (siteOf s))
+raceKindOf answer.Unmet = verdictKind explorer.unmet
 
 -- "other thread (else 255)"
 abbrev pub otherOf : Answer → ℕ
@@ -80,22 +80,22 @@ rowAtFault (answer.BadTable t k) = k
 rowAtFault (answer.Stopped f s) = verdictSite (explorer.stopped (faultOf f) (siteOf s)) .row
 rowAtFault answer.Unmet = 255
 
-abbrev pub summaryOf : ThreadRecord → Summary
+abbrev pub summaryOf : ofThread.Summary → Summary
 summaryOf r = record { state = r .state; rows = r .rows; yields = r .yields; version = r .version }
 
-abbrev pub summariesOf : List ThreadRecord → List Summary
+abbrev pub summariesOf : List ofThread.Summary → List Summary
 summariesOf rs = map summaryOf rs
 
 abbrev pub reportOf : code.Report → Report
 reportOf r = record {
-  answer = numberOf (r .answer);
+  answer = answerNumber (r .answer);
   begun = r .begun;
   opened = r .opened;
-  stillOpen = r .open;
+  stillOpen = r .still_open;
   rows = r .rows;
   thread = threadAtFault (r .answer);
   row = rowAtFault (r .answer);
-  kind = kindOf (r .answer);
+  kind = raceKindOf (r .answer);
   other = otherOf (r .answer);
   threads = summariesOf (r .threads);
 }
@@ -103,14 +103,14 @@ reportOf r = record {
 -- the report of an answer that begins nothing
 abbrev pub refusal : Answer → Report
 refusal a = record {
-  answer = numberOf a;
+  answer = answerNumber a;
   begun = 0;
   opened = 0;
   stillOpen = 0;
   rows = 0;
   thread = threadAtFault a;
   row = rowAtFault a;
-  kind = kindOf a;
+  kind = raceKindOf a;
   other = otherOf a;
   threads = replicate 5 explored.noSummary;
 }
@@ -118,22 +118,22 @@ refusal a = record {
 -- and of one that a run stopped with, in this state
 abbrev pub ranReport : Answer → ℕ → ℕ → ℕ → State → Report
 ranReport a executions opened stillOpen st = record {
-  answer = numberOf a;
+  answer = answerNumber a;
   begun = executions;
   opened = opened;
   stillOpen = stillOpen;
   rows = number (st .numbers) rowsBegun;
   thread = threadAtFault a;
   row = rowAtFault a;
-  kind = kindOf a;
+  kind = raceKindOf a;
   other = otherOf a;
   threads = map (summary st) everyThread;
 }
 
 -- an answer that says what a verdict says: the same number, race kind, other thread, thread and row
-pub record Fits (a : Answer) (v : Verdict) : Type 0 where
-  pub number : numberOf a ≡ verdictNumber v
-  pub kind : kindOf a ≡ verdictKind v
+pub record SaysAs (a : Answer) (v : Verdict) : Type 0 where
+  pub number : answerNumber a ≡ verdictNumber v
+  pub kind : raceKindOf a ≡ verdictKind v
   pub other : otherOf a ≡ verdictOther v
   pub thread : threadAtFault a ≡ verdictSite v .thread
   pub row : rowAtFault a ≡ verdictSite v .row

@@ -1,17 +1,16 @@
 // What a run answers.
 ghost use mathlib.Core.Path.{_≡_};
-ghost use Prim.Native.Nat.{ℕ, _<_};
+ghost use Prim.Native.Nat.{ℕ};
 ghost use Rattle.rules.specs.Event.{faultNumber, raceKind, otherThread};
 ghost use Rattle.rules.specs.Explored as rules;
 ghost use Rattle.rules.specs.State as State;
-ghost use Rattle.rules.specs.Machine.{everyThread};
-ghost use mathlib.Core.List.{map};
 ghost use lib.Dec.{leb};
 ghost use Rattle.layout.specs.Tables.{state};
 ghost use Rattle.event.specs.Moves.{faultOf};
-ghost use Rattle.report.specs.Answers.{numberOf, kindOf, otherOf, threadAtFault, rowAtFault, summaryOf, summariesOf, reportOf, refusal, ranReport};
+ghost use Rattle.report.specs.Answers.{answerNumber, raceKindOf, otherOf, threadAtFault, rowAtFault, reportOf, refusal, ranReport};
 
 pub mod answers;
+pub mod threads;
 
 use event::Fault;
 use event::NO_PLACE;
@@ -20,9 +19,6 @@ use layout::Clocks;
 use layout::MAX_THREADS;
 use layout::Numbers;
 use layout::of_run::ROWS_BEGUN;
-use layout::of_thread::ROWS;
-use layout::of_thread::STATE;
-use layout::of_thread::YIELDS;
 use layout::wide16;
 
 // Document 01's table of answers: 0 and 1, the refusals 2 to 5, the faults from 10 on, with where they were met, and 18, a final
@@ -39,7 +35,7 @@ pub enum Answer {
 }
 
 // One thread at the end of the last execution; all zero if it is absent.
-pub struct ThreadRecord {
+pub struct Summary {
     pub state: u16,
     pub rows: u16,
     pub yields: u16,
@@ -52,28 +48,16 @@ pub struct Report {
     // Executions begun, choices opened in the whole history, choices open in the path left, rows begun.
     pub begun: u64,
     pub opened: u64,
-    pub open: u64,
+    pub still_open: u64,
     pub rows: u64,
-    pub threads: [ThreadRecord; MAX_THREADS],
+    pub threads: [Summary; MAX_THREADS],
 }
 
 // What is counted over the whole history, and in the path left.
 pub struct Counts {
     pub begun: u64,
     pub opened: u64,
-    pub open: u64,
-}
-
-// A thread that is absent, and every thread where nothing was begun.
-pub fn absent() -> ThreadRecord
-    ensures { λ r. ⌜ summaryOf r ≡ rules.noSummary ⌝ }
-{
-    ThreadRecord {
-        state: thread::ABSENT,
-        rows: 0,
-        yields: 0,
-        version: 0,
-    }
+    pub still_open: u64,
 }
 
 // A refusal begins nothing: all counts and summaries are zero.
@@ -84,59 +68,31 @@ pub fn refused(answer: Answer) -> Report
         answer,
         begun: 0,
         opened: 0,
-        open: 0,
+        still_open: 0,
         rows: 0,
-        threads: [absent(); MAX_THREADS],
+        threads: [threads::absent(); MAX_THREADS],
     }
 }
 
 // The report of a run that stops here.
 pub fn finished(clocks: &Clocks, numbers: &Numbers, answer: Answer, counts: Counts) -> Report
-    ensures { λ r. ⌜ ((marks : State.Marks) (values : State.Values) → reportOf r ≡ ranReport answer (counts .begun) (counts .opened) (counts .open) (state (now (clocks .entry)) marks values (now (numbers .entry)))) ⌝ }
+    ensures { λ r. ⌜ ((marks : State.Marks) (values : State.Values) → reportOf r ≡ ranReport answer (counts .begun) (counts .opened) (counts .still_open) (state (now (clocks .entry)) marks values (now (numbers .entry)))) ⌝ }
 {
-    let threads = summaries(clocks, numbers);
+    let threads = threads::summaries(clocks, numbers);
     let rows = wide16(numbers[ROWS_BEGUN]);
     Report {
         answer,
         begun: counts.begun,
         opened: counts.opened,
-        open: counts.open,
+        still_open: counts.still_open,
         rows: rows as u64,
         threads,
     }
 }
 
-// The summary of one thread.
-pub fn summary(clocks: &Clocks, numbers: &Numbers, thread: usize) -> ThreadRecord
-    requires { ⌜ thread < 5 ⌝ }
-    ensures { λ r. ⌜ ((marks : State.Marks) (values : State.Values) → summaryOf r ≡ rules.summary (state (now (clocks .entry)) marks values (now (numbers .entry))) thread) ⌝ }
-{
-    let state = numbers[STATE + thread];
-    if state == thread::ABSENT {
-        return absent();
-    }
-    ThreadRecord {
-        state,
-        rows: numbers[ROWS + thread],
-        yields: numbers[YIELDS + thread],
-        version: thread::version(clocks, thread),
-    }
-}
-
-pub fn summaries(clocks: &Clocks, numbers: &Numbers) -> [ThreadRecord; MAX_THREADS]
-    ensures { λ r. ⌜ ((marks : State.Marks) (values : State.Values) → summariesOf r ≡ map (rules.summary (state (now (clocks .entry)) marks values (now (numbers .entry)))) everyThread) ⌝ }
-{
-    let a = summary(clocks, numbers, 0);
-    let b = summary(clocks, numbers, 1);
-    let c = summary(clocks, numbers, 2);
-    let d = summary(clocks, numbers, 3);
-    let e = summary(clocks, numbers, 4);
-    [a, b, c, d, e]
-}
-
 // The answer's number.
 pub fn number(answer: Answer) -> u64
-    ensures { λ r. ⌜ r ≡ numberOf answer ⌝ }
+    ensures { λ r. ⌜ r ≡ answerNumber answer ⌝ }
 {
     match answer {
         Answer::Exhausted => answers::EXHAUSTED,
@@ -176,7 +132,7 @@ pub fn is_refusal(number: u64) -> bool
 
 // The race kind, or 0.
 pub fn race_kind(answer: Answer) -> u64
-    ensures { λ r. ⌜ r ≡ kindOf answer ⌝ }
+    ensures { λ r. ⌜ r ≡ raceKindOf answer ⌝ }
 {
     let Answer::Stopped { fault, .. } = answer else {
         return 0;

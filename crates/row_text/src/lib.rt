@@ -1,7 +1,7 @@
 // A row of a table in a line of output, as it stands in a text.
 ghost use mathlib.Core.Path.{_≡_};
 ghost use Rattle.rules.specs.Table.{rowAt};
-ghost use Rattle.page.specs.Pages.{ended, putText};
+ghost use Rattle.page.specs.Pages.{pageOf, putText};
 ghost use Rattle.row_text.specs.Rows.{rowWords, rowSaid};
 use layout::MAX_THREADS;
 use layout::wide8;
@@ -19,7 +19,7 @@ const BLANKS: usize = 2;
 
 // Puts the row of this number of a thread; nothing for a thread that no table has.
 pub fn put(page: &mut Page, at: usize, table: &[u8], thread: u8, number: u8) -> usize
-    ensures { λ r. ⌜ ended (now (page .exit)) r ≡ putText (ended (now (page .entry)) at) (rowSaid (now (table .entry)) thread number) ⌝ }
+    ensures { λ r. ⌜ pageOf (now (page .exit)) r ≡ putText (pageOf (now (page .entry)) at) (rowSaid (now (table .entry)) thread number) ⌝ }
 {
     let t = wide8(thread);
     if MAX_THREADS <= t {
@@ -33,7 +33,7 @@ pub fn put(page: &mut Page, at: usize, table: &[u8], thread: u8, number: u8) -> 
 
 // The row of this number among all rows of a table with so many start values.
 fn put_at(page: &mut Page, at: usize, table: &[u8], values: usize, index: usize) -> usize
-    ensures { λ r. ⌜ ended (now (page .exit)) r ≡ putText (ended (now (page .entry)) at) (rowWords (rowAt (now (table .entry)) values index)) ⌝ }
+    ensures { λ r. ⌜ pageOf (now (page .exit)) r ≡ putText (pageOf (now (page .entry)) at) (rowWords (rowAt (now (table .entry)) values index)) ⌝ }
 {
     let mut text = [0u8; ROW_LINE];
     let to = row_line::put_row(&mut text, 0, table, values, index);

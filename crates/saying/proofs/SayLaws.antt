@@ -14,7 +14,7 @@ use lib.ListN.{length, getD, drop}
 use Rattle.rules.specs.Token.{found, bytesOf, isBlank, isBetween, runLength, pastBlanks, token, tokenLength, endsLine, numberIn, plainIn}
 use Rattle.token.specs.Places.{part}
 use Rattle.token.proofs.PlaceLaws.{left-by, part-token}
-use Rattle.saying.specs.Sayings.{nameShown, says, namesPlain, namesCell, whyNoPlain, whyNoRow, whyNoNumber, reason, isClear, tokenShown, whatShown}
+use Rattle.saying.specs.Sayings.{nameShown, spells, namesPlain, namesCell, whyNoPlain, whyNoRow, whyNoNumber, reason, isClear, tokenShown, whatShown}
 
 module _ (name : List ℕ) where
   pub name-none : length name ≡ 0 → [] ≡ nameShown name
@@ -39,21 +39,21 @@ module _ (word : List ℕ) where
 
 -- The words before
 
-pub cell-named : (word : List ℕ) (load unsync to on : Bool) → load ≡ says word "load" → unsync ≡ says word "unsync_load" → to ≡ says word "to" → on ≡ says word "on"
+pub cell-named : (word : List ℕ) (load unsync to on : Bool) → load ≡ spells word "load" → unsync ≡ spells word "unsync_load" → to ≡ spells word "to" → on ≡ spells word "on"
     → (((load || unsync) || to) || on) ≡ namesCell word
 cell-named word load unsync to on a b c d = rw (a, b, c, d)
 
 module _ (text : List ℕ) (before end : ℕ) (ends : end ≡ before + tokenLength (drop before text)) where
   -- a test on a token, by its places
-  pub said : (s : String) (r t : Bool) → r ≡ says (part before end text) s → r ≡ t → says (token (drop before text)) s ≡ t
-  said s r t e h = ap (λ (w : List ℕ). says w s) (sym (part-token text before end ends)) ∙ sym e ∙ h
+  pub said : (s : String) (r t : Bool) → r ≡ spells (part before end text) s → r ≡ t → spells (token (drop before text)) s ≡ t
+  said s r t e h = ap (λ (w : List ℕ). spells w s) (sym (part-token text before end ends)) ∙ sym e ∙ h
 
   pub cell-said : (r t : Bool) → r ≡ namesCell (part before end text) → r ≡ t → namesCell (token (drop before text)) ≡ t
   cell-said r t e h = ap namesCell (sym (part-token text before end ends)) ∙ sym e ∙ h
 
   pub plain-named : (begin first behind : ℕ) (read to write : Bool) →
       first ≡ begin + runLength isBlank (drop begin text) → behind ≡ first + tokenLength (drop first text) →
-      read ≡ says (part before end text) "read" → to ≡ says (part before end text) "to" → write ≡ says (part first behind text) "write"
+      read ≡ spells (part before end text) "read" → to ≡ spells (part before end text) "to" → write ≡ spells (part first behind text) "write"
       → (read || (write && to)) ≡ namesPlain (token (pastBlanks (drop begin text))) (token (drop before text))
   plain-named begin first behind read to write f b r t w =
       let word : part first behind text ≡ token (pastBlanks (drop begin text)) = part-token text first behind b ∙ ap token (left-by text begin first _ f) in
@@ -61,16 +61,16 @@ module _ (text : List ℕ) (before end : ℕ) (ends : end ≡ before + tokenLeng
 
 -- Why a token cannot stand there
 
-module _ (number row : ℕ) where
-  pub row-own : number ≡ row → ": a jump to its own row never ends" ≡ whyNoRow number row
+module _ (row target : ℕ) where
+  pub row-own : target ≡ row → ": a jump to its own row never ends" ≡ whyNoRow row target
   row-own e = sym (rw (eq-eqb _ _ e))
 
-  pub row-none : (number ≡ row → ⊥) → ": its thread has no such row" ≡ whyNoRow number row
+  pub row-none : (target ≡ row → ⊥) → ": its thread has no such row" ≡ whyNoRow row target
   row-none n = sym (rw (ne-eqb _ _ n))
 
 module _ (row : ℕ) (before word : List ℕ) where
-  pub why-by : (number : ℕ) (jump join cell : Bool) → numberIn word ≡ found number → says before "jump" ≡ jump → says before "join" ≡ join → namesCell before ≡ cell
-      → cond jump (whyNoRow number row) (cond join ": there is no such thread" (cond cell ": there is no such cell" "")) ≡ whyNoNumber row before (numberIn word)
+  pub why-by : (number : ℕ) (jump join cell : Bool) → numberIn word ≡ found number → spells before "jump" ≡ jump → spells before "join" ≡ join → namesCell before ≡ cell
+      → cond jump (whyNoRow row number) (cond join ": there is no such thread" (cond cell ": there is no such cell" "")) ≡ whyNoNumber row before (numberIn word)
   why-by number jump join cell n a b c = sym (rw (n, a, b, c))
 
   pub reason-by : (first : List ℕ) (plain : Bool) → namesPlain first before ≡ plain → cond plain (whyNoPlain (plainIn word)) (whyNoNumber row before (numberIn word)) ≡ reason row first before word

@@ -28,32 +28,32 @@ placeShown name line column =
 
 -- Why a token cannot stand there
 
-abbrev pub says : List ℕ → String → Bool
-says word s = equal word (bytesOf s)
+abbrev pub spells : List ℕ → String → Bool
+spells word s = equal word (bytesOf s)
 
 -- a plain cell stands behind `read`, and behind `to` in a line that begins with `write`
 abbrev pub namesPlain : List ℕ → List ℕ → Bool
-namesPlain first before = says before "read" || (says first "write" && says before "to")
+namesPlain first before = spells before "read" || (spells first "write" && spells before "to")
 
 -- behind those
 abbrev pub whyNoPlain : Found → String
 whyNoPlain nothing = ": a plain cell is p0 to p3"
 whyNoPlain (found p) = ": there is no such plain cell"
 
--- a jump's number leads to a row of its thread, but not to its own
+-- a jump leads to a row of its thread, but not to its own
 abbrev pub whyNoRow : ℕ → ℕ → String
-whyNoRow number row = cond (eqb number row) ": a jump to its own row never ends" ": its thread has no such row"
+whyNoRow row target = cond (eqb target row) ": a jump to its own row never ends" ": its thread has no such row"
 
 -- a cell stands behind these words
 abbrev pub namesCell : List ℕ → Bool
-namesCell before = says before "load" || says before "unsync_load" || says before "to" || says before "on"
+namesCell before = spells before "load" || spells before "unsync_load" || spells before "to" || spells before "on"
 
 -- by the row's number and the word before; only of a number
 abbrev pub whyNoNumber : ℕ → List ℕ → Found → String
 whyNoNumber row before nothing = ""
-whyNoNumber row before (found number) =
-    cond (says before "jump") (whyNoRow number row)
-    (cond (says before "join") ": there is no such thread"
+whyNoNumber row before (found value) =
+    cond (spells before "jump") (whyNoRow row value)
+    (cond (spells before "join") ": there is no such thread"
     (cond (namesCell before) ": there is no such cell"
     ""))
 

@@ -13,56 +13,57 @@ use token::Found;
 // The longest token that is named; of a longer one only the place is said.
 const NAMED: usize = 40;
 
+// Where a token stands in its text: the number of its row, where its line begins, where the token before it begins, and where it begins
+// itself.
+pub struct Spot {
+    pub row: usize,
+    pub begin: usize,
+    pub before: usize,
+    pub place: usize,
+}
+
 // Puts the file, the line and the column.
-pub fn put_place(out: &mut [u8], to: usize, name: &[u8], line: usize, column: usize) -> usize
-    ensures { λ r. ⌜ Puts (now (out .entry)) (now (out .exit)) to (placeShown (now (name .entry)) line column) r ⌝ }
+pub fn put_place(page: &mut [u8], at: usize, name: &[u8], line: usize, column: usize) -> usize
+    ensures { λ r. ⌜ Puts (now (page .entry)) (now (page .exit)) at (placeShown (now (name .entry)) line column) r ⌝ }
 {
-    let refused = put_bytes(out, to, b"answer 5: refused: ");
-    let named = put_name(out, refused, name);
-    let of_line = put_bytes(out, named, b"line ");
-    let line_put = put_number(out, of_line, line as u64);
-    let of_column = put_bytes(out, line_put, b", column ");
-    let column_put = put_number(out, of_column, column as u64);
-    put_bytes(out, column_put, b": ")
+    let refused = put_bytes(page, at, b"answer 5: refused: ");
+    let named = put_name(page, refused, name);
+    let of_line = put_bytes(page, named, b"line ");
+    let line_put = put_number(page, of_line, line as u64);
+    let of_column = put_bytes(page, line_put, b", column ");
+    let column_put = put_number(page, of_column, column as u64);
+    put_bytes(page, column_put, b": ")
 }
 
 // Puts the name of a file, where there is one.
-fn put_name(out: &mut [u8], to: usize, name: &[u8]) -> usize
-    ensures { λ r. ⌜ Puts (now (out .entry)) (now (out .exit)) to (nameShown (now (name .entry))) r ⌝ }
+fn put_name(page: &mut [u8], at: usize, name: &[u8]) -> usize
+    ensures { λ r. ⌜ Puts (now (page .entry)) (now (page .exit)) at (nameShown (now (name .entry))) r ⌝ }
 {
     if name.len() == 0 {
-        return to;
+        return at;
     }
-    let behind = put_bytes(out, to, name);
-    put_bytes(out, behind, b": ")
+    let behind = put_bytes(page, at, name);
+    put_bytes(page, behind, b": ")
 }
 
 // Puts what stands there, and where that is clear from the line's first token and the one before, why it cannot; or that something is
-// missing. `row` is the number of the row in the line.
-pub fn put_what(
-    out: &mut [u8],
-    to: usize,
-    text: &[u8],
-    row: usize,
-    begin: usize,
-    before: usize,
-    at: usize,
-) -> usize
-    ensures { λ r. ⌜ Puts (now (out .entry)) (now (out .exit)) to (whatShown (now (text .entry)) row begin before at) r ⌝ }
+// missing.
+pub fn put_what(page: &mut [u8], at: usize, text: &[u8], spot: Spot) -> usize
+    ensures { λ r. ⌜ Puts (now (page .entry)) (now (page .exit)) at (whatShown (now (text .entry)) (spot .row) (spot .begin) (spot .before) (spot .place)) r ⌝ }
 {
-    if token::ends_line(text, at) {
-        return put_bytes(out, to, b"something is missing here\n");
+    if token::ends_line(text, spot.place) {
+        return put_bytes(page, at, b"something is missing here\n");
     }
-    let end = token::token_end(text, at);
-    let word = token::part(text, at, end);
+    let end = token::token_end(text, spot.place);
+    let word = token::part(text, spot.place, end);
     if !is_clear(word) {
-        return put_bytes(out, to, b"this cannot stand here\n");
+        return put_bytes(page, at, b"this cannot stand here\n");
     }
-    let quote = put_byte(out, to, b'`');
-    let named = put_bytes(out, quote, word);
-    let said = put_bytes(out, named, b"` cannot stand here");
-    let told = put_reason(out, said, text, row, begin, before, at, end);
-    put_byte(out, told, b'\n')
+    let quote = put_byte(page, at, b'`');
+    let named = put_bytes(page, quote, word);
+    let said = put_bytes(page, named, b"` cannot stand here");
+    let told = put_reason(page, said, text, spot, end);
+    put_byte(page, told, b'\n')
 }
 
 // Whether a token can be named: it is short, and no byte that would steer a terminal, or a part of a letter.
@@ -75,26 +76,17 @@ fn is_clear(word: &[u8]) -> bool
     if NAMED < word.len() {
         return false;
     }
-    (32 <= word[0]) & (word[0] <= 126)
+    (b' ' <= word[0]) & (word[0] <= b'~')
 }
 
 // Why the token between two places cannot stand there.
-fn put_reason(
-    out: &mut [u8],
-    to: usize,
-    text: &[u8],
-    row: usize,
-    begin: usize,
-    before: usize,
-    at: usize,
-    end: usize,
-) -> usize
-    ensures { λ r. ⌜ Puts (now (out .entry)) (now (out .exit)) to (bytesOf (reason row (token (pastBlanks (drop begin (now (text .entry))))) (token (drop before (now (text .entry)))) (part at end (now (text .entry))))) r ⌝ }
+fn put_reason(page: &mut [u8], at: usize, text: &[u8], spot: Spot, end: usize) -> usize
+    ensures { λ r. ⌜ Puts (now (page .entry)) (now (page .exit)) at (bytesOf (reason (spot .row) (token (pastBlanks (drop (spot .begin) (now (text .entry))))) (token (drop (spot .before) (now (text .entry)))) (part (spot .place) end (now (text .entry))))) r ⌝ }
 {
-    if names_plain(text, begin, before) {
-        return put_why_no_plain(out, to, text, at, end);
+    if names_plain(text, spot.begin, spot.before) {
+        return put_why_no_plain(page, at, text, spot.place, end);
     }
-    put_why(out, to, text, row, before, at, end)
+    put_why(page, at, text, spot, end)
 }
 
 // Whether a plain cell stands behind this token of the line that begins there.
@@ -111,51 +103,43 @@ fn names_plain(text: &[u8], begin: usize, before: usize) -> bool
 }
 
 // Why a token cannot stand where a plain cell must.
-fn put_why_no_plain(out: &mut [u8], to: usize, text: &[u8], at: usize, end: usize) -> usize
-    ensures { λ r. ⌜ Puts (now (out .entry)) (now (out .exit)) to (bytesOf (whyNoPlain (plainIn (part at end (now (text .entry)))))) r ⌝ }
+fn put_why_no_plain(page: &mut [u8], at: usize, text: &[u8], place: usize, end: usize) -> usize
+    ensures { λ r. ⌜ Puts (now (page .entry)) (now (page .exit)) at (bytesOf (whyNoPlain (plainIn (part place end (now (text .entry)))))) r ⌝ }
 {
-    match token::plain(text, at, end) {
-        Found::Value(plain) => put_bytes(out, to, b": there is no such plain cell"),
-        Found::Nothing => put_bytes(out, to, b": a plain cell is p0 to p3"),
+    match token::plain(text, place, end) {
+        Found::Value(plain) => put_bytes(page, at, b": there is no such plain cell"),
+        Found::Nothing => put_bytes(page, at, b": a plain cell is p0 to p3"),
     }
 }
 
 // Why a number cannot stand there: behind these words only one that is too large is refused, and a jump to its own row.
-fn put_why(
-    out: &mut [u8],
-    to: usize,
-    text: &[u8],
-    row: usize,
-    before: usize,
-    at: usize,
-    end: usize,
-) -> usize
-    ensures { λ r. ⌜ Puts (now (out .entry)) (now (out .exit)) to (bytesOf (whyNoNumber row (token (drop before (now (text .entry)))) (numberIn (part at end (now (text .entry)))))) r ⌝ }
+fn put_why(page: &mut [u8], at: usize, text: &[u8], spot: Spot, end: usize) -> usize
+    ensures { λ r. ⌜ Puts (now (page .entry)) (now (page .exit)) at (bytesOf (whyNoNumber (spot .row) (token (drop (spot .before) (now (text .entry)))) (numberIn (part (spot .place) end (now (text .entry)))))) r ⌝ }
 {
-    let Found::Value(number) = token::number(text, at, end) else {
-        return to;
+    let Found::Value(value) = token::number(text, spot.place, end) else {
+        return at;
     };
-    let behind = token::token_end(text, before);
-    if token::is_word(text, b"jump", before, behind) {
-        return put_why_no_row(out, to, number, row);
+    let behind = token::token_end(text, spot.before);
+    if token::is_word(text, b"jump", spot.before, behind) {
+        return put_why_no_row(page, at, spot.row, value);
     }
-    if token::is_word(text, b"join", before, behind) {
-        return put_bytes(out, to, b": there is no such thread");
+    if token::is_word(text, b"join", spot.before, behind) {
+        return put_bytes(page, at, b": there is no such thread");
     }
-    if names_cell(text, before, behind) {
-        return put_bytes(out, to, b": there is no such cell");
+    if names_cell(text, spot.before, behind) {
+        return put_bytes(page, at, b": there is no such cell");
     }
-    to
+    at
 }
 
-// Why a jump may not lead to the row of this number.
-fn put_why_no_row(out: &mut [u8], to: usize, number: u64, row: usize) -> usize
-    ensures { λ r. ⌜ Puts (now (out .entry)) (now (out .exit)) to (bytesOf (whyNoRow number row)) r ⌝ }
+// Why a jump of this row may not lead to that one.
+fn put_why_no_row(page: &mut [u8], at: usize, row: usize, target: u64) -> usize
+    ensures { λ r. ⌜ Puts (now (page .entry)) (now (page .exit)) at (bytesOf (whyNoRow row target)) r ⌝ }
 {
-    if number == row as u64 {
-        return put_bytes(out, to, b": a jump to its own row never ends");
+    if target == row as u64 {
+        return put_bytes(page, at, b": a jump to its own row never ends");
     }
-    put_bytes(out, to, b": its thread has no such row")
+    put_bytes(page, at, b": its thread has no such row")
 }
 
 // Whether a cell stands behind this word.

@@ -51,7 +51,7 @@ fn show(table: &[u8], condition: &[u8]) {
     let mut path = [0u8; PATH_BYTES];
     let mut trace = [0u8; TRACE_BYTES];
     let report = explorer::explore(table, condition, &mut path, &mut trace, settings());
-    tell::print_report(table, condition, &trace, settings(), report, false);
+    tell::print_report(table, condition, &trace, settings(), false, report);
 }
 
 // The largest limits, no bound, exploring.

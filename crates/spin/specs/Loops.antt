@@ -6,7 +6,7 @@ use mathlib.Core.List.{List}
 use mathlib.Core.Bool.{Bool, true, false, cond, not, _&&_}
 use lib.Dec.{leb, eqb}
 use Rattle.rules.specs.Table.{maxRows}
-use Rattle.steps.specs.Entries.{entryAt}
+use Rattle.steps.specs.Entries.{entryRead}
 
 -- what is found at the first of the n numbers from i on that passes the test, or what stands for none
 unfoldable pub firstOf : {A : Type 0} → (ℕ → Bool) → (ℕ → A) → A → ℕ → ℕ → A
@@ -26,7 +26,7 @@ least test = firstOf test (λ (i : ℕ). i) 0
 -- two steps of the same thread and row
 abbrev pub sameRow : List ℕ → ℕ → ℕ → Bool
 sameRow trace i j =
-    eqb (entryAt trace i .thread) (entryAt trace j .thread) && eqb (entryAt trace i .row) (entryAt trace j .row)
+    eqb (entryRead trace i .thread) (entryRead trace j .thread) && eqb (entryRead trace i .row) (entryRead trace j .row)
 
 -- the last of n steps are three times the same p rows: each of the last 2·p is of the same row as the one p before it
 unfoldable pub repeatsIn : List ℕ → ℕ → ℕ → Bool
@@ -38,7 +38,7 @@ periodOf trace n = least (repeatsIn trace n) maxRows 1
 
 -- "7 yield"
 abbrev pub isYield : List ℕ → ℕ → Bool
-isYield trace i = eqb (entryAt trace i .opcode) 7
+isYield trace i = eqb (entryRead trace i .opcode) 7
 
 -- one of the last p of n steps is a yield
 unfoldable pub yieldsIn : List ℕ → ℕ → ℕ → Bool

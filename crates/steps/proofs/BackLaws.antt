@@ -15,7 +15,7 @@ use borrow.Author.Tests.{lt-ltb}
 use Rattle.rules.specs.Event.{Entry, little, entryBytes}
 use Rattle.rules.specs.Explored.{entriesBytes, traceLeft}
 use Rattle.rules.specs.Table.{u16At, u32At, u64At}
-use Rattle.steps.specs.Entries.{room, byteAt, entryAt, isEntry, entries}
+use Rattle.steps.specs.Entries.{room, byteAt, entryRead, isEntry, entries}
 use Rattle.steps.proofs.EntryLaws.{entriesLeft, entries-all, entries-on, entries-found, entries-none}
 
 -- an entry as its bytes can say it
@@ -88,7 +88,7 @@ module _ (n : ℕ) (es : List Entry) (fits : 16 * length es ≤ n) where
     unfolding byteAt traceLeft
     past-byte place = cond-zero (ltb i (room (traceLeft n es))) (past es (n - 16 * length es) (16 * i + place) (omega arith))
 
-    past-is : isEntry (entryAt (traceLeft n es) i) ≡ false
+    past-is : isEntry (entryRead (traceLeft n es) i) ≡ false
     past-is = rw (past-byte 2, past-byte 4)
 
   module _ (none : Entry) (i : ℕ) (h : i < length es) where
@@ -103,7 +103,7 @@ module _ (n : ℕ) (es : List Entry) (fits : 16 * length es ≤ n) where
     unfolding byteAt
     byte-back place k = rw there (at-place (16 * i + place) place refl k)
 
-    entry-is : isEntry (entryAt (traceLeft n es) i) ≡ isEntry (getD es i none)
+    entry-is : isEntry (entryRead (traceLeft n es) i) ≡ isEntry (getD es i none)
     unfolding entryBytes
     entry-is = rw (byte-back 2 (omega arith), byte-back 4 (omega arith))
 
@@ -123,7 +123,7 @@ module _ (n : ℕ) (es : List Entry) (fits : 16 * length es ≤ n) where
         )
         (eight (getD es i none .value))
 
-    pub entry-back : entryAt (traceLeft n es) i ≡ inBytes (getD es i none)
+    pub entry-back : entryRead (traceLeft n es) i ≡ inBytes (getD es i none)
     unfolding entryBytes
     entry-back =
         rw

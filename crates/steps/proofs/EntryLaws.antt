@@ -20,7 +20,7 @@ use Rattle.decode.specs.declared.Op as codes
 use Rattle.decode.specs.Ops.{opOf, decodedOf, inRange, opWithin}
 use Rattle.table.proofs.Within.{op-made}
 use Rattle.table.proofs.Walks.{first-on, first-found, first-none}
-use Rattle.steps.specs.Entries.{room, ofEntry, entryAt, isEntry, entries, rowSays, operationAt}
+use Rattle.steps.specs.Entries.{room, ofEntry, entryRead, isEntry, entries, rowSays, operationAt}
 use Rattle.steps.proofs.RowLaws.{row-none}
 
 module _ (trace : List ℕ) (i : ℕ) where
@@ -36,7 +36,7 @@ entry-found p q = rw (p, q)
 
 -- whether there is an entry at i, and how many are left to be found from there on
 abbrev isAt : List ℕ → ℕ → Bool
-isAt trace i = isEntry (entryAt trace i)
+isAt trace i = isEntry (entryRead trace i)
 
 abbrev pub entriesLeft : List ℕ → ℕ → ℕ
 entriesLeft trace i = firstNot (isAt trace) (room trace - i) i
@@ -47,10 +47,10 @@ module _ (trace : List ℕ) where
   entries-all = rw sub-zero
 
   module _ (i : ℕ) where
-    pub entries-on : i < room trace → isEntry (entryAt trace i) ≡ true → entriesLeft trace (i + 1) ≡ entriesLeft trace i
+    pub entries-on : i < room trace → isEntry (entryRead trace i) ≡ true → entriesLeft trace (i + 1) ≡ entriesLeft trace i
     entries-on = first-on (isAt trace) (room trace) i
 
-    pub entries-found : i < room trace → isEntry (entryAt trace i) ≡ false → entriesLeft trace i ≡ i
+    pub entries-found : i < room trace → isEntry (entryRead trace i) ≡ false → entriesLeft trace i ≡ i
     entries-found = first-found (isAt trace) (room trace) i
 
     pub entries-none : room trace ≤ i → i ≤ room trace → entriesLeft trace i ≡ i
@@ -62,7 +62,7 @@ within-if true d h e = h e
 within-if false d h e = rw e tt
 
 module _ (table trace : List ℕ) (i : ℕ) where
-  pub operation-there : i < room trace → {t k : ℕ} {d : Decoded Op} → t ≡ entryAt trace i .thread → k ≡ entryAt trace i .row →
+  pub operation-there : i < room trace → {t k : ℕ} {d : Decoded Op} → t ≡ entryRead trace i .thread → k ≡ entryRead trace i .row →
       d ≡ rowSays table t k → d ≡ operationAt table trace i
   unfolding operationAt
   operation-there h p q e = rw (lt-ltb i (room trace) h, ← p, ← q) e
@@ -81,20 +81,20 @@ module _ (table trace : List ℕ) (i : ℕ) where
   unfolding operationAt rowSays
   operation-range d =
       within-if (ltb i (room trace)) d
-      (within-if (ltb (entryAt trace i .thread) maxThreads) d (λ h. op-made table _ _ d h .within))
+      (within-if (ltb (entryRead trace i .thread) maxThreads) d (λ h. op-made table _ _ d h .within))
 
-  operation-thread : {op : Op} → operationAt table trace i ≡ decoded op → entryAt trace i .thread < maxThreads
-  operation-thread e = elim (decLt (entryAt trace i .thread) maxThreads) [
+  operation-thread : {op : Op} → operationAt table trace i ≡ decoded op → entryRead trace i .thread < maxThreads
+  operation-thread e = elim (decLt (entryRead trace i .thread) maxThreads) [
     | yes l ↦ l
     | no l ↦
-        let past : maxThreads ≤ entryAt trace i .thread = omega arith in
-        let none = operation-there (operation-within e) refl refl (row-none table (entryAt trace i .row) refl past) in
+        let past : maxThreads ≤ entryRead trace i .thread = omega arith in
+        let none = operation-there (operation-within e) refl refl (row-none table (entryRead trace i .row) refl past) in
         let z : _≡_ {A = ℕ} 0 1 = cc in
         absurd (omega arith)
   ]
 
   pub operation-in : (d : code.Decoded) {op : codes.Op} {byte thread : ℕ} → decodedOf d ≡ operationAt table trace i → d ≡ Says op →
-      byte ≡ entryAt trace i .thread → thread ≡ byte → (thread < 5) × inRange (opOf op)
+      byte ≡ entryRead trace i .thread → thread ≡ byte → (thread < 5) × inRange (opOf op)
   operation-in d {op} e f p q =
       let named : inRange (opOf op) = rw f at (operation-range d e) in
       (omega (arith, operation-thread (sym e ∙ ap decodedOf f)), named)

@@ -19,8 +19,8 @@ use Rattle.layout.specs.Slots.{Next, Newest}
 use Rattle.rules.specs.Change.{Change, Changed, applied}
 use Rattle.rules.specs.Table.{Op, refused, decoded, startValue}
 use Rattle.rules.specs.Vector.{oneMore}
-use Rattle.steps.specs.Entries.{entryAt, operationAt}
-use Rattle.steps.specs.Holds.{HeldPlace, register, nextRow, isPlace, heldPlaceOf, held, withHeld, stored, writtenOver, cellMade, acted, nextOf, taken, heldAfter}
+use Rattle.steps.specs.Entries.{entryRead, operationAt}
+use Rattle.steps.specs.Holds.{HeldPlace, register, nextRow, isPlace, heldPlaceOf, held, withHeld, storeHeld, writtenOver, startStored, acted, nextOf, stepTaken, heldAfter}
 
 module _ (a b m n : ℕ) where
   pub both : a < m → b < n → ltb a m && ltb b n ≡ true
@@ -47,8 +47,8 @@ module _ (h : List ℕ) (p : HeldPlace) where
 
 module _ (h : List ℕ) (c v step : ℕ) (l : c < 4) {at slot : ℕ} (e : at ≡ 7 * c + slot) where
   pub stored-at : Next (getD h (28 + c) 0) slot → {n : ℕ} → n ≡ oneMore (getD h (28 + c) 0) →
-      set (set (set h at step) (28 + c) n) (32 + c) v ≡ stored h c v step
-  unfolding stored held withHeld
+      set (set (set h at step) (28 + c) n) (32 + c) v ≡ storeHeld h c v step
+  unfolding storeHeld held withHeld
   stored-at s m = rw (e, s .is, lt-ltb c 4 l, lt-ltb _ 7 (rw (s .is) at (s .within)), m)
 
   pub over-at : Newest (getD h (28 + c) 0) slot → set (set h at step) (32 + c) v ≡ writtenOver h c v step
@@ -56,7 +56,7 @@ module _ (h : List ℕ) (c v step : ℕ) (l : c < 4) {at slot : ℕ} (e : at ≡
   over-at s = rw (e, s .is, lt-ltb c 4 l, lt-ltb _ 7 (rw (s .is) at (s .within)))
 
 -- a cell that takes its start value
-pub cell-from : (table : List ℕ) (c : ℕ) {v : ℕ} {h x out : List ℕ} → v ≡ startValue table c → h ≡ x → out ≡ stored h c v 0 → out ≡ cellMade table c x
+pub cell-from : (table : List ℕ) (c : ℕ) {v : ℕ} {h x out : List ℕ} → v ≡ startValue table c → h ≡ x → out ≡ storeHeld h c v 0 → out ≡ startStored table c x
 cell-from table c p q o = rw (← p, ← q) o
 
 -- a change of what a register was put into
@@ -70,17 +70,17 @@ pub jump-from : {x y next : ℕ} (a then other : ℕ) → x ≡ y → next ≡ c
 jump-from a then other e o = rw (← e) o
 
 module _ (table trace : List ℕ) (i : ℕ) (h : List ℕ) where
-  pub taken-none : operationAt table trace i ≡ refused → h ≡ taken table trace i h
-  unfolding taken
+  pub taken-none : operationAt table trace i ≡ refused → h ≡ stepTaken table trace i h
+  unfolding stepTaken
   taken-none p = rw p
 
   pub taken-made : {op : Op} {t k v next : ℕ} {went out : List ℕ} → operationAt table trace i ≡ decoded op →
-      t ≡ entryAt trace i .thread → k ≡ entryAt trace i .row → v ≡ entryAt trace i .value → next ≡ nextOf h t k op →
-      went ≡ withHeld h (nextRow t) next → out ≡ acted went t v (i + 1) op → out ≡ taken table trace i h
-  unfolding taken
+      t ≡ entryRead trace i .thread → k ≡ entryRead trace i .row → v ≡ entryRead trace i .value → next ≡ nextOf h t k op →
+      went ≡ withHeld h (nextRow t) next → out ≡ acted went t v (i + 1) op → out ≡ stepTaken table trace i h
+  unfolding stepTaken
   taken-made p e f g n w o = rw (p, ← e, ← f, ← g, ← n, ← w) o
 
-  pub after-on : {x : List ℕ} → h ≡ heldAfter table trace i → x ≡ taken table trace i h → x ≡ heldAfter table trace (i + 1)
+  pub after-on : {x : List ℕ} → h ≡ heldAfter table trace i → x ≡ stepTaken table trace i h → x ≡ heldAfter table trace (i + 1)
   unfolding heldAfter
   after-on e o = rw (add-one, ← e) o
 

@@ -10,6 +10,7 @@ use Rattle.rules.specs.Change as changes
 use Rattle.rules.specs.Table as rules
 use Rattle.change.specs.declared.Changed.{Changed}
 use Rattle.change.specs.Changes.{changedOf}
+use Rattle.decode.proofs.NumberLaws.{allBut}
 use Rattle.decode.proofs.Op.{the-type}
 use Rattle.decode.specs.declared.Op.{Op}
 use Rattle.decode.specs.declared.Op.the-variants as code
@@ -36,7 +37,7 @@ changed-as f is e = ap f (sym (ap changedOf e) ∙ is)
 
 -- the places among the variants of the rows that do not jump
 abbrev straight : List ℕ
-straight = 0 ∷ 1 ∷ 2 ∷ 3 ∷ 4 ∷ 5 ∷ 6 ∷ 7 ∷ 8 ∷ 12 ∷ 13 ∷ 14 ∷ 15 ∷ 16 ∷ 17 ∷ 18 ∷ []
+straight = allBut (9 ∷ 10 ∷ 11 ∷ [])
 
 module _ (h : List ℕ) (t k : ℕ) where
   pub no-jump : (op : Op) → OneOf straight (tagOf the-type op) → k + 1 ≡ nextOf h t k (opOf op)
@@ -63,7 +64,7 @@ module _ (h : List ℕ) (t k : ℕ) where
 
 -- and of those that change nothing that is held
 abbrev idle : List ℕ
-idle = 4 ∷ 7 ∷ 8 ∷ 9 ∷ 10 ∷ 11 ∷ 12 ∷ 13 ∷ 14 ∷ 15 ∷ []
+idle = allBut (0 ∷ 1 ∷ 2 ∷ 3 ∷ 5 ∷ 6 ∷ 16 ∷ 17 ∷ 18 ∷ [])
 
 module _ (h : List ℕ) (t v step : ℕ) where
   pub no-act : (op : Op) → OneOf idle (tagOf the-type op) → h ≡ acted h t v step (opOf op)

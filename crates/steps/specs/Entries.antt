@@ -1,6 +1,6 @@
 -- A trace read back: what each of its entries says, how many there are, and what the row of one does. A trace is the list of its
 -- bytes; proofs/BackLaws has what this comes to on the trace that a run leaves. Assumes nothing.
---     entryAt                  an entry
+--     entryRead                an entry
 --     entries                  how many there are
 --     rowSays, operationAt     what a row does, by its thread and number; the row of an entry
 use Prim.Native.Nat.{ℕ, _+_, _*_, _/_}
@@ -25,8 +25,8 @@ unfoldable pub byteAt : List ℕ → ℕ → ℕ → ℕ
 byteAt trace i place = ofEntry trace i (getD trace (16 * i + place) 0)
 
 -- "Trace entry ..: thread, row, opcode, slot .. or 255, offer mask .., three zeros, u64 value"
-abbrev pub entryAt : List ℕ → ℕ → Entry
-entryAt trace i = record {
+abbrev pub entryRead : List ℕ → ℕ → Entry
+entryRead trace i = record {
   thread = byteAt trace i 0;
   row = byteAt trace i 1;
   opcode = byteAt trace i 2;
@@ -41,7 +41,7 @@ isEntry e = not (eqb (e .opcode) 0) || not (eqb (e .mask) 0)
 
 -- how many entries stand before the first that is none
 unfoldable pub entries : List ℕ → ℕ
-entries trace = firstNot (λ (i : ℕ). isEntry (entryAt trace i)) (room trace) 0
+entries trace = firstNot (λ (i : ℕ). isEntry (entryRead trace i)) (room trace) 0
 
 -- a table as the machine has it; neither limit nor flag is looked at here
 abbrev pub program : List ℕ → Program
@@ -49,9 +49,9 @@ program table = record { table = table; condition = []; operations = 0; explorin
 
 -- what a thread's row of this number does; refused for a thread that no table has
 unfoldable pub rowSays : List ℕ → ℕ → ℕ → Decoded Op
-rowSays table thread number = cond (ltb thread maxThreads) (rowOf (program table) thread number) refused
+rowSays table thread row = cond (ltb thread maxThreads) (rowOf (program table) thread row) refused
 
 -- what the row that an entry names does; refused where the trace does not hold the entry
 unfoldable pub operationAt : List ℕ → List ℕ → ℕ → Decoded Op
 operationAt table trace i =
-    cond (ltb i (room trace)) (rowSays table (entryAt trace i .thread) (entryAt trace i .row)) refused
+    cond (ltb i (room trace)) (rowSays table (entryRead trace i .thread) (entryRead trace i .row)) refused

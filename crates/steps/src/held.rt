@@ -22,20 +22,21 @@ use layout::store_at;
 use layout::wide8;
 use vv::LARGEST;
 
-// All of it in one table: 28 writers, 4 counts, 4 values, 20 registers, 5 rows, 4 writers of plain cells.
+// All of it in one table, each part behind the one before: the writers of all slots, the counts, the newest values, the registers, the
+// next rows, the writers of plain cells.
 pub type Held = [u64; HELD];
 
-const HELD: usize = 65;
+const COUNT: usize = MAX_CELLS * MAX_ATOMIC_HISTORY;
 
-const COUNT: usize = 28;
+const NEWEST: usize = COUNT + MAX_CELLS;
 
-const NEWEST: usize = 32;
+const REGISTER: usize = NEWEST + MAX_CELLS;
 
-const REGISTER: usize = 36;
+const NEXT: usize = REGISTER + MAX_THREADS * REGISTERS;
 
-const NEXT: usize = 56;
+const PLAIN_WRITER: usize = NEXT + MAX_THREADS;
 
-const PLAIN_WRITER: usize = 61;
+const HELD: usize = PLAIN_WRITER + MAX_PLAINS;
 
 // Before the first step: each cell has had a store of its start value, which no step wrote.
 pub fn start(table: &[u8]) -> Held
@@ -77,7 +78,7 @@ pub fn writer(held: &Held, cell: usize, slot: u8) -> u64
 
 // The newest value of a cell.
 pub fn newest(held: &Held, cell: usize) -> u64
-    ensures { λ r. ⌜ r ≡ holds.held (now (held .entry)) (holds.newest cell) ⌝ }
+    ensures { λ r. ⌜ r ≡ holds.held (now (held .entry)) (holds.newestValue cell) ⌝ }
 {
     if cell < MAX_CELLS {
         return held[NEWEST + cell];
@@ -128,7 +129,7 @@ pub fn plain_writer(held: &Held, plain: usize) -> u64
 
 // What step `i` changes. A row that is not refused has a thread, cells and registers that there are: nothing below tests them again.
 pub fn take(table: &[u8], trace: &[u8], held: &mut Held, i: usize)
-    ensures { λ _. ⌜ now (held .exit) ≡ holds.taken (now (table .entry)) (now (trace .entry)) i (now (held .entry)) ⌝ }
+    ensures { λ _. ⌜ now (held .exit) ≡ holds.stepTaken (now (table .entry)) (now (trace .entry)) i (now (held .entry)) ⌝ }
 {
     let Decoded::Row(op) = crate::operation(table, trace, i) else {
         return;
@@ -136,7 +137,7 @@ pub fn take(table: &[u8], trace: &[u8], held: &mut Held, i: usize)
     let thread = wide8(crate::thread(trace, i));
     let next = next_of(held, thread, crate::row(trace, i), op);
     go_on(held, thread, next);
-    act(held, thread, crate::value(trace, i), i as u64 + 1, op);
+    act(held, thread, op, crate::value(trace, i), i as u64 + 1);
 }
 
 // The row that a thread goes on with.
@@ -187,7 +188,7 @@ fn go_on(held: &mut Held, thread: usize, next: u64)
 }
 
 // What a row of this thread does, with the value of its trace entry.
-fn act(held: &mut Held, thread: usize, value: u64, step: u64, op: Op)
+fn act(held: &mut Held, thread: usize, op: Op, value: u64, step: u64)
     requires { ⌜ (thread < 5) × inRange (opOf op) ⌝ }
     ensures { λ _. ⌜ now (held .exit) ≡ holds.acted (now (held .entry)) thread value step (opOf op) ⌝ }
 {
@@ -200,13 +201,13 @@ fn act(held: &mut Held, thread: usize, value: u64, step: u64, op: Op)
             change,
             register,
             ..
-        } => rmw(held, thread, register, cell, change, value, step),
+        } => rmw(held, thread, cell, change, register, value, step),
         Op::UnsyncLoad { register, .. } => put(held, thread, register, value),
         Op::WithMut {
             cell,
             change,
             register,
-        } => with_mut(held, thread, register, cell, change, step),
+        } => with_mut(held, thread, cell, change, register, step),
         Op::Spurious { register } => put(held, thread, register, value),
         Op::PlainRead { register, .. } => put(held, thread, register, value),
         Op::PlainWrite { plain, .. } => write(held, plain, step),
@@ -233,7 +234,7 @@ fn write(held: &mut Held, plain: usize, step: u64)
 // A store takes the cell's next slot.
 fn store(held: &mut Held, cell: usize, value: u64, step: u64)
     requires { ⌜ cell < 4 ⌝ }
-    ensures { λ _. ⌜ now (held .exit) ≡ holds.stored (now (held .entry)) cell value step ⌝ }
+    ensures { λ _. ⌜ now (held .exit) ≡ holds.storeHeld (now (held .entry)) cell value step ⌝ }
 {
     let count = held[COUNT + cell];
     let at = store_at(cell, next_slot(count));
@@ -269,14 +270,14 @@ fn one_more(count: u64) -> u64
 fn rmw(
     held: &mut Held,
     thread: usize,
-    register: usize,
     cell: usize,
     change: Change,
+    register: usize,
     read: u64,
     step: u64,
 )
     requires { ⌜ (thread < 5) × (cell < 4) × (register < 4) ⌝ }
-    ensures { λ _. ⌜ now (held .exit) ≡ holds.rmwDone (now (held .entry)) thread register cell (changeMeant change) read step ⌝ }
+    ensures { λ _. ⌜ now (held .exit) ≡ holds.rmwHeld (now (held .entry)) thread cell (changeMeant change) register read step ⌝ }
 {
     put(held, thread, register, read);
     if let Changed::Success(value) = change::apply(change, read) {
@@ -285,9 +286,9 @@ fn rmw(
 }
 
 // The same for an exclusive change, which reads the newest store and, if it succeeds, writes over it.
-fn with_mut(held: &mut Held, thread: usize, register: usize, cell: usize, change: Change, step: u64)
+fn with_mut(held: &mut Held, thread: usize, cell: usize, change: Change, register: usize, step: u64)
     requires { ⌜ (thread < 5) × (cell < 4) × (register < 4) ⌝ }
-    ensures { λ _. ⌜ now (held .exit) ≡ holds.exclusiveDone (now (held .entry)) thread register cell (changeMeant change) step ⌝ }
+    ensures { λ _. ⌜ now (held .exit) ≡ holds.exclusiveHeld (now (held .entry)) thread cell (changeMeant change) register step ⌝ }
 {
     let before = held[NEWEST + cell];
     put(held, thread, register, before);

@@ -4,7 +4,7 @@ ghost use mathlib.Core.Path.{_≡_};
 ghost use Prim.Native.Nat.{_<_};
 ghost use Rattle.rules.specs.Machine.{rowCount};
 ghost use Rattle.decode.specs.Ops.{decodedOf};
-ghost use Rattle.steps.specs.Entries.{byteAt, entryAt, isEntry, entries, program, rowSays, operationAt};
+ghost use Rattle.steps.specs.Entries.{byteAt, entryRead, isEntry, entries, program, rowSays, operationAt};
 use decode::Decoded;
 use decode::opcodes::LOAD;
 use layout::MAX_THREADS;
@@ -13,21 +13,9 @@ use layout::short8;
 use layout::wide8;
 use table::COUNTS;
 use table::little;
+use trace::of_entry;
 
 pub mod held;
-
-// Where a trace entry has what.
-const THREAD: usize = 0;
-
-const ROW: usize = 1;
-
-const OPCODE: usize = 2;
-
-const SLOT: usize = 3;
-
-const MASK: usize = 4;
-
-const VALUE: usize = 8;
 
 // How many entries the trace has.
 pub fn count(trace: &[u8]) -> usize
@@ -45,47 +33,47 @@ pub fn count(trace: &[u8]) -> usize
 
 // Past the last entry the trace is zero, and no entry has opcode 0 with nothing offered.
 fn is_entry(trace: &[u8], i: usize) -> bool
-    ensures { λ r. ⌜ r ≡ isEntry (entryAt (now (trace .entry)) i) ⌝ }
+    ensures { λ r. ⌜ r ≡ isEntry (entryRead (now (trace .entry)) i) ⌝ }
 {
     (opcode(trace, i) != LOAD) | (mask(trace, i) != 0)
 }
 
 // What entry `i` says.
 pub fn thread(trace: &[u8], i: usize) -> u8
-    ensures { λ r. ⌜ r ≡ entryAt (now (trace .entry)) i .thread ⌝ }
+    ensures { λ r. ⌜ r ≡ entryRead (now (trace .entry)) i .thread ⌝ }
 {
-    byte(trace, i, THREAD)
+    byte(trace, i, of_entry::THREAD)
 }
 
 pub fn row(trace: &[u8], i: usize) -> u8
-    ensures { λ r. ⌜ r ≡ entryAt (now (trace .entry)) i .row ⌝ }
+    ensures { λ r. ⌜ r ≡ entryRead (now (trace .entry)) i .row ⌝ }
 {
-    byte(trace, i, ROW)
+    byte(trace, i, of_entry::ROW)
 }
 
 pub fn opcode(trace: &[u8], i: usize) -> u8
-    ensures { λ r. ⌜ r ≡ entryAt (now (trace .entry)) i .opcode ⌝ }
+    ensures { λ r. ⌜ r ≡ entryRead (now (trace .entry)) i .opcode ⌝ }
 {
-    byte(trace, i, OPCODE)
+    byte(trace, i, of_entry::OPCODE)
 }
 
 pub fn slot(trace: &[u8], i: usize) -> u8
-    ensures { λ r. ⌜ r ≡ entryAt (now (trace .entry)) i .slot ⌝ }
+    ensures { λ r. ⌜ r ≡ entryRead (now (trace .entry)) i .slot ⌝ }
 {
-    byte(trace, i, SLOT)
+    byte(trace, i, of_entry::SLOT)
 }
 
 pub fn mask(trace: &[u8], i: usize) -> u8
-    ensures { λ r. ⌜ r ≡ entryAt (now (trace .entry)) i .mask ⌝ }
+    ensures { λ r. ⌜ r ≡ entryRead (now (trace .entry)) i .mask ⌝ }
 {
-    byte(trace, i, MASK)
+    byte(trace, i, of_entry::MASK)
 }
 
 pub fn value(trace: &[u8], i: usize) -> u64
-    ensures { λ r. ⌜ r ≡ entryAt (now (trace .entry)) i .value ⌝ }
+    ensures { λ r. ⌜ r ≡ entryRead (now (trace .entry)) i .value ⌝ }
 {
     if i < trace.len() / RECORD {
-        return little::u64_at(trace, RECORD * i + VALUE);
+        return little::u64_at(trace, RECORD * i + of_entry::VALUE);
     }
     0
 }
@@ -112,15 +100,15 @@ pub fn operation(table: &[u8], trace: &[u8], i: usize) -> Decoded
 }
 
 // What the row of a thread does, by its number there; refused for a thread that no table has.
-pub fn row_of(table: &[u8], thread: u8, number: u8) -> Decoded
-    ensures { λ r. ⌜ decodedOf r ≡ rowSays (now (table .entry)) thread number ⌝ }
+pub fn row_of(table: &[u8], thread: u8, row: u8) -> Decoded
+    ensures { λ r. ⌜ decodedOf r ≡ rowSays (now (table .entry)) thread row ⌝ }
 {
     let t = wide8(thread);
     if MAX_THREADS <= t {
         return Decoded::Refused;
     }
     let shape = table::shape(table);
-    table::row_of(table, &shape, t, short8(number))
+    table::row_of(table, &shape, t, short8(row))
 }
 
 // How many rows a thread has.

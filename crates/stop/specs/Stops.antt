@@ -10,7 +10,7 @@ use lib.Dec.{eqb, leb, ltb}
 use Rattle.rules.specs.Token.{bytesOf}
 use Rattle.rules.specs.Table.{maxThreads, maxRows}
 use Rattle.rules.specs.Machine.{rowCount, blocked}
-use Rattle.page.specs.Pages.{Page, putText, filled}
+use Rattle.page.specs.Pages.{Page, putText, putFilled}
 use Rattle.row_text.specs.Rows.{rowSaid}
 use Rattle.steps.specs.Entries.{program}
 use Rattle.steps.specs.Holds.{held, nextRow}
@@ -20,21 +20,21 @@ putHow p limited = cond limited (putText p (bytesOf "stopped")) (putText p (byte
 
 -- past its last row a thread was ending
 unfoldable pub putRow : Page → List ℕ → ℕ → ℕ → Page
-putRow p table thread number =
-    cond (leb (rowCount (program table) thread) number) (putText p (bytesOf "the thread's end")) (putText p (rowSaid table thread number))
+putRow p table thread row =
+    cond (leb (rowCount (program table) thread) row) (putText p (bytesOf "the thread's end")) (putText p (rowSaid table thread row))
 
 -- nothing for a thread or a row that no table has
-unfoldable pub putPlace : Page → List ℕ → ℕ → ℕ → Bool → Page
-putPlace p table thread number limited =
-    cond (leb maxThreads thread || ltb maxRows number) p
-    (putText (putRow (filled (putHow p limited) (bytesOf ": thread #, row #: ") thread number 0) table (thread % 256) (number % 256)) (bytesOf "\n"))
+unfoldable pub putPlace : Page → List ℕ → Bool → ℕ → ℕ → Page
+putPlace p table limited thread row =
+    cond (leb maxThreads thread || ltb maxRows row) p
+    (putText (putRow (putFilled (putHow p limited) (bytesOf ": thread #, row #: ") thread row 0) table (thread % 256) (row % 256)) (bytesOf "\n"))
 
 -- the row that it is at, by what is held after the last step; nothing in another state
 unfoldable pub putWaits : Page → List ℕ → List ℕ → ℕ → ℕ → Page
 putWaits p table after thread state =
     cond (eqb state blocked)
     (putText
-    (putText (filled p (bytesOf "failed: thread #, row #, waits without an end: ") thread (held after (nextRow thread)) 0)
+    (putText (putFilled p (bytesOf "failed: thread #, row #, waits without an end: ") thread (held after (nextRow thread)) 0)
     (rowSaid table thread (held after (nextRow thread) % 256)))
     (bytesOf "\n"))
     p

@@ -1,6 +1,6 @@
 // Where the last execution stopped: the row at fault, or whom each blocked thread waits for.
 ghost use mathlib.Core.Path.{_≡_};
-ghost use Rattle.page.specs.Pages.{ended};
+ghost use Rattle.page.specs.Pages.{pageOf};
 ghost use Rattle.stop.specs.Stops.{putHow, putRow, putPlace, putWaits};
 use layout::MAX_THREADS;
 use page::Page;
@@ -13,27 +13,27 @@ pub fn put_place(
     page: &mut Page,
     at: usize,
     table: &[u8],
-    thread: u64,
-    number: u64,
     limited: bool,
+    thread: u64,
+    row: u64,
 ) -> usize
-    ensures { λ r. ⌜ ended (now (page .exit)) r ≡ putPlace (ended (now (page .entry)) at) (now (table .entry)) thread number limited ⌝ }
+    ensures { λ r. ⌜ pageOf (now (page .exit)) r ≡ putPlace (pageOf (now (page .entry)) at) (now (table .entry)) limited thread row ⌝ }
 {
     if MAX_THREADS as u64 <= thread {
         return at;
     }
-    if (MAX_ROWS as u64) < number {
+    if (MAX_ROWS as u64) < row {
         return at;
     }
     let to = put_how(page, at, limited);
-    let to = page::fill(page, to, b": thread #, row #: ", thread, number, 0);
-    let to = put_row(page, to, table, (thread % 256) as u8, (number % 256) as u8);
+    let to = page::fill(page, to, b": thread #, row #: ", thread, row, 0);
+    let to = put_row(page, to, table, (thread % 256) as u8, (row % 256) as u8);
     page::put(page, to, b"\n")
 }
 
 // Whether a limit stopped it, or it failed.
 fn put_how(page: &mut Page, at: usize, limited: bool) -> usize
-    ensures { λ r. ⌜ ended (now (page .exit)) r ≡ putHow (ended (now (page .entry)) at) limited ⌝ }
+    ensures { λ r. ⌜ pageOf (now (page .exit)) r ≡ putHow (pageOf (now (page .entry)) at) limited ⌝ }
 {
     if limited {
         return page::put(page, at, b"stopped");
@@ -42,13 +42,13 @@ fn put_how(page: &mut Page, at: usize, limited: bool) -> usize
 }
 
 // A row as in a text; a thread past its last row was ending.
-fn put_row(page: &mut Page, at: usize, table: &[u8], thread: u8, number: u8) -> usize
-    ensures { λ r. ⌜ ended (now (page .exit)) r ≡ putRow (ended (now (page .entry)) at) (now (table .entry)) thread number ⌝ }
+fn put_row(page: &mut Page, at: usize, table: &[u8], thread: u8, row: u8) -> usize
+    ensures { λ r. ⌜ pageOf (now (page .exit)) r ≡ putRow (pageOf (now (page .entry)) at) (now (table .entry)) thread row ⌝ }
 {
-    if steps::row_count(table, thread) <= number {
+    if steps::row_count(table, thread) <= row {
         return page::put(page, at, b"the thread's end");
     }
-    row_text::put(page, at, table, thread, number)
+    row_text::put(page, at, table, thread, row)
 }
 
 // The row at which a thread in this state waits, if it is blocked.
@@ -60,20 +60,20 @@ pub fn put_waits(
     thread: u8,
     state: u16,
 ) -> usize
-    ensures { λ r. ⌜ ended (now (page .exit)) r ≡ putWaits (ended (now (page .entry)) at) (now (table .entry)) (now (held .entry)) thread state ⌝ }
+    ensures { λ r. ⌜ pageOf (now (page .exit)) r ≡ putWaits (pageOf (now (page .entry)) at) (now (table .entry)) (now (held .entry)) thread state ⌝ }
 {
     if state != BLOCKED {
         return at;
     }
-    let number = steps::held::next_row(held, thread);
+    let row = steps::held::next_row(held, thread);
     let to = page::fill(
         page,
         at,
         b"failed: thread #, row #, waits without an end: ",
         thread as u64,
-        number,
+        row,
         0,
     );
-    let to = row_text::put(page, to, table, thread, (number % 256) as u8);
+    let to = row_text::put(page, to, table, thread, (row % 256) as u8);
     page::put(page, to, b"\n")
 }

@@ -19,7 +19,7 @@ pub fn execution(page: &mut Page, table: &[u8], trace: &[u8], whole: bool) {
     let mut held = held::start(table);
     let mut i = 0;
     while i < n {
-        step(page, table, trace, &held, i, n, width, whole);
+        step(page, table, trace, &held, width, whole, n, i);
         held::take(table, trace, &mut held, i);
         i += 1;
     }
@@ -31,13 +31,13 @@ fn step(
     table: &[u8],
     trace: &[u8],
     held: &Held,
-    i: usize,
-    n: usize,
     width: usize,
     whole: bool,
+    n: usize,
+    i: usize,
 ) {
-    if whole || listing::is_shown(i, n) {
-        let to = listing::put_step(page, 0, table, trace, held, i, width);
+    if whole || listing::is_shown(n, i) {
+        let to = listing::put_step(page, 0, table, trace, held, width, i);
         out::write(page, to);
         return;
     }

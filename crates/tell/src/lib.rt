@@ -1,7 +1,8 @@
 // What a run answered, as text on standard output: the verdict, the counts, the threads' summaries and the last execution. What is said
 // comes from crates that put it on a page; this one writes.
+use page::PAGE_BYTES;
 use page::Page;
-use page::WIDTH;
+use report::Counts;
 use report::Report;
 use report::answers;
 use settings::Settings;
@@ -17,30 +18,29 @@ pub fn print_report(
     condition: &[u8],
     trace: &[u8],
     settings: Settings,
-    report: Report,
     whole: bool,
+    report: Report,
 ) {
-    let mut page = [0u8; WIDTH];
+    let mut page = [0u8; PAGE_BYTES];
     let to = verdict::put(&mut page, 0, table, condition, trace, settings, report);
     out::write(&page, to);
     if 0 < report.begun {
         let threads = report.threads;
-        counts(
-            &mut page,
-            report.begun,
-            report.opened,
-            report.open,
-            report.rows,
-        );
+        let counts = Counts {
+            begun: report.begun,
+            opened: report.opened,
+            still_open: report.still_open,
+        };
+        put_counts(&mut page, counts, report.rows);
         threads::summaries(&mut page, threads);
-        ran(&mut page, table, trace, report, whole);
+        ran(&mut page, table, trace, whole, report);
         let to = summary::put_legend(&mut page, 0);
         out::write(&page, to);
     }
 }
 
 // Writes the last execution, and where it stopped.
-fn ran(page: &mut Page, table: &[u8], trace: &[u8], report: Report, whole: bool) {
+fn ran(page: &mut Page, table: &[u8], trace: &[u8], whole: bool, report: Report) {
     let answer = report.answer;
     let number = report::number(answer);
     let threads = report.threads;
@@ -48,7 +48,7 @@ fn ran(page: &mut Page, table: &[u8], trace: &[u8], report: Report, whole: bool)
     last::execution(page, table, trace, whole || !is_limit);
     let thread = report::thread_at_fault(answer);
     let row = report::row_at_fault(answer);
-    let to = stop::put_place(page, 0, table, thread, row, is_limit);
+    let to = stop::put_place(page, 0, table, is_limit, thread, row);
     out::write(page, to);
     if number == answers::DEADLOCK {
         threads::waiting(page, table, trace, threads);
@@ -57,19 +57,19 @@ fn ran(page: &mut Page, table: &[u8], trace: &[u8], report: Report, whole: bool)
 
 // Prints that a text is refused at a line and column, with that line of it. The name of its file comes first, where there is one.
 pub fn print_refusal(name: &[u8], text: &[u8], line: usize, column: usize) {
-    let mut page = [0u8; WIDTH];
+    let mut page = [0u8; PAGE_BYTES];
     let to = excerpt::put(&mut page, 0, name, text, line, column);
     out::write(&page, to);
 }
 
 // Writes the four counts and the ledger.
-fn counts(page: &mut Page, begun: u64, opened: u64, open: u64, rows: u64) {
+fn put_counts(page: &mut Page, counts: Counts, rows: u64) {
     out::line(b"");
-    count(page, b"executions begun", begun);
-    count(page, b"choices opened", opened);
-    count(page, b"choices open", open);
+    count(page, b"executions begun", counts.begun);
+    count(page, b"choices opened", counts.opened);
+    count(page, b"choices open", counts.still_open);
     count(page, b"rows begun", rows);
-    let to = summary::put_ledger(page, 0, begun, opened, open);
+    let to = summary::put_ledger(page, 0, counts);
     out::write(page, to);
 }
 

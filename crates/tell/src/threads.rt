@@ -2,10 +2,10 @@
 use crate::out;
 use layout::MAX_THREADS;
 use page::Page;
-use report::ThreadRecord;
+use report::Summary;
 
 // Writes the summaries of those that are present.
-pub fn summaries(page: &mut Page, threads: [ThreadRecord; MAX_THREADS]) {
+pub fn summaries(page: &mut Page, threads: [Summary; MAX_THREADS]) {
     let to = summary::put_heading(page, 0);
     out::write(page, to);
     let mut t = 0;
@@ -17,7 +17,7 @@ pub fn summaries(page: &mut Page, threads: [ThreadRecord; MAX_THREADS]) {
 }
 
 // Writes the row at which each blocked thread waits.
-pub fn waiting(page: &mut Page, table: &[u8], trace: &[u8], threads: [ThreadRecord; MAX_THREADS]) {
+pub fn waiting(page: &mut Page, table: &[u8], trace: &[u8], threads: [Summary; MAX_THREADS]) {
     let held = steps::held::after(table, trace, steps::count(trace));
     let mut t = 0;
     while t < MAX_THREADS {

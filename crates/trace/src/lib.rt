@@ -9,6 +9,8 @@ ghost use lib.Seq.{paste};
 ghost use Rattle.trace.specs.Entries.{entryOf, Notes, Cleared, Zeros};
 use layout::RECORD;
 
+pub mod of_entry;
+
 // One row that is complete.
 pub struct Entry {
     pub thread: usize,
@@ -30,7 +32,7 @@ pub fn note(trace: &mut [u8], entries: usize, entry: Entry) -> bool
     true
 }
 
-// The bytes of an entry: thread, row, opcode, slot, offer mask, three zeros, and the value, its least byte first.
+// The bytes of an entry, each at its place (`of_entry`), zeros between the mask and the value; of that the least byte first.
 fn bytes_of(entry: Entry) -> [u8; RECORD]
     ensures { λ r. ⌜ r ≡ entryBytes (entryOf entry) ⌝ }
 {

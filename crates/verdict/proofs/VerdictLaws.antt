@@ -12,7 +12,8 @@ use borrow.Author.Tests.{ne-eqb}
 use Rattle.rules.specs.Token.{bytesOf}
 use Rattle.rules.specs.Table as rules
 use Rattle.rules.specs.Explored.{Settings, Report, isRefusal}
-use Rattle.page.specs.Pages.{Page, filled}
+use Rattle.page.specs.Pages.{Page, putFilled}
+use Rattle.decode.proofs.NumberLaws.{allBut}
 use Rattle.decode.proofs.Op as Op
 use Rattle.decode.specs.declared.Op.{Op}
 use Rattle.decode.specs.declared.Op.the-variants as code
@@ -27,7 +28,7 @@ use Rattle.verdict.specs.Verdicts.{putWants, putCheck, putFailed, putPas
 
 -- the places among the variants of what is no check
 abbrev others : List ℕ
-others = 0 ∷ 1 ∷ 2 ∷ 3 ∷ 4 ∷ 5 ∷ 6 ∷ 7 ∷ 8 ∷ 9 ∷ 10 ∷ 11 ∷ 13 ∷ 14 ∷ 15 ∷ 16 ∷ 17 ∷ 18 ∷ []
+others = allBut (12 ∷ [])
 
 wants-none : (p : Page) (holds : ℕ → ℕ) (op : Op) → OneOf others (tagOf Op.the-type op) → p ≡ putWants p holds (rules.decoded (opOf op))
 unfolding putWants
@@ -60,12 +61,12 @@ module _ (p : Page) (holds : ℕ → ℕ) (row : Decoded) {said : rules.Decoded 
     pub wants-else : OneOf others (tagOf Op.the-type op) → p ≡ putWants p holds said
     wants-else k = rw (← s, e) (wants-none p holds op k)
 
-    pub wants-check : (r a v : ℕ) → op ≡ code.Check r a → v ≡ holds r → {m : Page} → m ≡ filled p (bytesOf ": r# should be # and is #") r a v → m ≡ putWants p holds said
+    pub wants-check : (r a v : ℕ) → op ≡ code.Check r a → v ≡ holds r → {m : Page} → m ≡ putFilled p (bytesOf ": r# should be # and is #") r a v → m ≡ putWants p holds said
     unfolding putWants
     wants-check r a v q h f = rw (← s, e, q, ← h) f
 
 pub failed-else : (p : Page) (number thread row : ℕ) → (number ≡ 10 → ⊥) → (number ≡ 13 → ⊥) → (number ≡ 16 → ⊥) →
-    {m : Page} → m ≡ filled p (bytesOf "answer #: stopped by a mistake of the explorer itself, at thread #, row #: please report it\n") number thread row →
+    {m : Page} → m ≡ putFilled p (bytesOf "answer #: stopped by a mistake of the explorer itself, at thread #, row #: please report it\n") number thread row →
     m ≡ putFailed p number thread row
 unfolding putFailed
 failed-else p number thread row a b c h = rw (ne-eqb number 10 a, ne-eqb number 13 b, ne-eqb number 16 c) h
@@ -78,7 +79,7 @@ refused-else p table condition number thread row a b c h = rw (ne-eqb number 2 a
 -- The verdict, by the answer's number n
 
 module _ (p : Page) (table condition trace : List ℕ) (s : Settings) (r : Report) {n thread row : ℕ} (e : n ≡ r .answer) (threads : thread ≡ r .thread) (rows : row ≡ r .row) where
-  pub verdict-limit : true ≡ isLimit n → {m : Page} → m ≡ putLimit p trace n s thread row → m ≡ putVerdict p table condition trace s r
+  pub verdict-limit : true ≡ isLimit n → {m : Page} → m ≡ putLimit p trace s n thread row → m ≡ putVerdict p table condition trace s r
   unfolding putVerdict
   verdict-limit l h = rw (← e, ← threads, ← rows, ← l) h
 

@@ -13,7 +13,7 @@ use lib.ListN.{length}
 use Rattle.rules.specs.Token.{bytesOf}
 use Rattle.rules.specs.Explored.{Settings, Report, isRefusal}
 use Rattle.rules.specs.Table.{Op, Decoded, refused, decoded, load, store, storeRegister, rmw, fence, unsyncLoad, withMut, yield, join, jump, jumpIf, jumpUnless, check, critical, exploreState, skipBranch, spurious, plainRead, plainWrite}
-use Rattle.page.specs.Pages.{Page, putText, filled}
+use Rattle.page.specs.Pages.{Page, putText, putFilled}
 use Rattle.steps.specs.Entries.{entries, rowSays}
 use Rattle.steps.specs.Holds.{held, heldAfter, register}
 use Rattle.coverage.specs.Says.{putCovered}
@@ -51,7 +51,7 @@ putWants p holds (decoded (join thread)) = p
 putWants p holds (decoded (jump target)) = p
 putWants p holds (decoded (jumpIf r a target)) = p
 putWants p holds (decoded (jumpUnless r a target)) = p
-putWants p holds (decoded (check r a)) = filled p (bytesOf ": r# should be # and is #") r a (holds r)
+putWants p holds (decoded (check r a)) = putFilled p (bytesOf ": r# should be # and is #") r a (holds r)
 putWants p holds (decoded critical) = p
 putWants p holds (decoded exploreState) = p
 putWants p holds (decoded skipBranch) = p
@@ -69,22 +69,22 @@ putWanted p table trace thread row = putWants p (holdsAtEnd table trace thread) 
 -- a thread and a row of a table are below 256
 abbrev pub putCheck : Page → List ℕ → List ℕ → ℕ → ℕ → Page
 putCheck p table trace thread row =
-    putText (putWanted (filled p (bytesOf "answer 15: failed: the check at thread #, row #") thread row 0) table trace (thread % 256) (row % 256))
+    putText (putWanted (putFilled p (bytesOf "answer 15: failed: the check at thread #, row #") thread row 0) table trace (thread % 256) (row % 256))
     (bytesOf "\n")
 
 unfoldable pub putFailed : Page → ℕ → ℕ → ℕ → Page
 putFailed p number thread row =
     cond (eqb number 10) (putText p (bytesOf "answer 10: failed: deadlock: no thread can run, and not every thread has ended\n"))
     (cond (eqb number 13)
-    (filled p (bytesOf "answer 13: failed: two stores that a load may read have no order between them, at thread #, row #\n") thread row 0)
+    (putFilled p (bytesOf "answer 13: failed: two stores that a load may read have no order between them, at thread #, row #\n") thread row 0)
     (cond (eqb number 16)
-    (filled p (bytesOf "answer 16: failed: `critical` while exploring is off, or `explore_state` while it is on, at thread #, row #\n") thread row 0)
-    (filled p (bytesOf "answer #: stopped by a mistake of the explorer itself, at thread #, row #: please report it\n") number thread row)))
+    (putFilled p (bytesOf "answer 16: failed: `critical` while exploring is off, or `explore_state` while it is on, at thread #, row #\n") thread row 0)
+    (putFilled p (bytesOf "answer #: stopped by a mistake of the explorer itself, at thread #, row #: please report it\n") number thread row)))
 
 -- no verdict, refused, 0 where nothing failed, 14 a race, 15 a check, 18 the final condition
 unfoldable pub putVerdict : Page → List ℕ → List ℕ → List ℕ → Settings → Report → Page
 putVerdict p table condition trace s r =
-    cond (isLimit (r .answer)) (putLimit p trace (r .answer) s (r .thread) (r .row))
+    cond (isLimit (r .answer)) (putLimit p trace s (r .answer) (r .thread) (r .row))
     (cond (isRefusal (r .answer)) (putRefused p table condition (r .answer) (r .thread) (r .row))
     (cond (eqb (r .answer) 0) (putPassed p table condition s (r .begun))
     (cond (eqb (r .answer) 14) (putRace p table trace (r .thread) (r .row) (r .kind) (r .other))

@@ -1,7 +1,7 @@
 // The verdict on a run. Its first line begins with the answer's number, `answer N:`, and says what happened: exhausted, failed,
 // no verdict or refused. Behind it stands what was covered where nothing failed, or what to do where a limit ended the run.
 ghost use mathlib.Core.Path.{_≡_};
-ghost use Rattle.page.specs.Pages.{ended};
+ghost use Rattle.page.specs.Pages.{pageOf};
 ghost use Rattle.settings.specs.Given.{settingsOf};
 ghost use Rattle.report.specs.Answers.{reportOf};
 ghost use Rattle.verdict.specs.Verdicts.{putVerdict, putPassed, putRefused, putCheck, putWanted, putFailed};
@@ -22,14 +22,14 @@ pub fn put(
     settings: Settings,
     report: Report,
 ) -> usize
-    ensures { λ r. ⌜ ended (now (page .exit)) r ≡ putVerdict (ended (now (page .entry)) at) (now (table .entry)) (now (condition .entry)) (now (trace .entry)) (settingsOf settings) (reportOf report) ⌝ }
+    ensures { λ r. ⌜ pageOf (now (page .exit)) r ≡ putVerdict (pageOf (now (page .entry)) at) (now (table .entry)) (now (condition .entry)) (now (trace .entry)) (settingsOf settings) (reportOf report) ⌝ }
 {
     let answer = report.answer;
     let number = report::number(answer);
     let thread = report::thread_at_fault(answer);
     let row = report::row_at_fault(answer);
     if limit::is_limit(number) {
-        return limit::put(page, at, trace, number, settings, thread, row);
+        return limit::put(page, at, trace, settings, number, thread, row);
     }
     if report::is_refusal(number) {
         return put_refused(page, at, table, condition, number, thread, row);
@@ -56,7 +56,7 @@ fn put_passed(
     settings: Settings,
     begun: u64,
 ) -> usize
-    ensures { λ r. ⌜ ended (now (page .exit)) r ≡ putPassed (ended (now (page .entry)) at) (now (table .entry)) (now (condition .entry)) (settingsOf settings) begun ⌝ }
+    ensures { λ r. ⌜ pageOf (now (page .exit)) r ≡ putPassed (pageOf (now (page .entry)) at) (now (table .entry)) (now (condition .entry)) (settingsOf settings) begun ⌝ }
 {
     let to = coverage::put(page, at, table, settings, begun);
     if condition.len() == 0 {
@@ -79,7 +79,7 @@ fn put_refused(
     thread: u64,
     row: u64,
 ) -> usize
-    ensures { λ r. ⌜ ended (now (page .exit)) r ≡ putRefused (ended (now (page .entry)) at) (now (table .entry)) (now (condition .entry)) number thread row ⌝ }
+    ensures { λ r. ⌜ pageOf (now (page .exit)) r ≡ putRefused (pageOf (now (page .entry)) at) (now (table .entry)) (now (condition .entry)) number thread row ⌝ }
 {
     match number {
         answers::BAD_SETTINGS => page::put(
@@ -103,7 +103,7 @@ fn put_refused(
 
 // A check that failed, with what its register holds.
 fn put_check(page: &mut Page, at: usize, table: &[u8], trace: &[u8], thread: u64, row: u64) -> usize
-    ensures { λ r. ⌜ ended (now (page .exit)) r ≡ putCheck (ended (now (page .entry)) at) (now (table .entry)) (now (trace .entry)) thread row ⌝ }
+    ensures { λ r. ⌜ pageOf (now (page .exit)) r ≡ putCheck (pageOf (now (page .entry)) at) (now (table .entry)) (now (trace .entry)) thread row ⌝ }
 {
     let to = page::fill(
         page,
@@ -126,7 +126,7 @@ fn put_check(page: &mut Page, at: usize, table: &[u8], trace: &[u8], thread: u64
 
 // What the check of this row wants, and what is there; nothing where the row is no check.
 fn put_wanted(page: &mut Page, at: usize, table: &[u8], trace: &[u8], thread: u8, row: u8) -> usize
-    ensures { λ r. ⌜ ended (now (page .exit)) r ≡ putWanted (ended (now (page .entry)) at) (now (table .entry)) (now (trace .entry)) thread row ⌝ }
+    ensures { λ r. ⌜ pageOf (now (page .exit)) r ≡ putWanted (pageOf (now (page .entry)) at) (now (table .entry)) (now (trace .entry)) thread row ⌝ }
 {
     let Decoded::Row(op) = steps::row_of(table, thread, row) else {
         return at;
@@ -148,7 +148,7 @@ fn put_wanted(page: &mut Page, at: usize, table: &[u8], trace: &[u8], thread: u8
 
 // What else stops a run where it goes wrong.
 fn put_failed(page: &mut Page, at: usize, number: u64, thread: u64, row: u64) -> usize
-    ensures { λ r. ⌜ ended (now (page .exit)) r ≡ putFailed (ended (now (page .entry)) at) number thread row ⌝ }
+    ensures { λ r. ⌜ pageOf (now (page .exit)) r ≡ putFailed (pageOf (now (page .entry)) at) number thread row ⌝ }
 {
     match number {
         answers::DEADLOCK => page::put(

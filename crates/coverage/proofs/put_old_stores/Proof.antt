@@ -1,7 +1,7 @@
 use Prim.Native.Nat.{_≤_, _-_}
 use mathlib.Core.Path.{_≡_, refl}
 use Rattle.rules.specs.Table.{maxCells}
-use Rattle.page.specs.Pages.{ended}
+use Rattle.page.specs.Pages.{pageOf}
 use Rattle.coverage.specs.Says.{putOldStores}
 use Rattle.coverage.proofs.SaysLaws.{old-on, old-none}
 use borrow.Author.Needs.{needs}
@@ -11,7 +11,7 @@ use Rattle.coverage.proofs.put_old_stores.Tie as tie
 abbrev Inv-loop : tie.InvT-loop
 Inv-loop page₀ at table to₀ cell₀ page to cell =
     (cell ≤ maxCells)
-    × (putOldStores (ended page to) table (maxCells - cell) cell ≡ putOldStores (ended page₀ at) table maxCells 0)
+    × (putOldStores (pageOf page to) table (maxCells - cell) cell ≡ putOldStores (pageOf page₀ at) table maxCells 0)
 
 abbrev μ-loop : tie.MeasureT-loop
 μ-loop page₀ at table to₀ cell₀ page to cell = maxCells - cell

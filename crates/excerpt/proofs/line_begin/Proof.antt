@@ -2,14 +2,14 @@ use Prim.Native.Nat.{_+_, _-_}
 use mathlib.Core.Path.{_≡_, _∙_}
 use native.Mathlib.Omega.{arith}
 use lib.ListN.{drop}
-use Rattle.excerpt.specs.Excerpts.{behind}
+use Rattle.excerpt.specs.Excerpts.{behindLines}
 use Rattle.excerpt.proofs.LineLaws.{begin-on, begin-end}
 use borrow.Author.Needs.{needs}
 use Rattle.excerpt.proofs.line_begin.Statement.{statement}
 use Rattle.excerpt.proofs.line_begin.Tie as tie
 
 abbrev Inv-loop : tie.InvT-loop
-Inv-loop text line at₀ left₀ at left = at + behind (left - 1) (drop at text) ≡ behind (line - 1) text
+Inv-loop text line at₀ left₀ at left = at + behindLines (left - 1) (drop at text) ≡ behindLines (line - 1) text
 
 abbrev μ-loop : tie.MeasureT-loop
 μ-loop text line at₀ left₀ at left = left

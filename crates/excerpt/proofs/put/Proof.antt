@@ -12,10 +12,10 @@ use Rattle.excerpt.proofs.put.Statement.{statement}
 use Rattle.excerpt.proofs.put.Tie as tie
 
 -- no place or buffer is past the last
-low : (c : tie.After-slice-known) → c .before .args .to ≤ last
+low : (c : tie.After-slice-known) → c .before .args .at ≤ last
 low c = omega arith
 
-long : (c : tie.After-slice-known) → length (c .before .args .out .now) ≤ last
+long : (c : tie.After-slice-known) → length (c .before .args .page .now) ≤ last
 long c = omega arith
 
 line-begin-requires : tie.Need-line-begin-requires
@@ -62,7 +62,7 @@ returns c =
     let known = begin .before .before .before in
     let a = known .before .args in
     let whole = refused-whole (a .name .now) (a .text .now) (a .line) (a .column) _ _ _ _ _ (begin .line-begin .ensures) (end .line-end .ensures) (at .place-in .ensures) (row .rows-before .ensures) (token .token-before .ensures) in
-    let all = coming-all _ (a .to) (refusedShown (a .name .now) (a .text .now) (a .line) (a .column)) (low known) (long known) in
+    let all = coming-all _ (a .at) (refusedShown (a .name .now) (a .text .now) (a .line) (a .column)) (low known) (long known) in
     let one = coming-on _ _ _ _ _ _ _ _ _ _ whole all (place .put-place .ensures) in
     let two = coming-on _ _ _ _ _ _ _ _ (whatShown (a .text .now) (row .rows-before .result) (begin .line-begin .result) (token .token-before .result) (at .place-in .result)) _ refl one (what .put-what .ensures) in
     coming-on _ _ _ _ _ _ _ _ _ _ refl two (line .put-line .ensures) .whole _ _ (caret .put-caret .ensures)

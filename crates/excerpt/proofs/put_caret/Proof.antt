@@ -11,10 +11,10 @@ use Rattle.excerpt.proofs.put_caret.Statement.{statement}
 use Rattle.excerpt.proofs.put_caret.Tie as tie
 
 -- no place or buffer is past the last
-low : (c : tie.After-slice-known) → c .before .args .to ≤ last
+low : (c : tie.After-slice-known) → c .before .args .at ≤ last
 low c = omega arith
 
-long : (c : tie.After-slice-known) → length (c .before .args .out .now) ≤ last
+long : (c : tie.After-slice-known) → length (c .before .args .page .now) ≤ last
 long c = omega arith
 
 first-shown-requires : tie.Need-first-shown-requires
@@ -53,8 +53,8 @@ returns c =
     let indent = cut .before .before .before .before in
     let first = indent .before .before .before in
     let a = first .before .before .before .args in
-    let whole = caret-whole (a .text .now) (a .begin) (a .at) _ (first .first-shown .ensures) _ (taken .part .ensures) in
-    let all = coming-all _ (a .to) (caretShown (a .text .now) (a .begin) (a .at)) (low (first .before .before)) (long (first .before .before)) in
+    let whole = caret-whole (a .text .now) (a .begin) (a .place) _ (first .first-shown .ensures) _ (taken .part .ensures) in
+    let all = coming-all _ (a .at) (caretShown (a .text .now) (a .begin) (a .place)) (low (first .before .before)) (long (first .before .before)) in
     let one = coming-on _ _ _ _ _ _ _ _ _ _ whole all (indent .put-bytes .ensures) in
     let two = coming-on _ _ _ _ _ _ _ _ _ _ refl one (cut .put-dots .ensures) in
     coming-on _ _ _ _ _ _ _ _ _ _ refl two (seen .put-seen .ensures) .whole _ _ (caret .put-bytes2 .ensures)

@@ -11,10 +11,10 @@ use Rattle.excerpt.proofs.put_line.Statement.{statement}
 use Rattle.excerpt.proofs.put_line.Tie as tie
 
 -- no place or buffer is past the last
-low : (c : tie.After-slice-known) → c .before .args .to ≤ last
+low : (c : tie.After-slice-known) → c .before .args .at ≤ last
 low c = omega arith
 
-long : (c : tie.After-slice-known) → length (c .before .args .out .now) ≤ last
+long : (c : tie.After-slice-known) → length (c .before .args .page .now) ≤ last
 long c = omega arith
 
 first-shown-requires : tie.Need-first-shown-requires
@@ -58,8 +58,8 @@ returns c =
     let behind = indent .before .before .before in
     let first = behind .before in
     let a = first .before .before .before .args in
-    let whole = line-whole (a .text .now) (a .begin) (a .at) _ (first .first-shown .ensures) (a .end) _ _ (behind .last-shown .ensures) (taken .part .ensures) in
-    let all = coming-all _ (a .to) (lineShown (a .text .now) (a .begin) (a .end) (a .at)) (low (first .before .before)) (long (first .before .before)) in
+    let whole = line-whole (a .text .now) (a .begin) (a .place) _ (first .first-shown .ensures) (a .end) _ _ (behind .last-shown .ensures) (taken .part .ensures) in
+    let all = coming-all _ (a .at) (lineShown (a .text .now) (a .begin) (a .place) (a .end)) (low (first .before .before)) (long (first .before .before)) in
     let one = coming-on _ _ _ _ _ _ _ _ _ _ whole all (indent .put-bytes .ensures) in
     let two = coming-on _ _ _ _ _ _ _ _ _ _ refl one (cut .put-dots .ensures) in
     let three = coming-on _ _ _ _ _ _ _ _ _ _ refl two (seen .put-seen .ensures) in

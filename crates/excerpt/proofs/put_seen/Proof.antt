@@ -11,10 +11,10 @@ use Rattle.excerpt.proofs.put_seen.Statement.{statement}
 use Rattle.excerpt.proofs.put_seen.Tie as tie
 
 abbrev Inv-loop : tie.InvT-loop
-Inv-loop out₀ at bytes below to₀ i₀ out to i = ToPut out₀ out at to (map (seenAs below) bytes) (map (seenAs below) (drop i bytes))
+Inv-loop page₀ at bytes below to₀ i₀ page to i = ToPut page₀ page at to (map (seenAs below) bytes) (map (seenAs below) (drop i bytes))
 
 abbrev μ-loop : tie.MeasureT-loop
-μ-loop out₀ at bytes below to₀ i₀ out to i = length bytes - i
+μ-loop page₀ at bytes below to₀ i₀ page to i = length bytes - i
 
 loop-holds : tie.Need-loop-holds Inv-loop μ-loop
 loop-holds c = coming-all _ _ _ (omega arith) (omega arith)

@@ -7,10 +7,10 @@ use Rattle.excerpt.proofs.token_before.Statement.{statement}
 use Rattle.excerpt.proofs.token_before.Tie as tie
 
 abbrev Inv-loop : tie.InvT-loop
-Inv-loop text begin at found₀ from₀ left₀ found from left = tokenBefore text at left found from ≡ tokenBefore text at (length text) begin begin
+Inv-loop text begin place found₀ from₀ left₀ found from left = tokenBefore text place left found from ≡ tokenBefore text place (length text) begin begin
 
 abbrev μ-loop : tie.MeasureT-loop
-μ-loop text begin at found₀ from₀ left₀ found from left = left
+μ-loop text begin place found₀ from₀ left₀ found from left = left
 
 loop-holds : tie.Need-loop-holds Inv-loop μ-loop
 loop-holds c = refl
@@ -24,7 +24,7 @@ returns c =
     let turn = got .before in
     let at = turn .before in
     let a = at .before .before .args in
-    sym (before-here (a .text .now) (a .at) (at .loop .left) (at .loop .found) (at .loop .from) (got .past-blanks .result) (turn .loop-test .taken) (got .past-blanks .ensures) (c .if1 .taken)) ∙ at .loop .inv
+    sym (before-here (a .text .now) (a .place) (at .loop .left) (at .loop .found) (at .loop .from) (got .past-blanks .result) (turn .loop-test .taken) (got .past-blanks .ensures) (c .if1 .taken)) ∙ at .loop .inv
 
 token-end-requires : tie.Need-token-end-requires Inv-loop μ-loop
 token-end-requires c κs = search needs
@@ -41,13 +41,13 @@ loop-again c =
     let turn = got .before in
     let at = turn .before in
     let a = at .before .before .args in
-    before-on (a .text .now) (a .at) (at .loop .left) (at .loop .found) (at .loop .from) (got .past-blanks .result) (turn .loop-test .taken) (got .past-blanks .ensures) (c .token-end .result) (c .before .if1 .left) (c .token-end .ensures) ∙ at .loop .inv
+    before-on (a .text .now) (a .place) (at .loop .left) (at .loop .found) (at .loop .from) (got .past-blanks .result) (turn .loop-test .taken) (got .past-blanks .ensures) (c .token-end .result) (c .before .if1 .left) (c .token-end .ensures) ∙ at .loop .inv
 
 returns-2 : tie.Need-returns-2 Inv-loop μ-loop
 returns-2 c =
     let at = c .before in
     let a = at .before .before .args in
-    sym (before-out (a .text .now) (a .at) (at .loop .left) (at .loop .found) (at .loop .from) (c .loop-test .left)) ∙ at .loop .inv
+    sym (before-out (a .text .now) (a .place) (at .loop .left) (at .loop .found) (at .loop .from) (c .loop-test .left)) ∙ at .loop .inv
 
 pub token-before-spec : {M : Type 1} → statement M
 token-before-spec =

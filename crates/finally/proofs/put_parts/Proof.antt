@@ -3,7 +3,7 @@ use mathlib.Core.Path.{_≡_, ap}
 use native.Mathlib.Omega.{arith}
 use lib.ListN.{length}
 use borrow.Author.Needs.{needs}
-use Rattle.page.specs.Pages.{ended}
+use Rattle.page.specs.Pages.{pageOf}
 use Rattle.unmet.specs.Parts.{nextFrom}
 use Rattle.finally.specs.Finals.{putParts}
 use Rattle.finally.proofs.FinalLaws.{parts-on, parts-out, parts-end}
@@ -13,7 +13,7 @@ use Rattle.finally.proofs.put_parts.Tie as tie
 abbrev Inv-loop : tie.InvT-loop
 Inv-loop page₀ at condition held threads to₀ from₀ left₀ page to from left =
     (left ≤ length condition)
-    × (putParts left (ended page to) condition threads held from ≡ putParts (length condition) (ended page₀ at) condition threads held (nextFrom condition 0))
+    × (putParts left (pageOf page to) condition threads held from ≡ putParts (length condition) (pageOf page₀ at) condition threads held (nextFrom condition 0))
 
 abbrev μ-loop : tie.MeasureT-loop
 μ-loop page₀ at condition held threads to₀ from₀ left₀ page to from left = left

@@ -42,13 +42,13 @@ use denote.Triple.Table.{entered, cited}
 use denote.Triple.Walked.{says, Stays, stay-dropped, gave-slice, walkOf, AllGo, goes-dropped, goes-gave-slice, Walks, ends-at, walked, walk-meets}
 use denote.Exit.{yes}
 use Rattle.rules.specs.Explored.{Summary, exploredInto, isRefusal}
-use Rattle.report.specs.Answers.{numberOf, summariesOf}
+use Rattle.report.specs.Answers.{answerNumber, summariesOf}
 use Rattle.report.specs.declared.Report.{Report}
-use Rattle.report.specs.declared.ThreadRecord.{ThreadRecord}
+use Rattle.report.specs.declared.Summary as ofThread
 use Rattle.report.proofs.Report as P
 use Rattle.report.proofs.Report.Laws as P′
-use Rattle.report.proofs.ThreadRecord as T
-use Rattle.report.proofs.ThreadRecord.Laws as T′
+use Rattle.report.proofs.Summary as T
+use Rattle.report.proofs.Summary.Laws as T′
 use Rattle.settings.specs.Given.{settingsOf}
 use Rattle.explorer.specs.Explores.{exploredOf}
 use Rattle.settings.specs.declared.Settings.{Settings}
@@ -87,7 +87,7 @@ abbrev Bytes : Type 0
 Bytes = List ℕ
 
 abbrev Records : Type 0
-Records = List ThreadRecord
+Records = List ofThread.Summary
 
 -- a slice's pointer and count
 abbrev slice : {X : Type 0} → RefT (List X) → Val
@@ -120,8 +120,8 @@ module _ {M : Type 1} (𝓤 : URA M) (H : Heap 𝓤) (A : Atoms 𝓤) (mem : Mem
   Copy = tripleOf 𝓤 H A copy.signature (copy.spec 𝓤 H A mem run)
 
   -- of `ran`'s and `summaries_of`'s `ensured`, the clause alone
-  ran-of : (r : Report) (f : Bool) → ent 𝓤 (ensured 𝓤 H A ran.ended (ran.clauses 𝓤 H A mem run) tt (r, tt) tt f) (fact 𝓤 (f ≡ not (isRefusal (numberOf (r .answer)))))
-  ran-of r f = exE 𝓤 _ (λ ws. snd∗ 𝓤 (sem 𝓤 H A (lasts ran.ended tt (r, tt) ws)) (fact 𝓤 (f ≡ not (isRefusal (numberOf (r .answer))))))
+  ran-of : (r : Report) (f : Bool) → ent 𝓤 (ensured 𝓤 H A ran.ended (ran.clauses 𝓤 H A mem run) tt (r, tt) tt f) (fact 𝓤 (f ≡ not (isRefusal (answerNumber (r .answer)))))
+  ran-of r f = exE 𝓤 _ (λ ws. snd∗ 𝓤 (sem 𝓤 H A (lasts ran.ended tt (r, tt) ws)) (fact 𝓤 (f ≡ not (isRefusal (answerNumber (r .answer))))))
 
   threads-said : (r : Report) (ts : Records) → ent 𝓤 (ensured 𝓤 H A threads.ended (threads.clauses 𝓤 H A mem run) tt (r, tt) tt ts) (fact 𝓤 (ts ≡ r .threads))
   threads-said r ts = exE 𝓤 _ (λ ws. snd∗ 𝓤 (sem 𝓤 H A (lasts threads.ended tt (r, tt) ws)) (fact 𝓤 (ts ≡ r .threads)))
@@ -254,7 +254,7 @@ module _ {M : Type 1} (𝓤 : URA M) (H : Heap 𝓤) (A : Atoms 𝓤) (W : Given
         -- `ran`
         use0 W (raw (Ran 𝓤 H A mem run .pre (to-ran r w is))) (goes-ran r w is) $ calls-at ! fm (Ran 𝓤 H A mem run) known-ran (to-ran r w is) (and-then ! (load ! (from ! (stop !)) (look ! 25 refl)) (no-more !)) (λ u.
         use1 W (later (some (λ (f : Bool). (‵ ftrue ⊛ ‵ (bool .own f (u ∷ []))) ⊛ raw (ensured 𝓤 H A ran.ended (ran.clauses 𝓤 H A mem run) tt (r, tt) tt f)))) (id⊢ 𝓤 _) $ await ! tt $ pick ! (λ f.
-        split ! $ move ! (1 ∷ []) $ use1 W (raw (fact 𝓤 (f ≡ not (isRefusal (numberOf (r .answer)))))) (ran-of 𝓤 H A mem run r f) $ heard ! (f ≡ not (isRefusal (numberOf (r .answer)))) (λ flag. split ! $ drop ! $
+        split ! $ move ! (1 ∷ []) $ use1 W (raw (fact 𝓤 (f ≡ not (isRefusal (answerNumber (r .answer)))))) (ran-of 𝓤 H A mem run r f) $ heard ! (f ≡ not (isRefusal (answerNumber (r .answer)))) (λ flag. split ! $ drop ! $
         facts ! bool (Is bool) (shows 𝓤 H A bool) f (u ∷ []) (λ is-bool. land ! (from ! (stop !)) (init ! 6 refl (bool-lawful 𝓤 H A W .typed f _ is-bool .0)) $
         -- `summaries_of`
         use0 W (raw (Threads 𝓤 H A mem run .pre (to-threads r w is))) (goes-threads r w is) $ calls-at ! fm (Threads 𝓤 H A mem run) known-threads (to-threads r w is) (and-then ! (load ! (from ! (stop !)) (look ! 25 refl)) (no-more !)) (λ v.

@@ -1,20 +1,20 @@
 use Prim.Native.Nat.{_≤_}
 use mathlib.Core.Path.{_≡_, refl, sym, _∙_}
-use Rattle.last_access.specs.Access.{lastOf, isAccess, lastAccess}
+use Rattle.last_access.specs.Access.{lastOf, isAccess, lastAccessStep}
 use Rattle.last_access.proofs.AccessLaws.{last-on, last-found, last-none}
 use borrow.Author.Needs.{needs}
 use Rattle.last_access.proofs.last.Statement.{statement}
 use Rattle.last_access.proofs.last.Tie as tie
 
 abbrev Inv-loop : tie.InvT-loop
-Inv-loop table trace n thread cell kind i₀ i =
-    (i ≤ n) × (lastOf (isAccess table trace thread cell kind) i ≡ lastAccess table trace n thread cell kind)
+Inv-loop table trace thread cell kind n i₀ i =
+    (i ≤ n) × (lastOf (isAccess table trace thread cell kind) i ≡ lastAccessStep table trace thread cell kind n)
 
 abbrev μ-loop : tie.MeasureT-loop
-μ-loop table trace n thread cell kind i₀ i = i
+μ-loop table trace thread cell kind n i₀ i = i
 
 loop-holds : tie.Need-loop-holds Inv-loop μ-loop
-unfolding lastAccess
+unfolding lastAccessStep
 loop-holds c = (search needs, refl)
 
 sub-is-access : tie.Need-sub-is-access Inv-loop μ-loop

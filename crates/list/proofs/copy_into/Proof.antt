@@ -42,9 +42,9 @@ use denote.Triple.Spec.{Meets, tripleOf}
 use denote.Triple.Table.{entered}
 use denote.Triple.Walked.{says, Stays, stay-slice, stay-dropped, walkOf, goes-slice, goes-dropped, Walks, ends-at, walked, walk-meets}
 use denote.Exit.{yes}
-use Rattle.report.specs.declared.ThreadRecord.{ThreadRecord}
-use Rattle.report.proofs.ThreadRecord as T
-use Rattle.report.proofs.ThreadRecord.Laws as T′
+use Rattle.report.specs.declared.Summary.{Summary}
+use Rattle.report.proofs.Summary as T
+use Rattle.report.proofs.Summary.Laws as T′
 use Rattle.list.proofs.copy_into.Key.{name as #list·copy-into}
 use Rattle.list.proofs.copy_into as copy
 use Rattle.list.proofs.copy_into.Statement as stated
@@ -58,13 +58,13 @@ abbrev Five : RattleType
 Five = Array R 5
 
 abbrev Records : Type 0
-Records = List ThreadRecord
+Records = List Summary
 
 -- a record's machine value
-abbrev spelled : ThreadRecord → List Val
+abbrev spelled : Summary → List Val
 spelled = LL.vals T.the-type T′.the-laws
 
-abbrev mach : ThreadRecord → Val
+abbrev mach : Summary → Val
 mach t = LL.val T.the-type T′.the-laws t
 
 abbrev stayed : Stays (copy.ended .signature .params) (copy.ended .kept)
@@ -92,13 +92,13 @@ abbrev Each : Records → Type 0
 Each [] = Unit {0}
 Each (t ∷ ts) = Is R t (mach t ∷ []) × Each ts
 
-each-is : (ts : Records) (us : List Val) → shadow (each ThreadRecord (R .own) ts us) → Each ts
+each-is : (ts : Records) (us : List Val) → shadow (each Summary (R .own) ts us) → Each ts
 each-is [] us s = tt
 each-is (t ∷ ts) [] s = absurd s
 each-is (t ∷ ts) (u ∷ us) s = (subst (Is R t) (LL.tells T.the-type T′.the-laws t (u ∷ []) (s .0)) (s .0), each-is ts us (s .1))
 
 module _ {M : Type 1} (𝓤 : URA M) (H : Heap 𝓤) (A : Atoms 𝓤) (W : Given 𝓤 H A) (mem : Memory → SProp 𝓤) (run : Routine → Fun 𝓤) (κ : Lft) (q : Share) (b o : ℕ) (γ : GName) where
-  typed : (t : ThreadRecord) → Is R t (mach t ∷ []) → T (hasTy T′.mir (mach t)) × WT (mach t)
+  typed : (t : Summary) → Is R t (mach t ∷ []) → T (hasTy T′.mir (mach t)) × WT (mach t)
   typed t is = LL.lawful T.the-type T′.the-laws 𝓤 H A W .typed t _ is .0
 
   array : (ts : Records) → Is Five ts (array-vals spelled ts) → T (hasTy (tyArray T′.mir 5) (arrayVal (map mach ts))) × WT (arrayVal (map mach ts))
@@ -163,7 +163,7 @@ module _ {M : Type 1} (𝓤 : URA M) (H : Heap 𝓤) (A : Atoms 𝓤) (W : Given
         by ! (exits ys f ts ys room refl (subst (λ (z : Bool). ys ≡ cond z ts ys) (sym e) refl)))
         (λ on. absurd (subst (λ (z : Bool). T (not (not z))) e on)))))))))))))))))))))))))))
 
-    module _ (t₀ t₁ t₂ t₃ t₄ y₀ y₁ y₂ y₃ y₄ : ThreadRecord) where
+    module _ (t₀ t₁ t₂ t₃ t₄ y₀ y₁ y₂ y₃ y₄ : Summary) where
       abbrev ts : Records
       ts = t₀ ∷ t₁ ∷ t₂ ∷ t₃ ∷ t₄ ∷ []
 
@@ -245,7 +245,7 @@ module _ {M : Type 1} (𝓤 : URA M) (H : Heap 𝓤) (A : Atoms 𝓤) (W : Given
         (λ t₀ t₁ t₂ t₃ t₄. by-flag (t₀ ∷ t₁ ∷ t₂ ∷ t₃ ∷ t₄ ∷ []) (λ is y₀ y₁ y₂ y₃ y₄. five t₀ t₁ t₂ t₃ t₄ y₀ y₁ y₂ y₃ y₄ is (each-is (t₀ ∷ t₁ ∷ t₂ ∷ t₃ ∷ t₄ ∷ []) (is .0) (is .1 .1))) f ys)
         (λ ts e is. absurd (subst T (subst (λ (n : ℕ). eqb n 5 ≡ false) (is .1 .0 .1) e) tt)) ts
       where
-        by-flag : (ts : Records) → (Is Five ts (array-vals spelled ts) → (y₀ y₁ y₂ y₃ y₄ : ThreadRecord) → Room R 5 → Walk (y₀ ∷ y₁ ∷ y₂ ∷ y₃ ∷ y₄ ∷ []) true ts)
+        by-flag : (ts : Records) → (Is Five ts (array-vals spelled ts) → (y₀ y₁ y₂ y₃ y₄ : Summary) → Room R 5 → Walk (y₀ ∷ y₁ ∷ y₂ ∷ y₃ ∷ y₄ ∷ []) true ts)
             → (f : Bool) (ys : Records) → Is Five ts (array-vals spelled ts) → Room R (length ys) → Walk ys f ts
         by-flag ts five false ys is room = other ts ys false is room refl
         by-flag ts five true ys is room = by-length (λ ys. Room R (length ys) → Walk ys true ts) (five is) (λ ys e room. other ts ys true is room e) ys room

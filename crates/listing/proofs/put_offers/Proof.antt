@@ -2,7 +2,7 @@ use Prim.Native.Nat.{_≤_, _-_}
 use mathlib.Core.Logic.{⊎-elim}
 use mathlib.Core.Path.{_≡_, refl}
 use Rattle.rules.specs.Token.{bytesOf}
-use Rattle.page.specs.Pages.{ended}
+use Rattle.page.specs.Pages.{pageOf}
 use Rattle.listing.specs.Steps.{slotsIn, putEach, putOffers}
 use Rattle.listing.proofs.StepLaws.{each-put, each-skipped, each-none, each-end}
 use borrow.Author.Needs.{needs}
@@ -11,7 +11,7 @@ use Rattle.listing.proofs.put_offers.Tie as tie
 
 abbrev Inv-loop : tie.InvT-loop
 Inv-loop page₀ at mask to₀ first₀ rest₀ slot₀ t8 page to first rest slot =
-    (slot ≤ 7) × (putEach (ended page to) first (slotsIn rest (7 - slot) slot) ≡ putOffers (ended page₀ at) mask)
+    (slot ≤ 7) × (putEach (pageOf page to) first (slotsIn rest (7 - slot) slot) ≡ putOffers (pageOf page₀ at) mask)
 
 abbrev μ-loop : tie.MeasureT-loop
 μ-loop page₀ at mask to₀ first₀ rest₀ slot₀ t8 page to first rest slot = 7 - slot

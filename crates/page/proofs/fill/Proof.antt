@@ -2,7 +2,7 @@ use Prim.Native.Nat.{_≤_, _-_}
 use mathlib.Core.Logic.{⊎-elim}
 use mathlib.Core.Path.{_≡_, refl}
 use lib.ListN.{length, drop}
-use Rattle.page.specs.Pages.{ended, filled}
+use Rattle.page.specs.Pages.{pageOf, putFilled}
 use Rattle.page.proofs.PageLaws.{fill-number, fill-byte, fill-end}
 use borrow.Author.Needs.{needs}
 use Rattle.page.proofs.fill.Statement.{statement}
@@ -10,7 +10,7 @@ use Rattle.page.proofs.fill.Tie as tie
 
 abbrev Inv-loop : tie.InvT-loop
 Inv-loop page₀ at text a b c to₀ now₀ next₀ i₀ page to now next i =
-    (i ≤ length text) × (filled (ended page to) (drop i text) now next c ≡ filled (ended page₀ at) text a b c)
+    (i ≤ length text) × (putFilled (pageOf page to) (drop i text) now next c ≡ putFilled (pageOf page₀ at) text a b c)
 
 abbrev μ-loop : tie.MeasureT-loop
 μ-loop page₀ at text a b c to₀ now₀ next₀ i₀ page to now next i = length text - i

@@ -1,13 +1,13 @@
 use Prim.Native.Nat.{_-_}
 use mathlib.Core.Path.{_≡_, refl}
 use borrow.Author.Needs.{needs}
-use Rattle.page.specs.Pages.{ended, padded}
+use Rattle.page.specs.Pages.{pageOf, padded}
 use Rattle.page.proofs.PageLaws.{pad-on, pad-full, pad-end}
 use Rattle.page.proofs.pad.Statement.{statement}
 use Rattle.page.proofs.pad.Tie as tie
 
 abbrev Inv-loop : tie.InvT-loop
-Inv-loop page₀ at column to₀ page to = padded (ended page to) column ≡ padded (ended page₀ at) column
+Inv-loop page₀ at column to₀ page to = padded (pageOf page to) column ≡ padded (pageOf page₀ at) column
 
 abbrev μ-loop : tie.MeasureT-loop
 μ-loop page₀ at column to₀ page to = column - to

@@ -1,7 +1,7 @@
 use Prim.Native.Nat.{_≤_, _-_}
 use mathlib.Core.Path.{_≡_, refl, sym, _∙_}
 use lib.ListN.{length, drop}
-use Rattle.page.specs.Pages.{ended, putText}
+use Rattle.page.specs.Pages.{pageOf, putText}
 use Rattle.page.proofs.PageLaws.{text-on, text-full, text-end}
 use borrow.Author.Needs.{needs}
 use Rattle.page.proofs.put.Statement.{statement}
@@ -9,7 +9,7 @@ use Rattle.page.proofs.put.Tie as tie
 
 abbrev Inv-loop : tie.InvT-loop
 Inv-loop page₀ at text to₀ i₀ page to i =
-    (i ≤ length text) × (putText (ended page to) (drop i text) ≡ putText (ended page₀ at) text)
+    (i ≤ length text) × (putText (pageOf page to) (drop i text) ≡ putText (pageOf page₀ at) text)
 
 abbrev μ-loop : tie.MeasureT-loop
 μ-loop page₀ at text to₀ i₀ page to i = length text - i

@@ -18,7 +18,7 @@ returns c =
     let all = c .before .before in
     let args = all .before .args in
     λ marks values.
-    finished-so (args .answer) (args .counts .begun) (args .counts .opened) (args .counts .«open») (c .wide16 .result) (all .summaries .result)
+    finished-so (args .answer) (args .counts .begun) (args .counts .opened) (args .counts .still_open) (c .wide16 .result) (all .summaries .result)
     (state (args .clocks .now) marks values (args .numbers .now))
     (c .wide16 .ensures .same)
     (all .summaries .ensures marks values)

@@ -12,10 +12,10 @@ use Rattle.saying.proofs.put_name.Statement.{statement}
 use Rattle.saying.proofs.put_name.Tie as tie
 
 -- no place or buffer is past the last
-low : (c : tie.After-slice-known) → c .before .args .to ≤ last
+low : (c : tie.After-slice-known) → c .before .args .at ≤ last
 low c = omega arith
 
-long : (c : tie.After-slice-known) → length (c .before .args .out .now) ≤ last
+long : (c : tie.After-slice-known) → length (c .before .args .page .now) ≤ last
 long c = omega arith
 
 returns : tie.Need-returns
@@ -41,7 +41,7 @@ returns-2 c =
     let some = named .before .before in
     let known = some .before .before in
     let a = known .before .args in
-    let all = coming-all _ (a .to) (nameShown (a .name .now)) (low known) (long known) in
+    let all = coming-all _ (a .at) (nameShown (a .name .now)) (low known) (long known) in
     coming-on _ _ _ _ _ _ _ _ _ _ (name-some (a .name .now) (some .if1 .left)) all (named .put-bytes .ensures) .whole _ _ (colon .put-bytes2 .ensures)
 
 pub put-name-spec : {M : Type 1} → statement M

@@ -11,10 +11,10 @@ use Rattle.saying.proofs.put_place.Statement.{statement}
 use Rattle.saying.proofs.put_place.Tie as tie
 
 -- no place or buffer is past the last
-low : (c : tie.After-slice-known) → c .before .args .to ≤ last
+low : (c : tie.After-slice-known) → c .before .args .at ≤ last
 low c = omega arith
 
-long : (c : tie.After-slice-known) → length (c .before .args .out .now) ≤ last
+long : (c : tie.After-slice-known) → length (c .before .args .page .now) ≤ last
 long c = omega arith
 
 slice-aggregate-put-bytes : tie.Need-slice-aggregate-put-bytes
@@ -65,7 +65,7 @@ returns c =
     let refused = named .before .before .before .before in
     let known = refused .before .before .before .before in
     let a = known .before .args in
-    let all = coming-all _ (a .to) (placeShown (a .name .now) (a .line) (a .column)) (low known) (long known) in
+    let all = coming-all _ (a .at) (placeShown (a .name .now) (a .line) (a .column)) (low known) (long known) in
     let one = coming-on _ _ _ _ _ _ _ _ (bytesOf "answer 5: refused: ") _ refl all (refused .put-bytes .ensures) in
     let two = coming-on _ _ _ _ _ _ _ _ _ _ refl one (named .put-name .ensures) in
     let three = coming-on _ _ _ _ _ _ _ _ (bytesOf "line ") _ refl two (of-line .put-bytes2 .ensures) in

@@ -20,7 +20,7 @@ returns : tie.Need-returns
 returns c =
     let put = c .before .before in
     let plain = put .before .before .before in
-    puts-are _ _ _ _ _ _ (ap bytesOf (reason-by (plain .before .before .before .args .row) _ _ _ true (sym (plain .names-plain .ensures) ∙ put .before .before .if1 .taken))) (put .put-why-no-plain .ensures)
+    puts-are _ _ _ _ _ _ (ap bytesOf (reason-by (plain .before .before .before .args .spot .row) _ _ _ true (sym (plain .names-plain .ensures) ∙ put .before .before .if1 .taken))) (put .put-why-no-plain .ensures)
 
 put-why-requires : tie.Need-put-why-requires
 put-why-requires c κs = search needs
@@ -32,7 +32,7 @@ returns-2 : tie.Need-returns-2
 returns-2 c =
     let put = c .before .before in
     let plain = put .before .before .before in
-    puts-are _ _ _ _ _ _ (ap bytesOf (reason-by (plain .before .before .before .args .row) _ _ _ false (sym (plain .names-plain .ensures) ∙ put .before .before .if1 .left))) (put .put-why .ensures)
+    puts-are _ _ _ _ _ _ (ap bytesOf (reason-by (plain .before .before .before .args .spot .row) _ _ _ false (sym (plain .names-plain .ensures) ∙ put .before .before .if1 .left))) (put .put-why .ensures)
 
 pub put-reason-spec : {M : Type 1} → statement M
 put-reason-spec =

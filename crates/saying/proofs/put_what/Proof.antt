@@ -14,10 +14,10 @@ use Rattle.saying.proofs.put_what.Statement.{statement}
 use Rattle.saying.proofs.put_what.Tie as tie
 
 -- no place or buffer is past the last
-low : (c : tie.After-slice-known) → c .before .args .to ≤ last
+low : (c : tie.After-slice-known) → c .before .args .at ≤ last
 low c = omega arith
 
-long : (c : tie.After-slice-known) → length (c .before .args .out .now) ≤ last
+long : (c : tie.After-slice-known) → length (c .before .args .page .now) ≤ last
 long c = omega arith
 
 ends-line-requires : tie.Need-ends-line-requires
@@ -38,7 +38,7 @@ returns c =
     let put = c .before .before in
     let ends = put .before .before .before .before in
     let a = ends .before .before .before .args in
-    puts-are _ _ _ _ _ _ (what-missing (a .text .now) (a .row) (a .begin) (a .before) (a .at) (sym (ends .ends-line .ensures) ∙ put .before .before .before .if1 .taken)) (put .put-bytes .ensures)
+    puts-are _ _ _ _ _ _ (what-missing (a .text .now) (a .spot .row) (a .spot .begin) (a .spot .before) (a .spot .place) (sym (ends .ends-line .ensures) ∙ put .before .before .before .if1 .taken)) (put .put-bytes .ensures)
 
 token-end-requires : tie.Need-token-end-requires
 token-end-requires c κs = search needs
@@ -68,7 +68,7 @@ returns-2 c =
     let ends = end .before .before in
     let a = ends .before .before .before .args in
     let there = sym (ends .ends-line .ensures) ∙ end .before .if1 .left in
-    puts-are _ _ _ _ _ _ (what-unclear (a .text .now) (a .row) (a .begin) (a .before) (a .at) there _ (end .token-end .ensures) _ (taken .part .ensures) (sym (clear .is-clear .ensures) ∙ not-true _ (put .before .before .before .if2 .taken))) (put .put-bytes2 .ensures)
+    puts-are _ _ _ _ _ _ (what-unclear (a .text .now) (a .spot .row) (a .spot .begin) (a .spot .before) (a .spot .place) there _ (end .token-end .ensures) _ (taken .part .ensures) (sym (clear .is-clear .ensures) ∙ not-true _ (put .before .before .before .if2 .taken))) (put .put-bytes2 .ensures)
 
 put-byte-requires : tie.Need-put-byte-requires
 put-byte-requires c κs = search needs
@@ -105,10 +105,10 @@ returns-3 c =
     let ends = end .before .before in
     let known = ends .before .before in
     let a = known .before .args in
-    let why = reason (a .row) (token (pastBlanks (drop (a .begin) (a .text .now)))) (token (drop (a .before) (a .text .now))) (part (a .at) (end .token-end .result) (a .text .now)) in
+    let why = reason (a .spot .row) (token (pastBlanks (drop (a .spot .begin) (a .text .now)))) (token (drop (a .spot .before) (a .text .now))) (part (a .spot .place) (end .token-end .result) (a .text .now)) in
     let there = sym (ends .ends-line .ensures) ∙ end .before .if1 .left in
-    let whole = what-clear (a .text .now) (a .row) (a .begin) (a .before) (a .at) there _ (end .token-end .ensures) _ (taken .part .ensures) (sym (clear .is-clear .ensures) ∙ not-false _ (quote .before .before .if2 .left)) in
-    let all = coming-all _ (a .to) (whatShown (a .text .now) (a .row) (a .begin) (a .before) (a .at)) (low known) (long known) in
+    let whole = what-clear (a .text .now) (a .spot .row) (a .spot .begin) (a .spot .before) (a .spot .place) there _ (end .token-end .ensures) _ (taken .part .ensures) (sym (clear .is-clear .ensures) ∙ not-false _ (quote .before .before .if2 .left)) in
+    let all = coming-all _ (a .at) (whatShown (a .text .now) (a .spot .row) (a .spot .begin) (a .spot .before) (a .spot .place)) (low known) (long known) in
     let one = coming-on _ _ _ _ _ _ _ _ (bytesOf "`") _ whole all (quote .put-byte .ensures) in
     let two = coming-on _ _ _ _ _ _ _ _ _ _ refl one (named .put-bytes3 .ensures) in
     let three = coming-on _ _ _ _ _ _ _ _ (bytesOf "` cannot stand here") _ refl two (said .put-bytes4 .ensures) in

@@ -12,14 +12,14 @@ use Rattle.saying.proofs.put_why.Statement.{statement}
 use Rattle.saying.proofs.put_why.Tie as tie
 
 -- no place is past the last
-low : (c : tie.After-slice-known) → c .before .args .to ≤ last
+low : (c : tie.After-slice-known) → c .before .args .at ≤ last
 low c = omega arith
 
 number-requires : tie.Need-number-requires
 number-requires c κs = search needs
 
-enum-known-number : tie.Need-enum-known-number
-enum-known-number c = search needs
+enum-known-value : tie.Need-enum-known-value
+enum-known-value c = search needs
 
 enum-told : tie.Need-enum-told
 enum-told c = search needs
@@ -51,9 +51,9 @@ returns-2 c =
     let end = jump .before .before in
     let got = end .before .before in
     let a = got .before .before .before .before .before .args in
-    let number = sym (got .before .before .number .ensures) ∙ ap foundOf (got .number2 .given .1) in
-    let to-row = said (a .text .now) (a .before) _ (end .token-end .ensures) "jump" _ true (jump .is-word .ensures) (put .before .before .if1 .taken) in
-    puts-are _ _ _ _ _ _ (ap bytesOf (why-by (a .row) _ _ _ _ _ _ number to-row refl refl)) (put .put-why-no-row .ensures)
+    let number = sym (got .before .before .number .ensures) ∙ ap foundOf (got .value .given .1) in
+    let to-row = said (a .text .now) (a .spot .before) _ (end .token-end .ensures) "jump" _ true (jump .is-word .ensures) (put .before .before .if1 .taken) in
+    puts-are _ _ _ _ _ _ (ap bytesOf (why-by (a .spot .row) _ _ _ _ _ _ number to-row refl refl)) (put .put-why-no-row .ensures)
 
 slice-aggregate-is-word-2 : tie.Need-slice-aggregate-is-word-2
 slice-aggregate-is-word-2 c = search needs
@@ -79,10 +79,10 @@ returns-3 c =
     let end = jump .before .before in
     let got = end .before .before in
     let a = got .before .before .before .before .before .args in
-    let number = sym (got .before .before .number .ensures) ∙ ap foundOf (got .number2 .given .1) in
-    let to-row = said (a .text .now) (a .before) _ (end .token-end .ensures) "jump" _ false (jump .is-word .ensures) (join .before .before .if1 .left) in
-    let of-thread = said (a .text .now) (a .before) _ (end .token-end .ensures) "join" _ true (join .is-word2 .ensures) (put .before .before .before .if2 .taken) in
-    puts-are _ _ _ _ _ _ (ap bytesOf (why-by (a .row) _ _ _ _ _ _ number to-row of-thread refl)) (put .put-bytes .ensures)
+    let number = sym (got .before .before .number .ensures) ∙ ap foundOf (got .value .given .1) in
+    let to-row = said (a .text .now) (a .spot .before) _ (end .token-end .ensures) "jump" _ false (jump .is-word .ensures) (join .before .before .if1 .left) in
+    let of-thread = said (a .text .now) (a .spot .before) _ (end .token-end .ensures) "join" _ true (join .is-word2 .ensures) (put .before .before .before .if2 .taken) in
+    puts-are _ _ _ _ _ _ (ap bytesOf (why-by (a .spot .row) _ _ _ _ _ _ number to-row of-thread refl)) (put .put-bytes .ensures)
 
 names-cell-requires : tie.Need-names-cell-requires
 names-cell-requires c κs = search needs
@@ -106,11 +106,11 @@ returns-4 c =
     let end = jump .before .before in
     let got = end .before .before in
     let a = got .before .before .before .before .before .args in
-    let number = sym (got .before .before .number .ensures) ∙ ap foundOf (got .number2 .given .1) in
-    let to-row = said (a .text .now) (a .before) _ (end .token-end .ensures) "jump" _ false (jump .is-word .ensures) (join .before .before .if1 .left) in
-    let of-thread = said (a .text .now) (a .before) _ (end .token-end .ensures) "join" _ false (join .is-word2 .ensures) (cell .before .if2 .left) in
-    let in-cell = cell-said (a .text .now) (a .before) _ (end .token-end .ensures) _ true (cell .names-cell .ensures) (put .before .before .before .if3 .taken) in
-    puts-are _ _ _ _ _ _ (ap bytesOf (why-by (a .row) _ _ _ _ _ _ number to-row of-thread in-cell)) (put .put-bytes2 .ensures)
+    let number = sym (got .before .before .number .ensures) ∙ ap foundOf (got .value .given .1) in
+    let to-row = said (a .text .now) (a .spot .before) _ (end .token-end .ensures) "jump" _ false (jump .is-word .ensures) (join .before .before .if1 .left) in
+    let of-thread = said (a .text .now) (a .spot .before) _ (end .token-end .ensures) "join" _ false (join .is-word2 .ensures) (cell .before .if2 .left) in
+    let in-cell = cell-said (a .text .now) (a .spot .before) _ (end .token-end .ensures) _ true (cell .names-cell .ensures) (put .before .before .before .if3 .taken) in
+    puts-are _ _ _ _ _ _ (ap bytesOf (why-by (a .spot .row) _ _ _ _ _ _ number to-row of-thread in-cell)) (put .put-bytes2 .ensures)
 
 returns-5 : tie.Need-returns-5
 unfolding bytesOf
@@ -121,18 +121,18 @@ returns-5 c =
     let end = jump .before .before in
     let got = end .before .before in
     let a = got .before .before .before .before .before .args in
-    let number = sym (got .before .before .number .ensures) ∙ ap foundOf (got .number2 .given .1) in
-    let to-row = said (a .text .now) (a .before) _ (end .token-end .ensures) "jump" _ false (jump .is-word .ensures) (join .before .before .if1 .left) in
-    let of-thread = said (a .text .now) (a .before) _ (end .token-end .ensures) "join" _ false (join .is-word2 .ensures) (cell .before .if2 .left) in
-    let in-cell = cell-said (a .text .now) (a .before) _ (end .token-end .ensures) _ false (cell .names-cell .ensures) (c .if3 .left) in
-    puts-are _ _ _ _ _ _ (ap bytesOf (why-by (a .row) _ _ _ _ _ _ number to-row of-thread in-cell)) (puts-none _ _ (low (got .before .before .before .before)))
+    let number = sym (got .before .before .number .ensures) ∙ ap foundOf (got .value .given .1) in
+    let to-row = said (a .text .now) (a .spot .before) _ (end .token-end .ensures) "jump" _ false (jump .is-word .ensures) (join .before .before .if1 .left) in
+    let of-thread = said (a .text .now) (a .spot .before) _ (end .token-end .ensures) "join" _ false (join .is-word2 .ensures) (cell .before .if2 .left) in
+    let in-cell = cell-said (a .text .now) (a .spot .before) _ (end .token-end .ensures) _ false (cell .names-cell .ensures) (c .if3 .left) in
+    puts-are _ _ _ _ _ _ (ap bytesOf (why-by (a .spot .row) _ _ _ _ _ _ number to-row of-thread in-cell)) (puts-none _ _ (low (got .before .before .before .before)))
 
 pub put-why-spec : {M : Type 1} → statement M
 put-why-spec =
     tie.close
     (tie.spec
     number-requires
-    enum-known-number
+    enum-known-value
     enum-told
     returns
     token-end-requires

@@ -4,7 +4,7 @@ use mathlib.Core.Path.{_≡_, ap}
 use native.Mathlib.Omega.{arith}
 use lib.ListN.{length, drop}
 use borrow.Author.Needs.{needs}
-use Rattle.page.specs.Pages.{ended, putText}
+use Rattle.page.specs.Pages.{pageOf, putText}
 use Rattle.bad_row.specs.Words.{partPast}
 use Rattle.bad_row.proofs.WordLaws.{partLeft, part-whole, part-comma, part-byte, part-other, part-end}
 use Rattle.bad_row.proofs.words.put_nth.Statement.{statement}
@@ -14,7 +14,7 @@ abbrev Inv-loop : tie.InvT-loop
 Inv-loop page₀ at list n to₀ past₀ i₀ page to past i =
     (i ≤ length list)
     × (past ≤ i)
-    × (putText (ended page to) (partLeft n past (drop i list)) ≡ putText (ended page₀ at) (partPast n list))
+    × (putText (pageOf page to) (partLeft n past (drop i list)) ≡ putText (pageOf page₀ at) (partPast n list))
 
 abbrev μ-loop : tie.MeasureT-loop
 μ-loop page₀ at list n to₀ past₀ i₀ page to past i = length list - i

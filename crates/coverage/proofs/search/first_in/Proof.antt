@@ -3,7 +3,7 @@ use mathlib.Core.Bool.{true, false}
 use mathlib.Core.Path.{_≡_, sym, _∙_}
 use Rattle.rules.specs.Table.{firstNot}
 use Rattle.table.proofs.Walks.{first-on, first-found, first-none}
-use Rattle.coverage.specs.Covered.{firstIn}
+use Rattle.coverage.specs.Covered.{firstInThread}
 use Rattle.coverage.proofs.SearchLaws.{stays, first-all, told}
 use borrow.Author.Needs.{needs}
 use Rattle.coverage.proofs.search.first_in.Statement.{statement}
@@ -11,7 +11,7 @@ use Rattle.coverage.proofs.search.first_in.Tie as tie
 
 abbrev Inv-loop : tie.InvT-loop
 Inv-loop table shape thread on count row₀ row =
-    (row ≤ count) × (firstNot (stays table shape on thread) (count - row) row ≡ firstIn table shape on thread)
+    (row ≤ count) × (firstNot (stays table shape on thread) (count - row) row ≡ firstInThread table shape on thread)
 
 abbrev μ-loop : tie.MeasureT-loop
 μ-loop table shape thread on count row₀ row = count - row

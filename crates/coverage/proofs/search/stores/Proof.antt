@@ -1,7 +1,7 @@
 use Prim.Native.Nat.{_+_, _*_, _≤_, _-_}
 use mathlib.Core.Path.{_≡_}
 use Rattle.rules.specs.Table.{maxThreads}
-use Rattle.coverage.specs.Covered.{summed, storesIn, stores}
+use Rattle.coverage.specs.Covered.{summed, storesIn, storeCount}
 use Rattle.coverage.proofs.SearchLaws.{stores-all, sum-on, sum-none}
 use borrow.Author.Needs.{needs}
 use Rattle.coverage.proofs.search.stores.Statement.{statement}
@@ -9,7 +9,7 @@ use Rattle.coverage.proofs.search.stores.Tie as tie
 
 abbrev Inv-loop : tie.InvT-loop
 Inv-loop table cell shape sum₀ thread₀ sum thread =
-    (thread ≤ maxThreads) × (sum ≤ 65535 * thread) × (sum + summed (storesIn table shape cell) (maxThreads - thread) thread ≡ stores table cell)
+    (thread ≤ maxThreads) × (sum ≤ 65535 * thread) × (sum + summed (storesIn table shape cell) (maxThreads - thread) thread ≡ storeCount table cell)
 
 abbrev μ-loop : tie.MeasureT-loop
 μ-loop table cell shape sum₀ thread₀ sum thread = maxThreads - thread

@@ -4,10 +4,10 @@ use Rattle.replay.proofs.compare.first_other.Statement.{statement}
 use Rattle.replay.proofs.compare.first_other.Tie as tie
 
 abbrev Inv-loop : tie.InvT-loop
-Inv-loop given numbers i₀ i = i ≤ 29
+Inv-loop numbers given i₀ i = i ≤ 29
 
 abbrev μ-loop : tie.MeasureT-loop
-μ-loop given numbers i₀ i = 29 - i
+μ-loop numbers given i₀ i = 29 - i
 
 loop-holds : tie.Need-loop-holds Inv-loop μ-loop
 loop-holds c = search needs

@@ -1,5 +1,5 @@
 use mathlib.Core.Path.{refl, _∙_}
-use Rattle.steps.specs.Holds.{rmwLeft, rmwDone}
+use Rattle.steps.specs.Holds.{rmwLeft, rmwHeld}
 use Rattle.steps.proofs.HoldLaws.{left-from}
 use Rattle.steps.proofs.OpLaws.{changed-as}
 use borrow.Author.Needs.{needs}
@@ -22,7 +22,7 @@ enum-told : tie.Need-enum-told
 enum-told c = search needs
 
 returns : tie.Need-returns
-unfolding rmwDone
+unfolding rmwHeld
 returns c =
     let taken = c .before .before .before in
     let apply = taken .before .before in
@@ -30,7 +30,7 @@ returns c =
     left-from rmwLeft _ _ _ _ _ _ refl (put .put .ensures) (c .store .ensures ∙ changed-as (rmwLeft _ _ _) (apply .apply .ensures) (taken .value .given .1))
 
 returns-2 : tie.Need-returns-2
-unfolding rmwDone
+unfolding rmwHeld
 returns-2 c =
     let apply = c .before .before in
     let put = apply .before in

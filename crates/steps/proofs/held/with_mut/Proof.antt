@@ -1,6 +1,6 @@
 use mathlib.Core.Path.{refl, _∙_}
 use borrow.Author.Tests.{lt-ltb}
-use Rattle.steps.specs.Holds.{newest, exclusiveLeft, exclusiveDone}
+use Rattle.steps.specs.Holds.{newestValue, exclusiveLeft, exclusiveHeld}
 use Rattle.steps.proofs.HoldLaws.{reads, left-from}
 use Rattle.steps.proofs.OpLaws.{changed-as}
 use borrow.Author.Needs.{needs}
@@ -32,21 +32,21 @@ enum-told : tie.Need-enum-told
 enum-told c = search needs
 
 returns : tie.Need-returns
-unfolding exclusiveDone
+unfolding exclusiveHeld
 returns c =
     let taken = c .before .before .before in
     let apply = taken .before .before in
     let put = apply .before in
     let start = put .before .before .before in
-    left-from exclusiveLeft _ _ _ _ _ _ (reads (start .args .held .now) (newest (start .args .cell)) refl (lt-ltb _ _ (start .pre .1))) (put .put .ensures) (c .write-over .ensures ∙ changed-as (exclusiveLeft _ _ _) (apply .apply .ensures) (taken .value .given .1))
+    left-from exclusiveLeft _ _ _ _ _ _ (reads (start .args .held .now) (newestValue (start .args .cell)) refl (lt-ltb _ _ (start .pre .1))) (put .put .ensures) (c .write-over .ensures ∙ changed-as (exclusiveLeft _ _ _) (apply .apply .ensures) (taken .value .given .1))
 
 returns-2 : tie.Need-returns-2
-unfolding exclusiveDone
+unfolding exclusiveHeld
 returns-2 c =
     let apply = c .before .before in
     let put = apply .before in
     let start = put .before .before .before in
-    left-from exclusiveLeft _ _ _ _ _ _ (reads (start .args .held .now) (newest (start .args .cell)) refl (lt-ltb _ _ (start .pre .1))) (put .put .ensures) (changed-as (exclusiveLeft _ _ _) (apply .apply .ensures) (c .enum-told .given .1))
+    left-from exclusiveLeft _ _ _ _ _ _ (reads (start .args .held .now) (newestValue (start .args .cell)) refl (lt-ltb _ _ (start .pre .1))) (put .put .ensures) (changed-as (exclusiveLeft _ _ _) (apply .apply .ensures) (c .enum-told .given .1))
 
 pub with-mut-spec : {M : Type 1} → statement M
 with-mut-spec =

@@ -1,8 +1,8 @@
 use Rattle.report.proofs.RecordLaws.{summary-absent, summary-present}
 use mathlib.Core.Path.{refl}
 use borrow.Author.Needs.{needs}
-use Rattle.report.proofs.summary.Statement.{statement}
-use Rattle.report.proofs.summary.Tie as tie
+use Rattle.report.proofs.threads.summary.Statement.{statement}
+use Rattle.report.proofs.threads.summary.Tie as tie
 
 add-state : tie.Need-add-state
 add-state c = search needs

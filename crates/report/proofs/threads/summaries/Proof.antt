@@ -1,8 +1,8 @@
 use Rattle.report.proofs.RecordLaws.{of-five}
 use Rattle.layout.specs.Tables.{state}
 use borrow.Author.Needs.{needs}
-use Rattle.report.proofs.summaries.Statement.{statement}
-use Rattle.report.proofs.summaries.Tie as tie
+use Rattle.report.proofs.threads.summaries.Statement.{statement}
+use Rattle.report.proofs.threads.summaries.Tie as tie
 
 summary-requires : tie.Need-summary-requires
 summary-requires c κs = search needs
