@@ -1,9 +1,9 @@
 -- What is wrong with a condition, in words. Places count its bytes from 0. Assumes nothing.
---     putBadComparison      what a comparison that begins at a place has wrong, if anything
---     putReason          why the byte at a place cannot stand there, where that is plain
---     putBad             the byte that cannot stand at a place
---     putFound           that byte, or what goes on behind the condition's end
---     putBadCondition    the length, or else what was found, behind a page's end
+--     putBadComparison    what a comparison that begins at a place has wrong, if anything
+--     putReason           why the byte at a place cannot stand there, where that is plain
+--     putBad              the byte that cannot stand at a place
+--     putFound            that byte, or what goes on behind the condition's end
+--     putBadCondition     the length, or else what was found, behind a page's end
 use Prim.Native.Nat.{ℕ, _+_}
 use mathlib.Core.List.{List}
 use mathlib.Core.Bool.{cond}

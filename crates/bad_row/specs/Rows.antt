@@ -1,6 +1,6 @@
 -- A row that is refused, in words. Assumes nothing.
---     threadRow         the row of a thread, in a table of this shape
---     putBadRow     which row it is, and what is wrong with it
+--     threadRow    the row of a thread, in a table of this shape
+--     putBadRow    which row it is, and what is wrong with it
 use Prim.Native.Nat.{ℕ, _+_}
 use mathlib.Core.List.{List}
 use mathlib.Core.Bool.{cond}

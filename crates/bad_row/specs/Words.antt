@@ -1,9 +1,9 @@
 -- What is wrong with a field of a row, in words. Assumes nothing.
---     fieldValue      the number that stands in a field
---     fieldName    the field's name
---     opcodeName   that of an opcode
---     putMay       what it may be
---     putWrong     the field, what it is and what it may be, behind a line's end
+--     fieldValue    the number that stands in a field
+--     fieldName     the field's name
+--     opcodeName    that of an opcode
+--     putMay        what it may be
+--     putWrong      the field, what it is and what it may be, behind a line's end
 use Prim.Native.Nat.{ℕ, zero, suc}
 use Prim.Native.String.{String}
 use mathlib.Core.List.{List, [], _∷_}

@@ -39,7 +39,7 @@ pub fn put(page: &mut Page, at: usize, table: &[u8], thread: u8, number: u8) -> 
         number as u64,
         0,
     );
-    let to = words::put(page, to, room, row, reasons::wrong(room, row));
+    let to = words::put(page, to, row, room, reasons::wrong(row, room));
     page::put(page, to, b"\n")
 }
 

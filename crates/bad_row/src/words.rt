@@ -11,7 +11,7 @@ use reasons::May;
 use reasons::Room;
 
 // Puts the field, what it is and what it may be.
-pub fn put(page: &mut Page, at: usize, room: Room, row: Row, field: Field) -> usize
+pub fn put(page: &mut Page, at: usize, row: Row, room: Room, field: Field) -> usize
     ensures { λ r. ⌜ pageOf (now (page .exit)) r ≡ putWrong (pageOf (now (page .entry)) at) field (rowMeant row) (roomMeant room) ⌝ }
 {
     let opcode = row.opcode;

@@ -1,9 +1,9 @@
 -- What the answers of this crate stand for in the definition. Assumes nothing.
---     mostClaimed     the longest condition, and a comparison that broke off behind it
---     UnitStands          what stands at a place
---     symbolAt          a bracket, `and` or `or`
---     Claims          what was read of a condition
---     Concludes       a text's condition, taken or refused
+--     mostClaimed    the longest condition, and a comparison that broke off behind it
+--     UnitStands     what stands at a place
+--     symbolAt       a bracket, `and` or `or`
+--     Claims         what was read of a condition
+--     Concludes      a text's condition, taken or refused
 use Prim.Native.Nat.{ℕ, _+_, _≤_, _<_}
 use mathlib.Core.List.{List, [], _∷_}
 use mathlib.Core.Bool.{Bool, true, false, cond, not}

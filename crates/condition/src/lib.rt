@@ -14,7 +14,9 @@ use layout::register_at;
 use layout::wide8;
 use table::little::u64_at;
 
-// The first byte of each part.
+// The first byte of each part; and what stands for none, at the end, and before a group's first joint.
+const NO_PART: u8 = 0;
+
 pub const EQUALS: u8 = 1;
 
 pub const DIFFERS: u8 = 2;
@@ -127,7 +129,7 @@ fn group(bytes: &[u8], values: &Values, threads: usize, deep: usize, start: usiz
     };
     let mut holds = value;
     let mut at = behind;
-    let mut joint = 0;
+    let mut joint = NO_PART;
     while may_join(joint, byte_at(bytes, at)) {
         joint = byte_at(bytes, at);
         let member = condition(bytes, values, threads, deep, at + 1);
@@ -169,7 +171,7 @@ fn byte_at(bytes: &[u8], at: usize) -> u8
     if at < bytes.len() {
         return bytes[at];
     }
-    0
+    NO_PART
 }
 
 pub fn is_sign(byte: u8) -> bool
@@ -182,7 +184,7 @@ pub fn is_sign(byte: u8) -> bool
 fn may_join(joint: u8, byte: u8) -> bool
     ensures { λ r. ⌜ r ≡ rules.mayJoin joint byte ⌝ }
 {
-    ((byte == BOTH) | (byte == EITHER)) & ((joint == 0) | (joint == byte))
+    ((byte == BOTH) | (byte == EITHER)) & ((joint == NO_PART) | (joint == byte))
 }
 
 fn joined_by(joint: u8, left: bool, right: bool) -> bool

@@ -1,7 +1,7 @@
 -- A condition's bytes as the writer goes through them. Assumes nothing.
---     Units           bytes in which every comparison is whole and names a thread and a register of one digit
---     unitShown       a sign, a word or a comparison as it is written
---     unitBytes       how many bytes it has
+--     Units        bytes in which every comparison is whole and names a thread and a register of one digit
+--     unitShown    a sign, a word or a comparison as it is written
+--     unitBytes    how many bytes it has
 use Prim.Native.Nat.{ℕ, _+_, _-_, _≤_, _<_}
 use mathlib.Core.List.{List, [], _∷_, _++_}
 use mathlib.Core.Bool.{Bool, true, false, cond}

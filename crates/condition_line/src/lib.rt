@@ -95,11 +95,11 @@ fn put_comparison(text: &mut [u8], at: usize, condition: &[u8], from: usize) -> 
 fn put_symbol(text: &mut [u8], at: usize, byte: u8) -> usize
     ensures { λ r. ⌜ Puts (now (text .entry)) (now (text .exit)) at (symbolShown byte) r ⌝ }
 {
-    put_bytes(text, at, word_at(&SYMBOLS, place_of(byte)))
+    put_bytes(text, at, word_at(&SYMBOLS, symbol_place(byte)))
 }
 
 // Its place in the list of them; that of the first where there is no such byte.
-fn place_of(byte: u8) -> u64
+fn symbol_place(byte: u8) -> u64
     ensures { λ r. ⌜ r ≡ byte - 1 ⌝ }
 {
     let symbol = byte as u64;

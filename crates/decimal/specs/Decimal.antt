@@ -1,7 +1,7 @@
 -- Which number a text of decimal digits spells. A text is the list of its bytes. Assumes nothing.
---     withDigit   a number with one more digit withDigits it
+--     withDigit        a number with one more digit behind it
 --     numberSpelled    the number that a text spells
---     between     a number in a range, and nothing else
+--     between          a number in a range, and nothing else
 use Prim.Native.Nat.{ℕ, _+_, _*_, _-_, _^_}
 use mathlib.Core.List.{List, [], _∷_}
 use mathlib.Core.Bool.{Bool, cond, _&&_}

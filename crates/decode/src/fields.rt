@@ -66,7 +66,7 @@ fn change_if(fine: bool, change: Change) -> ChangeDecoded
 }
 
 // Whether a cell or a thread exists, where there are this many.
-pub fn named(present: usize, object: u8) -> bool
+pub fn named(object: u8, present: usize) -> bool
     ensures { λ r. ⌜ r ≡ ltb object present ⌝ }
 {
     (object as usize) < present
@@ -79,14 +79,14 @@ pub fn is_register(register: u8) -> bool
 }
 
 // Whether a jump ends at a row or at the row count.
-pub fn reached(count: usize, target: u16) -> bool
+pub fn reached(target: u16, count: usize) -> bool
     ensures { λ r. ⌜ r ≡ leb target count ⌝ }
 {
     (target as usize) <= count
 }
 
 // Whether a jump ends at another row than its own.
-pub fn leads_on(own: usize, target: u16) -> bool
+pub fn leads_on(target: u16, own: usize) -> bool
     ensures { λ r. ⌜ r ≡ not (eqb target own) ⌝ }
 {
     (target as usize) != own

@@ -150,59 +150,59 @@ pub struct Row {
 }
 
 // What this row does, in this room.
-pub fn row_decoded(room: Room, row: Row) -> Decoded
+pub fn row_decoded(row: Row, room: Room) -> Decoded
     ensures { λ r. ⌜ decodedOf r ≡ rules.rowDecoded (roomMeant room) (rowMeant row) ⌝ }
 {
     let opcode = row.opcode;
     match opcode {
-        0 => load_row(room.cells, row),
-        1 => store_row(room.cells, row),
-        2 => store_register_row(room.cells, row),
-        3 => rmw_row(room.cells, row),
+        0 => load_row(row, room.cells),
+        1 => store_row(row, room.cells),
+        2 => store_register_row(row, room.cells),
+        3 => rmw_row(row, room.cells),
         4 => fence_row(row),
-        5 => unsync_load_row(room.cells, row),
-        6 => with_mut_row(room.cells, row),
+        5 => unsync_load_row(row, room.cells),
+        6 => with_mut_row(row, room.cells),
         7 => bare_row(row, Op::Yield),
-        8 => join_row(room.threads, row),
-        9 => jump_row(room.rows, room.row, row),
-        10 => jump_if_row(room.rows, row),
-        11 => jump_unless_row(room.rows, row),
+        8 => join_row(row, room.threads),
+        9 => jump_row(row, room.rows, room.row),
+        10 => jump_if_row(row, room.rows),
+        11 => jump_unless_row(row, room.rows),
         12 => check_row(row),
         13 => bare_row(row, Op::Critical),
         14 => bare_row(row, Op::ExploreState),
         15 => bare_row(row, Op::SkipBranch),
         16 => spurious_row(row),
-        17 => plain_read_row(room.plains, row),
-        18 => plain_write_row(room.plains, row),
+        17 => plain_read_row(row, room.plains),
+        18 => plain_write_row(row, room.plains),
         19..=255 => Decoded::Refused,
     }
 }
 
 // Whether this row says something at all.
-pub fn is_row(room: Room, row: Row) -> bool
+pub fn is_row(row: Row, room: Room) -> bool
     ensures { λ r. ⌜ r ≡ rules.isFine (rules.rowDecoded (roomMeant room) (rowMeant row)) ⌝ }
 {
     let opcode = row.opcode;
     match opcode {
-        0 => is_decoded(load_row(room.cells, row)),
-        1 => is_decoded(store_row(room.cells, row)),
-        2 => is_decoded(store_register_row(room.cells, row)),
-        3 => is_rmw(room.cells, row),
+        0 => is_decoded(load_row(row, room.cells)),
+        1 => is_decoded(store_row(row, room.cells)),
+        2 => is_decoded(store_register_row(row, room.cells)),
+        3 => is_rmw(row, room.cells),
         4 => is_decoded(fence_row(row)),
-        5 => is_decoded(unsync_load_row(room.cells, row)),
-        6 => is_decoded(with_mut_row(room.cells, row)),
+        5 => is_decoded(unsync_load_row(row, room.cells)),
+        6 => is_decoded(with_mut_row(row, room.cells)),
         7 => is_decoded(bare_row(row, Op::Yield)),
-        8 => is_decoded(join_row(room.threads, row)),
-        9 => is_decoded(jump_row(room.rows, room.row, row)),
-        10 => is_decoded(jump_if_row(room.rows, row)),
-        11 => is_decoded(jump_unless_row(room.rows, row)),
+        8 => is_decoded(join_row(row, room.threads)),
+        9 => is_decoded(jump_row(row, room.rows, room.row)),
+        10 => is_decoded(jump_if_row(row, room.rows)),
+        11 => is_decoded(jump_unless_row(row, room.rows)),
         12 => is_decoded(check_row(row)),
         13 => is_decoded(bare_row(row, Op::Critical)),
         14 => is_decoded(bare_row(row, Op::ExploreState)),
         15 => is_decoded(bare_row(row, Op::SkipBranch)),
         16 => is_decoded(spurious_row(row)),
-        17 => is_decoded(plain_read_row(room.plains, row)),
-        18 => is_decoded(plain_write_row(room.plains, row)),
+        17 => is_decoded(plain_read_row(row, room.plains)),
+        18 => is_decoded(plain_write_row(row, room.plains)),
         19..=255 => false,
     }
 }
@@ -217,13 +217,13 @@ fn is_decoded(decoded: Decoded) -> bool
 }
 
 // A load uses cell, order and the register that it loads into.
-fn load_row(cells: usize, row: Row) -> Decoded
+fn load_row(row: Row, cells: usize) -> Decoded
     ensures { λ r. ⌜ decodedOf r ≡ rules.loadRow cells (rowMeant row) ⌝ }
 {
     let cell = wide8(row.object);
     let into = wide8(row.register);
     only_if(
-        named(cells, row.object)
+        named(row.object, cells)
             & is_load_order(row.order)
             & is_register(row.register)
             & no_change(row)
@@ -238,11 +238,11 @@ fn load_row(cells: usize, row: Row) -> Decoded
 }
 
 // A store of operand a uses cell and order beside it.
-fn store_row(cells: usize, row: Row) -> Decoded
+fn store_row(row: Row, cells: usize) -> Decoded
     ensures { λ r. ⌜ decodedOf r ≡ rules.storeRow cells (rowMeant row) ⌝ }
 {
     only_if(
-        named(cells, row.object)
+        named(row.object, cells)
             & is_store_order(row.order)
             & no_change(row)
             & (row.register == 0)
@@ -257,11 +257,11 @@ fn store_row(cells: usize, row: Row) -> Decoded
 }
 
 // A store of a register uses cell and order beside it.
-fn store_register_row(cells: usize, row: Row) -> Decoded
+fn store_register_row(row: Row, cells: usize) -> Decoded
     ensures { λ r. ⌜ decodedOf r ≡ rules.storeRegisterRow cells (rowMeant row) ⌝ }
 {
     only_if(
-        named(cells, row.object)
+        named(row.object, cells)
             & is_store_order(row.order)
             & is_register(row.register)
             & no_change(row)
@@ -276,14 +276,14 @@ fn store_register_row(cells: usize, row: Row) -> Decoded
 }
 
 // An RMW uses cell, order, change kind and register, and what its change uses.
-fn rmw_row(cells: usize, row: Row) -> Decoded
+fn rmw_row(row: Row, cells: usize) -> Decoded
     ensures { λ r. ⌜ decodedOf r ≡ rules.rmwRow cells (rowMeant row) (rules.changeDecoded (row .kind) (row .a) (row .b)) ⌝ }
 {
     let ChangeDecoded::Change(change) = change_of(row.kind, row.a, row.b) else {
         return Decoded::Refused;
     };
     only_if(
-        rmw_fields(cells, row),
+        rmw_fields(row, cells),
         Op::Rmw {
             cell: wide8(row.object),
             order: row.order,
@@ -296,20 +296,20 @@ fn rmw_row(cells: usize, row: Row) -> Decoded
 
 // Whether a row is an RMW. Judging does not make the row: with one caller, the function that does is compiled into the tick,
 // and no tick writes a row's fields to memory for it.
-fn is_rmw(cells: usize, row: Row) -> bool
+fn is_rmw(row: Row, cells: usize) -> bool
     ensures { λ r. ⌜ r ≡ rules.isFine (rules.rmwRow cells (rowMeant row) (rules.changeDecoded (row .kind) (row .a) (row .b))) ⌝ }
 {
     let ChangeDecoded::Change(_) = change_of(row.kind, row.a, row.b) else {
         return false;
     };
-    rmw_fields(cells, row)
+    rmw_fields(row, cells)
 }
 
 // Whether the fields beside its change are those of an RMW.
-fn rmw_fields(cells: usize, row: Row) -> bool
+fn rmw_fields(row: Row, cells: usize) -> bool
     ensures { λ r. ⌜ r ≡ (ltb (row .object) cells && rules.anyOrder (row .order) && rules.isFailureOrder (row .kind) (row .failure) && rules.isRegister (row .register) && eqb (row .target) 0) ⌝ }
 {
-    named(cells, row.object)
+    named(row.object, cells)
         & (row.order <= SEQ_CST)
         & is_failure_order(row.kind, row.failure)
         & is_register(row.register)
@@ -332,11 +332,11 @@ fn fence_row(row: Row) -> Decoded
 }
 
 // An unsynchronised load uses cell and register.
-fn unsync_load_row(cells: usize, row: Row) -> Decoded
+fn unsync_load_row(row: Row, cells: usize) -> Decoded
     ensures { λ r. ⌜ decodedOf r ≡ rules.unsyncLoadRow cells (rowMeant row) ⌝ }
 {
     only_if(
-        named(cells, row.object)
+        named(row.object, cells)
             & is_register(row.register)
             & (row.order == 0)
             & no_change(row)
@@ -350,14 +350,14 @@ fn unsync_load_row(cells: usize, row: Row) -> Decoded
 }
 
 // An exclusive change uses cell, change kind and register, and the operands of its change.
-fn with_mut_row(cells: usize, row: Row) -> Decoded
+fn with_mut_row(row: Row, cells: usize) -> Decoded
     ensures { λ r. ⌜ decodedOf r ≡ rules.withMutRow cells (rowMeant row) (rules.changeDecoded (row .kind) (row .a) (row .b)) ⌝ }
 {
     let ChangeDecoded::Change(change) = change_of(row.kind, row.a, row.b) else {
         return Decoded::Refused;
     };
     only_if(
-        named(cells, row.object)
+        named(row.object, cells)
             & is_register(row.register)
             & (row.order == 0)
             & (row.failure == 0)
@@ -386,11 +386,11 @@ fn bare_row(row: Row, op: Op) -> Decoded
 }
 
 // A join uses the thread.
-fn join_row(threads: usize, row: Row) -> Decoded
+fn join_row(row: Row, threads: usize) -> Decoded
     ensures { λ r. ⌜ decodedOf r ≡ rules.joinRow threads (rowMeant row) ⌝ }
 {
     only_if(
-        named(threads, row.object)
+        named(row.object, threads)
             & (row.order == 0)
             & no_change(row)
             & (row.register == 0)
@@ -403,12 +403,12 @@ fn join_row(threads: usize, row: Row) -> Decoded
 }
 
 // A jump uses the target, which may be the row count but not the jump's own number: it would never end.
-fn jump_row(count: usize, own: usize, row: Row) -> Decoded
+fn jump_row(row: Row, count: usize, own: usize) -> Decoded
     ensures { λ r. ⌜ decodedOf r ≡ rules.jumpRow count own (rowMeant row) ⌝ }
 {
     only_if(
-        reached(count, row.target)
-            & leads_on(own, row.target)
+        reached(row.target, count)
+            & leads_on(row.target, own)
             & (row.object == 0)
             & (row.order == 0)
             & no_change(row)
@@ -419,15 +419,15 @@ fn jump_row(count: usize, own: usize, row: Row) -> Decoded
 }
 
 // A jump on a test uses register, operand a and target.
-fn jump_if_row(count: usize, row: Row) -> Decoded
+fn jump_if_row(row: Row, count: usize) -> Decoded
     ensures { λ r. ⌜ decodedOf r ≡ rules.jumpOnRow rules.jumpIf count (rowMeant row) ⌝ }
 {
     let register = wide8(row.register);
     let a = row.a;
     let target = row.target;
     jump_on_row(
-        count,
         row,
+        count,
         Op::JumpIf {
             register,
             a,
@@ -436,15 +436,15 @@ fn jump_if_row(count: usize, row: Row) -> Decoded
     )
 }
 
-fn jump_unless_row(count: usize, row: Row) -> Decoded
+fn jump_unless_row(row: Row, count: usize) -> Decoded
     ensures { λ r. ⌜ decodedOf r ≡ rules.jumpOnRow rules.jumpUnless count (rowMeant row) ⌝ }
 {
     let register = wide8(row.register);
     let a = row.a;
     let target = row.target;
     jump_on_row(
-        count,
         row,
+        count,
         Op::JumpUnless {
             register,
             a,
@@ -454,12 +454,12 @@ fn jump_unless_row(count: usize, row: Row) -> Decoded
 }
 
 // What both ask of a row that is to be this jump.
-fn jump_on_row(count: usize, row: Row, op: Op) -> Decoded
+fn jump_on_row(row: Row, count: usize, op: Op) -> Decoded
     ensures { λ r. ⌜ decodedOf r ≡ rules.jumpOnRow (λ (register a target : ℕ). opOf op) count (rowMeant row) ⌝ }
 {
     only_if(
         is_register(row.register)
-            & reached(count, row.target)
+            & reached(row.target, count)
             & (row.object == 0)
             & (row.order == 0)
             & no_change(row)
@@ -504,11 +504,11 @@ fn spurious_row(row: Row) -> Decoded
 }
 
 // A plain read uses the plain cell and the register.
-fn plain_read_row(plains: usize, row: Row) -> Decoded
+fn plain_read_row(row: Row, plains: usize) -> Decoded
     ensures { λ r. ⌜ decodedOf r ≡ rules.plainReadRow plains (rowMeant row) ⌝ }
 {
     only_if(
-        named(plains, row.object)
+        named(row.object, plains)
             & is_register(row.register)
             & (row.order == 0)
             & no_change(row)
@@ -522,11 +522,11 @@ fn plain_read_row(plains: usize, row: Row) -> Decoded
 }
 
 // A plain write uses the plain cell and operand a.
-fn plain_write_row(plains: usize, row: Row) -> Decoded
+fn plain_write_row(row: Row, plains: usize) -> Decoded
     ensures { λ r. ⌜ decodedOf r ≡ rules.plainWriteRow plains (rowMeant row) ⌝ }
 {
     only_if(
-        named(plains, row.object)
+        named(row.object, plains)
             & (row.order == 0)
             & no_change(row)
             & (row.register == 0)

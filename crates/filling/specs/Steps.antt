@@ -1,7 +1,7 @@
 -- How a line comes out, in the definition. Assumes nothing.
---     Lined       how a line comes out
---     LineSteps       the same, from any table that the buffer held
---     Bare        nothing else in the line
+--     Lined        how a line comes out
+--     LineSteps    the same, from any table that the buffer held
+--     Bare         nothing else in the line
 use Prim.Native.Nat.{ℕ}
 use mathlib.Core.List.{List}
 use mathlib.Core.Bool.{Bool, cond, _&&_}

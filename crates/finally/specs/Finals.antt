@@ -1,9 +1,9 @@
 -- Answer 18, in words: the final condition is false. Assumes nothing.
---     truth           whether a comparison is true
---     conditionWords         a condition's words
---     putCompared   a comparison, its truth, and what its register holds
---     putParts        each comparison of a condition from a place on
---     putFinally      that the condition is false, its line, and each comparison
+--     truth             whether a comparison is true
+--     conditionWords    a condition's words
+--     putCompared       a comparison, its truth, and what its register holds
+--     putParts          each comparison of a condition from a place on
+--     putFinally        that the condition is false, its line, and each comparison
 use Prim.Native.Nat.{ℕ, zero, suc, _+_, _-_}
 use Prim.Native.String.{String}
 use mathlib.Core.List.{List}

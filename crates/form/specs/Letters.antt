@@ -1,7 +1,7 @@
 -- What may stand for a letter, in two steps: which kind of word, and which values. Assumes nothing.
 --     fieldIn     the field that a piece of a form stands for
 --     kindIn      the register, plain cell, number or order that a word is
---     mayStand       whether a field may have a value
+--     mayStand    whether a field may have a value
 use Prim.Native.Nat.{ℕ}
 use mathlib.Core.List.{List}
 use mathlib.Core.Bool.{Bool, true, cond, not, _&&_, _||_}

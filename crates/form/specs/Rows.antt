@@ -1,6 +1,6 @@
 -- What the rows of this crate stand for in the definition. Assumes nothing.
---     followedOf            what the definition says of a line
---     FollowsForm, ReadsRow        a line that was followed by one form, and by all
+--     followedOf               what the definition says of a line
+--     FollowsForm, ReadsRow    a line that was followed by one form, and by all
 use Prim.Native.Nat.{ℕ}
 use mathlib.Core.List.{List}
 use mathlib.Core.Bool.{false, cond}

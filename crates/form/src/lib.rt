@@ -197,7 +197,7 @@ fn blank(opcode: u8, kind: u8) -> Fields
     [opcode as u64, 0, 0, 0, kind as u64, 0, 0, 0, 0]
 }
 
-// FollowsForm a form along the line, word by word.
+// Follows a form along the line, word by word.
 fn followed(text: &[u8], words: &[u8], room: Room, blank: Fields, at: usize) -> RowRead
     ensures { λ r. ⌜ FollowsForm (now (text .entry)) at (follow mostWords (roomMeant room) (now (words .entry)) blank (drop at (now (text .entry)))) r ⌝ }
 {

@@ -1,6 +1,6 @@
 -- Bytes put into a lent buffer as far as there is room, and counted all the same. Assumes nothing.
---     Puts        what is left in the buffer, and the place behind the bytes
---     ToPut      what is still to be put here, of all that was to be put there
+--     Puts     what is left in the buffer, and the place behind the bytes
+--     ToPut    what is still to be put here, of all that was to be put there
 use Prim.Native.Nat.{ℕ, _+_, _≤_}
 use mathlib.Core.List.{List}
 use mathlib.Core.Bool.{cond}

@@ -1,6 +1,6 @@
 -- What the answers of this crate stand for in the definition. Assumes nothing.
 --     TextAnswered    a whole text
---     withBuffers      what is answered, and left in both buffers
+--     withBuffers     what is answered, and left in both buffers
 use Prim.Native.Nat.{ℕ}
 use mathlib.Core.List.{List}
 use mathlib.Core.Path.{_≡_}

@@ -76,38 +76,38 @@ pub enum May {
 }
 
 // The field that is wrong first.
-pub fn wrong(room: Room, row: Row) -> Field
+pub fn wrong(row: Row, room: Room) -> Field
     ensures { λ r. ⌜ r ≡ wrongIn (roomMeant room) (rowMeant row) ⌝ }
 {
-    if !is_opcode(room, row) {
+    if !is_opcode(row, room) {
         return Field::Opcode;
     }
-    if !is_fit(room, row, ORDER) {
+    if !is_fit(row, room, ORDER) {
         return Field::Object;
     }
-    if !is_fit(room, row, KIND) {
+    if !is_fit(row, room, KIND) {
         return Field::Order;
     }
-    if !is_fit(room, row, FAILURE) {
+    if !is_fit(row, room, FAILURE) {
         return Field::Kind;
     }
-    if !is_fit(room, row, REGISTER) {
+    if !is_fit(row, room, REGISTER) {
         return Field::Failure;
     }
-    if !is_fit(room, row, TARGET) {
+    if !is_fit(row, room, TARGET) {
         return Field::Register;
     }
-    if !is_fit(room, row, A) {
+    if !is_fit(row, room, A) {
         return Field::Target;
     }
-    if !is_fit(room, row, B) {
+    if !is_fit(row, room, B) {
         return Field::A;
     }
     Field::B
 }
 
 // Whether there is this opcode, be there plain cells or not: a row of it is taken where there is one to name.
-fn is_opcode(room: Room, row: Row) -> bool
+fn is_opcode(row: Row, room: Room) -> bool
     ensures { λ r. ⌜ r ≡ isOpcode (roomMeant room) (rowMeant row) ⌝ }
 {
     let one = Room {
@@ -117,18 +117,18 @@ fn is_opcode(room: Room, row: Row) -> bool
         rows: room.rows,
         row: room.row,
     };
-    is_fit(one, row, OBJECT)
+    is_fit(row, one, OBJECT)
 }
 
 // Whether the library takes a row with the first `n` fields of this one.
-fn is_fit(room: Room, row: Row, n: usize) -> bool
+fn is_fit(row: Row, room: Room, n: usize) -> bool
     ensures { λ r. ⌜ r ≡ isFit (roomMeant room) (rowMeant row) n ⌝ }
 {
-    is_row(room, first_fields(room.row, row, n))
+    is_row(first_fields(row, room.row, n), room)
 }
 
 // The row's opcode and its first `n` fields, on a row that is accepted, if there is one of this opcode. `own` is its number.
-fn first_fields(own: usize, row: Row, n: usize) -> Row
+fn first_fields(row: Row, own: usize, n: usize) -> Row
     ensures { λ r. ⌜ rowMeant r ≡ firstFields own (rowMeant row) n ⌝ }
 {
     Row {

@@ -1,6 +1,6 @@
 -- Which bytes are taken for a table. Assumes nothing.
---     holdsTable      by the first byte: "threads 1..5"
---     ToldApart            that this parts them: what is read as a text is taken for none, what is accepted as a table for one
+--     holdsTable    by the first byte: "threads 1..5"
+--     ToldApart     that this parts them: what is read as a text is taken for none, what is accepted as a table for one
 use Prim.Native.Nat.{ℕ}
 use mathlib.Core.List.{List, [], _∷_}
 use mathlib.Core.Bool.{Bool, true, false, _&&_}

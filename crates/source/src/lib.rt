@@ -1,5 +1,5 @@
 // What a file holds: a text or a table, told by its first byte. No text that is read begins as a table does, and every accepted table
-// does (specs/ToldApart).
+// does (specs/Told).
 ghost use mathlib.Core.Path.{_≡_};
 ghost use Rattle.source.specs.Told.{holdsTable};
 use layout::MAX_THREADS;

@@ -180,7 +180,7 @@ pub fn op_at(table: &[u8], room: Room, index: usize) -> Decoded
     let RowStart::At(at) = place_of(table, room, index) else {
         return Decoded::Refused;
     };
-    row_decoded(room, row_from(table, at))
+    row_decoded(row_from(table, at), room)
 }
 
 // Whether that row says something.
@@ -190,7 +190,7 @@ fn is_fine(table: &[u8], room: Room, index: usize) -> bool
     let RowStart::At(at) = place_of(table, room, index) else {
         return false;
     };
-    is_row(room, row_from(table, at))
+    is_row(row_from(table, at), room)
 }
 
 // Where the row of this number among all rows stands.

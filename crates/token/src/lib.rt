@@ -11,6 +11,7 @@ ghost use Rattle.rules.specs.Text.{symbolIn, threadRegisterIn};
 ghost use Rattle.token.specs.Places.{isOf, part, Content};
 ghost use Rattle.token.specs.Finds.{foundOf, wordsIn};
 use decimal::Parsed;
+use layout::MAX_THREADS;
 use layout::REGISTERS;
 
 // The bytes that make a token, or stand between two.
@@ -27,6 +28,11 @@ pub const ORDERS: [u8; 37] = *b"relaxed release acquire acqrel seqcst";
 pub const SYMBOLS: [u8; 25] = *b"= != < <= > >= ( ) and or";
 
 pub const FIRST_SYMBOL: u64 = 1;
+
+// The digits of the last thread, and of the last register; there are as many plain cells as registers.
+const LAST_THREAD: u8 = b'0' + (MAX_THREADS - 1) as u8;
+
+const LAST_REGISTER: u8 = b'0' + (REGISTERS - 1) as u8;
 
 // What a word stands for, if anything.
 pub enum Found {
@@ -182,10 +188,10 @@ pub fn thread_register(text: &[u8], from: usize, to: usize) -> Found
     if word[2] != b'r' {
         return Found::Nothing;
     }
-    let Found::Value(thread) = digit(b'4', word[0]) else {
+    let Found::Value(thread) = digit(LAST_THREAD, word[0]) else {
         return Found::Nothing;
     };
-    let Found::Value(register) = digit(b'3', word[3]) else {
+    let Found::Value(register) = digit(LAST_REGISTER, word[3]) else {
         return Found::Nothing;
     };
     Found::Value(REGISTERS as u64 * thread + register)
@@ -260,7 +266,7 @@ fn fourth(word: &[u8], letter: u8) -> Found
     if word[0] != letter {
         return Found::Nothing;
     }
-    digit(b'3', word[1])
+    digit(LAST_REGISTER, word[1])
 }
 
 // The number of a digit that is not above the last.

@@ -13,8 +13,8 @@ use Rattle.condition_line.proofs.put_symbol.Tie as tie
 slice-aggregate-word-at : tie.Need-slice-aggregate-word-at
 slice-aggregate-word-at c = search needs
 
-place-of-requires : tie.Need-place-of-requires
-place-of-requires c κs = search needs
+symbol-place-requires : tie.Need-symbol-place-requires
+symbol-place-requires c κs = search needs
 
 word-at-requires : tie.Need-word-at-requires
 word-at-requires c κs = search needs
@@ -33,11 +33,11 @@ returns c =
     let place = word .before in
     puts-are _ _ _ _ _ _
     (word .word-at .ensures
-    ∙ ap (λ (ws : List (List ℕ)). getD ws (place .place-of .result) []) symbols-line
-    ∙ ap (λ (n : ℕ). getD symbols n []) (place .place-of .ensures))
+    ∙ ap (λ (ws : List (List ℕ)). getD ws (place .symbol-place .result) []) symbols-line
+    ∙ ap (λ (n : ℕ). getD symbols n []) (place .symbol-place .ensures))
     (put .put-bytes .ensures)
 
 pub put-symbol-spec : {M : Type 1} → statement M
 put-symbol-spec =
     tie.close
-    (tie.spec slice-aggregate-word-at place-of-requires word-at-requires put-bytes-requires same-length returns)
+    (tie.spec slice-aggregate-word-at symbol-place-requires word-at-requires put-bytes-requires same-length returns)
