@@ -16,14 +16,14 @@ use Rattle.rules.specs.Machine.{versionRaised, completed, entry, noSlot, stores
 use Rattle.layout.specs.Tables.{state}
 use Rattle.atomic.specs.Accesses.{accessOf}
 use Rattle.atomic.specs.Exclusive.{mutatedOf}
-use Rattle.atomic.specs.declared.Loaded.{Loaded}
-use Rattle.atomic.specs.declared.Loaded.the-variants as loads
+use Rattle.atomic.specs.declared.AccessResult as code
+use Rattle.atomic.specs.declared.AccessResult.the-variants as loads
 use Rattle.atomic.specs.declared.Mutated.{Mutated}
 use Rattle.atomic.specs.declared.Mutated.the-variants as mutates
 use Rattle.plain.specs.Writes.{unlessRaced}
 
 module _ (t k opcode r : ℕ) where
-  module _ (slot mask : ℕ) (loaded : Loaded) where
+  module _ (slot mask : ℕ) (loaded : code.AccessResult) where
     pub put-raced : (kind other : ℕ) → loaded ≡ loads.Raced kind other → (st : State) →
         stops st (Event.race kind other) ≡ reads (accessOf loaded st) t k opcode r slot mask
     put-raced kind other e st = rw e

@@ -16,7 +16,7 @@ ghost use Rattle.matches.specs.Offers.{scanned, offered};
 ghost use Rattle.event.specs.Moves.{moveOf, matchedFor};
 ghost use Rattle.decode.specs.Ops.{opOf, decodedOf, inRange, opWithin};
 ghost use Rattle.accesses.specs.Reads.{Means, readDone};
-use atomic::Loaded;
+use atomic::AccessResult;
 use atomic::Mutated;
 use change::Change;
 use decode::Decoded;
@@ -248,7 +248,7 @@ fn read(
     thread: usize,
     op: Op,
     slot: usize,
-) -> Loaded
+) -> AccessResult
     requires { ⌜ (thread < 5) × (slot < 7) × inRange (opOf op) ⌝ }
     ensures { λ r. ⌜ accessOf r (state (now (clocks .exit)) (now (marks .exit)) (now (values .exit)) (now (numbers .exit))) ≡ readDone (state (now (clocks .entry)) (now (marks .entry)) (now (values .entry)) (now (numbers .entry))) thread slot (machine.roleOf (opOf op)) ⌝ }
 {
@@ -275,7 +275,7 @@ fn read(
             };
             atomic::rmw(clocks, marks, values, numbers, act, change, failure, slot)
         }
-        _ => Loaded::Value(0),
+        _ => AccessResult::Value(0),
     }
 }
 
@@ -295,15 +295,15 @@ fn put_value(
     register: usize,
     slot: u8,
     mask: u8,
-    loaded: Loaded,
+    loaded: AccessResult,
 ) -> Moved
     requires { ⌜ (site .thread < 5) × (register < 4) ⌝ }
     ensures { λ r. ⌜ ((clocks : rules.Clocks) (marks : rules.Marks) (opcode : ℕ) (m : events.Matched) → moveOf r (site .thread) (site .row) opcode m (state clocks marks (now (values .exit)) (now (numbers .exit))) ≡ machine.reads (accessOf loaded (state clocks marks (now (values .entry)) (now (numbers .entry)))) (site .thread) (site .row) opcode register slot mask) ⌝ }
 {
     let thread = site.thread;
     match loaded {
-        Loaded::Raced { kind, other } => Moved::Stops(Fault::Race { kind, other }),
-        Loaded::Value(value) => {
+        AccessResult::Raced { kind, other } => Moved::Stops(Fault::Race { kind, other }),
+        AccessResult::Value(value) => {
             values[REGISTER + register_at(thread, register)] = value;
             thread::complete(numbers, thread, vv::one_more(site.row));
             Moved::Done { slot, mask, value }

@@ -17,7 +17,7 @@ use Rattle.rules.specs.Text as rules
 use Rattle.rules.specs.Text.{rowsAhead, threadsAhead, placeBehind, says, isBare}
 use Rattle.token.specs.Places.{part}
 use Rattle.token.proofs.PlaceLaws.{part-token}
-use Rattle.ahead.specs.Counts.{Counts, Behind, rowHere, threadHere}
+use Rattle.ahead.specs.Counts.{LinesCounted, Behind, rowHere, threadHere}
 use Rattle.ahead.specs.declared.Place.{Place}
 
 or-true : (t : Bool) → t || true ≡ true
@@ -141,16 +141,16 @@ says-thread text at to r e t h = ap (equal (part at to text)) thread-bytes ∙ s
 pub says-finally : (text : List ℕ) (at to : ℕ) (r : Bool) → r ≡ equal (part at to text) (102 ∷ 105 ∷ 110 ∷ 97 ∷ 108 ∷ 108 ∷ 121 ∷ []) → (t : Bool) → r ≡ t → is "finally" at to text ≡ t
 says-finally text at to r e t h = ap (equal (part at to text)) finally-bytes ∙ sym e ∙ h
 
-pub row-not : (bs : List ℕ) → endsLine bs ≡ true → Counts 0 1 (rowHere bs)
+pub row-not : (bs : List ℕ) → endsLine bs ≡ true → LinesCounted 0 1 (rowHere bs)
 row-not bs e = record { is = rw e; most = omega arith }
 
-pub row-one : (bs : List ℕ) → endsLine bs ≡ false → Counts 1 1 (rowHere bs)
+pub row-one : (bs : List ℕ) → endsLine bs ≡ false → LinesCounted 1 1 (rowHere bs)
 row-one bs e = record { is = rw e; most = omega arith }
 
-pub thread-not : (text : List ℕ) (at to : ℕ) → is "thread" at to text ≡ false → Counts 0 1 (threadHere at to text)
+pub thread-not : (text : List ℕ) (at to : ℕ) → is "thread" at to text ≡ false → LinesCounted 0 1 (threadHere at to text)
 thread-not text at to e = record { is = sym (ap (λ (t : Bool). cond t 1 0) e); most = omega arith }
 
-pub thread-one : (text : List ℕ) (at to : ℕ) → is "thread" at to text ≡ true → Counts 1 1 (threadHere at to text)
+pub thread-one : (text : List ℕ) (at to : ℕ) → is "thread" at to text ≡ true → LinesCounted 1 1 (threadHere at to text)
 thread-one text at to e = record { is = sym (ap (λ (t : Bool). cond t 1 0) e); most = omega arith }
 
 -- Places

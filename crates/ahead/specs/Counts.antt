@@ -1,5 +1,5 @@
 -- What the answers of this crate stand for in the definition. Assumes nothing.
---     Counts      a count, of so many lines at most
+--     LinesCounted  a count, of so many lines at most
 --     PlacedAt      a line and column
 use Prim.Native.Nat.{ℕ, _+_, _≤_}
 use mathlib.Core.List.{List, _∷_}
@@ -11,7 +11,7 @@ use Rattle.rules.specs.Text as rules
 use Rattle.token.specs.Places.{part}
 use Rattle.ahead.specs.declared.Place.{Place}
 
-pub record Counts (r lines count : ℕ) : Type 0 where
+pub record LinesCounted (r lines count : ℕ) : Type 0 where
   pub is : r ≡ count
   pub most : r ≤ lines
 
@@ -21,8 +21,8 @@ rowHere bs = cond (endsLine bs) 0 1
 abbrev pub threadHere : ℕ → ℕ → List ℕ → ℕ
 threadHere at to text = cond (equal (part at to text) (bytesOf "thread")) 1 0
 
-abbrev pub placeOf : Place → rules.Place
-placeOf p = record { line = p .line; column = p .column }
+abbrev pub placeMeant : Place → rules.Place
+placeMeant p = record { line = p .line; column = p .column }
 
 -- behind one byte more
 pub record Behind (line column byte : ℕ) (p : Place) : Type 0 where
@@ -32,4 +32,4 @@ pub record Behind (line column byte : ℕ) (p : Place) : Type 0 where
 
 -- the place of what is left of a text
 abbrev pub PlacedAt : List ℕ → List ℕ → Place → Type 0
-PlacedAt text rest p = placeOf p ≡ rules.placeOf text rest
+PlacedAt text rest p = placeMeant p ≡ rules.placeOf text rest

@@ -3,7 +3,7 @@ ghost use mathlib.Core.Path.{_≡_};
 ghost use Prim.Native.Nat.{_<_, _^_};
 ghost use lib.ListN.{drop};
 ghost use Rattle.rules.specs.Text.{rowsAhead, threadsAhead};
-ghost use Rattle.ahead.specs.Counts.{Counts, PlacedAt, Behind, rowHere, threadHere};
+ghost use Rattle.ahead.specs.Counts.{LinesCounted, PlacedAt, Behind, rowHere, threadHere};
 
 // A line and a column, both from 1, the column in bytes.
 pub struct Place {
@@ -13,7 +13,7 @@ pub struct Place {
 
 // The rows from here on up to the next thread, to the condition or to the end; so many lines at most.
 pub fn rows_ahead(text: &[u8], at: usize, lines: usize) -> usize
-    ensures { λ r. ⌜ Counts r lines (rowsAhead lines (drop at (now (text .entry)))) ⌝ }
+    ensures { λ r. ⌜ LinesCounted r lines (rowsAhead lines (drop at (now (text .entry)))) ⌝ }
 {
     let mut rows = 0;
     let mut from = at;
@@ -39,7 +39,7 @@ pub fn rows_ahead(text: &[u8], at: usize, lines: usize) -> usize
 
 // One, where a token stands here.
 fn row_here(text: &[u8], at: usize) -> usize
-    ensures { λ r. ⌜ Counts r 1 (rowHere (drop at (now (text .entry)))) ⌝ }
+    ensures { λ r. ⌜ LinesCounted r 1 (rowHere (drop at (now (text .entry)))) ⌝ }
 {
     if token::ends_line(text, at) {
         return 0;
@@ -49,7 +49,7 @@ fn row_here(text: &[u8], at: usize) -> usize
 
 // The threads from here on; so many lines at most.
 pub fn threads_ahead(text: &[u8], at: usize, lines: usize) -> usize
-    ensures { λ r. ⌜ Counts r lines (threadsAhead lines (drop at (now (text .entry)))) ⌝ }
+    ensures { λ r. ⌜ LinesCounted r lines (threadsAhead lines (drop at (now (text .entry)))) ⌝ }
 {
     let mut threads = 0;
     let mut from = at;
@@ -72,7 +72,7 @@ pub fn threads_ahead(text: &[u8], at: usize, lines: usize) -> usize
 
 // One, where the token says `thread`.
 fn thread_here(text: &[u8], at: usize, to: usize) -> usize
-    ensures { λ r. ⌜ Counts r 1 (threadHere at to (now (text .entry))) ⌝ }
+    ensures { λ r. ⌜ LinesCounted r 1 (threadHere at to (now (text .entry))) ⌝ }
 {
     if token::is_word(text, b"thread", at, to) {
         return 1;

@@ -36,7 +36,7 @@ use synchronize::sync_store;
 use track::Race;
 
 // The value read, or the race that stopped the access.
-pub enum Loaded {
+pub enum AccessResult {
     Value(u64),
     Raced { kind: u8, other: u8 },
 }
@@ -55,20 +55,20 @@ pub fn load(
     numbers: &Numbers,
     access: Access,
     slot: usize,
-) -> Loaded
+) -> AccessResult
     requires { ⌜ (access .thread < 5) × (access .cell < 4) × (slot < 7) ⌝ }
     ensures { λ r. ⌜ accessOf r (state (now (clocks .exit)) (now (marks .exit)) (now (values .entry)) (now (numbers .entry))) ≡ loadDone (state (now (clocks .entry)) (now (marks .entry)) (now (values .entry)) (now (numbers .entry))) (access .thread) (access .cell) slot (access .order) ⌝ }
 {
     let thread = access.thread;
     let cell = access.cell;
     if let Race::With { kind, other } = track::track_load(clocks, thread, cell) {
-        return Loaded::Raced { kind, other };
+        return AccessResult::Raced { kind, other };
     }
     apply_load_coherence(clocks, marks, numbers, access, slot);
     touch(clocks, marks, access, slot);
     let at = store_at(cell, slot);
     sync_load(clocks, thread, access.order, at);
-    Loaded::Value(values[VALUE + at])
+    AccessResult::Value(values[VALUE + at])
 }
 
 // Stores a value in the place of the oldest that is kept. The sync vector is that of a fresh store, or of the store that a
@@ -113,14 +113,14 @@ pub fn rmw(
     change: Change,
     failure: u8,
     slot: usize,
-) -> Loaded
+) -> AccessResult
     requires { ⌜ (access .thread < 5) × (access .cell < 4) × (slot < 7) ⌝ }
     ensures { λ r. ⌜ accessOf r (state (now (clocks .exit)) (now (marks .exit)) (now (values .exit)) (now (numbers .exit))) ≡ rmwDone (state (now (clocks .entry)) (now (marks .entry)) (now (values .entry)) (now (numbers .entry))) (access .thread) (access .cell) slot (changeMeant change) (access .order) failure ⌝ }
 {
     let thread = access.thread;
     let cell = access.cell;
     if let Race::With { kind, other } = track::track_load(clocks, thread, cell) {
-        return Loaded::Raced { kind, other };
+        return AccessResult::Raced { kind, other };
     }
     apply_load_coherence(clocks, marks, numbers, access, slot);
     touch(clocks, marks, access, slot);
@@ -128,7 +128,7 @@ pub fn rmw(
     let prev = values[VALUE + at];
     let Changed::Success(next) = change::apply(change, prev) else {
         sync_load(clocks, thread, failure, at);
-        return Loaded::Value(prev);
+        return AccessResult::Value(prev);
     };
     rmw_store(clocks, marks, values, numbers, access, at, prev, next)
 }
@@ -143,19 +143,19 @@ fn rmw_store(
     at: usize,
     prev: u64,
     next: u64,
-) -> Loaded
+) -> AccessResult
     requires { ⌜ (access .thread < 5) × (access .cell < 4) × (at < 28) ⌝ }
     ensures { λ r. ⌜ accessOf r (state (now (clocks .exit)) (now (marks .exit)) (now (values .exit)) (now (numbers .exit))) ≡ succeeded (state (now (clocks .entry)) (now (marks .entry)) (now (values .entry)) (now (numbers .entry))) (access .thread) (access .cell) at prev next (access .order) ⌝ }
 {
     let thread = access.thread;
     if let Race::With { kind, other } = track::track_store(clocks, thread, access.cell) {
-        return Loaded::Raced { kind, other };
+        return AccessResult::Raced { kind, other };
     }
     sync_load(clocks, thread, access.order, at);
     // The new store starts from the sync of the one read, which makes a release sequence of the two.
     let sync = clocks[SYNC + at];
     store(clocks, marks, values, numbers, access, sync, next);
-    Loaded::Value(prev)
+    AccessResult::Value(prev)
 }
 
 // Reads the newest store without synchronisation.
@@ -165,15 +165,15 @@ pub fn unsync_load(
     numbers: &Numbers,
     thread: usize,
     cell: usize,
-) -> Loaded
+) -> AccessResult
     requires { ⌜ (thread < 5) × (cell < 4) ⌝ }
     ensures { λ r. ⌜ ((marks : rules.Marks) → accessOf r (state (now (clocks .exit)) marks (now (values .entry)) (now (numbers .entry))) ≡ unsyncLoadDone (state (now (clocks .entry)) marks (now (values .entry)) (now (numbers .entry))) thread cell) ⌝ }
 {
     if let Race::With { kind, other } = track::track_unsync_load(clocks, thread, cell) {
-        return Loaded::Raced { kind, other };
+        return AccessResult::Raced { kind, other };
     }
     let slot = newest(numbers[COUNT + cell]);
-    Loaded::Value(values[VALUE + store_at(cell, slot)])
+    AccessResult::Value(values[VALUE + store_at(cell, slot)])
 }
 
 // Changes the newest store's value in place. A change that fails still counts as a mutation.

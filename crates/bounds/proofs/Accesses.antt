@@ -13,14 +13,14 @@ use lib.Dec.{eqb, ltb}
 use Rattle.rules.specs.Vector.{joined}
 use Rattle.rules.specs.Seen.{touchedAt, unseens}
 use Rattle.rules.specs.State.{State, Clocks, Marks, Numbers, Vector, vector, number, marksOf, threads, cells, plains, history, storeAt}
-use Rattle.rules.specs.State.{causality, released, seqCst, loaded, unsyncLoaded, stored, mutated, happensBefore, order, sync, readAccess, writeAccess, count}
+use Rattle.rules.specs.State.{causality, released, seqCst, loaded, unsyncLoaded, stored, mutated, happensBefore, modificationOrder, sync, readAccess, writeAccess, count}
 use Rattle.rules.specs.Cell as Cell
 use Rattle.rules.specs.Cell.{version, withClocks, liveStores, liveIn, slotOf, storeDone, sighted, Race, noRace, raceOf}
 use Rattle.rules.specs.Plain as Plain
 use Rattle.rules.proofs.StateLaws.{inVectors}
 use Rattle.rules.proofs.SlotLaws.{live-most}
 use Rattle.rules.proofs.MeasureRows.{pick}
-use Rattle.bounds.specs.Bounds.{Kind, ofVersions, kindOf, Sights}
+use Rattle.bounds.specs.Bounds.{Counter, ofVersions, counterOf, Sights}
 use Rattle.bounds.proofs.Parts.{Fit, joined-fit, Since, fit-of, put, join-into, now, lowered}
 use Rattle.bounds.proofs.Marks.{later, row-of, row-set, touched-row, unseen-row}
 
@@ -29,9 +29,9 @@ oldest-live : (n k : ℕ) → k < liveStores n → Cell.kthOldest n k < history
 oldest-live n k h =
     pick (λ (x : ℕ). x < history) (ltb n history) (λ e. omega (arith, live-most n)) (λ e. omega arith)
 
-module _ {P : Kind → ℕ → ℕ → Type 0} where
+module _ {P : Counter → ℕ → ℕ → Type 0} where
   module _ {least : ℕ → ℕ} (t : ℕ) (below : t < threads) where
-    recorded-since : (r : Race) (clocks : Clocks) (v : Vector) → inVectors v → ofVersions ≡ kindOf v → Since P least clocks →
+    recorded-since : (r : Race) (clocks : Clocks) (v : Vector) → inVectors v → ofVersions ≡ counterOf v → Since P least clocks →
         Since P least (Cell.recorded r clocks v t)
     recorded-since noRace clocks v h e s = join-into clocks v (causality t) h below e s
     recorded-since (raceOf kind other) clocks v h e s = s
@@ -81,7 +81,7 @@ module _ {P : Kind → ℕ → ℕ → Type 0} where
     with-order : (clocks : Clocks) (b : Bool) (so : List ℕ) (i : ℕ) → i < history → Since P least clocks → Fit (P ofVersions) so →
         Fit (P ofVersions) (cond b (joined so (Cell.orderOf clocks c i)) so)
     with-order clocks b so i h s f =
-        pick (Fit (P ofVersions)) b (λ e. joined-fit (P ofVersions) _ _ f (fit-of clocks (order (storeAt c i)) (omega arith) s))
+        pick (Fit (P ofVersions)) b (λ e. joined-fit (P ofVersions) _ _ f (fit-of clocks (modificationOrder (storeAt c i)) (omega arith) s))
         (λ e. f)
 
     coherent-from : (clocks : Clocks) (rows : List (List ℕ)) (slot : ℕ) (so : List ℕ) (n i : ℕ) → i + n ≤ history →
@@ -99,9 +99,9 @@ module _ {P : Kind → ℕ → ℕ → Type 0} where
         Since P least (Cell.coherent clocks rows numbers t c slot)
     unfolding Cell.coherent
     coherent-since clocks rows numbers slot h s =
-        put clocks (order (storeAt c slot)) _ (omega arith) s
+        put clocks (modificationOrder (storeAt c slot)) _ (omega arith) s
         (coherent-from clocks rows slot _ (liveIn numbers c) 0 (omega (arith, live-most (number numbers (count c)))) s
-        (fit-of clocks (order (storeAt c slot)) (omega arith) s))
+        (fit-of clocks (modificationOrder (storeAt c slot)) (omega arith) s))
         (λ u b e. absurd (omega arith))
 
     order-from : (clocks : Clocks) (rows : List (List ℕ)) (so : List ℕ) (n i : ℕ) → i + n ≤ history → Since P least clocks →
@@ -129,7 +129,7 @@ module _ {P : Kind → ℕ → ℕ → Type 0} where
     with-store clocks rows cnt slot from o h s f =
         let one = put clocks (happensBefore (storeAt c slot)) _ (omega arith) s (fit-of clocks (causality t) below s)
         (λ u b e. absurd (omega arith)) in
-        let two = put _ (order (storeAt c slot)) _ (omega arith) one (store-order clocks rows cnt s)
+        let two = put _ (modificationOrder (storeAt c slot)) _ (omega arith) one (store-order clocks rows cnt s)
         (λ u b e. absurd (omega arith)) in
         put _ (sync (storeAt c slot)) _ (omega arith) two (store-synced clocks from o s f) (λ u b e. absurd (omega arith))
 
@@ -180,14 +180,14 @@ module _ {P : Kind → ℕ → ℕ → Type 0} where
         (λ g. pick (Since P least) (eqb o 4) (λ i. seq-cst-since _ (released-since _ acquired)) (λ i. s))))
 
 -- A state's vectors and marks, where versions have come at least so far
-pub record SoundIn (P : Kind → ℕ → ℕ → Type 0) (least : ℕ → ℕ) (parts : Clocks) (marks : Marks) : Type 0 where
+pub record SoundIn (P : Counter → ℕ → ℕ → Type 0) (least : ℕ → ℕ) (parts : Clocks) (marks : Marks) : Type 0 where
   pub clocks : Since P least parts
   pub sights : Sights (version parts) marks
 
-abbrev pub Sound : (P : Kind → ℕ → ℕ → Type 0) → (ℕ → ℕ) → State → Type 0
+abbrev pub Sound : (P : Counter → ℕ → ℕ → Type 0) → (ℕ → ℕ) → State → Type 0
 Sound P least st = SoundIn P least (st .clocks) (st .marks)
 
-module _ {P : Kind → ℕ → ℕ → Type 0} {least : ℕ → ℕ} where
+module _ {P : Counter → ℕ → ℕ → Type 0} {least : ℕ → ℕ} where
   -- what is shown of changed vectors from the versions that there are
   pub with-clocks : (st : State) (clocks : Clocks) → Sound P least st →
       (Since P (version (st .clocks)) (st .clocks) → Since P (version (st .clocks)) clocks) →

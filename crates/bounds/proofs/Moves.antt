@@ -25,7 +25,7 @@ use Rattle.rules.specs.Machine.{Program, Pending, nothing, pends, pendingOf, cu
 use Rattle.rules.proofs.NumberLaws.{for-threads}
 use Rattle.rules.proofs.MeasureRows.{pick, both-left, Names, RowNames, widest, row-in-place, row-on-cell}
 use Rattle.bounds.specs.Bounds
-use Rattle.bounds.specs.Bounds.{Fits, Kind, ofVersions, ofChoices, given, but, owed, waiting, Part, Tally, Holds}
+use Rattle.bounds.specs.Bounds.{ProgramFits, Counter, ofVersions, ofChoices, given, but, owed, waiting, PartBounded, NumbersBounded, BoundsHold}
 use Rattle.bounds.proofs.Parts.{Fit, joined-fit, raised-fit, Since, fit-of, put}
 use Rattle.bounds.proofs.Accesses.{with-clocks}
 use Rattle.bounds.proofs.Numbers.{given-own, given-other, of-given, counted, moreRows, one-row, begins, aside, activates, Links, aside-links, phase-now, operation-now, rows-now, runs-now, wait-most}
@@ -34,7 +34,7 @@ use Rattle.bounds.proofs.Rows.{no-more, acts-going, read-ending, bit-en
 
 -- the numbers of a state that stands so
 record Counted (p : Program) (t n : ℕ) (rows owing waits least : ℕ → ℕ) (a : Numbers) : Type 0 where
-  tally : Tally p n owing least a
+  tally : NumbersBounded p n owing least a
   links : Links t rows owing waits a
 
 module _ {p : Program} {t n : ℕ} {rows owing waits least : ℕ → ℕ} where
@@ -63,9 +63,9 @@ module _ {p : Program} {t n : ℕ} {rows owing waits least : ℕ → ℕ} where
       (λ e. state-aside j runnable b l k) (λ e. k)) threads 0 a (omega arith) s
 
 -- A row is to begin, or its thread to end
-module _ (p : Program) (fits : Fits p) (t n : ℕ) (rows owing waits least : ℕ → ℕ) (below : t < threads) (idle : owing t ≡ 0) where
+module _ (p : Program) (fits : ProgramFits p) (t n : ℕ) (rows owing waits least : ℕ → ℕ) (below : t < threads) (idle : owing t ≡ 0) where
   abbrev Idle : State → Type 0
-  Idle st = At p t n rows owing owing waits least (Part rows owing (but t waits)) st
+  Idle st = At p t n rows owing owing waits least (PartBounded rows owing (but t waits)) st
 
   -- its thread's rows are one more, and it owes one
   abbrev rowsThen : State → ℕ → ℕ
@@ -74,11 +74,11 @@ module _ (p : Program) (fits : Fits p) (t n : ℕ) (rows owing waits least : ℕ
   abbrev Begun : State → State → Type 0
   Begun was st =
       At p t n (rowsThen was) (given t 1 owing) (given t 1 owing) waits least
-      (Part (rowsThen was) (given t 1 owing) (given t 1 waits)) st
+      (PartBounded (rowsThen was) (given t 1 owing) (given t 1 waits)) st
 
-  begun-part : (st : State) → oneMore (number (counted (st .numbers)) (rowsOf t)) ≡ rows t + 1 → (k : Kind) (u x : ℕ) →
+  begun-part : (st : State) → oneMore (number (counted (st .numbers)) (rowsOf t)) ≡ rows t + 1 → (k : Counter) (u x : ℕ) →
       u < threads →
-      Part rows owing (but t waits) k u x → Part (rowsThen st) (given t 1 owing) (given t 1 waits) k u x
+      PartBounded rows owing (but t waits) k u x → PartBounded (rowsThen st) (given t 1 owing) (given t 1 waits) k u x
   begun-part st e k u x b =
       elim (ℕ-discrete u t) [
         | yes q ↦ of-own k q
@@ -87,8 +87,8 @@ module _ (p : Program) (fits : Fits p) (t n : ℕ) (rows owing waits least : ℕ
             (omega (arith, given-other t 1 owing u d)) (omega (arith, given-other t 1 waits u d, given-other t 0 waits u d))
       ]
     where
-      of-own : (k : Kind) → u ≡ t → Part rows owing (but t waits) k u x →
-          Part (rowsThen st) (given t 1 owing) (given t 1 waits) k u x
+      of-own : (k : Counter) → u ≡ t → PartBounded rows owing (but t waits) k u x →
+          PartBounded (rowsThen st) (given t 1 owing) (given t 1 waits) k u x
       of-own ofVersions q =
           rw q (λ h. omega (arith, given-own t (oneMore (number (counted (st .numbers)) (rowsOf t))) rows, given-own t 1 owing))
       of-own ofChoices q =
@@ -136,7 +136,7 @@ module _ (p : Program) (fits : Fits p) (t n : ℕ) (rows owing waits least : ℕ
       let a = st .numbers in
       let st′ = Machine.withOperation st t op c in
       let at : At p t n (rowsThen was) (given t 1 owing) (given t 1 owing) (given t 1 waits) least
-      (Part (rowsThen was) (given t 1 owing) (given t 1 waits)) st′ = record {
+      (PartBounded (rowsThen was) (given t 1 owing) (given t 1 waits)) st′ = record {
         sound = s .sound;
         tally = aside (withNumber a (operation t) op) (aside a (s .tally) (operation t) op (omega arith)) (operatesOn t) c
             (omega arith);
@@ -144,7 +144,7 @@ module _ (p : Program) (fits : Fits p) (t n : ℕ) (rows owing waits least : ℕ
             aside-links (withNumber a (operation t) op) (operation-now a (s .links) t below op 1 (wait-most op)) (operatesOn t) c
             (omega arith) (omega arith);
       } in
-      no-more (Bounds.Scheduling p st′) n (asks-thread st′ at (λ u b. omega arith) (λ u b. omega arith))
+      no-more (Bounds.BoundsScheduling p st′) n (asks-thread st′ at (λ u b. omega arith) (λ u b. omega arith))
 
   begins-going : (st : State) (k : ℕ) (op : Op) → Names (widest (rowCount p t) k) op → version (st .clocks) t ≤ least t → Idle st →
       Going p n (Machine.begins p st t k op)
@@ -165,12 +165,12 @@ module _ (p : Program) (fits : Fits p) (t n : ℕ) (rows owing waits least : ℕ
         tally = aside two (one .tally) (operation t) noOperation (omega arith);
         links = operation-now two (one .links) t below noOperation 0 (omega arith);
       }) in
-      let at : At p t n rows owing owing (but t waits) least (Part rows owing (but t waits)) st′ =
+      let at : At p t n rows owing owing (but t waits) least (PartBounded rows owing (but t waits)) st′ =
       record { sound = s .sound; tally = all .tally; links = all .links } in
-      no-more (Bounds.Scheduling p st′) n (asks-thread st′ at (λ u b. omega arith) (λ u b. omega arith))
+      no-more (Bounds.BoundsScheduling p st′) n (asks-thread st′ at (λ u b. omega arith) (λ u b. omega arith))
 
 -- What the active thread does next
-module _ (p : Program) (fits : Fits p) (st : State) (n : ℕ) (s : Holds p st n) where
+module _ (p : Program) (fits : ProgramFits p) (st : State) (n : ℕ) (s : BoundsHold p st n) where
   abbrev now : ℕ
   now = current st
 
@@ -208,25 +208,25 @@ chosen : (b : Bool) (x : ℕ) → eqb (cond b x noOperation) noOperation ≡ fal
 chosen true x e = (refl, e)
 chosen false x e = absurd (true≢false e)
 
-module _ (p : Program) (fits : Fits p) (t n : ℕ) (rows owing waits least : ℕ → ℕ) (below : t < threads) where
-  abbrev Chosen : Kind → ℕ → ℕ → Type 0
-  Chosen = Part rows owing (but t waits)
+module _ (p : Program) (fits : ProgramFits p) (t n : ℕ) (rows owing waits least : ℕ → ℕ) (below : t < threads) where
+  abbrev Chosen : Counter → ℕ → ℕ → Type 0
+  Chosen = PartBounded rows owing (but t waits)
 
   less-waits : (u : ℕ) → but t waits u ≤ waits u
   less-waits u = of-given (λ (x : ℕ). x ≤ waits u) t 0 waits u (λ e. omega arith) (λ d. omega arith)
 
-  eases : (k : Kind) (u x : ℕ) → u < threads → Part rows owing waits k u x → Chosen k u x
+  eases : (k : Counter) (u x : ℕ) → u < threads → PartBounded rows owing waits k u x → Chosen k u x
   eases k u x b h = part-eased rows rows owing waits owing (but t waits) k u x (omega arith) (omega arith) (less-waits u) h
 
   -- "join the last dependent access's vector into its schedule vector, raise its own part"
   grown-fit : (st : State) → Machine.cellOf st t < cells → waiting (st .numbers) t ≡ 1 →
-      At p t n rows owing owing waits least (Part rows owing waits) st → Fit (Chosen ofChoices) (Machine.scheduleGrown st t)
+      At p t n rows owing owing waits least (PartBounded rows owing waits) st → Fit (Chosen ofChoices) (Machine.scheduleGrown st t)
   grown-fit st h e s =
       let c = Machine.cellOf st t in
       let op = Machine.operationOf st t in
       let own = vector (st .clocks) (scheduleOf t) in
       let dep = Machine.dependentVector (st .clocks) op c in
-      let Q = Part rows owing waits ofChoices in
+      let Q = PartBounded rows owing waits ofChoices in
       let fit-own : Fit Q own = fit-of (st .clocks) (scheduleOf t) below (s .sound .clocks) in
       let fit-dep : Fit Q dep =
       pick (Fit Q) (eqb op Machine.aLoad) (λ f. fit-of (st .clocks) (lastNonLoad c) h (s .sound .clocks))
@@ -262,7 +262,7 @@ module _ (p : Program) (fits : Fits p) (t n : ℕ) (rows owing waits least : ℕ
         links = aside-links numbers links (nonLoadBranch c) at (omega arith) (omega arith);
       })
 
-  access-at : (st : State) (at : ℕ) → At p t n rows owing owing waits least (Part rows owing waits) st →
+  access-at : (st : State) (at : ℕ) → At p t n rows owing owing waits least (PartBounded rows owing waits) st →
       At p t n rows owing owing waits least Chosen (Machine.accessMade st t at)
   unfolding Machine.accessMade
   access-at st at s =
@@ -284,8 +284,8 @@ module _ (p : Program) (fits : Fits p) (t n : ℕ) (rows owing waits least : ℕ
         links = s .links;
       }))
 
-  switched-at : (st : State) (was at : ℕ) → At p was n rows owing owing waits least (Part rows owing waits) st →
-      Holds p (Machine.switched st t at) n
+  switched-at : (st : State) (was at : ℕ) → At p was n rows owing owing waits least (PartBounded rows owing waits) st →
+      BoundsHold p (Machine.switched st t at) n
   unfolding Machine.switched
   switched-at st was at s =
       let now = Machine.withNumbers st (withNumber (st .numbers) activeThread t) in
@@ -300,8 +300,8 @@ module _ (p : Program) (fits : Fits p) (t n : ℕ) (rows owing waits least : ℕ
       holds (Machine.switched st t at) end (λ u b. omega arith) (λ u b. omega arith)
 
 -- How the machine goes on with an answer
-module _ (p : Program) (fits : Fits p) (n : ℕ) where
-  scheduled-ending : (st : State) (whom : Whom) (at : ℕ) → Bounds.Scheduling p st n → Ending p n (Machine.scheduled st whom at)
+module _ (p : Program) (fits : ProgramFits p) (n : ℕ) where
+  scheduled-ending : (st : State) (whom : Whom) (at : ℕ) → Bounds.BoundsScheduling p st n → Ending p n (Machine.scheduled st whom at)
   unfolding Machine.scheduled
   scheduled-ending st nobody at s =
       pick (Ending p n) (Machine.allOver (st .numbers) threads 0) (λ e. over st (opened st s))
@@ -309,16 +309,16 @@ module _ (p : Program) (fits : Fits p) (n : ℕ) where
       (λ f. over st (opened st s)))
   scheduled-ending st (thread t) at s =
       pick (Ending p n) (Machine.canRun (st .numbers) t)
-      (λ e. no-more (Holds p (Machine.switched st t at)) n
+      (λ e. no-more (BoundsHold p (Machine.switched st t at)) n
       (switched-at p fits t n _ _ _ _ (ltb-true t threads (both-left _ _ e)) st (current st) at (opened st s)))
       (λ e. over st (opened st s))
 
-  pub thread-ending : (st : State) (whom : Whom) (at : ℕ) → Bounds.Scheduling p st n →
+  pub thread-ending : (st : State) (whom : Whom) (at : ℕ) → Bounds.BoundsScheduling p st n →
       Ending p n (Machine.answered p st (runThread whom at))
   unfolding Machine.answered
   thread-ending st whom at s = scheduled-ending st whom at s
 
-  pub slot-ending : (st : State) (slot : ℕ) (offered : List ℕ) → slot < history → Bounds.Reading p st n →
+  pub slot-ending : (st : State) (slot : ℕ) (offered : List ℕ) → slot < history → Bounds.BoundsReading p st n →
       Ending p n (Machine.answered p st (readSlot slot offered))
   unfolding Machine.answered
   slot-ending st slot offered h s =
@@ -326,7 +326,7 @@ module _ (p : Program) (fits : Fits p) (n : ℕ) where
       (activeRole p st) h
       (row-on-cell p (current st) (activeRow st)) (opened st (s .0))
 
-  pub spurious-ending : (st : State) (bit : Bool) → Bounds.Reading p st n → Ending p n (Machine.answered p st (takeBit bit))
+  pub spurious-ending : (st : State) (bit : Bool) → Bounds.BoundsReading p st n → Ending p n (Machine.answered p st (takeBit bit))
   unfolding Machine.answered
   spurious-ending st bit s =
       bit-ending p fits (current st) n _ _ _ _ (s .0 .tally .runs) (s .1) st (activeRow st) (cond bit 1 0) (activeRole p st)

@@ -23,7 +23,7 @@ use Rattle.rules.specs.Machine.{Program, toBegin, noOperation}
 use Rattle.rules.proofs.StateLaws.{number-same, number-other, number-kept}
 use Rattle.rules.proofs.NumberLaws.{five-one, five-has, five-same, after, more-some, more-below}
 use Rattle.rules.proofs.MeasureRows.{pick}
-use Rattle.bounds.specs.Bounds.{ofAll, given, but, rowsIn, owed, waiting, Or, Tally}
+use Rattle.bounds.specs.Bounds.{ofAll, given, but, rowsIn, owed, waiting, Or, NumbersBounded}
 use Rattle.bounds.proofs.Marks.{none-later}
 
 -- So much of one thread
@@ -77,12 +77,12 @@ Apart k =
     × ((u : ℕ) → u < threads → (numberAt (yields u) ≢ numberAt k) × (numberAt (lastYield u) ≢ numberAt k))
     × ((c : ℕ) → c < cells → numberAt (count c) ≢ numberAt k)
 
-module _ {p : Program} {n : ℕ} {owing most : ℕ → ℕ} (a : Numbers) (s : Tally p n owing most a) where
+module _ {p : Program} {n : ℕ} {owing most : ℕ → ℕ} (a : Numbers) (s : NumbersBounded p n owing most a) where
   -- a write of no rows, and what is owed with it
   wrote : (k : Number) (v : ℕ) {m : ℕ} {owing′ most′ : ℕ → ℕ} → NoRows k → m + ofAll owing′ ≡ number a rowsBegun →
       ((c : ℕ) → c < cells → Becomes a k v (count c) (λ (x : ℕ). x + ofAll owing′ ≤ 1 + number a rowsBegun)) →
       ((u : ℕ) → u < threads → Becomes a k v (yields u) (λ (x : ℕ). x + owing′ u ≤ rowsIn a u)) →
-      ((u : ℕ) → u < threads → Becomes a k v (lastYield u) (Or none (most′ u))) → Tally p m owing′ most′ (withNumber a k v)
+      ((u : ℕ) → u < threads → Becomes a k v (lastYield u) (Or none (most′ u))) → NumbersBounded p m owing′ most′ (withNumber a k v)
   wrote k v {m} {owing′} {most′} d e f g i =
       let h : numberAt k < length a = omega (arith, s .held, d .0) in
       let began = number-other a k rowsBegun v (d .2) in
@@ -99,13 +99,13 @@ module _ {p : Program} {n : ℕ} {owing most : ℕ → ℕ} (a : Numbers) (s : T
         lasts = λ u b. after (Or none (most′ u)) a k (lastYield u) v h (i u b .0) (i u b .1);
       }
 
-  pub aside : (k : Number) (v : ℕ) → Apart k → Tally p n owing most (withNumber a k v)
+  pub aside : (k : Number) (v : ℕ) → Apart k → NumbersBounded p n owing most (withNumber a k v)
   aside k v d =
       wrote k v (d .0) (s .entries) (λ c b. (λ e. absurd (d .2 c b e), λ e. s .counts c b))
       (λ u b. (λ e. absurd (d .1 u b .0 e), λ e. s .yielded u b)) (λ u b. (λ e. absurd (d .1 u b .1 e), λ e. s .lasts u b))
 
   -- a thread's last yield
-  pub last-yield : (t v : ℕ) → t < threads → Or none (most t) v → Tally p n owing most (withNumber a (lastYield t) v)
+  pub last-yield : (t v : ℕ) → t < threads → Or none (most t) v → NumbersBounded p n owing most (withNumber a (lastYield t) v)
   last-yield t v b l =
       wrote (lastYield t) v (omega arith) (s .entries) (λ c h. (omega arith, λ e. s .counts c h))
       (λ u h. (omega arith, λ e. s .yielded u h))
@@ -113,7 +113,7 @@ module _ {p : Program} {n : ℕ} {owing most : ℕ → ℕ} (a : Numbers) (s : T
 
   -- so much is owed, and versions have come so far
   pub re-owed : {m : ℕ} (owing′ most′ : ℕ → ℕ) → m + ofAll owing′ ≡ number a rowsBegun →
-      ((u : ℕ) → u < threads → owing′ u ≤ owing u) → ((u : ℕ) → u < threads → most u ≤ most′ u) → Tally p m owing′ most′ a
+      ((u : ℕ) → u < threads → owing′ u ≤ owing u) → ((u : ℕ) → u < threads → most u ≤ most′ u) → NumbersBounded p m owing′ most′ a
   re-owed owing′ most′ e f g = record {
     held = s .held;
     runs = s .runs;
@@ -134,7 +134,7 @@ module _ {p : Program} {n : ℕ} {owing most : ℕ → ℕ} (a : Numbers) (s : T
   }
 
   -- another thread is the active one
-  pub activates : (t : ℕ) → t < threads → Tally p n owing most (withNumber a activeThread t)
+  pub activates : (t : ℕ) → t < threads → NumbersBounded p n owing most (withNumber a activeThread t)
   activates t b =
       let k = activeThread in
       let rows : (u : ℕ) → u < threads → rowsIn (withNumber a k t) u ≡ rowsIn a u =
@@ -156,20 +156,20 @@ module _ {p : Program} {n : ℕ} {owing most : ℕ → ℕ} (a : Numbers) (s : T
     less-owed : n + 1 + ofAll (but t owing) ≡ number a rowsBegun
     less-owed = omega (arith, s .entries, ofAll-given owing t 0 below)
 
-    pub acted : Tally p (n + 1) (but t owing) most a
+    pub acted : NumbersBounded p (n + 1) (but t owing) most a
     acted =
         re-owed (but t owing) most less-owed (λ u b. of-given (λ (x : ℕ). x ≤ owing u) t 0 owing u (λ e. omega arith)
         (λ d. omega arith)) (λ u b. omega arith)
 
     -- with one more store
-    pub stored : (c : ℕ) → c < cells → Tally p (n + 1) (but t owing) most (withNumber a (count c) (oneMore (number a (count c))))
+    pub stored : (c : ℕ) → c < cells → NumbersBounded p (n + 1) (but t owing) most (withNumber a (count c) (oneMore (number a (count c))))
     stored c b =
         wrote (count c) _ (omega arith) less-owed
         (λ d h. (λ e. omega (arith, more-some (number a (count c)) .1, s .counts c b, ofAll-given owing t 0 below), λ e. acted .counts d h))
         (λ u h. (omega arith, λ e. acted .yielded u h)) (λ u h. (λ e. absurd (omega arith), λ e. s .lasts u h))
 
     -- with one more yield
-    pub yields-once : Tally p (n + 1) (but t owing) most (withNumber a (yields t) (oneMore (number a (yields t))))
+    pub yields-once : NumbersBounded p (n + 1) (but t owing) most (withNumber a (yields t) (oneMore (number a (yields t))))
     yields-once =
         wrote (yields t) _ (omega arith) less-owed (λ c h. (omega arith, λ e. acted .counts c h))
         (λ u h. (
@@ -204,7 +204,7 @@ module _ {p : Program} {n : ℕ} {owing most : ℕ → ℕ} (a : Numbers) (s : T
     pub other-rows : (u : ℕ) → u < threads → u ≢ t → rowsIn (moreRows a t) u ≡ rowsIn a u
     other-rows u h d = stays (rowsOf u) (omega arith) (omega arith)
 
-    pub begins : Tally p n (given t 1 owing) most (moreRows a t)
+    pub begins : NumbersBounded p n (given t 1 owing) most (moreRows a t)
     begins =
         let all = ofAll-given owing t 1 below in
         record {

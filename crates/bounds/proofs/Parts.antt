@@ -22,7 +22,7 @@ use Rattle.rules.specs.State.{Clocks, Vector, vector, withVector, vectorAt, vec
 use Rattle.rules.specs.Cell.{version, joinInto}
 use Rattle.rules.proofs.StateLaws.{inVectors, vectorAt-apart, vectorAt-within, vector-same, vector-other, vector-kept}
 use Rattle.rules.proofs.VectorLaws.{joined-part, length-joined, length-raised, raised-other, raised-own}
-use Rattle.bounds.specs.Bounds.{Kind, kindOf, Vectors}
+use Rattle.bounds.specs.Bounds.{Counter, counterOf, Vectors}
 
 pub flag : (b : Bool) → (b ≡ true) ⊎ (b ≡ false)
 flag true = inl refl
@@ -73,15 +73,15 @@ after clocks v w parts l h k R f g =
     ]
 
 -- vectors whose parts are so, where each thread's version has come at least so far
-pub record Since (P : Kind → ℕ → ℕ → Type 0) (least : ℕ → ℕ) (clocks : Clocks) : Type 0 where
+pub record Since (P : Counter → ℕ → ℕ → Type 0) (least : ℕ → ℕ) (clocks : Clocks) : Type 0 where
   pub vectors : Vectors P clocks
   pub since : (u : ℕ) → u < threads → least u ≤ version clocks u
 
-module _ {P : Kind → ℕ → ℕ → Type 0} {least : ℕ → ℕ} where
-  pub fit-of : (clocks : Clocks) (v : Vector) → inVectors v → Since P least clocks → Fit (P (kindOf v)) (vector clocks v)
+module _ {P : Counter → ℕ → ℕ → Type 0} {least : ℕ → ℕ} where
+  pub fit-of : (clocks : Clocks) (v : Vector) → inVectors v → Since P least clocks → Fit (P (counterOf v)) (vector clocks v)
   fit-of clocks v h s = record { five = s .vectors .five v h; each = s .vectors .parts v h }
 
-  pub put : (clocks : Clocks) (v : Vector) (parts : List ℕ) → inVectors v → Since P least clocks → Fit (P (kindOf v)) parts →
+  pub put : (clocks : Clocks) (v : Vector) (parts : List ℕ) → inVectors v → Since P least clocks → Fit (P (counterOf v)) parts →
       ((u : ℕ) → u < threads → vectorAt (causality u) ≡ vectorAt v → least u ≤ getD parts u 0) → Since P least
       (withVector clocks v parts)
   put clocks v parts h s f g =
@@ -92,7 +92,7 @@ module _ {P : Kind → ℕ → ℕ → Type 0} {least : ℕ → ℕ} where
           five = λ w k. after clocks v w parts l h k (λ (x : Vector) (xs : List ℕ). length xs ≡ threads) (f .five)
               (s .vectors .five w k);
           parts = λ w k u b.
-              after clocks v w parts l h k (λ (x : Vector) (xs : List ℕ). P (kindOf x) u (getD xs u 0)) (f .each u b)
+              after clocks v w parts l h k (λ (x : Vector) (xs : List ℕ). P (counterOf x) u (getD xs u 0)) (f .each u b)
               (s .vectors .parts w k u b);
         };
         since = λ u b. elim (ℕ-discrete (vectorAt (causality u)) (vectorAt v)) [
@@ -102,26 +102,26 @@ module _ {P : Kind → ℕ → ℕ → Type 0} {least : ℕ → ℕ} where
       }
 
   -- one vector takes in another of its kind
-  pub join-into : (clocks : Clocks) (v w : Vector) → inVectors v → inVectors w → kindOf w ≡ kindOf v → Since P least clocks →
+  pub join-into : (clocks : Clocks) (v w : Vector) → inVectors v → inVectors w → counterOf w ≡ counterOf v → Since P least clocks →
       Since P least (joinInto clocks v w)
   join-into clocks v w h k e s =
       put clocks v _ h s
-      (joined-fit (P (kindOf v)) _ _ (fit-of clocks v h s) (subst (λ (x : Kind). Fit (P x) (vector clocks w)) e
+      (joined-fit (P (counterOf v)) _ _ (fit-of clocks v h s) (subst (λ (x : Counter). Fit (P x) (vector clocks w)) e
       (fit-of clocks w k s)))
       (λ u b q.
       let same : vector clocks v ≡ vector clocks (causality u) = ap (λ (i : ℕ). getD clocks i []) (sym q) in
       omega (arith, joined-part (vector clocks v) (vector clocks w) u, s .since u b, ap (λ (xs : List ℕ). getD xs u 0) same))
 
 -- the versions that there are
-pub now : {P : Kind → ℕ → ℕ → Type 0} {least : ℕ → ℕ} (clocks : Clocks) → Since P least clocks → Since P (version clocks) clocks
+pub now : {P : Counter → ℕ → ℕ → Type 0} {least : ℕ → ℕ} (clocks : Clocks) → Since P least clocks → Since P (version clocks) clocks
 now clocks s = record { vectors = s .vectors; since = λ u b. omega arith }
 
 -- less is asked of each part, and of the versions
-pub eased : {P Q : Kind → ℕ → ℕ → Type 0} (clocks : Clocks) → ((k : Kind) (u x : ℕ) → u < threads → P k u x → Q k u x) →
+pub eased : {P Q : Counter → ℕ → ℕ → Type 0} (clocks : Clocks) → ((k : Counter) (u x : ℕ) → u < threads → P k u x → Q k u x) →
     Vectors P clocks → Vectors Q clocks
-eased clocks f s = record { held = s .held; five = s .five; parts = λ v h u b. f (kindOf v) u _ b (s .parts v h u b) }
+eased clocks f s = record { held = s .held; five = s .five; parts = λ v h u b. f (counterOf v) u _ b (s .parts v h u b) }
 
-pub lowered : {P : Kind → ℕ → ℕ → Type 0} {least less : ℕ → ℕ} (clocks : Clocks) → ((u : ℕ) → u < threads → less u ≤ least u) →
+pub lowered : {P : Counter → ℕ → ℕ → Type 0} {least less : ℕ → ℕ} (clocks : Clocks) → ((u : ℕ) → u < threads → less u ≤ least u) →
     Since P least clocks → Since P less clocks
 lowered clocks f s = record { vectors = s .vectors; since = λ u b. omega (arith, f u b, s .since u b) }
 

@@ -30,7 +30,7 @@ use Rattle.rules.proofs.SlotLaws.{matched-long, offered-long, live-most}
 use Rattle.rules.proofs.MeasureRows.{pick, Names, widest, RoleOnCell}
 use Rattle.rules.proofs.VectorLaws.{raised-own}
 use Rattle.bounds.specs.Bounds
-use Rattle.bounds.specs.Bounds.{Fits, Kind, ofVersions, but, Part, Holds}
+use Rattle.bounds.specs.Bounds.{ProgramFits, Counter, ofVersions, but, PartBounded, BoundsHold}
 use Rattle.bounds.proofs.Parts.{Fit, zeros-fit, raised-fit, Since, fit-of, put, join-into}
 use Rattle.bounds.proofs.Accesses.{with-clocks, sighted-sound, stored-sound, load-synced, store-tracked, unsync-tracked, mut-tracked, plain-read-tracked, plain-write-tracked, fenced-since}
 use Rattle.bounds.proofs.Numbers.{given-own, of-given, aside, last-yield, acted, stored, yields-once, aside-links, phase-now, operation-now}
@@ -47,13 +47,13 @@ pub no-more : (Q : ℕ → Type 0) (n : ℕ) → Q n → Q (n + 0)
 no-more Q n h = subst Q (let e : n ≡ n + 0 = omega arith in e) h
 
 -- A row of thread t that has begun and is to act
-module _ (p : Program) (fits : Fits p) (t n : ℕ) (rows owing waits least : ℕ → ℕ) (below : t < threads) (owes : owing t ≡ 1) where
+module _ (p : Program) (fits : ProgramFits p) (t n : ℕ) (rows owing waits least : ℕ → ℕ) (below : t < threads) (owes : owing t ≡ 1) where
   -- before the version is raised, and after
-  abbrev Before : Kind → ℕ → ℕ → Type 0
-  Before = Part rows owing (but t waits)
+  abbrev Before : Counter → ℕ → ℕ → Type 0
+  Before = PartBounded rows owing (but t waits)
 
-  abbrev After : Kind → ℕ → ℕ → Type 0
-  After = Part rows (but t owing) (but t waits)
+  abbrev After : Counter → ℕ → ℕ → Type 0
+  After = PartBounded rows (but t owing) (but t waits)
 
   -- it is to act; it may have raised the version; it has acted
   abbrev pub Acting : State → Type 0
@@ -68,7 +68,7 @@ module _ (p : Program) (fits : Fits p) (t n : ℕ) (rows owing waits least : ℕ
   less-owed : (u : ℕ) → but t owing u ≤ owing u
   less-owed u = of-given (λ (x : ℕ). x ≤ owing u) t 0 owing u (λ e. omega arith) (λ d. omega arith)
 
-  eases : (k : Kind) (u x : ℕ) → u < threads → Before k u x → After k u x
+  eases : (k : Counter) (u x : ℕ) → u < threads → Before k u x → After k u x
   eases k u x b h =
       part-eased rows rows owing (but t waits) (but t owing) (but t waits) k u x (omega arith) (less-owed u) (omega arith) h
 
@@ -99,7 +99,7 @@ module _ (p : Program) (fits : Fits p) (t n : ℕ) (rows owing waits least : ℕ
   acts-bare st s = record { sound = s .sound; tally = acted (st .numbers) (s .tally) t below owes; links = s .links }
 
   -- the row is complete
-  pub finished : (st : State) (k : ℕ) → Acted st → Holds p (completed st t k) (n + 1)
+  pub finished : (st : State) (k : ℕ) → Acted st → BoundsHold p (completed st t k) (n + 1)
   finished st k s =
       let one = withNumber (st .numbers) (nextRow t) k in
       let at : At p t (n + 1) rows (but t owing) (but t owing) waits least After (completed st t k) = record {
@@ -230,11 +230,11 @@ module _ (p : Program) (fits : Fits p) (t n : ℕ) (rows owing waits least : ℕ
       finished _ (oneMore k) (record { sound = after .sound; tally = after .tally; links = after .links })
 
   -- The row needs nothing but to be complete
-  bare : (st : State) (k : ℕ) → Acting st → Holds p (completed st t k) (n + 1)
+  bare : (st : State) (k : ℕ) → Acting st → BoundsHold p (completed st t k) (n + 1)
   bare st k s = finished st k (acts-bare st (not-raised st s))
 
   -- "4 fence"
-  fence-done : (st : State) (k o : ℕ) → Acting st → Holds p (completed (Machine.fences p st t o) t k) (n + 1)
+  fence-done : (st : State) (k o : ℕ) → Acting st → BoundsHold p (completed (Machine.fences p st t o) t k) (n + 1)
   fence-done st k o s =
       let up = Machine.versionRaised st t in
       finished _ k (acts-bare _ (with-parts up _ (fenced-since t below (up .clocks) (up .marks) (up .numbers) _ o (fits .held))
@@ -269,7 +269,7 @@ module _ (p : Program) (fits : Fits p) (t n : ℕ) (rows owing waits least : ℕ
 
   -- "8 join thread": it goes through, or the thread blocks
   through-done : (st : State) (k target : ℕ) → target < threads → Acting st →
-      Holds p (completed (Machine.joinedWith st t target) t k) (n + 1)
+      BoundsHold p (completed (Machine.joinedWith st t target) t k) (n + 1)
   through-done st k target h s =
       let up = Machine.versionRaised st t in
       finished _ k
@@ -294,7 +294,7 @@ module _ (p : Program) (fits : Fits p) (t n : ℕ) (rows owing waits least : ℕ
             (omega arith) (omega arith))
             t below Machine.noOperation 0 (omega arith);
       } in
-      no-more (Bounds.Scheduling p (Machine.blockedOn st t target)) n
+      no-more (Bounds.BoundsScheduling p (Machine.blockedOn st t target)) n
       (asks-thread (Machine.blockedOn st t target) at (λ u b. omega arith) (λ u b. omega arith))
 
   joins-going : (st : State) (k opcode target : ℕ) → target < threads → Acting st → Going p n (Machine.joins st t k opcode target)
@@ -328,9 +328,9 @@ module _ (p : Program) (fits : Fits p) (t n : ℕ) (rows owing waits least : ℕ
       (λ f. bare (Machine.withNumbers st (withNumber (st .numbers) exploring v)) (oneMore k) (with-flag st v s)))
 
   -- a row that asks
-  asks-now : (st : State) → Raised st → Bounds.Reading p st (n + 0)
+  asks-now : (st : State) → Raised st → Bounds.BoundsReading p st (n + 0)
   asks-now st s =
-      no-more (Bounds.Reading p st) n (asks-row st s below owes (λ u b. omega arith) (λ u b. omega arith))
+      no-more (Bounds.BoundsReading p st) n (asks-row st s below owes (λ u b. omega arith) (λ u b. omega arith))
 
   slot-going : (st : State) (fate : ℕ → Cell.Fate) (cnt : ℕ) → Acting st →
       Going p n (Machine.asksSlot (Machine.versionRaised st t) (Cell.matchedFrom fate (Cell.liveStores cnt) 0))

@@ -17,16 +17,16 @@ use Rattle.rules.specs.Machine.{Program, current, machine}
 use Rattle.rules.proofs.NumberLaws.{five-has, five-same}
 use Rattle.kept.specs.Kept.{OfNext, OfAnswer}
 use Rattle.kept.proofs.Held.{answer-next}
-use Rattle.bounds.specs.Bounds.{Kind, ofVersions, ofChoices, given, but, nothing, rowsIn, owed, waiting, Part, Tally, Bounded, Holds, Scheduling, Reading, Asked, Over}
+use Rattle.bounds.specs.Bounds.{Counter, ofVersions, ofChoices, given, but, nothing, rowsIn, owed, waiting, PartBounded, NumbersBounded, Bounded, BoundsHold, BoundsScheduling, BoundsReading, BoundsAsked, BoundsOver}
 use Rattle.bounds.proofs.Parts.{eased}
 use Rattle.bounds.proofs.Accesses.{Sound}
 use Rattle.bounds.proofs.Numbers.{given-own, given-other, of-given, re-owed, Links}
 
 -- Thread t is active. Each thread has begun so many rows and owes so much (for the tally, so much), and waits for at most so much
-pub record At (p : Program) (t n : ℕ) (rows tallied owing waits least : ℕ → ℕ) (P : Kind → ℕ → ℕ → Type 0)
+pub record At (p : Program) (t n : ℕ) (rows tallied owing waits least : ℕ → ℕ) (P : Counter → ℕ → ℕ → Type 0)
     (st : State) : Type 0 where
   pub sound : Sound P least st
-  pub tally : Tally p n tallied least (st .numbers)
+  pub tally : NumbersBounded p n tallied least (st .numbers)
   pub links : Links t rows owing waits (st .numbers)
 
 -- the part of another function of the same thread is smaller
@@ -36,13 +36,13 @@ given-less s t v f g u e h =
     (λ q. rw (q, sym e, given-own s v f) (omega arith))
     (λ d. rw (given-other s v f u (λ q. d (q ∙ e))) h)
 
-pub part-eased : (rows rows′ o w o′ w′ : ℕ → ℕ) (k : Kind) (u x : ℕ) → rows u ≤ rows′ u → o′ u ≤ o u → w′ u ≤ w u →
-    Part rows o w k u x → Part rows′ o′ w′ k u x
+pub part-eased : (rows rows′ o w o′ w′ : ℕ → ℕ) (k : Counter) (u x : ℕ) → rows u ≤ rows′ u → o′ u ≤ o u → w′ u ≤ w u →
+    PartBounded rows o w k u x → PartBounded rows′ o′ w′ k u x
 part-eased rows rows′ o w o′ w′ ofVersions u x e f g h = omega arith
 part-eased rows rows′ o w o′ w′ ofChoices u x e f g h = omega arith
 
-pub eased-at : {p : Program} {t n : ℕ} {rows tallied owing waits least : ℕ → ℕ} {P Q : Kind → ℕ → ℕ → Type 0} (st : State) →
-    ((k : Kind) (u x : ℕ) → u < threads → P k u x → Q k u x) → At p t n rows tallied owing waits least P st →
+pub eased-at : {p : Program} {t n : ℕ} {rows tallied owing waits least : ℕ → ℕ} {P Q : Counter → ℕ → ℕ → Type 0} (st : State) →
+    ((k : Counter) (u x : ℕ) → u < threads → P k u x → Q k u x) → At p t n rows tallied owing waits least P st →
     At p t n rows tallied owing waits least Q st
 eased-at st f s = record {
   sound = record {
@@ -54,7 +54,7 @@ eased-at st f s = record {
 }
 
 module _ {p : Program} {t n : ℕ} {rows owing waits least o w : ℕ → ℕ} (st : State)
-    (s : At p t n rows owing owing waits least (Part rows o w) st) where
+    (s : At p t n rows owing owing waits least (PartBounded rows o w) st) where
   bounded : (o′ w′ : ℕ → ℕ) → ((u : ℕ) → u < threads → o′ u ≤ o u) → ((u : ℕ) → u < threads → w′ u ≤ w u) → Bounded p o′ w′ st n
   bounded o′ w′ f g =
       let same = s .links .owes in
@@ -69,10 +69,10 @@ module _ {p : Program} {t n : ℕ} {rows owing waits least o w : ℕ → ℕ} (s
             (s .sound .clocks .since);
       }
 
-  pub over : Over p st n
+  pub over : BoundsOver p st n
   over = bounded nothing nothing (λ u b. omega arith) (λ u b. omega arith)
 
-  pub holds : ((u : ℕ) → u < threads → owing u ≤ o u) → ((u : ℕ) → u < threads → but t waits u ≤ w u) → Holds p st n
+  pub holds : ((u : ℕ) → u < threads → owing u ≤ o u) → ((u : ℕ) → u < threads → but t waits u ≤ w u) → BoundsHold p st n
   holds f g =
       bounded (owed (st .numbers)) (but (current st) (waiting (st .numbers)))
       (λ u b. omega (arith, s .links .owes u b, f u b))
@@ -83,14 +83,14 @@ module _ {p : Program} {t n : ℕ} {rows owing waits least o w : ℕ → ℕ} (s
             (s .links .pends u b),
       ))
 
-  pub asks-thread : ((u : ℕ) → u < threads → owing u ≤ o u) → ((u : ℕ) → u < threads → waits u ≤ w u) → Scheduling p st n
+  pub asks-thread : ((u : ℕ) → u < threads → owing u ≤ o u) → ((u : ℕ) → u < threads → waits u ≤ w u) → BoundsScheduling p st n
   asks-thread f g =
       bounded (owed (st .numbers)) (waiting (st .numbers)) (λ u b. omega (arith, s .links .owes u b, f u b))
       (λ u b. omega (arith, g u b, s .links .pends u b))
 
   pub asks-row : t < threads → owing t ≡ 1 → ((u : ℕ) → u < threads → but t owing u ≤ o u) →
       ((u : ℕ) → u < threads → but t waits u ≤ w u) →
-      Reading p st n
+      BoundsReading p st n
   asks-row below e f g = (
     bounded (but (current st) (owed (st .numbers))) (but (current st) (waiting (st .numbers)))
         (λ u b. omega (
@@ -112,7 +112,7 @@ module _ {p : Program} {t n : ℕ} {rows owing waits least o w : ℕ → ℕ} (s
 pub opened : {p : Program} {o w : ℕ → ℕ} {n : ℕ} (st : State) → Bounded p o w st n →
     At p (current st) n (rowsIn (st .numbers)) (owed (st .numbers)) (owed (st .numbers)) (waiting (st .numbers))
     (version (st .clocks))
-    (Part (rowsIn (st .numbers)) o w) st
+    (PartBounded (rowsIn (st .numbers)) o w) st
 opened st s = record {
   sound = record { clocks = record { vectors = s .vectors; since = λ u b. omega arith }; sights = s .sights };
   tally = s .tally;
@@ -127,16 +127,16 @@ opened st s = record {
 
 -- the rows of a thread leave its version room
 pub has-room : {p : Program} {n : ℕ} {owing most : ℕ → ℕ} (a : Numbers) (t : ℕ) → t < threads → p .operations + 2 < largest →
-    Tally p n owing most a →
+    NumbersBounded p n owing most a →
     rowsIn a t + 2 < largest
 has-room a t b h s = omega (arith, five-has (rowsIn a) t b, s .rows, s .limit)
 
 -- a move that does not ask
 abbrev pub Ending : Program → ℕ → Move State → Type 0
-Ending p n m = OfAnswer (machine p) (Holds p) (Over p) n m
+Ending p n m = OfAnswer (machine p) (BoundsHold p) (BoundsOver p) n m
 
 abbrev pub Going : Program → ℕ → Move State → Type 0
-Going p n m = OfNext (machine p) (Holds p) (Asked p) (Over p) n m
+Going p n m = OfNext (machine p) (BoundsHold p) (BoundsAsked p) (BoundsOver p) n m
 
 pub ending-going : (p : Program) (n : ℕ) (m : Move State) → Ending p n m → Going p n m
-ending-going p = answer-next (machine p) (Holds p) (Asked p) (Over p)
+ending-going p = answer-next (machine p) (BoundsHold p) (BoundsAsked p) (BoundsOver p)

@@ -24,7 +24,7 @@ use Rattle.rules.proofs.StateLaws.{inVectors, vectorAt-within, vector-same}
 use Rattle.rules.proofs.NumberLaws.{five-same}
 use Rattle.rules.proofs.MeasureStart.{New, start-new}
 use Rattle.rules.proofs.MeasureRows.{pick}
-use Rattle.bounds.specs.Bounds.{Fits, Kind, ofVersions, ofChoices, kindOf, given, nothing, rowsIn, Part, Or, Sights, Tally, Holds}
+use Rattle.bounds.specs.Bounds.{ProgramFits, Counter, ofVersions, ofChoices, counterOf, given, nothing, rowsIn, PartBounded, Or, Sights, NumbersBounded, BoundsHold}
 use Rattle.bounds.proofs.Parts.{Fit, set-fit, zeros-fit, Since, put, join-into, eased}
 use Rattle.bounds.proofs.Marks.{Row, unseen-row, later}
 use Rattle.bounds.proofs.Accesses.{Sound, with-clocks, stored-sound, plain-write-tracked}
@@ -35,12 +35,12 @@ use Rattle.bounds.proofs.Stands.{At, holds}
 first : ℕ → ℕ
 first = given 0 1 nothing
 
-abbrev Making : Kind → ℕ → ℕ → Type 0
+abbrev Making : Counter → ℕ → ℕ → Type 0
 Making ofVersions u x = x ≤ first u
 Making ofChoices u x = x ≤ 0
 
-abbrev Started : Kind → ℕ → ℕ → Type 0
-Started = Part nothing nothing nothing
+abbrev Started : Counter → ℕ → ℕ → Type 0
+Started = PartBounded nothing nothing nothing
 
 first-own : first 0 ≡ 1
 unfolding first
@@ -54,7 +54,7 @@ first-most : (u : ℕ) → first u ≤ 1
 unfolding first
 first-most u = of-given (λ (x : ℕ). x ≤ 1) 0 1 nothing u (λ e. omega arith) (λ d. omega arith)
 
-zeros-making : (k : Kind) → Fit (Making k) (zeros threads)
+zeros-making : (k : Counter) → Fit (Making k) (zeros threads)
 zeros-making ofVersions = zeros-fit (Making ofVersions) (λ u b. omega arith)
 zeros-making ofChoices = zeros-fit (Making ofChoices) (λ u b. omega arith)
 
@@ -70,7 +70,7 @@ blank-since explores = record {
   vectors = record {
     held = length-replicate {A = List ℕ} vectorsHeld (zeros threads);
     five = λ v h. rw (blank-parts explores v h) (zeros-making ofVersions .five);
-    parts = λ v h u b. rw (blank-parts explores v h) (zeros-making (kindOf v) .each u b);
+    parts = λ v h u b. rw (blank-parts explores v h) (zeros-making (counterOf v) .each u b);
   };
   since = λ u b. omega arith;
 }
@@ -162,7 +162,7 @@ started-marks (suc n) t st = started-marks n (t + 1) (Machine.threadStarted st t
 
 -- The numbers
 
-module _ (p : Program) (fits : Fits p) where
+module _ (p : Program) (fits : ProgramFits p) where
   is-new : New (cellsOf (p .table)) (threadsOf (p .table)) (start p .numbers)
   is-new = start-new p (fits .few) (fits .held)
 
@@ -185,7 +185,7 @@ module _ (p : Program) (fits : Fits p) where
   last-none u (inl e) = inl e
   last-none u (inr e) = inr (omega arith)
 
-  start-tally : Tally p 0 nothing first (start p .numbers)
+  start-tally : NumbersBounded p 0 nothing first (start p .numbers)
   start-tally = record {
     held = is-new .long;
     runs = omega (arith, is-new .nothing activeThread (omega arith));
@@ -220,7 +220,7 @@ module _ (p : Program) (fits : Fits p) where
       plains-sound (p .table) (plainsOf (p .table)) 0 _ (omega (arith, fits .plain))
       (made-sound (p .table) (cellsOf (p .table)) 0 _ (omega (arith, fits .held)) (making-sound (p .exploring)))
 
-  started-part : (k : Kind) (u x : ℕ) → u < threads → Making k u x → Started k u x
+  started-part : (k : Counter) (u x : ℕ) → u < threads → Making k u x → Started k u x
   started-part ofVersions u x b h = omega (arith, first-most u)
   started-part ofChoices u x b h = omega arith
 
@@ -235,7 +235,7 @@ module _ (p : Program) (fits : Fits p) where
             (λ u b. omega (arith, made-at .clocks .vectors .parts (causality u) b u b, clocks .since u b)) (made-at .sights));
       }
 
-  pub start-holds : Holds p (start p) 0
+  pub start-holds : BoundsHold p (start p) 0
   start-holds =
       let at : At p 0 0 nothing nothing nothing nothing first Started (start p) =
       record { sound = start-sound; tally = start-tally; links = start-links } in

@@ -23,18 +23,18 @@ use Rattle.rules.proofs.SlotLaws.{live-most}
 use Rattle.rules.specs.Machine.{Program, machine, answered}
 use Rattle.kept.specs.Kept.{Fitting, Keeps}
 use Rattle.kept.proofs.Answers.{slot-offered}
-use Rattle.bounds.specs.Bounds.{Fits, Kind, ofVersions, ofChoices, kindOf, nothing, rowsIn, Part, Holds, Asked, Over, InRange}
+use Rattle.bounds.specs.Bounds.{ProgramFits, Counter, ofVersions, ofChoices, counterOf, nothing, rowsIn, PartBounded, BoundsHold, BoundsAsked, BoundsOver, InRange}
 use Rattle.bounds.proofs.Stands.{over, opened, Ending}
 use Rattle.bounds.proofs.Moves.{next-going, thread-ending, slot-ending, spurious-ending}
 use Rattle.bounds.proofs.Start.{start-holds}
 
-module _ (p : Program) (fits : Fits p) where
-  asked-over : (st : State) (n : ℕ) (q : Question) → Asked p st n q → Over p st n
+module _ (p : Program) (fits : ProgramFits p) where
+  asked-over : (st : State) (n : ℕ) (q : Question) → BoundsAsked p st n q → BoundsOver p st n
   asked-over st n (whichThread points initial standings) s = over st (opened st s)
   asked-over st n (whichSlot m) s = over st (opened st (s .0 .0))
   asked-over st n whichBit s = over st (opened st (s .0))
 
-  goes-on : (st : State) (n : ℕ) (q : Question) (a : Pick) → Asked p st n q → Fitting q a → Ending p n (answered p st a)
+  goes-on : (st : State) (n : ℕ) (q : Question) (a : Pick) → BoundsAsked p st n q → Fitting q a → Ending p n (answered p st a)
   goes-on st n (whichThread points initial standings) (runThread whom at) s f = thread-ending p fits n st whom at s
   goes-on st n (whichThread points initial standings) (readSlot slot values) s f = absurd f
   goes-on st n (whichThread points initial standings) (takeBit bit) s f = absurd f
@@ -47,7 +47,7 @@ module _ (p : Program) (fits : Fits p) where
   goes-on st n whichBit (takeBit bit) s f = spurious-ending p fits n st bit s
 
   -- at every tick of every execution
-  pub keeps : Keeps (machine p) (Holds p) (Asked p) (Over p)
+  pub keeps : Keeps (machine p) (BoundsHold p) (BoundsAsked p) (BoundsOver p)
   keeps = record {
     at-start = start-holds p fits;
     at-next = λ st n s. next-going p fits st n s;
@@ -56,16 +56,16 @@ module _ (p : Program) (fits : Fits p) where
     at-tick = λ st n s. over st (opened st s);
   }
 
-  part-below : (rows : ℕ → ℕ) (k : Kind) (u x : ℕ) → rows u ≤ p .operations → Part rows nothing nothing k u x → x < largest
+  part-below : (rows : ℕ → ℕ) (k : Counter) (u x : ℕ) → rows u ≤ p .operations → PartBounded rows nothing nothing k u x → x < largest
   part-below rows ofVersions u x h q = omega (arith, fits .limited)
   part-below rows ofChoices u x h q = omega (arith, fits .limited)
 
-  pub in-range : (st : State) (n : ℕ) → Over p st n → InRange st
+  pub in-range : (st : State) (n : ℕ) → BoundsOver p st n → InRange st
   in-range st n s =
       let rows : (u : ℕ) → u < threads → rowsIn (st .numbers) u ≤ p .operations =
       λ u b. omega (arith, five-has (rowsIn (st .numbers)) u b, s .tally .rows, s .tally .limit) in
       record {
-        parts = λ v h u b. part-below (rowsIn (st .numbers)) (kindOf v) u _ (rows u b) (s .vectors .parts v h u b);
+        parts = λ v h u b. part-below (rowsIn (st .numbers)) (counterOf v) u _ (rows u b) (s .vectors .parts v h u b);
         counts = λ c h. omega (arith, s .tally .counts c h, s .tally .limit, fits .limited);
         live = λ c h. live-most (number (st .numbers) (count c)) .1;
         marks = s .sights .marked;
@@ -86,7 +86,7 @@ plains-within table e = let f = simp and-eq-true-iff at e in omega (arith, leb-t
 
 -- "threads 1..5, cells 1..4", and the operation limit
 pub accepted-fits : (table condition : List ℕ) (s : Settings) → headerFine table ≡ true → settingsFine s ≡ true →
-    Fits (programOf table condition s)
+    ProgramFits (programOf table condition s)
 accepted-fits table condition s h f =
     let header = header-within table h in
     record { few = header .1; held = header .2; plain = plains-within table h; limited = omega (arith, operations-most s f, operations-fit) }

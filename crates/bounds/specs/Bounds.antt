@@ -1,11 +1,11 @@
 -- Vectors and counts stay in range, by the rows that each thread began: no part of a vector reaches the largest number, so none
 -- ever stays where it is. Assumes nothing.
---     Kind, kindOf         a vector counts versions or choices
+--     Counter, counterOf   a vector counts versions or choices
 --     owed, waiting        a row that has begun and not acted; a pending operation
---     Part                 how far a part of a vector may have come
---     Vectors, Sights, Tally         the vectors, the marks of first sight, the numbers
+--     PartBounded          how far a part of a vector may have come
+--     Vectors, Sights, NumbersBounded  the vectors, the marks of first sight, the numbers
 --     Bounded              the three, of a state
---     Holds, Asked, Over   between ticks; where the machine asks; where it has asked, stopped or ended
+--     BoundsHold, BoundsAsked, BoundsOver  between ticks; where the machine asks; where it has asked, stopped or ended
 --     InRange              what follows for every part, count and mark
 use Prim.Native.Nat.{ℕ, _+_, _≤_, _<_}
 use mathlib.Core.List.{List, []}
@@ -26,33 +26,33 @@ use Rattle.rules.specs.Machine.{Program, toBegin, noOperation, current}
 use Rattle.rules.proofs.StateLaws.{inVectors}
 
 -- A program whose threads, cells and plain cells have their numbers, and whose operation limit leaves versions room
-pub record Fits (p : Program) : Type 0 where
+pub record ProgramFits (p : Program) : Type 0 where
   pub few : threadsOf (p .table) ≤ threads
   pub held : cellsOf (p .table) ≤ cells
   pub plain : plainsOf (p .table) ≤ plains
   pub limited : p .operations + 2 < largest
 
 -- Versions are raised by rows that act; choices, by a scheduling that chooses a thread with a pending operation
-pub data Kind : Type 0 where
-  ofVersions : Kind
-  ofChoices : Kind
+pub data Counter : Type 0 where
+  ofVersions : Counter
+  ofChoices : Counter
 
-abbrev pub kindOf : Vector → Kind
-kindOf (State.causality t) = ofVersions
-kindOf (State.released t) = ofVersions
-kindOf (State.scheduleOf t) = ofChoices
-kindOf State.seqCst = ofVersions
-kindOf (State.loaded c) = ofVersions
-kindOf (State.unsyncLoaded c) = ofVersions
-kindOf (State.stored c) = ofVersions
-kindOf (State.mutated c) = ofVersions
-kindOf (State.lastAccess c) = ofChoices
-kindOf (State.lastNonLoad c) = ofChoices
-kindOf (State.happensBefore s) = ofVersions
-kindOf (State.order s) = ofVersions
-kindOf (State.sync s) = ofVersions
-kindOf (State.readAccess c) = ofVersions
-kindOf (State.writeAccess c) = ofVersions
+abbrev pub counterOf : Vector → Counter
+counterOf (State.causality t) = ofVersions
+counterOf (State.released t) = ofVersions
+counterOf (State.scheduleOf t) = ofChoices
+counterOf State.seqCst = ofVersions
+counterOf (State.loaded c) = ofVersions
+counterOf (State.unsyncLoaded c) = ofVersions
+counterOf (State.stored c) = ofVersions
+counterOf (State.mutated c) = ofVersions
+counterOf (State.lastAccess c) = ofChoices
+counterOf (State.lastNonLoad c) = ofChoices
+counterOf (State.happensBefore s) = ofVersions
+counterOf (State.modificationOrder s) = ofVersions
+counterOf (State.sync s) = ofVersions
+counterOf (State.readAccess c) = ofVersions
+counterOf (State.writeAccess c) = ofVersions
 
 -- of the five threads
 abbrev pub ofAll : (ℕ → ℕ) → ℕ
@@ -83,15 +83,15 @@ waiting a u = cond (eqb (number a (operation u)) noOperation) 0 1
 -- Thread u's part of a vector. A version is at most 2 at the start, and a row raises it at most once: one that is still to act has
 -- not. A thread is chosen with a pending operation at most once for each row that set one: from then on it runs, until it makes
 -- a scheduling itself, with a new row or with the operation gone
-abbrev pub Part : (rows owing waits : ℕ → ℕ) → Kind → ℕ → ℕ → Type 0
-Part rows owing waits ofVersions u x = x + owing u ≤ 2 + rows u
-Part rows owing waits ofChoices u x = x + waits u ≤ rows u
+abbrev pub PartBounded : (rows owing waits : ℕ → ℕ) → Counter → ℕ → ℕ → Type 0
+PartBounded rows owing waits ofVersions u x = x + owing u ≤ 2 + rows u
+PartBounded rows owing waits ofChoices u x = x + waits u ≤ rows u
 
 -- every vector has five parts, and each part has come no further than it may
-pub record Vectors (P : Kind → ℕ → ℕ → Type 0) (clocks : Clocks) : Type 0 where
+pub record Vectors (P : Counter → ℕ → ℕ → Type 0) (clocks : Clocks) : Type 0 where
   pub held : length clocks ≡ vectorsHeld
   pub five : (v : Vector) → inVectors v → length (vector clocks v) ≡ threads
-  pub parts : (v : Vector) → inVectors v → (u : ℕ) → u < threads → P (kindOf v) u (getD (vector clocks v) u 0)
+  pub parts : (v : Vector) → inVectors v → (u : ℕ) → u < threads → P (counterOf v) u (getD (vector clocks v) u 0)
 
 -- the number that stands for none, or at most this: marks have one, last yields another
 abbrev pub Or : ℕ → ℕ → ℕ → Type 0
@@ -106,7 +106,7 @@ pub record Sights (most : ℕ → ℕ) (marks : State.Marks) : Type 0 where
       Or unseen (most u) (markOf (getD (marksOf marks c) slot []) u)
 
 -- with n entries in the trace
-pub record Tally (p : Program) (n : ℕ) (owing most : ℕ → ℕ) (a : Numbers) : Type 0 where
+pub record NumbersBounded (p : Program) (n : ℕ) (owing most : ℕ → ℕ) (a : Numbers) : Type 0 where
   pub held : length a ≡ numbersHeld
   -- one of the five threads is active
   pub runs : number a activeThread < threads
@@ -124,31 +124,31 @@ pub record Tally (p : Program) (n : ℕ) (owing most : ℕ → ℕ) (a : Numbers
 
 -- a state, where threads owe so much to their versions and so much to their choices
 pub record Bounded (p : Program) (owing waits : ℕ → ℕ) (st : State) (n : ℕ) : Type 0 where
-  pub vectors : Vectors (Part (rowsIn (st .numbers)) owing waits) (st .clocks)
+  pub vectors : Vectors (PartBounded (rowsIn (st .numbers)) owing waits) (st .clocks)
   pub sights : Sights (version (st .clocks)) (st .marks)
-  pub tally : Tally p n (owed (st .numbers)) (version (st .clocks)) (st .numbers)
+  pub tally : NumbersBounded p n (owed (st .numbers)) (version (st .clocks)) (st .numbers)
 
 -- between ticks the active thread runs, so its pending operation has been chosen
-abbrev pub Holds : Program → State → ℕ → Type 0
-Holds p st n = Bounded p (owed (st .numbers)) (but (current st) (waiting (st .numbers))) st n
+abbrev pub BoundsHold : Program → State → ℕ → Type 0
+BoundsHold p st n = Bounded p (owed (st .numbers)) (but (current st) (waiting (st .numbers))) st n
 
 -- a slot or a bit is asked for by a row that is to act, and may have raised the version already; slots are at most seven
-abbrev pub Reading : Program → State → ℕ → Type 0
-Reading p st n =
+abbrev pub BoundsReading : Program → State → ℕ → Type 0
+BoundsReading p st n =
     Bounded p (but (current st) (owed (st .numbers))) (but (current st) (waiting (st .numbers))) st n
     × (owed (st .numbers) (current st) ≡ 1)
 
 -- a scheduling may choose any thread that waits
-abbrev pub Scheduling : Program → State → ℕ → Type 0
-Scheduling p st n = Bounded p (owed (st .numbers)) (waiting (st .numbers)) st n
+abbrev pub BoundsScheduling : Program → State → ℕ → Type 0
+BoundsScheduling p st n = Bounded p (owed (st .numbers)) (waiting (st .numbers)) st n
 
-abbrev pub Asked : Program → State → ℕ → Question → Type 0
-Asked p st n (whichThread points initial standings) = Scheduling p st n
-Asked p st n (whichSlot m) = Reading p st n × ((offered : List Bool) → m ≡ offers offered → length offered ≤ history)
-Asked p st n whichBit = Reading p st n
+abbrev pub BoundsAsked : Program → State → ℕ → Question → Type 0
+BoundsAsked p st n (whichThread points initial standings) = BoundsScheduling p st n
+BoundsAsked p st n (whichSlot m) = BoundsReading p st n × ((offered : List Bool) → m ≡ offers offered → length offered ≤ history)
+BoundsAsked p st n whichBit = BoundsReading p st n
 
-abbrev pub Over : Program → State → ℕ → Type 0
-Over p st n = Bounded p nothing nothing st n
+abbrev pub BoundsOver : Program → State → ℕ → Type 0
+BoundsOver p st n = Bounded p nothing nothing st n
 
 -- What follows: numbers that a u16 holds, and that are none of those that stand for none
 pub record InRange (st : State) : Type 0 where

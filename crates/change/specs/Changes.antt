@@ -13,10 +13,10 @@ changeMeant (code.And a) = rules.and a
 changeMeant (code.Or a) = rules.or a
 changeMeant (code.Xor a) = rules.xor a
 changeMeant (code.Nand a) = rules.nand a
-changeMeant (code.Max a) = rules.greatest a
-changeMeant (code.Min a) = rules.least a
-changeMeant (code.SignedMax a) = rules.signedGreatest a
-changeMeant (code.SignedMin a) = rules.signedLeast a
+changeMeant (code.Max a) = rules.max a
+changeMeant (code.Min a) = rules.min a
+changeMeant (code.SignedMax a) = rules.signedMax a
+changeMeant (code.SignedMin a) = rules.signedMin a
 changeMeant (code.Compare a b) = rules.compare a b
 changeMeant code.Decrement = rules.decrement
 

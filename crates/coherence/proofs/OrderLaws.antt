@@ -11,7 +11,7 @@ use lib.ListN.{getD}
 use borrow.Author.Tests.{eq-eqb, ne-eqb}
 use Rattle.rules.specs.Vector.{joined, less}
 use Rattle.rules.specs.Seen.{seen}
-use Rattle.rules.specs.State.{Clocks, Numbers, vector, withVector, storeAt, causality, happensBefore, order}
+use Rattle.rules.specs.State.{Clocks, Numbers, vector, withVector, storeAt, causality, happensBefore, modificationOrder}
 use Rattle.rules.specs.Cell.{coheres, coherentFrom, coherent, liveIn, liveStores, orderOf, seenBy, storeOrderFrom, storeOrder}
 
 -- An order that is made from slot to slot: `made so n i` is made of `so` by the n slots from i on, `one so i` by slot i alone
@@ -46,14 +46,14 @@ module _ (clocks : Clocks) (rows : List (List ℕ)) (t c slot : ℕ) where
   unfolding coherentFrom
   cohere-suc so n i = refl
 
-  pub cohere-start : (so : List ℕ) (store l live : ℕ) → store ≡ storeAt c slot → so ≡ vector clocks (order store) → l ≡ live →
+  pub cohere-start : (so : List ℕ) (store l live : ℕ) → store ≡ storeAt c slot → so ≡ vector clocks (modificationOrder store) → l ≡ live →
       coherentFrom clocks rows t c slot so (l - 0) 0 ≡ coherentFrom clocks rows t c slot (orderOf clocks c slot) live 0
   cohere-start so store l live at e f =
-      made-start (coherentFrom clocks rows t c slot) so (orderOf clocks c slot) l live (e ∙ ap (λ (s : ℕ). vector clocks (order s)) at) f
+      made-start (coherentFrom clocks rows t c slot) so (orderOf clocks c slot) l live (e ∙ ap (λ (s : ℕ). vector clocks (modificationOrder s)) at) f
 
   pub cohere-done : (numbers : Numbers) (store : ℕ) (so : List ℕ) → store ≡ storeAt c slot →
       so ≡ coherentFrom clocks rows t c slot (orderOf clocks c slot) (liveIn numbers c) 0 →
-      withVector clocks (order store) so ≡ coherent clocks rows numbers t c slot
+      withVector clocks (modificationOrder store) so ≡ coherent clocks rows numbers t c slot
   unfolding coherent
   cohere-done numbers store so at e = rw (at, e)
 
@@ -71,12 +71,12 @@ module _ (clocks : Clocks) (rows : List (List ℕ)) (t c slot : ℕ) where
 
       module _ (n : i ≢ slot) (store : ℕ) (at : store ≡ storeAt c i) (a : Bool)
           (e : a ≡ seen (getD rows i []) (vector clocks (causality t))) where
-        cohere-with : coheres clocks rows t c slot i ≡ true → now ≡ joined so (vector clocks (order store)) →
+        cohere-with : coheres clocks rows t c slot i ≡ true → now ≡ joined so (vector clocks (modificationOrder store)) →
             coherentFrom clocks rows t c slot now (l - (i + 1)) (i + 1) ≡ whole
         cohere-with g j = cohere-on h now (rw (g, ← at) j)
 
         -- a store that is seen is not asked whether it happened before
-        pub cohere-seen : a ≡ true → now ≡ joined so (vector clocks (order store)) →
+        pub cohere-seen : a ≡ true → now ≡ joined so (vector clocks (modificationOrder store)) →
             coherentFrom clocks rows t c slot now (l - (i + 1)) (i + 1) ≡ whole
         cohere-seen g j = cohere-with (rw (ne-eqb i slot n, ← e, g)) j
 
@@ -84,7 +84,7 @@ module _ (clocks : Clocks) (rows : List (List ℕ)) (t c slot : ℕ) where
           known : (k : Bool) → b ≡ k → coheres clocks rows t c slot i ≡ k
           known k g = rw (ne-eqb i slot n, ← at, ← e, ← f, unseen) g
 
-          pub cohere-before : b ≡ true → now ≡ joined so (vector clocks (order store)) →
+          pub cohere-before : b ≡ true → now ≡ joined so (vector clocks (modificationOrder store)) →
               coherentFrom clocks rows t c slot now (l - (i + 1)) (i + 1) ≡ whole
           cohere-before g j = cohere-with (known true g) j
 
@@ -120,7 +120,7 @@ module _ (clocks : Clocks) (rows : List (List ℕ)) (t c : ℕ) where
       store-on : (k : Bool) → a ≡ k → now ≡ cond k (joined so (orderOf clocks c i)) so → storeOrderFrom clocks rows t c now (l - (i + 1)) (i + 1) ≡ whole
       store-on k g f = made-on (storeOrderFrom clocks rows t c) storing store-zero store-suc l i so whole left h now (rw (← e, g) f)
 
-      pub store-seen : a ≡ true → (store : ℕ) → store ≡ storeAt c i → now ≡ joined so (vector clocks (order store)) →
+      pub store-seen : a ≡ true → (store : ℕ) → store ≡ storeAt c i → now ≡ joined so (vector clocks (modificationOrder store)) →
           storeOrderFrom clocks rows t c now (l - (i + 1)) (i + 1) ≡ whole
       store-seen g store at f = store-on true g (rw (← at) f)
 

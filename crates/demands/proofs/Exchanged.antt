@@ -15,17 +15,17 @@ use Rattle.ledger.specs.History.{Course, starting, ticksFrom, courseOf, courses
 use Rattle.ledger.specs.Wrong as ledger
 use Rattle.ledger.specs.Wrong.{takenBy, tickBy, walkedBy, executionBy}
 use Rattle.ledger.proofs.Same.{same}
-use Rattle.demands.specs.Exchanged.{own, ticksFromBy, courseBy, coursesFromBy, coursesBy, ranBy, runningBy, Same}
+use Rattle.demands.specs.Exchanged.{own, ticksFromBy, courseBy, coursesFromBy, coursesBy, ranBy, runningBy, SameExplorer}
 use Rattle.demands.proofs.Answered.{has-run}
 
 -- Executions
 
 module _ (M : Machine) (limits : Limits) where
-  tick-same : (w : Walk (M .State)) → tickBy M limits ledger.right w ≡ tick M limits w
+  tick-same : (w : Walk (M .State)) → tickBy M limits ledger.rightParts w ≡ tick M limits w
   unfolding tick
   tick-same w = go (M .next (w .state) .site) (M .next (w .state) .move)
     where
-      go : (site : Site) (e : Move (M .State)) → takenBy M limits ledger.right site w e ≡ taken M limits site w e
+      go : (site : Site) (e : Move (M .State)) → takenBy M limits ledger.rightParts site w e ≡ taken M limits site w e
       go site (moves s es) = refl
       go site (asks s es exploring q) = refl
       go site (stops s f) = refl
@@ -39,35 +39,35 @@ module _ (M : Machine) (limits : Limits) where
   after-same f g h k alike (over v) u e = rw (← e) refl
   after-same f g h k alike (faulted x s v) u e = rw (← e) refl
 
-  walked-same : (n : ℕ) (w : Walk (M .State)) → walkedBy M limits ledger.right n w ≡ walked M limits n w
+  walked-same : (n : ℕ) (w : Walk (M .State)) → walkedBy M limits ledger.rightParts n w ≡ walked M limits n w
   unfolding walkedBy walked
   walked-same zero w = refl
   walked-same (suc n) w =
-      after-same (walkedBy M limits ledger.right n) (walked M limits n) over faulted (λ v. walked-same n v) (tickBy M limits ledger.right w) (tick M limits w) (tick-same w)
+      after-same (walkedBy M limits ledger.rightParts n) (walked M limits n) over faulted (λ v. walked-same n v) (tickBy M limits ledger.rightParts w) (tick M limits w) (tick-same w)
 
-  ticks-same : (n : ℕ) (w : Walk (M .State)) → ticksFromBy M limits ledger.right n w ≡ ticksFrom M limits n w
+  ticks-same : (n : ℕ) (w : Walk (M .State)) → ticksFromBy M limits ledger.rightParts n w ≡ ticksFrom M limits n w
   unfolding ticksFromBy ticksFrom
   ticks-same zero w = refl
   ticks-same (suc n) w =
       ap (λ (ws : List (Walk (M .State))). w ∷ ws)
-      (after-same (ticksFromBy M limits ledger.right n) (ticksFrom M limits n) (λ v. []) (λ x s v. []) (λ v. ticks-same n v) (tickBy M limits ledger.right w) (tick M limits w) (tick-same w))
+      (after-same (ticksFromBy M limits ledger.rightParts n) (ticksFrom M limits n) (λ v. []) (λ x s v. []) (λ v. ticks-same n v) (tickBy M limits ledger.rightParts w) (tick M limits w) (tick-same w))
 
-  execution-same : (l : Ledger) → executionBy M limits ledger.right l ≡ execution M limits l
+  execution-same : (l : Ledger) → executionBy M limits ledger.rightParts l ≡ execution M limits l
   unfolding execution
   execution-same l = walked-same (limits .ticks) (starting M limits l)
 
-  course-same : (l : Ledger) → courseBy M limits ledger.right l ≡ courseOf M limits l
+  course-same : (l : Ledger) → courseBy M limits ledger.rightParts l ≡ courseOf M limits l
   unfolding courseBy courseOf
   course-same l = cc (ticks-same (limits .ticks) (starting M limits l), execution-same l)
 
-  courses-same : (n : ℕ) (l : Ledger) (past : List Execution) → coursesFromBy M limits ledger.right n l past ≡ coursesFrom M limits n l past
+  courses-same : (n : ℕ) (l : Ledger) (past : List Execution) → coursesFromBy M limits ledger.rightParts n l past ≡ coursesFrom M limits n l past
   unfolding coursesFromBy coursesFrom
   courses-same zero l past = refl
   courses-same (suc n) l past =
-      cc (course-same l, go (λ m more. courses-same n m more) (after (M .final) (eqb n 0) past (executionBy M limits ledger.right l)) (after (M .final) (eqb n 0) past (execution M limits l)) (ap (after (M .final) (eqb n 0) past) (execution-same l)))
+      cc (course-same l, go (λ m more. courses-same n m more) (after (M .final) (eqb n 0) past (executionBy M limits ledger.rightParts l)) (after (M .final) (eqb n 0) past (execution M limits l)) (ap (after (M .final) (eqb n 0) past) (execution-same l)))
     where
-      go : ((m : Ledger) (more : List Execution) → coursesFromBy M limits ledger.right n m more ≡ coursesFrom M limits n m more) → (a b : After (M .State)) → a ≡ b
-          → _≡_ {A = List (Course (M .State))} (elim a [ stopsHere r ↦ [] | goesOn m more ↦ coursesFromBy M limits ledger.right n m more ])
+      go : ((m : Ledger) (more : List Execution) → coursesFromBy M limits ledger.rightParts n m more ≡ coursesFrom M limits n m more) → (a b : After (M .State)) → a ≡ b
+          → _≡_ {A = List (Course (M .State))} (elim a [ stopsHere r ↦ [] | goesOn m more ↦ coursesFromBy M limits ledger.rightParts n m more ])
           (elim b [ stopsHere r ↦ [] | goesOn m more ↦ coursesFrom M limits n m more ])
       go alike (stopsHere r) b e = rw (← e) refl
       go alike (goesOn m more) b e = rw (← e) (alike m more)
@@ -87,7 +87,7 @@ explored-same table condition s path trace = go (isRefusal (explored table condi
     go true e = refl
     go false e = ap (ran (length path) (length trace)) (run-same table condition s) ∙ sym (has-run table condition s path trace e .is)
 
-pub exchanged : Same
+pub exchanged : SameExplorer
 unfolding coursesBy courses
 exchanged = record {
   explored = explored-same;

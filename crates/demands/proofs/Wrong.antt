@@ -31,19 +31,19 @@ use Rattle.ledger.specs.Turning as turning
 use Rattle.ledger.specs.Turning.{Each, Name}
 use Rattle.ledger.proofs.Lists.{perm-length, every-at, every-map}
 use Rattle.ledger.specs.Replay as replay
-use Rattle.kept.specs.Held.{HoldsAt}
+use Rattle.kept.specs.Held.{HoldsOfWalk}
 use Rattle.kept.specs.Rules.{RecordRules, PathRules, RuledIn}
 use Rattle.standing.specs.Standing as standing
-use Rattle.bounds.specs.Bounds.{Over}
+use Rattle.bounds.specs.Bounds.{BoundsOver}
 use Rattle.bounds.specs.Range.{RangeIn}
 use Rattle.offers.specs.Chosen as chosen
-use Rattle.offers.specs.Chosen.{Reading, Offers, Offering, OfferingCourse, left}
+use Rattle.offers.specs.Chosen.{OfferOfRow, Offers, Offering, OfferingCourse, left}
 use Rattle.offers.specs.Seen.{Taken, here, on, Lasting, Watched, Seeing}
 use Rattle.offers.proofs.Chosen.{all-offers}
 use Rattle.demands.specs.Demands as Demands
 use Rattle.demands.specs.Demands.{Explorer, right, LastIs, ButLast, theAnswers, openedChoices, turnedChoices, openChoices}
 use Rattle.demands.specs.Wrong as Wrong
-use Rattle.demands.specs.Wrong.{settings, p3, tight, pathFor, traceFor, ofThreadOne, aBit, storeThenLoad, twoLoads, yieldAndLoad, loadThenBit, parting, noCourse, nothing}
+use Rattle.demands.specs.Wrong.{settings, p3, tight, pathFor, traceFor, ofThreadOne, aBit, storeThenLoad, twoLoads, yieldAndLoad, loadThenBit, withParts, noCourse, noWalk}
 use Rattle.demands.proofs.Answered.{true-false}
 use Rattle.demands.proofs.WrongRuns.{isOver, faultIn, isGood, valuesIn, statesIn, preemptionsIn, prevIn, cellIn, slotsIn, matchIn, questionIn, stateIn, entriesIn, exploringIn}
 use Rattle.demands.proofs.WrongRuns.{isSlot, asksSlot, maskIn, madeBy, courseAt, walkAt, knownBy, sees, There, Misoffers, computed}
@@ -181,7 +181,7 @@ wrong-turns =
       same = λ h.
           repeats {A = Name} ([] ∷ [] ∷ []) 0 1 [] (omega arith) (omega arith) refl (subst List·Nodup (c .anew-turned) (h .different));
       dropped = λ h.
-          let x = parting droppingStep in
+          let x = withParts droppingStep in
           let z = length-append (turnedChoices x storeAndLoad [] (p3 2) [] []) (openChoices x storeAndLoad [] (p3 2) [] []) in
           omega (arith, perm-length (h .together), z, c .dropped-opened, c .dropped-turned, c .dropped-open);
       again = λ h.
@@ -217,7 +217,7 @@ wrong-stops =
       condemned = λ h. true-false (c .condemned-true) (h .unmet .only (c .condemned) .1);
       misplaced = λ h. omega (arith, h .place (c .place-said) .1, c .place-row);
       invented = λ h.
-          let z = last-of-one (madeBy (parting inventing) storeAndLoad (p3 1)) _ (c .invented-listed) (h .fault _ _ (c .invented)) in
+          let z = last-of-one (madeBy (withParts inventing) storeAndLoad (p3 1)) _ (c .invented-listed) (h .fault _ _ (c .invented)) in
           omega (arith, ap isOver z, c .invented-last);
     }
 
@@ -233,7 +233,7 @@ there xs ys a b P i k h l e =
 
 module _ (x : Explorer) (table : List ℕ) (s : Settings) (i k : ℕ) (h : There x table s i k) where
   at-tick : (P : Walk State → Type 0) → Every (λ c. Every P (c .ticks)) (madeBy x table s) → P (walkAt x table s i k)
-  at-tick P e = there (madeBy x table s) (λ c. c .ticks) noCourse nothing P i k (h .made) (h .ticked) e
+  at-tick P e = there (madeBy x table s) (λ c. c .ticks) noCourse noWalk P i k (h .made) (h .ticked) e
 
   breaks-offers : (a b : ℕ) → (a ≡ b → ⊥) → Misoffers x table s i k a b
       → Every (OfferingCourse (programOf table [] s) (limitsOf s)) (madeBy x table s) → ⊥
@@ -253,8 +253,8 @@ made-first M limits n w v l (c ∷ e ∷ cs) d h m = m .0
 
 -- what a thread sees it sees at the next tick too, where the slot was not taken
 lasting-next : (ws : List (Walk State)) (k t c i : ℕ) → suc k < length ws → t < State.threads → c < State.cells
-    → (Taken c i (getD ws k nothing .state) (getD ws (suc k) nothing .state) → ⊥) → Lasting ws
-    → sees (getD ws k nothing) t c i ≡ true → sees (getD ws (suc k) nothing) t c i ≡ true
+    → (Taken c i (getD ws k noWalk .state) (getD ws (suc k) noWalk .state) → ⊥) → Lasting ws
+    → sees (getD ws k noWalk) t c i ≡ true → sees (getD ws (suc k) noWalk) t c i ≡ true
 lasting-next [] k t c i h a b f l e = absurd (omega arith)
 lasting-next (w ∷ []) k t c i h a b f l e = absurd (omega arith)
 lasting-next (w ∷ v ∷ ws) zero t c i h a b f l e = l .0 t c i a b e v (on f here)
@@ -262,7 +262,7 @@ lasting-next (w ∷ v ∷ ws) (suc k) t c i h a b f l e = lasting-next (v ∷ ws
 
 -- the cell that is read is that of the row
 read-cell : (p : Program) (s : State) (m : Matched) (offered : List Bool) (c opcode : ℕ)
-    → Reading p s m offered c opcode → c ≡ cellIn (activeOp p s)
+    → OfferOfRow p s m offered c opcode → c ≡ cellIn (activeOp p s)
 read-cell p s m offered c opcode (chosen.aLoad e f g) = sym (ap cellIn e)
 read-cell p s m offered c opcode (chosen.anRmw e f g) = sym (ap cellIn e)
 
@@ -377,10 +377,10 @@ impossible-as (over w) e h = let z = ap Event.faultNumber e in omega (arith, z)
 impossible-as (faulted f s w) e h = h s w (ap (λ (g : Event.Fault). faulted g s w) e)
 
 abbrev Standing : List ℕ → Settings → Walk State → Type 0
-Standing table s = HoldsAt (machine (programOf table [] s)) (standing.Holds (programOf table [] s))
+Standing table s = HoldsOfWalk (machine (programOf table [] s)) (standing.FactsHold (programOf table [] s))
 
 abbrev Stood : List ℕ → Settings → Walk State → Type 0
-Stood table s = HoldsAt (machine (programOf table [] s)) (standing.Over (programOf table [] s))
+Stood table s = HoldsOfWalk (machine (programOf table [] s)) (standing.FactsOver (programOf table [] s))
 
 pub wrong-ticks : Wrong.WrongTicks
 wrong-ticks =
@@ -405,7 +405,7 @@ wrong-ticks =
           omega (arith, z .limited, c .refused-begun);
       raised = λ h.
           let p = programOf oneLoad [] (settings 3 1 1) in
-          let P = HoldsAt (machine p) (Over p) in
+          let P = HoldsOfWalk (machine p) (BoundsOver p) in
           let z =
           at-tick Wrong.raising oneLoad (settings 3 1 1) 0 2 (c .raised-there) P
           (every-map (RangeIn p) (λ (d : Course State). Every P (d .ticks)) (madeBy Wrong.raising oneLoad (settings 3 1 1))

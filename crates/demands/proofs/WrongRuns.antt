@@ -38,7 +38,7 @@ use Rattle.offers.specs.Chosen.{left}
 use Rattle.demands.specs.Demands.{Explorer, right, LastIs, it, report, openedChoices, turnedChoices, openChoices}
 use Rattle.demands.specs.Exchanged.{ticksFromBy, courseBy, coursesFromBy, coursesBy, runningBy}
 use Rattle.demands.specs.Wrong as Wrong
-use Rattle.demands.specs.Wrong.{settings, p3, tight, pathFor, traceFor, noSuchRow, ofThreadOne, notSeven, aBit, storeThenLoad, twoLoads, yieldAndLoad, loadThenBit, parting, noCourse, nothing}
+use Rattle.demands.specs.Wrong.{settings, p3, tight, pathFor, traceFor, noSuchRow, ofThreadOne, notSeven, aBit, storeThenLoad, twoLoads, yieldAndLoad, loadThenBit, withParts, noCourse, noWalk}
 
 -- What is read off
 
@@ -172,7 +172,7 @@ pub record Counts (x : Explorer) (table : List ℕ) (s : Settings) (b o l : ℕ)
 
 -- tick k of execution i
 abbrev pub walkAt : Explorer → List ℕ → Settings → ℕ → ℕ → Walk State
-walkAt x table s i k = getD (courseAt x table s i .ticks) k nothing
+walkAt x table s i k = getD (courseAt x table s i .ticks) k noWalk
 
 abbrev pub moveAt : Explorer → List ℕ → Settings → ℕ → ℕ → Move State
 moveAt x table s i k = next (programOf table [] s) (walkAt x table s i k .state) .move
@@ -237,8 +237,8 @@ pub record Computed : Type 0 where
   pub zero-past : getD (traceLeft 32 (stopBy Wrong.leavingOver oneLoad (settings 3 2 1) .walk .trace)) 16 0 ≡ 0
   -- The balance
   pub twice : Counts Wrong.twice storeAndLoad (p3 2) 2 3 1
-  pub uncounted-two : Counts (parting uncounted) storeAndLoad (p3 2) 2 1 1
-  pub uncounted-one : Counts (parting uncounted) storeAndLoad (p3 1) 1 1 2
+  pub uncounted-two : Counts (withParts uncounted) storeAndLoad (p3 2) 2 1 1
+  pub uncounted-one : Counts (withParts uncounted) storeAndLoad (p3 1) 1 1 2
   pub fault-begun : reportFor Wrong.faultsNotBegun oneLoad (settings 2 1 1) .begun ≡ 0
   pub fault-made : length (madeBy Wrong.faultsNotBegun oneLoad (settings 2 1 1)) ≡ 1
   pub twice-counted : reportFor Wrong.twice storeAndLoad (p3 1) .opened ≡ 3
@@ -253,9 +253,9 @@ pub record Computed : Type 0 where
   pub anew-same : choicesIn Wrong.anew aBit (settings 2 1 2) 0 ≡ choicesIn Wrong.anew aBit (settings 2 1 2) 1
   pub anew-point : length (turningPoint (courseAt Wrong.anew aBit (settings 2 1 2) 1)) ≡ 0
   pub anew-turned : turnedChoices Wrong.anew aBit [] (settings 2 1 3) [] [] ≡ [] ∷ [] ∷ []
-  pub dropped-opened : length (openedChoices (parting droppingStep) storeAndLoad [] (p3 2) [] []) ≡ 3
-  pub dropped-turned : length (turnedChoices (parting droppingStep) storeAndLoad [] (p3 2) [] []) ≡ 1
-  pub dropped-open : length (openChoices (parting droppingStep) storeAndLoad [] (p3 2) [] []) ≡ 1
+  pub dropped-opened : length (openedChoices (withParts droppingStep) storeAndLoad [] (p3 2) [] []) ≡ 3
+  pub dropped-turned : length (turnedChoices (withParts droppingStep) storeAndLoad [] (p3 2) [] []) ≡ 1
+  pub dropped-open : length (openChoices (withParts droppingStep) storeAndLoad [] (p3 2) [] []) ≡ 1
   pub forgetful-opened : length (openedChoices Wrong.forgetful storeAndLoad [] (p3 6) [] []) ≡ 6
   pub forgetful-first : getD (openedChoices Wrong.forgetful storeAndLoad [] (p3 6) [] []) 2 [] ≡ running 1 ∷ running 0 ∷ []
   pub forgetful-again : getD (openedChoices Wrong.forgetful storeAndLoad [] (p3 6) [] []) 5 [] ≡ running 1 ∷ running 0 ∷ []
@@ -273,9 +273,9 @@ pub record Computed : Type 0 where
   pub overlooked-last : isOver (courseAt Wrong.overlooking oneLoad (settings 2 1 1) 0 .outcome) ≡ 0
   pub unspent : reportFor Wrong.unspent storeAndLoad (p3 2) .begun ≡ 1
   pub unspent-verdict : stopBy Wrong.unspent storeAndLoad (p3 2) .verdict ≡ spent
-  pub invented : stopBy (parting inventing) storeAndLoad (p3 1) .verdict ≡ stopped Event.deadlock Event.noSite
-  pub invented-listed : length (madeBy (parting inventing) storeAndLoad (p3 1)) ≡ 1
-  pub invented-last : isOver (courseAt (parting inventing) storeAndLoad (p3 1) 0 .outcome) ≡ 1
+  pub invented : stopBy (withParts inventing) storeAndLoad (p3 1) .verdict ≡ stopped Event.deadlock Event.noSite
+  pub invented-listed : length (madeBy (withParts inventing) storeAndLoad (p3 1)) ≡ 1
+  pub invented-last : isOver (courseAt (withParts inventing) storeAndLoad (p3 1) 0 .outcome) ≡ 1
   pub none-verdict : Wrong.judgingLast .run oneLoad notSeven (settings 3 1 1) .verdict ≡ exhausted
   pub none-last :
       LastIs (Wrong.judgingLast .executions oneLoad notSeven (settings 3 1 1)) (over (Wrong.judgingLast .run oneLoad notSeven (settings 3 1 1) .walk))

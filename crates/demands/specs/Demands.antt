@@ -28,7 +28,7 @@ use Rattle.ledger.specs.Tree.{Parted, noExecution}
 use Rattle.ledger.specs.Turning as turning
 use Rattle.ledger.specs.Turning.{Each, Name, joinedOver, turningPoint, others, openNames}
 use Rattle.ledger.specs.Replay as replay
-use Rattle.kept.specs.Held.{HoldsAt}
+use Rattle.kept.specs.Held.{HoldsOfWalk}
 use Rattle.kept.specs.Rules.{RuledIn}
 use Rattle.standing.specs.Standing as standing
 use Rattle.bounds.specs.Range.{RangeIn}
@@ -202,8 +202,8 @@ module _ (x : Explorer) (table condition : List ℕ) (s : Settings) (path trace 
     -- no execution comes to the impossible outcome
     pub possible : Every (λ c. (site : Site) (w : Walk State) → c .outcome ≡ faulted impossible site w → ⊥) executions
     -- threads, rows and entries stand as they should at every tick, and where an execution has ended or stopped
-    pub stands : Every (λ c. Every (HoldsAt theMachine (standing.Holds (programOf table condition s))) (c .ticks)) executions
-    pub stood : Every (λ c. HoldsAt theMachine (standing.Over (programOf table condition s)) (end c)) executions
+    pub stands : Every (λ c. Every (HoldsOfWalk theMachine (standing.FactsHold (programOf table condition s))) (c .ticks)) executions
+    pub stood : Every (λ c. HoldsOfWalk theMachine (standing.FactsOver (programOf table condition s)) (end c)) executions
     -- every part of every vector, every count and every mark is in range, by the rows that were begun
     pub ranges : Every (RangeIn (programOf table condition s)) executions
     -- every record of the path obeys document 01's rules, and no preemption bound is passed, at every moment

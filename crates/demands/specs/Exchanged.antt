@@ -3,7 +3,7 @@
 --     Pieces, own         the machine's next and answered, the limits, the marks and what follows an execution
 --     coursesBy           the executions of ledger's `runBy`, from their beginnings to their ends
 --     explorerBy          the explorer with given parts
---     Same                it is the definition's
+--     SameExplorer        it is the definition's
 use Prim.Native.Nat.{ℕ, zero, suc}
 use mathlib.Core.List.{List, [], _∷_}
 use mathlib.Core.Bool.{cond}
@@ -28,7 +28,7 @@ pub record Pieces : Type 0 where
   pub parts : Parts State
 
 abbrev pub own : Pieces
-own = record { next = next; answered = answered; limits = limitsOf; parts = ledger.right }
+own = record { next = next; answered = answered; limits = limitsOf; parts = ledger.rightParts }
 
 -- The executions, as `runBy` makes them
 
@@ -75,7 +75,7 @@ explorerBy y = record {
 }
 
 -- with the definition's parts it is the definition's explorer
-pub record Same : Type 0 where
+pub record SameExplorer : Type 0 where
   pub explored : (table condition : List ℕ) (s : Settings) (path trace : List ℕ) →
       explorerBy own .explored table condition s path trace ≡ right .explored table condition s path trace
   pub run : (table condition : List ℕ) (s : Settings) → explorerBy own .run table condition s ≡ right .run table condition s

@@ -3,7 +3,7 @@
 -- the page do not all hold of it; the one that does not, by which alone it is proved, stands in brackets. Assumes nothing.
 --     Broken, BrokenUnder                          the sentences do not hold, for a table and settings, under a condition
 --     answering, reporting, refusing               an explorer that returns or leaves something else
---     parting, following, stepping                 one with other marks, or other steps after an execution
+--     withParts, following, stepping               one with other marks, or other steps after an execution
 --     limiting, doing, rescanning, answeredBy      one with other limits, moves, offers, effects of an answer
 --     Wrong                                        what the wrong ones break, by the records of the page
 use Prim.Native.Nat.{ℕ, _+_, _-_, _*_}
@@ -122,14 +122,14 @@ abbrev pub refusing : (Explored → List ℕ → List ℕ → Settings → List 
 refusing f = answering (λ it table condition s path trace. cond (eqb (it .report .answer) 5) (f it table condition s path trace) it)
 
 -- the marks that a question makes, and what follows an execution
-abbrev pub parting : Parts State → Explorer
-parting P = explorerBy (record { next = own .next; answered = own .answered; limits = own .limits; parts = P })
+abbrev pub withParts : Parts State → Explorer
+withParts P = explorerBy (record { next = own .next; answered = own .answered; limits = own .limits; parts = P })
 
 abbrev pub following : ((State → Bool) → Bool → List Execution → Tick State → After State) → Explorer
-following f = parting (record { marks = firstMarked; follows = f })
+following f = withParts (record { marks = firstMarked; follows = f })
 
 abbrev pub stepping : (List Branch → List Branch) → Explorer
-stepping step = parting (steppingBy step)
+stepping step = withParts (steppingBy step)
 
 -- the limits
 abbrev pub limiting : (Limits → Limits) → Explorer
@@ -268,7 +268,7 @@ pub record WrongAnswers : Type 0 where
 
 -- what a mark opens is counted twice
 abbrev pub twice : Explorer
-twice = parting (record {
+twice = withParts (record {
   marks = λ bound l q.
       let m = firstMarked bound l q in record { path = m .path; opened = m .opened + (m .opened - l .opened); begun = m .begun };
   follows = after;
@@ -299,9 +299,9 @@ pub record WrongBalances : Type 0 where
   -- [equation] two executions have opened two choices, one of them by a mark, and one is open: three are counted
   pub counted-twice : Broken Balances twice storeAndLoad (p3 2)
   -- [equation] and here one, since what marks open is not counted
-  pub not-counted : Broken Balances (parting uncounted) storeAndLoad (p3 2)
+  pub not-counted : Broken Balances (withParts uncounted) storeAndLoad (p3 2)
   -- [within] after one execution one is counted, and two are open
-  pub not-within : Broken Balances (parting uncounted) storeAndLoad (p3 1)
+  pub not-within : Broken Balances (withParts uncounted) storeAndLoad (p3 1)
   -- [begun] the only execution finds the path full
   pub not-begun : Broken Balances faultsNotBegun oneLoad (settings 2 1 1)
   -- [opened] after one execution two are opened, and three are counted
@@ -347,7 +347,7 @@ pub record WrongTurns : Type 0 where
   -- [different] the second and the third have no turning point but the same
   pub same : Broken Turns anew aBit (settings 2 1 3)
   -- [together] a record is dropped with something open: the load's second value is neither turned to nor open
-  pub dropped : Broken Turns (parting droppingStep) storeAndLoad (p3 2)
+  pub dropped : Broken Turns (withParts droppingStep) storeAndLoad (p3 2)
   -- [once] the storing thread is opened again where it was turned to before
   pub again : Broken Turns forgetful storeAndLoad (p3 6)
   -- [exhausted] 0 is answered, and two are open
@@ -374,16 +374,16 @@ firstOnly [] = []
 firstOnly (true ∷ more) = true ∷ map (λ (b : Bool). false) more
 firstOnly (false ∷ more) = false ∷ firstOnly more
 
-abbrev pub scanned : (List Bool → List Bool) → Matched → Matched
-scanned f (offers slots) = offers (f slots)
-scanned f equal = equal
+abbrev pub offersChanged : (List Bool → List Bool) → Matched → Matched
+offersChanged f (offers slots) = offers (f slots)
+offersChanged f equal = equal
 
 abbrev pub tooFew : Explorer
-tooFew = rescanning (λ p st. scanned firstOnly)
+tooFew = rescanning (λ p st. offersChanged firstOnly)
 
 -- every live store is offered
 abbrev pub tooMany : Explorer
-tooMany = rescanning (λ p st. scanned (map (λ (b : Bool). true)))
+tooMany = rescanning (λ p st. offersChanged (map (λ (b : Bool). true)))
 
 -- nothing counts as seen: what is offered is what would be in the state without marks of first sight
 abbrev pub withSights : Marks → State → State
@@ -414,8 +414,8 @@ abbrev pub unseeing : Pieces
 unseeing = effects (λ before. same) (λ before. withSights (before .marks))
 
 -- what stands where there is no execution, and no walk
-abbrev pub nothing : Walk State
-nothing = record {
+abbrev pub noWalk : Walk State
+noWalk = record {
   state = record { clocks = []; marks = []; values = []; numbers = [] };
   ledger = record { path = []; opened = 0; begun = 0 };
   pos = 0;
@@ -423,11 +423,11 @@ nothing = record {
 }
 
 abbrev pub noCourse : Course State
-noCourse = record { known = []; ticks = []; outcome = over nothing }
+noCourse = record { known = []; ticks = []; outcome = over noWalk }
 
 -- the walk from which the loading thread loads, in the second execution of the right run; and the one that a tick leaves
 abbrev pub beforeLoad : Walk State
-beforeLoad = getD (getD (right .executions storeAndLoad [] (p3 2)) 1 noCourse .ticks) 4 nothing
+beforeLoad = getD (getD (right .executions storeAndLoad [] (p3 2)) 1 noCourse .ticks) 4 noWalk
 
 abbrev pub tickOf : Pieces → List ℕ → Settings → Walk State → Walk State
 tickOf y table s w = leftBy (tickBy (machineBy y (programOf table [] s)) (y .limits s) (y .parts) w)
@@ -497,7 +497,7 @@ pub record WrongStops : Type 0 where
   -- [place] it is said to be row 256
   pub misplaced : BrokenUnder Stops misplacing oneLoad notSeven (settings 3 1 1)
   -- [fault] a deadlock, which the only execution has not met
-  pub invented : Broken Stops (parting inventing) storeAndLoad (p3 1)
+  pub invented : Broken Stops (withParts inventing) storeAndLoad (p3 1)
 
 -- What holds at every tick
 

@@ -32,7 +32,7 @@ use Rattle.event.specs.declared.Site.{Site}
 use Rattle.report.specs.Answers.{answerFits}
 use Rattle.report.specs.declared.Answer.{Answer}
 use Rattle.report.specs.declared.Answer.the-variants as answer
-use Rattle.meeting.specs.Stands.{Lent, Stands, Comes, siteOf}
+use Rattle.meeting.specs.Stands.{Lent, Stands, ComesTo, siteOf}
 use Rattle.meeting.specs.declared.Cursor.{Cursor}
 use Rattle.meeting.specs.declared.Outcome.{Outcome}
 use Rattle.meeting.specs.declared.Outcome.the-variants as code
@@ -153,7 +153,7 @@ module _ (final : State → Bool) (x : Lent) (c : Cursor) (last : Bool) (past : 
   over-goes w true false true q n l e stands = absurd (answers-not answer.Spent (sym e))
   over-goes w true false false q n l e stands = record { walk = w; is = rw (q, n, l) refl; stands = stands; left = refl }
 
-  pub stops-with : (o : Outcome) (t : Tick State) (a : Answer) → Comes o c x t
+  pub stops-with : (o : Outcome) (t : Tick State) (a : Answer) → ComesTo o c x t
       → afterwards.Answers a ≡ judgedAs met o (openIn (leftBy t .ledger .path)) last → StopsWith final x c last past t a
   unfolding after
   stops-with code.Goes (goes w) a h e =
@@ -182,7 +182,7 @@ module _ (final : State → Bool) (x : Lent) (c : Cursor) (last : Bool) (past : 
         left = refl;
       }
 
-  pub goes-with : (o : Outcome) (t : Tick State) → Comes o c x t
+  pub goes-with : (o : Outcome) (t : Tick State) → ComesTo o c x t
       → afterwards.GoesOn ≡ judgedAs met o (openIn (leftBy t .ledger .path)) last → GoesWith final x c last past t
   goes-with code.Goes (goes w) h e = absurd (answers-not (answer.Stopped fault.Impossible atNoSite) (sym e))
   goes-with code.Goes (over w) h e = absurd h
@@ -195,7 +195,7 @@ module _ (final : State → Bool) (x : Lent) (c : Cursor) (last : Bool) (past : 
   goes-with (code.Stops f s) (faulted g there w) h e = absurd (answers-not (answer.Stopped f s) (sym e))
 
 -- the walk that an outcome leaves stands for the tables and bytes
-pub left-stands : (x : Lent) (c : Cursor) (o : Outcome) (t : Tick State) → Comes o c x t → Stands x c (leftBy t)
+pub left-stands : (x : Lent) (c : Cursor) (o : Outcome) (t : Tick State) → ComesTo o c x t → Stands x c (leftBy t)
 left-stands x c code.Goes (goes w) h = h
 left-stands x c code.Goes (over w) h = absurd h
 left-stands x c code.Goes (faulted g s w) h = absurd h

@@ -28,11 +28,11 @@ abbrev pub faultOf : Fault → rules.Fault
 faultOf fault.Deadlock = rules.deadlock
 faultOf fault.Full = rules.full
 faultOf fault.Rows = rules.rows
-faultOf fault.Equal = rules.equalOrders
+faultOf fault.EqualOrders = rules.equalOrders
 faultOf (fault.Race kind other) = rules.race kind other
 faultOf fault.Check = rules.check
 faultOf fault.Flags = rules.flags
-faultOf fault.Preempted = rules.preemptions
+faultOf fault.Preemptions = rules.preemptions
 faultOf fault.Impossible = rules.impossible
 
 -- what a load or an RMW of a thread is offered; every other row is offered nothing

@@ -8,11 +8,11 @@ pub enum Fault {
     Deadlock,
     Full,
     Rows,
-    Equal,
+    EqualOrders,
     Race { kind: u8, other: u8 },
     Check,
     Flags,
-    Preempted,
+    Preemptions,
     Impossible,
 }
 

@@ -23,7 +23,7 @@ use Rattle.ledger.specs.History.{leftBy}
 use Rattle.ledger.proofs.Ledgers.{execution-begun}
 use Rattle.layout.specs.Tables.{state}
 use Rattle.path.specs.Holds.{Holds}
-use Rattle.path.specs.Steps.{Steps}
+use Rattle.path.specs.Steps.{StepsPath}
 use Rattle.path.proofs.HoldsLaws.{holds-none}
 use Rattle.trace.specs.Entries.{Cleared, Front}
 use Rattle.trace.proofs.FrontLaws.{front-noted}
@@ -31,17 +31,17 @@ use Rattle.report.specs.Answers.{reportOf}
 use Rattle.report.specs.declared.Answer.{Answer}
 use Rattle.report.specs.declared.Report.{Report}
 use Rattle.report.proofs.AnswerLaws.{ran-reported}
-use Rattle.meeting.specs.Stands.{Lent, Stands, Comes}
+use Rattle.meeting.specs.Stands.{Lent, Stands, ComesTo}
 use Rattle.meeting.specs.declared.Cursor.{Cursor}
 use Rattle.meeting.specs.declared.Ticked.{Ticked}
-use Rattle.iteration.specs.Executes.{mostOpened, machineOf, Ready, Shaped, Given, Knows, Executes}
+use Rattle.iteration.specs.Executes.{mostOpened, machineOf, RunReady, Shaped, TermsGiven, Knows, Executes}
 use Rattle.iteration.specs.declared.Terms.{Terms}
 use Rattle.ending.specs.Ends.{metBy, judgedAs, Continues, Judges, Finished}
 use Rattle.ending.specs.declared.After as ending
 use Rattle.ending.specs.declared.After.the-variants as afterwards
 use Rattle.ending.proofs.JudgeLaws.{stops-with, goes-with, left-stands}
 use Rattle.explorer.specs.Explores.{exploredOf}
-use Rattle.explorer.specs.Runs.{Greater, Further, Running, Stepped, Stopped, Empty, Ran}
+use Rattle.explorer.specs.Runs.{Greater, Further, Running, Stepped, RunStopped, Empty, Ran}
 use Rattle.explorer.specs.declared.run.Progress.{Progress}
 use Rattle.explorer.proofs.RunLaws.{goes-on, greater-within}
 
@@ -58,7 +58,7 @@ same-tests n m k e = go (eqb k 0) refl
     go true h = eq-eqb n m (omega (arith, e, eqb-true k 0 h))
     go false h = ne-eqb n m (λ (f : n ≡ m). eqb-false k 0 h (omega (arith, e)))
 
-pub ready-kept : {table : List ℕ} {s : Settings} {path trace path' trace' : List ℕ} → Ready table s path trace → length path' ≡ length path → length trace' ≡ length trace → Ready table s path' trace'
+pub ready-kept : {table : List ℕ} {s : Settings} {path trace path' trace' : List ℕ} → RunReady table s path trace → length path' ≡ length path → length trace' ≡ length trace → RunReady table s path' trace'
 ready-kept r e f =
     record { in-range = r .in-range; path-long = e ∙ r .path-long; trace-long = f ∙ r .trace-long; accepted = r .accepted }
 
@@ -120,7 +120,7 @@ module _ (table condition : List ℕ) (s : Settings) where
   pub ran-cleared : {n m k l : ℕ} {x : rules.Explored} → x ≡ ran k l whole → k ≡ n → l ≡ m → x ≡ ran n m whole
   ran-cleared h e f = h ∙ (cc (e, f))
 
-  pub running-none : (path trace : List ℕ) (p : Progress) → Ready table s path trace → Empty path → Empty trace
+  pub running-none : (path trace : List ℕ) (p : Progress) → RunReady table s path trace → Empty path → Empty trace
       → (p .cursor .len ≡ 0) × (p .cursor .opened ≡ 0) × (p .longest ≡ 0) × (p .begun ≡ 0) → 0 < s .executions → Running table condition s path trace p
   running-none path trace p ready none empty (len, opened, longest, begun) more =
       record {
@@ -145,7 +145,7 @@ module _ (table condition : List ℕ) (s : Settings) where
 
   -- an execution more
   module _ {path trace : List ℕ} {p : Progress} (run : Running table condition s path trace p)
-      {shape : List ℕ} (is-shape : shape ≡ shapeOf table) {t : Terms} (given : Given s t)
+      {shape : List ℕ} (is-shape : shape ≡ shapeOf table) {t : Terms} (given : TermsGiven s t)
       (entry exit : Lent) (same-path : entry .path ≡ path) (same-trace : entry .trace ≡ trace) (r : Ticked) (does : Executes entry exit table shape t (p .cursor) r)
       (q : Progress) (further : Further p r q)
       (v : ending.After) (judges : Judges (exit .path) (metBy table condition (exit .values)) (r .outcome) (r .cursor .len) (eqb (q .begun) (s .executions)) v) where
@@ -162,7 +162,7 @@ module _ (table condition : List ℕ) (s : Settings) where
     abbrev its-last : Bool
     its-last = eqb (q .begun) (s .executions)
 
-    comes : Comes (r .outcome) (r .cursor) exit (execution ledger)
+    comes : ComesTo (r .outcome) (r .cursor) exit (execution ledger)
     comes =
         does .comes condition s ledger given
         (record { ready = rw (sym same-path, sym same-trace) at (run .ready); is-shape = is-shape })
@@ -207,7 +207,7 @@ module _ (table condition : List ℕ) (s : Settings) where
     running-more e {path'} d next long traced =
         let g = goes-with final exit (r .cursor) its-last past (metBy table condition (exit .values)) is-met (r .outcome) (execution ledger) comes (sym e ∙ judged) in
         let w : Walk State = g .walk in
-        let steps : Steps (exit .path) path' (q .cursor .len) (d .cursor .len) = next .steps in
+        let steps : StepsPath (exit .path) path' (q .cursor .len) (d .cursor .len) = next .steps in
         let its-len : length (w .ledger .path) ≡ q .cursor .len = g .stands .is-len ∙ sym same-len in
         let allowed : q .begun < s .executions = omega (arith, run .allowed, further .more, goes-on v (q .begun) (s .executions) e (judges .continues)) in
         record {
@@ -244,7 +244,7 @@ module _ (table condition : List ℕ) (s : Settings) where
 
     -- with which it stops
     pub ran-out : (a : Answer) → v ≡ afterwards.Answers a → {trace' : List ℕ} (report : Report)
-        → Stopped (exit .clocks) (exit .numbers) (exit .path) (exit .trace) trace' a q report
+        → RunStopped (exit .clocks) (exit .numbers) (exit .path) (exit .trace) trace' a q report
         → length (exit .path) ≡ length path → length (exit .trace) ≡ length trace
         → Ran table condition s path trace report (exit .path) trace'
     ran-out a e {trace'} report stops long traced =

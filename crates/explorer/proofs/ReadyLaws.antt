@@ -4,9 +4,9 @@ use mathlib.Core.List.{List}
 use native.Mathlib.Omega.{arith}
 use Rattle.rules.specs.Explored as rules
 use Rattle.rules.proofs.LimitLaws.{operations-most, executions-most, operations-fit}
-use Rattle.iteration.specs.Executes.{Ready}
+use Rattle.iteration.specs.Executes.{RunReady}
 
-module _ {table : List ℕ} {s : rules.Settings} {path trace : List ℕ} (ready : Ready table s path trace) where
+module _ {table : List ℕ} {s : rules.Settings} {path trace : List ℕ} (ready : RunReady table s path trace) where
   pub ready-executions : (1 ≤ s .executions) × (s .executions ≤ rules.maxExecutions)
   ready-executions = executions-most s (ready .in-range)
 

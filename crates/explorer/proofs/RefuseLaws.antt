@@ -22,7 +22,7 @@ use Rattle.report.specs.declared.Report.{Report}
 use Rattle.report.specs.declared.Answer.the-variants as answer
 use Rattle.report.proofs.AnswerLaws.{bad-settings, bad-path, bad-trace, bad-table}
 use Rattle.settings.specs.declared.Settings.{Settings}
-use Rattle.iteration.specs.Executes.{Ready}
+use Rattle.iteration.specs.Executes.{RunReady}
 use Rattle.settings.specs.Given.{settingsOf}
 use Rattle.explorer.specs.Explores.{exploredOf}
 use Rattle.explorer.specs.Runs.{Ran}
@@ -50,16 +50,16 @@ module _ (r : Report) (table condition : List ℕ) (s : Settings) (path trace : 
           refused-is 4 255 255 (e ∙ bad-trace path trace) ∙ sym (explored-4 table condition (settingsOf s) path trace a (eqb-true (length path) (16 * s .branches) b) (eqb-false (length trace) (16 * s .operations) c))
 
       module _ (c : eqb (length trace) (16 * s .operations) ≡ true) (j : Judged) (judges : judgedOf j ≡ judged table) where
-        pub refuse-header : j ≡ code.Header → reportOf r ≡ refusal (answer.BadTable 255 255) → exploredOf r path trace ≡ rules.explored table condition (settingsOf s) path trace
+        pub refuse-header : j ≡ code.BadHeader → reportOf r ≡ refusal (answer.BadTable 255 255) → exploredOf r path trace ≡ rules.explored table condition (settingsOf s) path trace
         refuse-header i e =
             refused-is 5 255 255 (e ∙ bad-table path trace 255 255) ∙ sym (explored-5-header table condition (settingsOf s) path trace a (eqb-true (length path) (16 * s .branches) b) (eqb-true (length trace) (16 * s .operations) c) (sym judges ∙ ap judgedOf i))
 
-        pub refuse-row : (t k : ℕ) → j ≡ code.Row t k → reportOf r ≡ refusal (answer.BadTable t k) → exploredOf r path trace ≡ rules.explored table condition (settingsOf s) path trace
+        pub refuse-row : (t k : ℕ) → j ≡ code.BadRow t k → reportOf r ≡ refusal (answer.BadTable t k) → exploredOf r path trace ≡ rules.explored table condition (settingsOf s) path trace
         refuse-row t k i e =
             refused-is 5 t k (e ∙ bad-table path trace t k) ∙ sym (explored-5-row table condition (settingsOf s) path trace a (eqb-true (length path) (16 * s .branches) b) (eqb-true (length trace) (16 * s .operations) c) t k (sym judges ∙ ap judgedOf i))
 
 module _ (table : List ℕ) (s : Settings) (path trace : List ℕ) where
-  pub ready-made : settingsFine (settingsOf s) ≡ true → eqb (length path) (16 * s .branches) ≡ true → eqb (length trace) (16 * s .operations) ≡ true → (j : Judged) → judgedOf j ≡ judged table → j ≡ code.Accepted → Ready table (settingsOf s) path trace
+  pub ready-made : settingsFine (settingsOf s) ≡ true → eqb (length path) (16 * s .branches) ≡ true → eqb (length trace) (16 * s .operations) ≡ true → (j : Judged) → judgedOf j ≡ judged table → j ≡ code.Good → RunReady table (settingsOf s) path trace
   ready-made a b c j judges i =
       record {
         in-range = a;
@@ -71,7 +71,7 @@ module _ (table : List ℕ) (s : Settings) (path trace : List ℕ) where
 pub judged-by : (table condition : List ℕ) {threads : ℕ} {fine : Bool} → threads ≡ threadsOf table → fine ≡ isCondition threads condition → fine ≡ isCondition (threadsOf table) condition
 judged-by table condition e h = rw e at h
 
-module _ (table condition : List ℕ) (s : Settings) (path trace : List ℕ) (ready : Ready table (settingsOf s) path trace) (r : Report) {fine : Bool} (is-fine : fine ≡ isCondition (threadsOf table) condition) where
+module _ (table condition : List ℕ) (s : Settings) (path trace : List ℕ) (ready : RunReady table (settingsOf s) path trace) (r : Report) {fine : Bool} (is-fine : fine ≡ isCondition (threadsOf table) condition) where
   pub refuse-condition : fine ≡ false → reportOf r ≡ refusal (answer.BadTable 255 255) → exploredOf r path trace ≡ rules.explored table condition (settingsOf s) path trace
   refuse-condition f e =
       refused-is r table condition s path trace 5 255 255 (e ∙ bad-table path trace 255 255) ∙ sym (explored-5-condition table condition (settingsOf s) path trace (ready .in-range) (ready .path-long) (ready .trace-long) (ready .accepted) (sym is-fine ∙ f))

@@ -1,8 +1,8 @@
 -- What the functions of a run promise. Assumes nothing.
 --     Greater, Further    the greater of two numbers; what a run has come to with one execution more
---     Coming, Running     a run before its next execution
+--     RunComing, Running  a run before its next execution
 --     Stepped             with the next path
---     Stopped             the report of a run that stops, and the trace that it leaves
+--     RunStopped          the report of a run that stops, and the trace that it leaves
 --     Empty, Ran          buffers that hold nothing; the report and the buffers that a run leaves
 use Prim.Native.Nat.{ℕ, _+_, _-_, _*_, _≤_, _<_}
 use mathlib.Core.List.{List}
@@ -13,13 +13,13 @@ use Rattle.rules.specs.Explorer as explorer
 use Rattle.rules.specs.Explorer.{Ledger, Execution}
 use Rattle.rules.specs.Explored as rules
 use Rattle.rules.specs.Explored.{Settings, limitsOf}
-use Rattle.path.specs.Steps.{Steps}
+use Rattle.path.specs.Steps.{StepsPath}
 use Rattle.trace.specs.Entries.{Cleared}
 use Rattle.report.specs.declared.Answer.{Answer}
 use Rattle.report.specs.declared.Report.{Report}
 use Rattle.meeting.specs.declared.Cursor.{Cursor}
 use Rattle.meeting.specs.declared.Ticked.{Ticked}
-use Rattle.iteration.specs.Executes.{mostOpened, machineOf, Ready, Knows}
+use Rattle.iteration.specs.Executes.{mostOpened, machineOf, RunReady, Knows}
 use Rattle.ending.specs.Ends.{Finished}
 use Rattle.explorer.specs.Explores.{exploredOf}
 use Rattle.explorer.specs.declared.run.Progress.{Progress}
@@ -35,7 +35,7 @@ pub record Further (p : Progress) (over : Ticked) (q : Progress) : Type 0 where
   pub more : q .begun ≡ p .begun + 1
 
 -- after so many executions: the rest of the run is that from a ledger
-pub record Coming (table condition : List ℕ) (s : Settings) (path : List ℕ) (c : Cursor) (begun : ℕ) : Type 0 where
+pub record RunComing (table condition : List ℕ) (s : Settings) (path : List ℕ) (c : Cursor) (begun : ℕ) : Type 0 where
   pub ledger : Ledger
   pub past : List Execution
   pub knows : Knows path c ledger
@@ -50,17 +50,17 @@ pub record Running (table condition : List ℕ) (s : Settings) (path trace : Lis
   pub within : 16 * p .cursor .len ≤ length path
   pub few : p .cursor .opened ≤ mostOpened * p .begun
   pub room : 16 * p .longest ≤ length trace
-  pub ready : Ready table s path trace
+  pub ready : RunReady table s path trace
   pub clean : (i : ℕ) → 16 * p .longest ≤ i → getD trace i 0 ≡ 0
-  pub coming : Coming table condition s path (p .cursor) (p .begun)
+  pub coming : RunComing table condition s path (p .cursor) (p .begun)
 
 pub record Stepped (entry exit : List ℕ) (p q : Progress) : Type 0 where
-  pub steps : Steps entry exit (p .cursor .len) (q .cursor .len)
+  pub steps : StepsPath entry exit (p .cursor .len) (q .cursor .len)
   pub same-opened : q .cursor .opened ≡ p .cursor .opened
   pub same-longest : q .longest ≡ p .longest
   pub same-begun : q .begun ≡ p .begun
 
-pub record Stopped (clocks : Clocks) (numbers : Numbers) (path trace exitTrace : List ℕ) (a : Answer) (p : Progress) (r : Report) : Type 0 where
+pub record RunStopped (clocks : Clocks) (numbers : Numbers) (path trace exitTrace : List ℕ) (a : Answer) (p : Progress) (r : Report) : Type 0 where
   pub cleared : Cleared trace exitTrace (16 * p .cursor .entries) (16 * p .longest)
   pub finished : Finished clocks numbers path a (p .begun) (p .cursor) r
 

@@ -35,7 +35,7 @@ pub fn explore(
         return report::refused(Answer::BadTrace);
     }
     match table::judge(table) {
-        Judged::Accepted => {
+        Judged::Good => {
             if !condition::is_condition(condition, threads_of(table)) {
                 return report::refused(Answer::BadTable {
                     thread: NOWHERE,
@@ -44,10 +44,10 @@ pub fn explore(
             }
             run::run(table, condition, path, trace, settings)
         }
-        Judged::Header => report::refused(Answer::BadTable {
+        Judged::BadHeader => report::refused(Answer::BadTable {
             thread: NOWHERE,
             row: NOWHERE,
         }),
-        Judged::Row { thread, row } => report::refused(Answer::BadTable { thread, row }),
+        Judged::BadRow { thread, row } => report::refused(Answer::BadTable { thread, row }),
     }
 }

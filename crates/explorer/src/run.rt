@@ -2,8 +2,8 @@
 ghost use mathlib.Core.Path.{_≡_};
 ghost use Prim.Native.Nat.{_+_, _*_, _^_, _<_};
 ghost use Rattle.settings.specs.Given.{settingsOf};
-ghost use Rattle.iteration.specs.Executes.{Ready, Given};
-ghost use Rattle.explorer.specs.Runs.{Greater, Further, Stepped, Stopped, Empty, Ran};
+ghost use Rattle.iteration.specs.Executes.{RunReady, TermsGiven};
+ghost use Rattle.explorer.specs.Runs.{Greater, Further, Stepped, RunStopped, Empty, Ran};
 use ending::After;
 use ending::finish;
 use ending::judge_end;
@@ -41,7 +41,7 @@ pub fn run(
     trace: &mut [u8],
     settings: Settings,
 ) -> Report
-    requires { ⌜ Ready (now table) (settingsOf settings) (now path) (now trace) ⌝ }
+    requires { ⌜ RunReady (now table) (settingsOf settings) (now path) (now trace) ⌝ }
     ensures { λ r. ⌜ Ran (now (table .entry)) (now (condition .entry)) (settingsOf settings) (now (path .entry)) (now (trace .entry)) r (now (path .exit)) (now (trace .exit)) ⌝ }
 {
     trace::clear_all(path);
@@ -57,7 +57,7 @@ fn executions(
     trace: &mut [u8],
     settings: Settings,
 ) -> Report
-    requires { ⌜ Ready (now table) (settingsOf settings) (now path) (now trace) × Empty (now path) × Empty (now trace) ⌝ }
+    requires { ⌜ RunReady (now table) (settingsOf settings) (now path) (now trace) × Empty (now path) × Empty (now trace) ⌝ }
     ensures { λ r. ⌜ Ran (now (table .entry)) (now (condition .entry)) (settingsOf settings) (now (path .entry)) (now (trace .entry)) r (now (path .exit)) (now (trace .exit)) ⌝ }
 {
     let shape = table::shape(table);
@@ -93,7 +93,7 @@ fn executions(
 
 // What an execution is given of the settings.
 fn terms_of(settings: Settings) -> Terms
-    ensures { λ r. ⌜ (settings .operations < 65536 → Given (settingsOf settings) r) ⌝ }
+    ensures { λ r. ⌜ (settings .operations < 65536 → TermsGiven (settingsOf settings) r) ⌝ }
 {
     let bound = settings.bound;
     let limits = Limits {
@@ -156,7 +156,7 @@ fn stop(
     progress: Progress,
 ) -> Report
     requires { ⌜ (16 * progress .cursor .entries < 2 ^ 64) × (16 * progress .longest < 2 ^ 64) ⌝ }
-    ensures { λ r. ⌜ Stopped (now (clocks .entry)) (now (numbers .entry)) (now (path .entry)) (now (trace .entry)) (now (trace .exit)) answer progress r ⌝ }
+    ensures { λ r. ⌜ RunStopped (now (clocks .entry)) (now (numbers .entry)) (now (path .entry)) (now (trace .entry)) (now (trace .exit)) answer progress r ⌝ }
 {
     let cursor = progress.cursor;
     trace::clear(trace, RECORD * cursor.entries, RECORD * progress.longest);

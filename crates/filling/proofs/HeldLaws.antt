@@ -18,7 +18,7 @@ use Rattle.rules.specs.Event.{little}
 use Rattle.rules.specs.Form.{fieldsAsBytes}
 use Rattle.rules.specs.Text.{Draft, tableOf, filled, withCell, withPlain, withThread, withRow, rowsSoFar, tableBytes}
 use Rattle.rules.proofs.LittleLaws.{little-long}
-use Rattle.filling.specs.Tables.{HeldTable, CountsAt, howMany, withValue}
+use Rattle.filling.specs.Tables.{HeldTable, CountsAt, howMany, withCellOrPlain}
 
 -- Bytes behind those that are there
 
@@ -178,7 +178,7 @@ module _ (b : List ℕ) (n : ℕ) (m : Draft) (held : HeldTable b n m) where
         (omega (arith, held .long, eight))
         (omega (arith, held .body, eight))
 
-    pub held-value : (place : ℕ) → CountsAt place → howMany place m < 4 → HeldTable (set mid place (getD mid place 0 + 1)) (n + 8) (withValue place m v)
+    pub held-value : (place : ℕ) → CountsAt place → howMany place m < 4 → HeldTable (set mid place (getD mid place 0 + 1)) (n + 8) (withCellOrPlain place m v)
     held-value place (inl e) h = rw e (held-cell (rw e at h))
     held-value place (inr e) h = rw e (held-plain (rw e at h))
 
@@ -190,7 +190,7 @@ pub counts-low : (place : ℕ) → CountsAt place → place ≤ 7
 counts-low place (inl e) = omega arith
 counts-low place (inr e) = omega arith
 
-pub more-many : (place : ℕ) (m : Draft) (v : ℕ) → howMany place (withValue place m v) ≡ howMany place m + 1
+pub more-many : (place : ℕ) (m : Draft) (v : ℕ) → howMany place (withCellOrPlain place m v) ≡ howMany place m + 1
 more-many place m v =
     elim (eqb place 1) as (λ t. cond t ((cond t (withCell m v) (withPlain m v)) .cells) ((cond t (withCell m v) (withPlain m v)) .plains) ≡ cond t (m .cells) (m .plains) + 1) [
       | true ↦ refl

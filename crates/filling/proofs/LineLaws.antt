@@ -20,7 +20,7 @@ use Rattle.form.specs.Rows.{followedOf}
 use Rattle.form.specs.declared.RowRead.{RowRead}
 use Rattle.token.specs.Places.{part}
 use Rattle.token.proofs.PlaceLaws.{left-by, part-token}
-use Rattle.filling.specs.Tables.{HeldTable, howMany, withValue}
+use Rattle.filling.specs.Tables.{HeldTable, howMany, withCellOrPlain}
 use Rattle.filling.proofs.HeldLaws.{held-threads}
 use Rattle.filling.specs.Steps.{Lined, LineSteps, Bare, aThreadAt, aRowAt}
 use Rattle.filling.specs.declared.Line.{Line}
@@ -69,7 +69,7 @@ pub record Underway (text table : List ℕ) (place n left from : ℕ) (whole : r
   pub made : Draft
   pub held : HeldTable table n made
   pub count : howMany place made + left ≤ 4
-  pub same : valuesLine (withValue place) (howMany place) left made (drop from text) ≡ whole
+  pub same : valuesLine (withCellOrPlain place) (howMany place) left made (drop from text) ≡ whole
 
 module _ (more : Draft → ℕ → Draft) (many : Draft → ℕ) where
   abbrev valuesBy : ℕ → Draft → List ℕ → List ℕ → Found → rules.Line

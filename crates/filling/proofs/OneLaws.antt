@@ -17,7 +17,7 @@ use Rattle.rules.specs.Text.{Draft, lineOf, valuesLine}
 use Rattle.token.specs.Places.{part}
 use Rattle.token.proofs.PlaceLaws.{left-by, part-token}
 use Rattle.ahead.proofs.AheadLaws.{is}
-use Rattle.filling.specs.Tables.{HeldTable, howMany, withValue}
+use Rattle.filling.specs.Tables.{HeldTable, howMany, withCellOrPlain}
 use Rattle.filling.specs.Steps.{isPlains, aThreadAt, aRowAt}
 use Rattle.filling.proofs.HeldLaws.{held-threads, held-plains}
 
@@ -30,7 +30,7 @@ says-cells text at to r e t h = ap (equal (part at to text)) cells-bytes ∙ sym
 
 -- start values that the header counts at this place
 abbrev pub values : ℕ → Draft → List ℕ → rules.Line
-values place m bs = valuesLine (withValue place) (howMany place) 4 m bs
+values place m bs = valuesLine (withCellOrPlain place) (howMany place) 4 m bs
 
 -- the line of the plain cells, by its first word
 abbrev pub plains : Draft → List ℕ → Bool

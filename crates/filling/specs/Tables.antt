@@ -1,7 +1,7 @@
 -- A table that grows in a buffer. Assumes nothing.
 --     HeldTable                       the buffer is the table so far, then zeros, and the table is within its limits
 --     HoldsTable                      it is so for some table
---     CountsAt, howMany, withValue    where the header counts start values, how many there are, and one more
+--     CountsAt, howMany, withCellOrPlain  where the header counts start values, how many there are, and one more
 --     Grows                           from any table that it held, one step of the definition
 --     Blank                           zeros
 use Prim.Native.Nat.{ℕ, _+_, _-_, _*_, _≤_, _<_}
@@ -36,8 +36,8 @@ CountsAt place = (place ≡ 1) ⊎ (place ≡ 7)
 abbrev pub howMany : ℕ → Draft → ℕ
 howMany place m = cond (eqb place 1) (m .cells) (m .plains)
 
-abbrev pub withValue : ℕ → Draft → ℕ → Draft
-withValue place m v = cond (eqb place 1) (withCell m v) (withPlain m v)
+abbrev pub withCellOrPlain : ℕ → Draft → ℕ → Draft
+withCellOrPlain place m v = cond (eqb place 1) (withCell m v) (withPlain m v)
 
 abbrev pub Grows : List ℕ → List ℕ → ℕ → ℕ → (Draft → Draft) → Type 0
 Grows entry exit n more step = (m : Draft) → HeldTable entry n m → HeldTable exit more (step m)

@@ -8,7 +8,7 @@ ghost use lib.Seq.{paste};
 ghost use Rattle.rules.specs.Table.{headerBytes};
 ghost use Rattle.rules.specs.Text as rules;
 ghost use Rattle.token.specs.Places.{part};
-ghost use Rattle.filling.specs.Tables.{HoldsTable, RowFits, CountsAt, howMany, withValue, Grows};
+ghost use Rattle.filling.specs.Tables.{HoldsTable, RowFits, CountsAt, howMany, withCellOrPlain, Grows};
 ghost use Rattle.filling.specs.Steps.{Bare, LineSteps, isPlains, aThreadAt, aRowAt};
 use form::Fields;
 use form::Room;
@@ -175,7 +175,7 @@ fn values_line(
     at: usize,
 ) -> Line
     requires { ⌜ HoldsTable (now table) length × CountsAt place × (getD (now table) place 0 ≡ 0) × (most ≤ 4) ⌝ }
-    ensures { λ r. ⌜ LineSteps (now (text .entry)) (now (table .entry)) (now (table .exit)) length r (λ m. rules.valuesLine (withValue place) (howMany place) most m (drop at (now (text .entry)))) ⌝ }
+    ensures { λ r. ⌜ LineSteps (now (text .entry)) (now (table .entry)) (now (table .exit)) length r (λ m. rules.valuesLine (withCellOrPlain place) (howMany place) most m (drop at (now (text .entry)))) ⌝ }
 {
     let mut from = at;
     let mut long = length;
@@ -229,7 +229,7 @@ fn bare_then(text: &[u8], reached: Reached) -> Line
 // One start value more, which the header counts at this place.
 fn add_value(table: &mut [u8], length: usize, place: usize, value: u64)
     requires { ⌜ HoldsTable (now table) length × CountsAt place × (getD (now table) place 0 < 4) ⌝ }
-    ensures { λ _. ⌜ Grows (now (table .entry)) (now (table .exit)) length (length + 8) (λ m. withValue place m value) ⌝ }
+    ensures { λ _. ⌜ Grows (now (table .entry)) (now (table .exit)) length (length + 8) (λ m. withCellOrPlain place m value) ⌝ }
 {
     let bytes = low_bytes(value);
     append(table, length, &bytes);

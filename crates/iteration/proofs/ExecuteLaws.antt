@@ -18,11 +18,11 @@ use Rattle.rules.specs.Explored.{Settings, ticksOf, programOf, limitsOf}
 use Rattle.rules.proofs.LimitLaws.{branches-most, operations-most, branches-fit, operations-fit}
 use Rattle.layout.specs.Tables.{state}
 use Rattle.trace.proofs.FrontLaws.{front-none}
-use Rattle.meeting.specs.Stands.{Lent, lent, Stands, Comes}
+use Rattle.meeting.specs.Stands.{Lent, lent, Stands, ComesTo}
 use Rattle.meeting.specs.declared.Cursor.{Cursor}
 use Rattle.meeting.specs.declared.Ticked.{Ticked}
 use Rattle.walk.specs.Walks.{Runs, Gone}
-use Rattle.iteration.specs.Executes.{mostOpened, Afresh, Ready, Shaped, Given, Knows, Walks, Executes, machineOf}
+use Rattle.iteration.specs.Executes.{mostOpened, Afresh, RunReady, Shaped, TermsGiven, Knows, Walks, Executes, machineOf}
 use Rattle.iteration.specs.declared.Terms.{Terms}
 use Rattle.iteration.proofs.ReadyLaws.{ready-header, ready-threads, ready-cells, ready-plains}
 
@@ -48,7 +48,7 @@ module _ (table condition shape : List ℕ) (s : Settings) (path trace : List �
       let n = operations-most s (shaped .ready .in-range) in
       (omega (arith, branches-fit), omega (arith, operations-fit))
 
-  runs-so : {t : Terms} → Given s t → Runs (programOf table condition s) (limitsOf s) table shape (t .limits) path trace
+  runs-so : {t : Terms} → TermsGiven s t → Runs (programOf table condition s) (limitsOf s) table shape (t .limits) path trace
   runs-so given =
       record {
         is-table = refl;
@@ -90,7 +90,7 @@ module _ (table shape : List ℕ) (t : Terms) (c d : Cursor) (path trace : List 
       record {
         comes = λ condition s m given shaped' knows.
             let shaped : Shaped table shape s path trace = rw (same-path, same-trace) at shaped' in
-            subst (λ (y : Tick State). Comes (r .outcome) (r .cursor) exit y)
+            subst (λ (y : Tick State). ComesTo (r .outcome) (r .cursor) exit y)
             (execution-is table condition shape s path trace shaped m (given .operations))
             (w .comes (programOf table condition s) (limitsOf s) _ (runs-so table condition shape s path trace shaped given)
             (fresh-stands table condition shape s path trace shaped m (starts condition s path trace shaped (given .exploring)) a (rw same-path at knows)));

@@ -11,13 +11,13 @@ use Rattle.rules.specs.Table.{headerBytes, threadsOf, cellsOf, plainsOf, header
 use Rattle.rules.specs.Explored.{Settings}
 use Rattle.rules.proofs.MeasureAccepted.{good-header}
 use Rattle.table.proofs.ShapeLaws.{shape-threads, shape-cells, shape-plains}
-use Rattle.iteration.specs.Executes.{Ready}
+use Rattle.iteration.specs.Executes.{RunReady}
 
 header-within : (table : List ℕ) → headerFine table ≡ true → (headerBytes ≤ length table) × (threadsOf table ≤ 5) × (cellsOf table ≤ 4) × (plainsOf table ≤ 4)
 unfolding headerFine
 header-within table e = let f = simp and-eq-true-iff at e in omega (arith, leb-true)
 
-module _ {table : List ℕ} {s : Settings} {path trace : List ℕ} (ready : Ready table s path trace) where
+module _ {table : List ℕ} {s : Settings} {path trace : List ℕ} (ready : RunReady table s path trace) where
   -- "threads 1..5, cells 1..4", "up to four" plain cells
   pub ready-shape : {shape : List ℕ} → shape ≡ shapeOf table → (getD shape 0 0 ≤ 5) × (getD shape 1 0 ≤ 4) × (getD shape 12 0 ≤ 4)
   ready-shape e =

@@ -16,7 +16,7 @@ use Rattle.rules.specs.Explorer.{Walk, Tick, goes, over, faulted}
 use Rattle.rules.specs.Explored.{ticksOf}
 use Rattle.event.specs.declared.Fault.the-variants as fault
 use Rattle.event.specs.declared.Site.{Site}
-use Rattle.meeting.specs.Stands.{Lent, Stands, Comes, Stopped, siteOf}
+use Rattle.meeting.specs.Stands.{Lent, Stands, ComesTo, Stopped, siteOf}
 use Rattle.meeting.specs.declared.Cursor.{Cursor}
 use Rattle.meeting.specs.declared.Outcome.{Outcome}
 use Rattle.meeting.specs.declared.Outcome.the-variants as code
@@ -79,7 +79,7 @@ module _ (table shape : List ℕ) (limits : Limits) (c : Cursor) (entry : Lent) 
     module _ {next : Lent} (r : Ticked) (k : Ticks now next table shape limits d r) where
       -- how the tick comes out, of the walk that it starts from
       comes-on : (p : Program) (L : explorer.Limits) (w : Walk State) (runs : Runs p L table shape limits (entry .path) (entry .trace)) (stands : Stands entry c w)
-          → Comes (r .outcome) (r .cursor) next (explorer.tick (machine p) L (under p L w runs stands .walk))
+          → ComesTo (r .outcome) (r .cursor) next (explorer.tick (machine p) L (under p L w runs stands .walk))
       comes-on p L w runs stands =
           let u = under p L w runs stands in
           k .comes p L (u .walk) (runs-kept (t .same-path) (t .same-trace) runs) (u .stands)
@@ -118,7 +118,7 @@ module _ (table shape : List ℕ) (limits : Limits) (c : Cursor) (entry : Lent) 
             comes = λ p L w runs stands.
                 let u = under p L w runs stands in
                 let m : ℕ = ticksOf (limits .operations) - (n + 1) in
-                subst (λ (y : Tick State). Comes (r .outcome) (r .cursor) next y)
+                subst (λ (y : Tick State). ComesTo (r .outcome) (r .cursor) next y)
                 (sym (ap (λ (j : ℕ). explorer.walked (machine p) L j w) (omega arith) ∙ u .rest (suc m) ∙ walked-then p L m (u .walk)))
                 (stays-then (explorer.walked (machine p) L m) (r .cursor) next (r .outcome) o (explorer.tick (machine p) L (u .walk)) (comes-on p L w runs stands));
             gone = gone-more (t .gone) (k .gone) (omega arith);

@@ -4,8 +4,8 @@
 --     Underway, Ticking   an execution after so many ticks
 --     Walks               an execution from its first tick to its end or fault, by the definition's `walked`
 --     machineOf           that of a table, a final condition and the settings
---     Ready, Shaped       checks 2 to 5 have passed, and the shape is the table's
---     Given               the terms are those of the settings
+--     RunReady, Shaped    checks 2 to 5 have passed, and the shape is the table's
+--     TermsGiven          the terms are those of the settings
 --     Knows               a path and a cursor are a ledger's
 --     Executes            an execution, by the definition's `execution`
 use Prim.Native.Nat.{ℕ, _+_, _*_, _≤_}
@@ -23,7 +23,7 @@ use Rattle.rules.specs.Explored as rules
 use Rattle.rules.specs.Explored.{Settings, ticksOf, programOf, limitsOf}
 use Rattle.path.specs.Holds.{Holds}
 use Rattle.path.specs.Bounds.{boundOf}
-use Rattle.meeting.specs.Stands.{Lent, Stands, Comes}
+use Rattle.meeting.specs.Stands.{Lent, Stands, ComesTo}
 use Rattle.meeting.specs.declared.Cursor.{Cursor}
 use Rattle.meeting.specs.declared.Ticked.{Ticked}
 use Rattle.walk.specs.Walks.{Runs, Gone}
@@ -66,7 +66,7 @@ pub record Walks (entry exit : Lent) (table shape : List ℕ) (limits : Limits) 
   pub comes :
       (p : machine.Program) (L : explorer.Limits) (w : Walk State)
       → Runs p L table shape limits (entry .path) (entry .trace) → Stands entry c w
-      → Comes (r .outcome) (r .cursor) exit (explorer.walked (machine.machine p) L (ticksOf (limits .operations)) w)
+      → ComesTo (r .outcome) (r .cursor) exit (explorer.walked (machine.machine p) L (ticksOf (limits .operations)) w)
   pub gone : Gone c (r .cursor) mostOpened (exit .path) (exit .trace)
   pub beyond : (i : ℕ) → 16 * r .cursor .entries ≤ i → getD (exit .trace) i 0 ≡ getD (entry .trace) i 0
 
@@ -76,7 +76,7 @@ abbrev pub machineOf : List ℕ → List ℕ → Settings → Machine
 machineOf table condition s = machine.machine (programOf table condition s)
 
 -- "Checks run 2, 3, 4, 5"
-pub record Ready (table : List ℕ) (s : Settings) (path trace : List ℕ) : Type 0 where
+pub record RunReady (table : List ℕ) (s : Settings) (path trace : List ℕ) : Type 0 where
   pub in-range : rules.settingsFine s ≡ true
   pub path-long : length path ≡ 16 * s .branches
   pub trace-long : length trace ≡ 16 * s .operations
@@ -84,10 +84,10 @@ pub record Ready (table : List ℕ) (s : Settings) (path trace : List ℕ) : Typ
 
 -- the shape is the table's, which is accepted
 pub record Shaped (table shape : List ℕ) (s : Settings) (path trace : List ℕ) : Type 0 where
-  pub ready : Ready table s path trace
+  pub ready : RunReady table s path trace
   pub is-shape : shape ≡ shapeOf table
 
-pub record Given (s : Settings) (t : Terms) : Type 0 where
+pub record TermsGiven (s : Settings) (t : Terms) : Type 0 where
   pub operations : t .limits .operations ≡ s .operations
   pub bound : boundOf (t .limits .bound) ≡ s .bound
   pub exploring : s .exploring ≡ t .exploring
@@ -99,7 +99,7 @@ pub record Knows (path : List ℕ) (c : Cursor) (l : Ledger) : Type 0 where
 
 pub record Executes (entry exit : Lent) (table shape : List ℕ) (t : Terms) (c : Cursor) (r : Ticked) : Type 0 where
   pub comes :
-      (condition : List ℕ) (s : Settings) (l : Ledger) → Given s t → Shaped table shape s (entry .path) (entry .trace) → Knows (entry .path) c l
-      → Comes (r .outcome) (r .cursor) exit (explorer.execution (machineOf table condition s) (limitsOf s) l)
+      (condition : List ℕ) (s : Settings) (l : Ledger) → TermsGiven s t → Shaped table shape s (entry .path) (entry .trace) → Knows (entry .path) c l
+      → ComesTo (r .outcome) (r .cursor) exit (explorer.execution (machineOf table condition s) (limitsOf s) l)
   pub gone : Gone c (r .cursor) mostOpened (exit .path) (exit .trace)
   pub beyond : (i : ℕ) → 16 * r .cursor .entries ≤ i → getD (exit .trace) i 0 ≡ getD (entry .trace) i 0

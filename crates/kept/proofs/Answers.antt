@@ -24,7 +24,7 @@ use Rattle.ledger.specs.Replay.{Comes, here, marks, visits, Agrees}
 use Rattle.ledger.proofs.Events.{StatesMarked, marked-states, states-active}
 use Rattle.ledger.proofs.States.{found, present, turned-someone}
 use Rattle.ledger.proofs.Outcomes.{only-branch, just-branch}
-use Rattle.kept.specs.Kept.{FittingThread, FittingSlot, Fitting, Scheduling, Answerable}
+use Rattle.kept.specs.Kept.{FittingThread, FittingSlot, Fitting, FineScheduling, Answerable}
 
 -- A state put in a place
 
@@ -163,7 +163,7 @@ slot-offered m slot values fit =
 -- Questions that can be answered
 
 -- a thread that cannot run is Disabled in the seed
-seed-disabled : (initial : Whom) (standings : List Standing) (t : ℕ) → Scheduling initial standings →
+seed-disabled : (initial : Whom) (standings : List Standing) (t : ℕ) → FineScheduling initial standings →
     getD standings t cannotRun ≡ cannotRun → getD (seedOf initial standings) t 0 ≡ disabled
 unfolding seedOf
 seed-disabled nobody standings t p e = seed-state standings t ∙ ap seedState e
@@ -172,7 +172,7 @@ seed-disabled (thread u) standings t p e =
     getD-set-other (map seedState standings) u t active 0 n ∙ seed-state standings t ∙ ap seedState e
 
 -- where nobody is Active in a seed, there is no initial thread and no other can run
-seed-nobody : (initial : Whom) (standings : List Standing) → Scheduling initial standings →
+seed-nobody : (initial : Whom) (standings : List Standing) → FineScheduling initial standings →
     activeIn (toggled (seedOf initial standings)) ≡ nobody → FittingThread initial standings nobody
 unfolding seedOf
 seed-nobody nobody standings p e = (refl, λ t. go t (getD standings t cannotRun) refl)
@@ -190,7 +190,7 @@ seed-nobody (thread u) standings p e =
     (getD-set-same (map seedState standings) u active 0 l) (toggled-nobody (set (map seedState standings) u active) e .0))
 
 -- the thread that a schedule chooses
-thread-fits : (initial : Whom) (standings : List Standing) (states : List ℕ) (whom : Whom) → Scheduling initial standings →
+thread-fits : (initial : Whom) (standings : List Standing) (states : List ℕ) (whom : Whom) → FineScheduling initial standings →
     Comes (toggled (seedOf initial standings)) states → activeIn states ≡ whom → FittingThread initial standings whom
 thread-fits initial standings states nobody p c e = seed-nobody initial standings p (comes-nobody c e)
 thread-fits initial standings states (thread t) p c e =

@@ -17,7 +17,7 @@ use Rattle.ledger.specs.History.{Every, Course, starting, courseOf, courses, le
 use Rattle.ledger.proofs.Runs.{Known}
 use Rattle.ledger.proofs.History.{real}
 use Rattle.kept.specs.Kept.{Holding, Asking, OfAnswer, Possible, Falls, Never}
-use Rattle.kept.specs.Held.{HoldsAt, NotImpossible, EndsOver}
+use Rattle.kept.specs.Held.{HoldsOfWalk, NotImpossible, EndsOver}
 use Rattle.kept.specs.Possible.{PossibleIn, NeverImpossible}
 use Rattle.kept.proofs.Ticked.{Expected, expected, Ticked, alone, crowded, refused, answered, passer}
 use Rattle.kept.proofs.Courses.{After, walk-by, every-course}
@@ -61,7 +61,7 @@ module _ (M : Machine) (limits : Limits) (Holds : Holding M) (Asked : Asking M) 
   followed-sure n site w (stops s g) h p f = p
   followed-sure n site w (ends s) h p f = tt
 
-  ticked-sure : (w : Walk (M .State)) (t : Tick (M .State)) → HoldsAt M Holds w → Ticked M limits w t → Sure (sure-left w) t
+  ticked-sure : (w : Walk (M .State)) (t : Tick (M .State)) → HoldsOfWalk M Holds w → Ticked M limits w t → Sure (sure-left w) t
   ticked-sure w t h (alone e p a) =
       followed-sure (sure-left w) _ w e
       (alone-holds M Holds Asked Over limits (length (w .trace)) e a (next-holds M Holds Asked Over (N .keeps) w e h p))
@@ -78,7 +78,7 @@ module _ (M : Machine) (limits : Limits) (Holds : Holding M) (Asked : Asking M) 
       (N .answer-possible s (length (w .trace ++ es)) q a k g)
       (N .answer-falls (w .state) (length (w .trace)) s es x q a h p g)
 
-  tick-sure : (w : Walk (M .State)) → HoldsAt M Holds w → Expected M limits w → Sure (sure-left w) (tick M limits w)
+  tick-sure : (w : Walk (M .State)) → HoldsOfWalk M Holds w → Expected M limits w → Sure (sure-left w) (tick M limits w)
   tick-sure w h r = ticked-sure w (tick M limits w) h (tick-cases M limits Holds Asked Over (N .keeps) (N .question) w h r)
 
   -- An execution
@@ -90,7 +90,7 @@ module _ (M : Machine) (limits : Limits) (Holds : Holding M) (Asked : Asking M) 
 
   -- the ticks that may yet be made suffice
   abbrev Suffices : ℕ → Walk (M .State) → Type 0
-  Suffices n w = HoldsAt M Holds w × (sure-left w < n)
+  Suffices n w = HoldsOfWalk M Holds w × (sure-left w < n)
 
   on-sure : (n m : ℕ) (t : Tick (M .State)) → m ≤ n → Later M Holds Over t → Sure m t → After (Suffices n) Outcome t
   on-sure n m (goes w) h k s = (k, omega arith)
@@ -100,14 +100,14 @@ module _ (M : Machine) (limits : Limits) (Holds : Holding M) (Asked : Asking M) 
   not-so : (t : Tick (M .State)) → Outcome t → NotImpossible t
   not-so t o site w e = (rw e at o) refl
 
-  left-holds : (t : Tick (M .State)) → NotImpossible t → EndsOver M Over t → HoldsAt M Over (leftBy t)
+  left-holds : (t : Tick (M .State)) → NotImpossible t → EndsOver M Over t → HoldsOfWalk M Over (leftBy t)
   left-holds t o h = rw (h .2 o) at (h .1)
 
   course-possible : (l : Ledger) → Known M limits (l .path) → PossibleIn M Holds Asked Over (courseOf M limits l)
   unfolding courseOf execution
   course-possible l o =
       let r =
-      walk-by M limits Suffices (HoldsAt M Holds) Outcome (λ n w p. p .0)
+      walk-by M limits Suffices (HoldsOfWalk M Holds) Outcome (λ n w p. p .0)
       (λ n w r p. on-sure n (sure-left w) (tick M limits w) (omega (arith, p .1))
       (tick-holds M limits Holds Asked Over (N .keeps) (N .question) w (p .0) r) (tick-sure w (p .0) r))
       (λ w p. absurd (omega (arith, p .1)))

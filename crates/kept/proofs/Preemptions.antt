@@ -11,7 +11,7 @@ use native.Mathlib.Omega.{arith}
 use lib.Dec.{ltb, leb, eqb}
 use lib.ListN.{length, getD, set}
 use borrow.Author.Tests.{ltb-true, eqb-false, eq-eqb}
-use Rattle.rules.specs.Path.{Branch, schedule, load, spurious, Schedule, Bound, unbounded, atMost, noThread, activeIn, activeOf, orNone, preemptionsWith, Last, none, at, oneFurther, orFirst, lastSchedule, preemptionsAfter, initialAfter, newSchedule, threadAdded, loadAdded, spuriousAdded, marked, takesMarks, withStates, scheduleMarked, Marked, markedAt, noBranch, exploringBelow, schedulesBelow, switchIn, markedBefore, backtracked, pendings, openAt, turned, turnedBranch, orTurned, stepped}
+use Rattle.rules.specs.Path.{Branch, schedule, load, spurious, Schedule, Bound, unbounded, atMost, noThread, activeIn, activeOf, orNone, preemptionsWith, ScheduleAt, none, at, oneFurther, orFirst, lastSchedule, preemptionsAfter, initialAfter, newSchedule, threadAdded, loadAdded, spuriousAdded, marked, takesMarks, withStates, scheduleMarked, Marked, markedAt, noBranch, exploringBelow, schedulesBelow, switchIn, markedBefore, backtracked, pendings, openAt, turned, turnedBranch, orTurned, stepped}
 use Rattle.rules.specs.Event as Event
 use Rattle.rules.specs.Event.{Point, nowhere, branch, Question, whichThread, whichSlot, whichBit, offers}
 use Rattle.rules.specs.Explorer.{Ledger, backtrackFrom, allMarked, firstMarked, pushed, pushes}
@@ -90,12 +90,12 @@ within-there bound [] k w = tt
 within-there bound (b ∷ bs) zero w = w .0
 within-there bound (b ∷ bs) (suc k) w = within-there bound bs k (w .1)
 
-within-at : (bound : Bound) (bs : List Branch) (p : Last) (t : ℕ) → Explores bs p → Every (Within bound) bs →
+within-at : (bound : Bound) (bs : List Branch) (p : ScheduleAt) (t : ℕ) → Explores bs p → Every (Within bound) bs →
     Every (Within bound) (markedAt bound bs p t .path)
 within-at bound bs none t a w = w
 within-at bound bs (at k s) t a w = within-set bound bs k _ (within-marked bound s t (rw (a .0) at (within-there bound bs k w))) w
 
-within-before : (bound : Bound) (m : Marked) (first : Last) (t : ℕ) → Every (Within bound) (m .path) →
+within-before : (bound : Bound) (m : Marked) (first : ScheduleAt) (t : ℕ) → Every (Within bound) (m .path) →
     Every (Within bound) (markedBefore bound m first t .path)
 unfolding markedBefore
 within-before bound m none t w = w
@@ -163,14 +163,14 @@ unfolding lastSchedule
 within-last bound [] w n e = omega arith
 within-last bound (b ∷ bs) w n e = go b (lastSchedule bs) (w .0) (within-last bound bs (w .1) n e)
   where
-    go : (b : Branch) (l : Last) → Within bound b → preemptionsAfter l ≤ n → preemptionsAfter (orFirst (oneFurther l) b) ≤ n
+    go : (b : Branch) (l : ScheduleAt) → Within bound b → preemptionsAfter l ≤ n → preemptionsAfter (orFirst (oneFurther l) b) ≤ n
     go b (at k s) v h = h
     go (schedule s) none v h = v n e .chosen
     go (load l) none v h = h
     go (spurious u) none v h = h
 
 -- and none by its own: the thread that is active at first is the Active, or there is none
-new-with : (x : Bool) (l : Last) (states : List ℕ) → preemptionsWith (newSchedule x l states) ≡ preemptionsAfter l
+new-with : (x : Bool) (l : ScheduleAt) (states : List ℕ) → preemptionsWith (newSchedule x l states) ≡ preemptionsAfter l
 unfolding preemptionsWith activeOf
 new-with x l states = go (orNone (activeIn states)) l
   where
@@ -178,7 +178,7 @@ new-with x l states = go (orNone (activeIn states)) l
     or-true true z p e = refl
     or-true false z p e = rw e
 
-    go : (now : ℕ) (l : Last) →
+    go : (now : ℕ) (l : ScheduleAt) →
         cond (eqb (initialAfter l now) noThread || eqb (initialAfter l now) now) (preemptionsAfter l) (preemptionsAfter l + 1)
         ≡ preemptionsAfter l
     go now none = or-true (eqb now noThread) (eqb now now) 0 (eq-eqb now now refl)

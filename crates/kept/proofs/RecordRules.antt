@@ -16,7 +16,7 @@ use lib.Dec.{ltb, leb, eqb}
 use lib.ListN.{length, getD, set, take, length-append}
 use borrow.Author.Tests.{ltb-true, ltb-false, leb-false}
 use Rattle.rules.specs.Vector.{Whom, nobody, thread}
-use Rattle.rules.specs.Path.{Branch, schedule, load, spurious, yield, pending, active, visited, noThread, noPrev, noBranch, firstIn, activeIn, activeOf, orNone, toActive, toVisited, left, unlessActive, toggled, turned, turnedBranch, marked, openAt, stepped, orTurned, Last, none, at, orFirst, oneFurther, lastSchedule, prevOf, initialAfter, preemptionsAfter, Added, threadAdded, loadAdded, spuriousAdded}
+use Rattle.rules.specs.Path.{Branch, schedule, load, spurious, yield, pending, active, visited, noThread, noPrev, noBranch, firstIn, activeIn, activeOf, orNone, toActive, toVisited, left, unlessActive, toggled, turned, turnedBranch, marked, openAt, stepped, orTurned, ScheduleAt, none, at, orFirst, oneFurther, lastSchedule, prevOf, initialAfter, preemptionsAfter, Added, threadAdded, loadAdded, spuriousAdded}
 use Rattle.rules.specs.Event as Event
 use Rattle.rules.specs.Event.{Standing, yielded, cannotRun, other, Question, whichThread, whichSlot, whichBit, offers, slotsFrom, slotsOf}
 use Rattle.rules.specs.Explorer.{Limits, Ledger, firstMarked, seedOf, seedState, orFault, pushed, pushes}
@@ -30,7 +30,7 @@ use Rattle.ledger.proofs.Outcomes.{only-branch, just-branch}
 use Rattle.rules.proofs.SlotLaws.{slots-below}
 use Rattle.ledger.proofs.Lists.{rising-at, slots-rising, every-append}
 use Rattle.kept.specs.Kept.{Answerable}
-use Rattle.kept.specs.Rules.{IsSchedule, NoSchedule, Newest, RecordRules, PathRules}
+use Rattle.kept.specs.Rules.{IsSchedule, NoSchedule, NewestSchedule, RecordRules, PathRules}
 use Rattle.kept.proofs.Answers.{marked-length, turned-length, seed-length}
 use Rattle.kept.proofs.Preemptions.{Within, within-there, within-marks, within-new, within-stepped}
 
@@ -88,16 +88,16 @@ low-seed initial standings =
 
 -- The schedule before
 
-abbrev LastRule : List Branch → Last → Type 0
+abbrev LastRule : List Branch → ScheduleAt → Type 0
 LastRule bs none = NoSchedule bs
-LastRule bs (at k s) = Newest bs k
+LastRule bs (at k s) = NewestSchedule bs k
 
 last-rule : (bs : List Branch) → LastRule bs (lastSchedule bs)
 unfolding lastSchedule
 last-rule [] = λ k h. h
 last-rule (b ∷ bs) = go b (lastSchedule bs) (last-rule bs)
   where
-    go : (b : Branch) (l : Last) → LastRule bs l → LastRule (b ∷ bs) (orFirst (oneFurther l) b)
+    go : (b : Branch) (l : ScheduleAt) → LastRule bs l → LastRule (b ∷ bs) (orFirst (oneFurther l) b)
     go b (at k s) r =
         record {
           within = omega (arith, r .within);
@@ -125,16 +125,16 @@ last-rule (b ∷ bs) = go b (lastSchedule bs) (last-rule bs)
         past (suc j) h = r j h
 
 abbrev PrevRule : List Branch → ℕ → Type 0
-PrevRule before p = ((p ≡ noPrev) × NoSchedule before) ⊎ Newest before p
+PrevRule before p = ((p ≡ noPrev) × NoSchedule before) ⊎ NewestSchedule before p
 
 prev-rule : (bs : List Branch) → PrevRule bs (prevOf (lastSchedule bs))
 prev-rule bs = go (lastSchedule bs) (last-rule bs)
   where
-    go : (l : Last) → LastRule bs l → PrevRule bs (prevOf l)
+    go : (l : ScheduleAt) → LastRule bs l → PrevRule bs (prevOf l)
     go none r = inl (refl, r)
     go (at k s) r = inr r
 
-initial-rule : (states : List ℕ) (l : Last) → length states ≡ 5 →
+initial-rule : (states : List ℕ) (l : ScheduleAt) → length states ≡ 5 →
     (initialAfter l (orNone (activeIn states)) ≡ noThread) ⊎ (initialAfter l (orNone (activeIn states)) < 5)
 initial-rule states l e = go (activeIn states) refl l
   where
@@ -142,7 +142,7 @@ initial-rule states l e = go (activeIn states) refl l
     on nobody f = inl refl
     on (thread t) f = inr (omega (arith, found active states t f .0))
 
-    go : (w : Whom) → activeIn states ≡ w → (l : Last) → (initialAfter l (orNone w) ≡ noThread) ⊎ (initialAfter l (orNone w) < 5)
+    go : (w : Whom) → activeIn states ≡ w → (l : ScheduleAt) → (initialAfter l (orNone w) ≡ noThread) ⊎ (initialAfter l (orNone w) < 5)
     go w f none = on w f
     go w f (at k s) = either (eqb (orNone w) (activeOf s))
       where

@@ -14,7 +14,7 @@ use Rattle.ledger.proofs.Runs.{Known}
 use Rattle.ledger.proofs.Balance.{stops-left}
 use Rattle.ledger.proofs.History.{real}
 use Rattle.kept.specs.Kept.{Holding, Asking, Keeps, Answerable}
-use Rattle.kept.specs.Held.{HoldsAt}
+use Rattle.kept.specs.Held.{HoldsOfWalk}
 use Rattle.kept.specs.Rules.{PathRules, RuledIn, Ruled}
 use Rattle.kept.proofs.Ticked.{Expected, expected, marksMade, Met, known, new, Ticked, alone, crowded, refused, answered, passer}
 use Rattle.kept.proofs.Courses.{After, walk-by, every-course}
@@ -44,7 +44,7 @@ module _ (M : Machine) (limits : Limits) (Holds : Holding M) (Asked : Asking M) 
   met-obeys w x q l a o known = obeys-marks limits (w .ledger) q o
   met-obeys w x q l a o (new b e) = obeys-added limits (marksMade M limits w q .path) x q b a e (obeys-marks limits (w .ledger) q o)
 
-  ticked-obeys : (w : Walk (M .State)) (t : Tick (M .State)) → HoldsAt M Holds w → PathObeys w → Ticked M limits w t →
+  ticked-obeys : (w : Walk (M .State)) (t : Tick (M .State)) → HoldsOfWalk M Holds w → PathObeys w → Ticked M limits w t →
       PathObeys (leftBy t)
   ticked-obeys w t h o (alone e p a) = followed-obeys _ w e o
   ticked-obeys w t h o (crowded s es x q p f) = o
@@ -53,13 +53,13 @@ module _ (M : Machine) (limits : Limits) (Holds : Holding M) (Asked : Asking M) 
       followed-obeys _ (passer M limits w s es l) (M .answered s a)
       (met-obeys w x q l (can s _ q (next-asks M Holds Asked Over keeps w h s es x q p)) o m)
 
-  tick-obeys : (w : Walk (M .State)) → HoldsAt M Holds w → PathObeys w → Expected M limits w → PathObeys (leftBy (tick M limits w))
+  tick-obeys : (w : Walk (M .State)) → HoldsOfWalk M Holds w → PathObeys w → Expected M limits w → PathObeys (leftBy (tick M limits w))
   tick-obeys w h o r = ticked-obeys w (tick M limits w) h o (tick-cases M limits Holds Asked Over keeps can w h r)
 
   -- An execution
 
   abbrev Both : Walk (M .State) → Type 0
-  Both w = HoldsAt M Holds w × PathObeys w
+  Both w = HoldsOfWalk M Holds w × PathObeys w
 
   on-obeys : (t : Tick (M .State)) → Later M Holds Over t → PathObeys (leftBy t) → After Both (λ u. PathObeys (leftBy u)) t
   on-obeys (goes w) h o = (h, o)

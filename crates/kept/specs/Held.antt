@@ -1,7 +1,7 @@
 -- What a machine keeps holds at every tick of every execution of every run. Assumes nothing.
---     HoldsAt, AskedAt, EndsOver       of a walk, of what it asks next, of how an execution came out
+--     HoldsOfWalk, AskedAt, EndsOver   of a walk, of what it asks next, of how an execution came out
 --     HeldIn                           of an execution
---     Held                             the statement
+--     HeldByAll                        the statement
 use Prim.Native.Nat.{ℕ, _+_}
 use mathlib.Core.List.{List}
 use mathlib.Core.Bool.{Bool}
@@ -13,8 +13,8 @@ use Rattle.ledger.specs.History.{Every, Course, courses, leftBy}
 use Rattle.kept.specs.Kept.{Holding, Asking, Keeps, Answerable}
 
 -- of a walk: of its state, with the entries of its trace
-abbrev pub HoldsAt : (M : Machine) → Holding M → Walk (M .State) → Type 0
-HoldsAt M Holds w = Holds (w .state) (length (w .trace))
+abbrev pub HoldsOfWalk : (M : Machine) → Holding M → Walk (M .State) → Type 0
+HoldsOfWalk M Holds w = Holds (w .state) (length (w .trace))
 
 -- of a walk whose next tick asks: of the state that asks, with the entries that are then noted
 abbrev pub AskedAt : (M : Machine) → Asking M → Walk (M .State) → Type 0
@@ -33,15 +33,15 @@ EndsOver M Over t = (n : ℕ) × Over (leftBy t .state) n × (NotImpossible t �
 
 pub record HeldIn (M : Machine) (Holds : Holding M) (Asked : Asking M) (Over : Holding M) (c : Course (M .State)) : Type 0 where
   -- between its ticks
-  pub at-ticks : Every (HoldsAt M Holds) (c .ticks)
+  pub at-ticks : Every (HoldsOfWalk M Holds) (c .ticks)
   -- wherever it asks
   pub at-questions : Every (AskedAt M Asked) (c .ticks)
   -- and where it is over or has met a fault
   pub at-end : EndsOver M Over (c .outcome)
 
 -- Of any machine that keeps it, and whose questions can be answered
-unfoldable pub Held : Type 1
-Held =
+unfoldable pub HeldByAll : Type 1
+HeldByAll =
     (M : Machine) (limits : Limits) (Holds : Holding M) (Asked : Asking M) (Over : Holding M) → Keeps M Holds Asked Over →
     ((s : M .State) (n : ℕ) (q : Question) → Asked s n q → Answerable q) →
     (n : ℕ) → Every (HeldIn M Holds Asked Over) (courses M limits n)

@@ -45,13 +45,13 @@ pub record Offering (m : Matched) : Type 0 where
   pub few : (offered : List Bool) → m ≡ offers offered → length offered ≤ 7
 
 -- the initial thread is one that can run; there is none only where the others that can have yielded
-pub record Scheduling (initial : Whom) (standings : List Standing) : Type 0 where
+pub record FineScheduling (initial : Whom) (standings : List Standing) : Type 0 where
   pub five : length standings ≡ 5
   pub can : (t : ℕ) → initial ≡ thread t → (t < 5) × (getD standings t cannotRun ≡ cannotRun → ⊥)
   pub none : initial ≡ nobody → (t : ℕ) → getD standings t cannotRun ≡ other → ⊥
 
 abbrev pub Answerable : Question → Type 0
-Answerable (whichThread points initial standings) = Scheduling initial standings
+Answerable (whichThread points initial standings) = FineScheduling initial standings
 Answerable (whichSlot m) = Offering m
 Answerable whichBit = Unit
 

@@ -1,6 +1,6 @@
 -- The rules of path records, at every moment of every run: document 01, "Path record" and "Settings, buffers, answers". Assumes
 -- nothing.
---     IsSchedule, NoSchedule, Newest           the schedule before a place
+--     IsSchedule, NoSchedule, NewestSchedule   the schedule before a place
 --     ScheduleRules, LoadRules, RecordRules    a record, after the records before it
 --     PathRules                                all records of a path
 --     RuledIn, RuledRun, Ruled                 at every walk of an execution, of a run; the statement
@@ -27,7 +27,7 @@ abbrev pub NoSchedule : List Branch → Type 0
 NoSchedule bs = (k : ℕ) → IsSchedule (getD bs k noBranch) → ⊥
 
 -- the one at this position, and none after it
-pub record Newest (bs : List Branch) (p : ℕ) : Type 0 where
+pub record NewestSchedule (bs : List Branch) (p : ℕ) : Type 0 where
   pub within : p < length bs
   pub is : IsSchedule (getD bs p noBranch)
   pub newest : (k : ℕ) → p < k → IsSchedule (getD bs k noBranch) → ⊥
@@ -48,7 +48,7 @@ pub record ScheduleRules (before : List Branch) (s : Schedule) : Type 0 where
   -- "initial active or 255"
   pub initial : (s .initial ≡ noThread) ⊎ (s .initial < 5)
   -- "prev u16 or 65535": the newest schedule before it, or there is none
-  pub prev : ((s .prev ≡ noPrev) × NoSchedule before) ⊎ Newest before (s .prev)
+  pub prev : ((s .prev ≡ noPrev) × NoSchedule before) ⊎ NewestSchedule before (s .prev)
 
 -- "load: seven values, pos, len"
 pub record LoadRules (l : Load) : Type 0 where

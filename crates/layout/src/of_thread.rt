@@ -20,7 +20,7 @@ pub const LAST_YIELD: usize = 20;
 
 pub const OPERATION: usize = 25;
 
-pub const OBJECT: usize = 30;
+pub const OPERATES_ON: usize = 30;
 
 pub const PHASE: usize = 35;
 

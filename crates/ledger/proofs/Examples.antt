@@ -26,7 +26,7 @@ use Rattle.ledger.specs.Play.{played}
 use Rattle.ledger.specs.Small as Small
 use Rattle.ledger.specs.Tree.{noExecution, Parted}
 use Rattle.ledger.specs.Turning.{running, threadsFrom, alternatives, openNames, newlyPending, markedAlternatives, openedNames, joinedOver, openedOf, turnedOf, openOf, parting, partings}
-use Rattle.ledger.specs.Wrong.{Parts, walkedBy, runFromBy, runBy, steppedFirst, againFrom, droppingStep, uncounted, reopening, inventing, wrongRun, Unbalanced, Wrong}
+use Rattle.ledger.specs.Wrong.{Parts, walkedBy, runFromBy, runBy, steppedFirst, againFrom, droppingStep, uncounted, reopening, inventing, wrongRun, Unbalanced, WrongLedgers}
 use Rattle.ledger.specs.WrongTree.{steppedTwice, revisiting, SameAgain, WrongTree}
 
 module _ (P : Parts State) (e c l : ℕ) where
@@ -50,9 +50,9 @@ no-fault M limits n u w f site (c ∷ []) e k m = let z : _≡_ {A = ℕ} 0 1 = 
 no-fault M limits n u w f site (c ∷ d ∷ cs) e k m = omega arith
 
 record Computed : Type 0 where
-  worked : Small.Worked
+  worked : Small.WorkedRuns
   named : Named
-  wrong : Wrong
+  wrong : WrongLedgers
   wrong-tree : WrongTree
 
 computed : Computed
@@ -105,7 +105,7 @@ computed = record {
     silent = failing uncounted 5 2 0 refl refl refl (λ e. absurd (omega arith));
     again = failing reopening 10 6 2 refl refl refl (λ e. absurd (omega arith));
     invented = λ cs t.
-        no-fault Small.small (Small.limitsOf 16 Path.unbounded) 10 (wrongRun inventing .walk) (wrongRun inventing .walk) deadlock noSite cs refl
+        no-fault Small.small (Small.smallLimits 16 Path.unbounded) 10 (wrongRun inventing .walk) (wrongRun inventing .walk) deadlock noSite cs refl
         (sym (length-map cs executed) ∙ sym (ap length (t .history))) (t .made);
     balances = refl;
   };
@@ -117,13 +117,13 @@ computed = record {
   };
 }
 
-pub worked : Small.Worked
+pub worked : Small.WorkedRuns
 worked = computed .worked
 
 pub named : Named
 named = computed .named
 
-pub wrong : Wrong
+pub wrong : WrongLedgers
 wrong = computed .wrong
 
 pub wrong-tree : WrongTree

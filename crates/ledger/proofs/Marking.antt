@@ -7,7 +7,7 @@ use mathlib.Core.List.{List, [], _∷_, _++_}
 use mathlib.Core.Bool.{Bool, true, false, cond}
 use mathlib.Core.Path.{_≡_, refl, ap, _∙_}
 use lib.ListN.{length, getD, set}
-use Rattle.rules.specs.Path.{Branch, schedule, Schedule, Bound, Last, none, at, runs}
+use Rattle.rules.specs.Path.{Branch, schedule, Schedule, Bound, ScheduleAt, none, at, runs}
 use Rattle.rules.specs.Path.{marked, withStates, scheduleMarked, takesMarks, Marked, markedAt, noBranch, unbounded, atMost, exploringBelow, schedulesBelow, switchIn, markedBefore, backtracked, choiceOf}
 use Rattle.rules.specs.Event.{Point, nowhere, branch, Question, whichThread, whichSlot, whichBit}
 use Rattle.rules.specs.Explorer.{Ledger, backtrackFrom, allMarked, firstMarked, reply}
@@ -86,11 +86,11 @@ scheduleMarked-marking bound s t e = go (takesMarks bound s)
     go true = mark s t e same
     go false = same
 
-markedAt-marking : (bound : Bound) (bs : List Branch) (p : Last) (t : ℕ) → Explores bs p → AllMarking bs (markedAt bound bs p t .path)
+markedAt-marking : (bound : Bound) (bs : List Branch) (p : ScheduleAt) (t : ℕ) → Explores bs p → AllMarking bs (markedAt bound bs p t .path)
 markedAt-marking bound bs none t a = all-refl bs
 markedAt-marking bound bs (at k s) t a = all-set bs k _ (rw (a .0) (scheduleMarked-marking bound s t (a .1)))
 
-markedBefore-marking : (bound : Bound) (m : Marked) (first : Last) (t : ℕ) → AllMarking (m .path) (markedBefore bound m first t .path)
+markedBefore-marking : (bound : Bound) (m : Marked) (first : ScheduleAt) (t : ℕ) → AllMarking (m .path) (markedBefore bound m first t .path)
 unfolding markedBefore
 markedBefore-marking bound m none t = all-refl (m .path)
 markedBefore-marking bound m (at k s) t =

@@ -14,7 +14,7 @@ use lib.Dec.{ltb, eqb}
 use lib.ListN.{length, getD, List·getD-eq-default}
 use lib.Seq.{getD-set-other}
 use borrow.Author.Tests.{ltb-true, ltb-false}
-use Rattle.rules.specs.Path.{Branch, schedule, load, spurious, Schedule, Bound, unbounded, atMost, Last, none, at}
+use Rattle.rules.specs.Path.{Branch, schedule, load, spurious, Schedule, Bound, unbounded, atMost, ScheduleAt, none, at}
 use Rattle.rules.specs.Path.{Placed, isExploring, takesMarks, scheduleMarked, madePending, Marked, markedAt, theSchedule, noBranch}
 use Rattle.rules.specs.Path.{scheduleAt, ifExploring, exploringBelow, andSchedule, schedulesBelow, activeOf, switchIn, markedBefore, backtracked, openAt, openIn}
 use Rattle.ledger.specs.History.{Every}
@@ -24,12 +24,12 @@ use Rattle.ledger.proofs.Events.{pendings-marked, none-made}
 -- What a backtrack finds
 
 -- that a place found in a path is there
-abbrev pub Stands : List Branch → Last → Type 0
+abbrev pub Stands : List Branch → ScheduleAt → Type 0
 Stands bs none = Unit {0}
 Stands bs (at k s) = getD bs k noBranch ≡ schedule s
 
 -- and that the schedule there is exploring
-abbrev pub Explores : List Branch → Last → Type 0
+abbrev pub Explores : List Branch → ScheduleAt → Type 0
 Explores bs none = Unit {0}
 Explores bs (at k s) = (getD bs k noBranch ≡ schedule s) × (s .exploring ≡ true)
 
@@ -42,12 +42,12 @@ pub scheduleAt-stands : (bs : List Branch) (k : ℕ) → Stands bs (scheduleAt b
 unfolding scheduleAt
 scheduleAt-stands bs k = theSchedule-stands bs k (getD bs k noBranch) refl
 
-cond-explores : (bs : List Branch) (k : ℕ) (s : Schedule) (other : Last) → Stands bs (at k s) → Explores bs other →
+cond-explores : (bs : List Branch) (k : ℕ) (s : Schedule) (other : ScheduleAt) → Stands bs (at k s) → Explores bs other →
     (b : Bool) → s .exploring ≡ b → Explores bs (cond b (at k s) other)
 cond-explores bs k s other p q true e = (p, e)
 cond-explores bs k s other p q false e = q
 
-ifExploring-explores : (bs : List Branch) (l other : Last) → Stands bs l → Explores bs other → Explores bs (ifExploring l other)
+ifExploring-explores : (bs : List Branch) (l other : ScheduleAt) → Stands bs l → Explores bs other → Explores bs (ifExploring l other)
 ifExploring-explores bs none other p q = q
 ifExploring-explores bs (at k s) other p q = cond-explores bs k s other p q (s .exploring) refl
 
@@ -114,7 +114,7 @@ stands-below bs k s e =
     absurd (omega arith))
     (flag (ltb k (length bs)))
 
-pub markedAt-open : (bound : Bound) (bs : List Branch) (l : Last) (t : ℕ) → Explores bs l →
+pub markedAt-open : (bound : Bound) (bs : List Branch) (l : ScheduleAt) (t : ℕ) → Explores bs l →
     openIn (markedAt bound bs l t .path) ≡ openIn bs + markedAt bound bs l t .opened
 markedAt-open bound bs none t p = omega arith
 markedAt-open bound bs (at k s) t p =
@@ -122,7 +122,7 @@ markedAt-open bound bs (at k s) t p =
     let here : openAt (getD bs k noBranch) ≡ openAt (schedule s) = ap openAt (p .0) in
     omega (arith, openIn-set bs k b (stands-below bs k s (p .0)), here, scheduleMarked-open bound s t (p .1))
 
-markedBefore-open : (bound : Bound) (bs : List Branch) (m : Marked) (first : Last) (t : ℕ) → openIn (m .path) ≡ openIn bs + m .opened →
+markedBefore-open : (bound : Bound) (bs : List Branch) (m : Marked) (first : ScheduleAt) (t : ℕ) → openIn (m .path) ≡ openIn bs + m .opened →
     openIn (markedBefore bound m first t .path) ≡ openIn bs + markedBefore bound m first t .opened
 unfolding markedBefore
 markedBefore-open bound bs m none t e = e
@@ -141,7 +141,7 @@ backtracked-open (atMost n) bs point t =
 
 -- Records that are not exploring take no marks
 
-markedAt-kept : (bound : Bound) (bs : List Branch) (l : Last) (t : ℕ) → Explores bs l → (j : ℕ) → isExploring (getD bs j noBranch) ≡ false →
+markedAt-kept : (bound : Bound) (bs : List Branch) (l : ScheduleAt) (t : ℕ) → Explores bs l → (j : ℕ) → isExploring (getD bs j noBranch) ≡ false →
     getD (markedAt bound bs l t .path) j noBranch ≡ getD bs j noBranch
 markedAt-kept bound bs none t p j e = refl
 markedAt-kept bound bs (at k s) t p j e =
@@ -152,7 +152,7 @@ markedAt-kept bound bs (at k s) t p j e =
     let g : isExploring (getD bs k noBranch) ≡ true = ap isExploring (p .0) ∙ p .1 in
     true≢false (sym g ∙ f))
 
-markedBefore-kept : (bound : Bound) (m : Marked) (first : Last) (t j : ℕ) → isExploring (getD (m .path) j noBranch) ≡ false →
+markedBefore-kept : (bound : Bound) (m : Marked) (first : ScheduleAt) (t j : ℕ) → isExploring (getD (m .path) j noBranch) ≡ false →
     getD (markedBefore bound m first t .path) j noBranch ≡ getD (m .path) j noBranch
 unfolding markedBefore
 markedBefore-kept bound m none t j e = refl

@@ -7,7 +7,7 @@ use lib.ListN.{length}
 use Rattle.rules.specs.Vector.{nobody}
 use Rattle.rules.specs.Path.{unbounded, runs, reads}
 use Rattle.rules.specs.Event.{Entry}
-use Rattle.ledger.specs.Small.{small, limitsOf}
+use Rattle.ledger.specs.Small.{small, smallLimits}
 use Rattle.ledger.specs.History.{Course, end, courses}
 use Rattle.ledger.specs.Play.{isOver, unanswered, played}
 use Rattle.ledger.specs.Turning.{Name, running, openedOf, turnedOf, openOf}
@@ -43,18 +43,18 @@ passedBy c = end c .pos
 
 pub record Named : Type 0 where
   -- "P3 .. 5 executions .. opened 4", in the order in which they were opened
-  pub opened : openedOf small (limitsOf 16 unbounded) 100 ≡ loaderFirst ∷ readsOne ∷ storerNext ∷ thenOne ∷ []
+  pub opened : openedOf small (smallLimits 16 unbounded) 100 ≡ loaderFirst ∷ readsOne ∷ storerNext ∷ thenOne ∷ []
   -- and in the order in which they were turned to
-  pub turned : turnedOf small (limitsOf 16 unbounded) 100 ≡ readsOne ∷ loaderFirst ∷ storerNext ∷ thenOne ∷ []
-  pub none-open : openOf small (limitsOf 16 unbounded) 100 ≡ []
+  pub turned : turnedOf small (smallLimits 16 unbounded) 100 ≡ readsOne ∷ loaderFirst ∷ storerNext ∷ thenOne ∷ []
+  pub none-open : openOf small (smallLimits 16 unbounded) 100 ≡ []
   -- with the budget spent: after the first execution, and after the fourth
-  pub open-after-one : openOf small (limitsOf 16 unbounded) 1 ≡ loaderFirst ∷ readsOne ∷ []
-  pub open-after-four : openOf small (limitsOf 16 unbounded) 4 ≡ thenOne ∷ []
+  pub open-after-one : openOf small (smallLimits 16 unbounded) 1 ≡ loaderFirst ∷ readsOne ∷ []
+  pub open-after-four : openOf small (smallLimits 16 unbounded) 4 ≡ thenOne ∷ []
   -- how many records each of the five executions knew when it began, and how many branches it has passed
-  pub known : map knownTo (courses small (limitsOf 16 unbounded) 100) ≡ 0 ∷ 4 ∷ 1 ∷ 2 ∷ 4 ∷ []
-  pub passed : map passedBy (courses small (limitsOf 16 unbounded) 100) ≡ 5 ∷ 5 ∷ 5 ∷ 5 ∷ 5 ∷ []
+  pub known : map knownTo (courses small (smallLimits 16 unbounded) 100) ≡ 0 ∷ 4 ∷ 1 ∷ 2 ∷ 4 ∷ []
+  pub passed : map passedBy (courses small (smallLimits 16 unbounded) 100) ≡ 5 ∷ 5 ∷ 5 ∷ 5 ∷ 5 ∷ []
   -- the last one's choices, played without a path: the store's entry, then the load of 1, with both slots offered
-  pub play : played small (limitsOf 16 unbounded) 32 (small .start) [] 0 (thenOne ++ (runs nobody ∷ [])) .trace ≡ storeEntry ∷ loadEntry ∷ []
+  pub play : played small (smallLimits 16 unbounded) 32 (small .start) [] 0 (thenOne ++ (runs nobody ∷ [])) .trace ≡ storeEntry ∷ loadEntry ∷ []
   -- then it is over; with one choice less thread 1 asks at its end who runs next
-  pub play-over : played small (limitsOf 16 unbounded) 32 (small .start) [] 0 (thenOne ++ (runs nobody ∷ [])) .ending ≡ isOver
-  pub play-short : played small (limitsOf 16 unbounded) 32 (small .start) [] 0 thenOne .ending ≡ unanswered (record { thread = 1; row = 1 })
+  pub play-over : played small (smallLimits 16 unbounded) 32 (small .start) [] 0 (thenOne ++ (runs nobody ∷ [])) .ending ≡ isOver
+  pub play-short : played small (smallLimits 16 unbounded) 32 (small .start) [] 0 thenOne .ending ≡ unanswered (record { thread = 1; row = 1 })

@@ -28,8 +28,8 @@ pub record Final (S : Type 0) : Type 0 where
   pub state : S
   pub trace : List Entry
 
-abbrev pub final : {S : Type 0} → Ending → S → List Entry → Final S
-final e s tr = record { ending = e; state = s; trace = tr }
+abbrev pub finalOf : {S : Type 0} → Ending → S → List Entry → Final S
+finalOf e s tr = record { ending = e; state = s; trace = tr }
 
 -- at the branch of this number: a thread for a scheduling, a slot for what is offered, a bit for a spurious branch
 abbrev pub answerTo : ℕ → Choice → Question → Reply
@@ -52,32 +52,32 @@ module _ (M : Machine) (limits : Limits) where
   -- as in the definition: with room for the entries or not
   abbrev pub onto : Going → Site → List Entry → ℕ → List Choice → M .State → List Entry → Final (M .State)
   onto F site tr k cs s es =
-      cond (leb (length tr + length es) (limits .operations)) (F s (tr ++ es) k cs) (final (meets impossible site) s tr)
+      cond (leb (length tr + length es) (limits .operations)) (F s (tr ++ es) k cs) (finalOf (meets impossible site) s tr)
 
   abbrev pub afterAnswer : Going → Site → List Entry → ℕ → List Choice → Move (M .State) → Final (M .State)
   afterAnswer F site tr k cs (moves s es) = onto F site tr k cs s es
-  afterAnswer F site tr k cs (asks s es x q) = final (meets impossible site) s tr
-  afterAnswer F site tr k cs (stops s f) = final (meets f site) s tr
-  afterAnswer F site tr k cs (ends s) = final isOver s tr
+  afterAnswer F site tr k cs (asks s es x q) = finalOf (meets impossible site) s tr
+  afterAnswer F site tr k cs (stops s f) = finalOf (meets f site) s tr
+  afterAnswer F site tr k cs (ends s) = finalOf isOver s tr
 
   abbrev pub atReply : Going → Site → M .State → List Entry → ℕ → List Choice → Reply → Final (M .State)
   atReply F site s tr k cs (says a) = afterAnswer F site tr (k + 1) cs (M .answered s a)
-  atReply F site s tr k cs unexpected = final (meets impossible site) s tr
+  atReply F site s tr k cs unexpected = finalOf (meets impossible site) s tr
 
   abbrev pub atQuestion : Going → Site → M .State → List Entry → ℕ → List Choice → Question → Final (M .State)
-  atQuestion F site s tr k [] q = final (unanswered site) s tr
+  atQuestion F site s tr k [] q = finalOf (unanswered site) s tr
   atQuestion F site s tr k (c ∷ cs) q = atReply F site s tr k cs (answerTo k c q)
 
   abbrev pub atTick : Going → Site → List Entry → ℕ → List Choice → Move (M .State) → Final (M .State)
   atTick F site tr k cs (moves s es) = onto F site tr k cs s es
   atTick F site tr k cs (asks s es x q) =
-      cond (leb (length tr + length es) (limits .operations)) (atQuestion F site s (tr ++ es) k cs q) (final (meets impossible site) s tr)
-  atTick F site tr k cs (stops s f) = final (meets f site) s tr
-  atTick F site tr k cs (ends s) = final isOver s tr
+      cond (leb (length tr + length es) (limits .operations)) (atQuestion F site s (tr ++ es) k cs q) (finalOf (meets impossible site) s tr)
+  atTick F site tr k cs (stops s f) = finalOf (meets f site) s tr
+  atTick F site tr k cs (ends s) = finalOf isOver s tr
 
   -- at most n ticks
   unfoldable pub played : ℕ → Going
-  played zero s tr k cs = final (meets impossible noSite) s tr
+  played zero s tr k cs = finalOf (meets impossible noSite) s tr
   played (suc n) s tr k cs = atTick (played n) (M .next s .site) tr k cs (M .next s .move)
 
 -- Executions and plays
@@ -98,6 +98,6 @@ AtQuestion impossible = Unit {0}
 -- has met a fault at that question
 abbrev pub EndsAs : {S : Type 0} → Tick S → Final S → Type 0
 EndsAs (goes w) p = ⊥
-EndsAs (over w) p = p ≡ final isOver (w .state) (w .trace)
+EndsAs (over w) p = p ≡ finalOf isOver (w .state) (w .trace)
 EndsAs (faulted f site w) p =
-    (p ≡ final (meets f site) (w .state) (w .trace)) ⊎ (AtQuestion f × (p ≡ final (unanswered site) (w .state) (w .trace)))
+    (p ≡ finalOf (meets f site) (w .state) (w .trace)) ⊎ (AtQuestion f × (p ≡ finalOf (unanswered site) (w .state) (w .trace)))

@@ -1,9 +1,9 @@
 -- A small run that the checker computes whole: document 01's case P3, "thread 0 stores 1, thread 1 loads, Relaxed, one cell
 -- starting at 0". Assumes nothing.
 --     small, under        its machine, without and with a final condition
---     limitsOf            its limits
---     Outcome             what a run of it comes to
---     Worked              the worked cases
+--     smallLimits         its limits
+--     CaseOutcome         what a run of it comes to
+--     WorkedRuns          the worked cases
 use Prim.Native.Nat.{ℕ}
 use mathlib.Core.List.{List, [], _∷_}
 use mathlib.Core.Bool.{true}
@@ -24,41 +24,41 @@ abbrev pub small : Machine
 small = under []
 
 -- with a branch limit, a preemption bound and an execution budget; its two rows fit
-abbrev pub limitsOf : ℕ → Bound → Limits
-limitsOf B bound = record { branches = B; operations = 2; bound = bound; ticks = 32 }
+abbrev pub smallLimits : ℕ → Bound → Limits
+smallLimits B bound = record { branches = B; operations = 2; bound = bound; ticks = 32 }
 
-abbrev pub runUnder : List ℕ → ℕ → Bound → ℕ → Stop State
-runUnder condition B bound n = run (under condition) (limitsOf B bound) n
+abbrev pub smallRunUnder : List ℕ → ℕ → Bound → ℕ → Stop State
+smallRunUnder condition B bound n = run (under condition) (smallLimits B bound) n
 
 abbrev pub runOf : ℕ → Bound → ℕ → Stop State
-runOf = runUnder []
+runOf = smallRunUnder []
 
 -- answer, executions begun, values read in the order of the traces, choices opened, choices open
-pub record Outcome : Type 0 where
+pub record CaseOutcome : Type 0 where
   pub verdict : Verdict
   pub executions : ℕ
   pub values : List ℕ
   pub choices : ℕ
   pub left : ℕ
 
-abbrev pub outcome : Verdict → ℕ → List ℕ → ℕ → ℕ → Outcome
+abbrev pub outcome : Verdict → ℕ → List ℕ → ℕ → ℕ → CaseOutcome
 outcome v e vs c l = record { verdict = v; executions = e; values = vs; choices = c; left = l }
 
-abbrev pub outcomeUnder : List ℕ → ℕ → Bound → ℕ → Outcome
+abbrev pub outcomeUnder : List ℕ → ℕ → Bound → ℕ → CaseOutcome
 outcomeUnder condition B bound n =
-    let r = runUnder condition B bound n in
+    let r = smallRunUnder condition B bound n in
     outcome (r .verdict) (begun r) (loadsInAll (r .history)) (opened r) (open-in r)
 
-abbrev pub outcomeOf : ℕ → Bound → ℕ → Outcome
+abbrev pub outcomeOf : ℕ → Bound → ℕ → CaseOutcome
 outcomeOf = outcomeUnder []
 
 -- "schedule: five states .., preemptions, initial active or 255, prev u16 or 65535", on an exploring record
-abbrev pub scheduled : List ℕ → ℕ → ℕ → ℕ → Branch
-scheduled states preemptions initial prev =
+abbrev pub aSchedule : List ℕ → ℕ → ℕ → ℕ → Branch
+aSchedule states preemptions initial prev =
     schedule (record { exploring = true; states = states; preemptions = preemptions; initial = initial; prev = prev })
 
 -- the worked cases, which the checker computes
-pub record Worked : Type 0 where
+pub record WorkedRuns : Type 0 where
   -- "P3 .. 5 executions, values 0,1,0,0,1, opened 4"
   pub p3 : outcomeOf 16 unbounded 100 ≡ outcome exhausted 5 (0 ∷ 1 ∷ 0 ∷ 0 ∷ 1 ∷ []) 4 0
   -- "P4 bound 0: 2 executions"
@@ -79,9 +79,9 @@ pub record Worked : Type 0 where
   pub claim-true : outcomeUnder (comparing differs 1 2) 16 unbounded 100 ≡ outcome exhausted 5 (0 ∷ 1 ∷ 0 ∷ 0 ∷ 1 ∷ []) 4 0
   -- the path left by the fourth execution
   pub path : runOf 16 unbounded 4 .walk .ledger .path ≡
-      scheduled (visited ∷ active ∷ 0 ∷ 0 ∷ 0 ∷ []) 0 0 noPrev
-      ∷ scheduled (active ∷ visited ∷ 0 ∷ 0 ∷ 0 ∷ []) 1 1 0
-      ∷ scheduled (disabled ∷ active ∷ 0 ∷ 0 ∷ 0 ∷ []) 2 noThread 1
+      aSchedule (visited ∷ active ∷ 0 ∷ 0 ∷ 0 ∷ []) 0 0 noPrev
+      ∷ aSchedule (active ∷ visited ∷ 0 ∷ 0 ∷ 0 ∷ []) 1 1 0
+      ∷ aSchedule (disabled ∷ active ∷ 0 ∷ 0 ∷ 0 ∷ []) 2 noThread 1
       ∷ load (record { exploring = true; values = 0 ∷ 1 ∷ []; pos = 0 })
-      ∷ scheduled (disabled ∷ disabled ∷ 0 ∷ 0 ∷ 0 ∷ []) 2 noThread 2
+      ∷ aSchedule (disabled ∷ disabled ∷ 0 ∷ 0 ∷ 0 ∷ []) 2 noThread 2
       ∷ []

@@ -1,6 +1,6 @@
 -- Wrong explorers, for which the balance fails, or the history is not real: the definition's explorer over two of its parts, and
 -- one part exchanged at a time. With the definition's own parts it is the definition's explorer (`Same`). Assumes nothing.
---     Parts, right        the marks that a question makes, and what follows an execution
+--     Parts, rightParts   the marks that a question makes, and what follows an execution
 --     runBy               the explorer with given parts
 --     Same                it is the definition's
 --     droppingStep, uncounted, reopening, inventing     a wrong part each
@@ -11,7 +11,7 @@ use mathlib.Core.Bool.{Bool, cond}
 use mathlib.Core.Path.{_≡_}
 use lib.Dec.{ltb, eqb}
 use lib.ListN.{getD, set}
-use Rattle.rules.specs.Path.{Branch, schedule, Bound, unbounded, Last, none, at, pending, visited}
+use Rattle.rules.specs.Path.{Branch, schedule, Bound, unbounded, ScheduleAt, none, at, pending, visited}
 use Rattle.rules.specs.Path.{withStates, exploringBelow, openAt, turnedBranch}
 use Rattle.rules.specs.Event as Event
 use Rattle.rules.specs.Event.{Point, nowhere, branch, Question, whichThread, whichSlot, whichBit, Site, noSite, Move, Machine, moves, asks, stops, ends}
@@ -20,14 +20,14 @@ use Rattle.rules.specs.Explorer.{Limits, Ledger, Walk, Tick, goes, over, faulte
 use Rattle.rules.specs.Explorer.{firstMarked, withState, withLedger, noted, fits, met, taken, fresh, oneBegun, empty, after, run}
 use Rattle.ledger.specs.History.{leftBy, Course, Told}
 use Rattle.ledger.specs.Balance.{begun, opened, open-in}
-use Rattle.ledger.specs.Small.{small, limitsOf}
+use Rattle.ledger.specs.Small.{small, smallLimits}
 
 pub record Parts (S : Type 0) : Type 0 where
   pub marks : Bound → Ledger → Question → Ledger
   pub follows : (S → Bool) → Bool → List Execution → Tick S → After S
 
-abbrev pub right : {S : Type 0} → Parts S
-right = record { marks = firstMarked; follows = after }
+abbrev pub rightParts : {S : Type 0} → Parts S
+rightParts = record { marks = firstMarked; follows = after }
 
 -- The definition's explorer, with its parts left open
 
@@ -61,7 +61,7 @@ module _ (M : Machine) (limits : Limits) (P : Parts (M .State)) where
 
 -- with the definition's parts it is the definition's explorer
 unfoldable pub Same : Type 1
-Same = (M : Machine) (limits : Limits) (n : ℕ) → runBy M limits right n ≡ run M limits n
+Same = (M : Machine) (limits : Limits) (n : ℕ) → runBy M limits rightParts n ≡ run M limits n
 
 -- A part exchanged
 
@@ -92,7 +92,7 @@ uncounted = record {
 }
 
 -- marks that open Visited: those of the definition, and then each target that is Visited
-abbrev pub openedAgain : List Branch → Last → ℕ → List Branch
+abbrev pub openedAgain : List Branch → ScheduleAt → ℕ → List Branch
 openedAgain bs none t = bs
 openedAgain bs (at k s) t =
     cond (eqb (getD (s .states) t pending) visited) (set bs k (schedule (withStates s (set (s .states) t pending)))) bs
@@ -124,7 +124,7 @@ inventing = record {
 -- What they come to, on the small machine with a budget of ten executions
 
 abbrev pub wrongRun : Parts State → Stop State
-wrongRun P = runBy small (limitsOf 16 unbounded) P 10
+wrongRun P = runBy small (smallLimits 16 unbounded) P 10
 
 pub record Unbalanced (P : Parts State) (executions choices left : ℕ) : Type 0 where
   pub begun-is : begun (wrongRun P) ≡ executions
@@ -135,9 +135,9 @@ pub record Unbalanced (P : Parts State) (executions choices left : ℕ) : Type 0
 
 -- no list of executions is that of its history
 abbrev pub Untold : Parts State → Type 0
-Untold P = (cs : List (Course State)) → Told small (limitsOf 16 unbounded) 10 cs (wrongRun P) → ⊥
+Untold P = (cs : List (Course State)) → Told small (smallLimits 16 unbounded) 10 cs (wrongRun P) → ⊥
 
-pub record Wrong : Type 0 where
+pub record WrongLedgers : Type 0 where
   -- the load that the first execution opened is dropped, its second value never read
   pub dropping : Unbalanced droppingStep 4 4 0
   -- the five executions of P3, and only the loads' choices counted

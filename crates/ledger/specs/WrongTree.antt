@@ -8,7 +8,7 @@ use mathlib.Core.List.{List, [], _∷_}
 use mathlib.Core.Path.{_≡_}
 use lib.ListN.{length, getD, set}
 use Rattle.rules.specs.Vector.{Whom, nobody, thread}
-use Rattle.rules.specs.Path.{Branch, schedule, Last, none, at, pending, activeIn, withStates, scheduleAt, stepped}
+use Rattle.rules.specs.Path.{Branch, schedule, ScheduleAt, none, at, pending, activeIn, withStates, scheduleAt, stepped}
 use Rattle.rules.specs.State.{State}
 use Rattle.ledger.specs.Balance.{opened, open-in}
 use Rattle.ledger.specs.Tree.{noExecution, Parted}
@@ -21,7 +21,7 @@ toPending nobody states = states
 toPending (thread t) states = set states t pending
 
 -- the next path, and at its last place the schedule as it was and as it is
-abbrev pub pendingAgain : List Branch → Last → Last → List Branch
+abbrev pub pendingAgain : List Branch → ScheduleAt → ScheduleAt → List Branch
 pendingAgain ds none now = ds
 pendingAgain ds (at k s) none = ds
 pendingAgain ds (at k s) (at j r) = set ds k (schedule (withStates r (toPending (activeIn (s .states)) (r .states))))

@@ -17,7 +17,7 @@ pub fn is_limit(number: u64) -> bool
     (number == answers::SPENT)
         | (number == answers::FULL)
         | (number == answers::ROWS)
-        | (number == answers::PREEMPTED)
+        | (number == answers::PREEMPTIONS)
 }
 
 // Says which limit, which setting to raise, and whether the execution went round in a loop.

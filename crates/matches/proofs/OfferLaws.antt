@@ -15,14 +15,14 @@ use lib.Seq.{sets}
 use borrow.Author.Tests.{eq-eqb, ne-eqb}
 use Rattle.rules.specs.Vector as Vectors
 use Rattle.rules.specs.Seen.{seenBeforeYield, seenSlots}
-use Rattle.rules.specs.State.{Clocks, Numbers, vector, number, storeAt, causality, order, isSeqCst, lastYield}
+use Rattle.rules.specs.State.{Clocks, Numbers, vector, number, storeAt, causality, modificationOrder, isSeqCst, lastYield}
 use Rattle.rules.specs.Cell as rules
 use Rattle.rules.specs.Cell.{allSeqCst, fateFrom, loadFate, liveIn, matchedFrom, orderOf}
 use Rattle.rules.specs.Event as Event
 use Rattle.rules.specs.Event.{slotsFrom}
 use Rattle.vv.specs.declared.Ordering.{Ordering}
 use Rattle.vv.specs.declared.Ordering.the-variants as Orders
-use Rattle.vv.specs.Compared.{compared}
+use Rattle.vv.specs.Compared.{orderingOf}
 use Rattle.matches.specs.declared.Fate.{Fate}
 use Rattle.matches.specs.declared.Fate.the-variants as Fates
 use Rattle.matches.specs.Offers.{fateOf, drops, Scan, slots, equalMet, offered}
@@ -32,7 +32,7 @@ use Rattle.synchronize.proofs.SeenLaws.{seenSlots-at}
 
 -- an answer about the two orders that were read is one about those of the stores
 pub compared-told : (clocks : Clocks) (c i j first second : ℕ) → first ≡ storeAt c i → second ≡ storeAt c j → (r : Ordering) →
-    r ≡ compared (vector clocks (order first)) (vector clocks (order second)) → r ≡ compared (orderOf clocks c i) (orderOf clocks c j)
+    r ≡ orderingOf (vector clocks (modificationOrder first)) (vector clocks (modificationOrder second)) → r ≡ orderingOf (orderOf clocks c i) (orderOf clocks c j)
 compared-told clocks c i j first second at by r e = rw (← at, ← by) e
 
 pub all-seq-cst : (numbers : Numbers) (c i j o first second : ℕ) → first ≡ storeAt c i → second ≡ storeAt c j →
@@ -61,7 +61,7 @@ module _ (clocks : Clocks) (c i : ℕ) (d : ℕ → Bool) (l j : ℕ) where
   fate-here h = let e : l - j ≡ suc (l - (j + 1)) = omega arith in ap (λ (n : ℕ). fateFrom clocks c i d n j) e
 
   fate-met : j < l → j ≢ i →
-      fateFrom clocks c i d (l - j) j ≡ met (compared (orderOf clocks c i) (orderOf clocks c j)) (d j) (fateFrom clocks c i d (l - (j + 1)) (j + 1))
+      fateFrom clocks c i d (l - j) j ≡ met (orderingOf (orderOf clocks c i) (orderOf clocks c j)) (d j) (fateFrom clocks c i d (l - (j + 1)) (j + 1))
   unfolding fateFrom
   fate-met h n =
       fate-here h
@@ -79,13 +79,13 @@ module _ (clocks : Clocks) (c i : ℕ) (d : ℕ → Bool) (l j : ℕ) (whole : r
     unfolding fateFrom
     fate-own e = sym (fate-here clocks c i d l j h ∙ rw (eq-eqb j i e, fateFrom)) ∙ left
 
-    module _ (n : j ≢ i) (r s : Ordering) (e : r ≡ compared (orderOf clocks c i) (orderOf clocks c j)) (told : r ≡ s) where
+    module _ (n : j ≢ i) (r s : Ordering) (e : r ≡ orderingOf (orderOf clocks c i) (orderOf clocks c j)) (told : r ≡ s) where
       pub fate-told : met s (d j) (fateFrom clocks c i d (l - (j + 1)) (j + 1)) ≡ whole
       fate-told =
           ap (λ (o : Ordering). met o (d j) (fateFrom clocks c i d (l - (j + 1)) (j + 1))) (sym told ∙ e)
           ∙ (sym (fate-met clocks c i d l j h n) ∙ left)
 
-    module _ (n : j ≢ i) (r : Ordering) (e : r ≡ compared (orderOf clocks c i) (orderOf clocks c j)) (told : r ≡ Orders.Less) where
+    module _ (n : j ≢ i) (r : Ordering) (e : r ≡ orderingOf (orderOf clocks c i) (orderOf clocks c j)) (told : r ≡ Orders.Less) where
       pub fate-dropped : d j ≡ true → rules.dropped ≡ whole
       fate-dropped f = rw f at (fate-told n r Orders.Less e told)
 

@@ -2,7 +2,7 @@
 ghost use mathlib.Core.Path.{_≡_};
 ghost use Prim.Native.Nat.{_<_};
 ghost use Rattle.rules.specs.Cell.{allSeqCst, fateFrom, liveIn, rmwFate, matchedLoad, matchedRmw, orderOf};
-ghost use Rattle.vv.specs.Compared.{compared};
+ghost use Rattle.vv.specs.Compared.{orderingOf};
 ghost use Rattle.matches.specs.Offers.{fateOf, drops, scanned, offered};
 use layout::Access;
 use layout::Clocks;
@@ -158,7 +158,7 @@ fn rmw_fate(clocks: &Clocks, numbers: &Numbers, cell: usize, i: usize) -> Fate
 // Store i against store j in modification order.
 fn compare_orders(clocks: &Clocks, cell: usize, i: usize, j: usize) -> Ordering
     requires { ⌜ (cell < 4) × (i < 7) × (j < 7) ⌝ }
-    ensures { λ r. ⌜ r ≡ compared (orderOf (now (clocks .entry)) cell i) (orderOf (now (clocks .entry)) cell j) ⌝ }
+    ensures { λ r. ⌜ r ≡ orderingOf (orderOf (now (clocks .entry)) cell i) (orderOf (now (clocks .entry)) cell j) ⌝ }
 {
     let a = clocks[MODIFICATION_ORDER + store_at(cell, i)];
     let b = clocks[MODIFICATION_ORDER + store_at(cell, j)];

@@ -35,7 +35,7 @@ use Rattle.event.specs.declared.Fault.the-variants as fault
 use Rattle.event.specs.declared.Site.{Site}
 use Rattle.event.specs.declared.Question.{Question}
 use Rattle.event.specs.declared.Question.the-variants as question
-use Rattle.meeting.specs.Stands.{lent, Stands, Comes, GoesOn, Stopped, siteOf}
+use Rattle.meeting.specs.Stands.{lent, Stands, ComesTo, GoesOn, Stopped, siteOf}
 use Rattle.meeting.specs.Branches.{Met, OneMore, addedTo, branched, askedAt, Holding, Reaches, addedAt, reachedAt}
 use Rattle.meeting.specs.declared.Cursor.{Cursor}
 use Rattle.meeting.specs.declared.Here.{Here}
@@ -61,7 +61,7 @@ module _ (c : Cursor) (r : Ticked) (site : Site) (clocks : Clocks) (marks : Mark
         }
 
     answer-comes : (a : Added) (p : Addition) → p ≡ pushedOf a → Holds exit (grown (w .ledger .path) a) → addedTo p site c r
-        → Comes (r .outcome) (r .cursor) (lent clocks marks values numbers exit trace) (branched (siteOf site) w (orFault a))
+        → ComesTo (r .outcome) (r .cursor) (lent clocks marks values numbers exit trace) (branched (siteOf site) w (orFault a))
     answer-comes (paths.added b) p e h to =
         let m = subst (λ (x : Addition). addedTo x site c r) e to in
         comes-goes r _ _ _ (m .0) refl (more-stands b h (m .1))
@@ -70,23 +70,23 @@ module _ (c : Cursor) (r : Ticked) (site : Site) (clocks : Clocks) (marks : Mark
         comes-stops r _ w fault.Full site _ (m .is) refl (same-stands (m .stays) (refused-stands h))
     answer-comes paths.preempted p e h to =
         let m = subst (λ (x : Addition). addedTo x site c r) e to in
-        comes-stops r _ w fault.Preempted site _ (m .is) refl (same-stands (m .stays) (refused-stands h))
+        comes-stops r _ w fault.Preemptions site _ (m .is) refl (same-stands (m .stays) (refused-stands h))
 
   records : (L : explorer.Limits) → Holding L entry → recordsOf entry ≡ L .branches
   records L h = omega (arith, h .branches)
 
   pub pushes-comes : {most : ℕ} {answer : ℕ → List Branch → Added} {p : Addition} → Pushes entry exit (c .len) most answer p → addedTo p site c r
       → (L : explorer.Limits) (w : Walk State) (values : Values) (trace : List ℕ) → Holding L entry → Stands (lent clocks marks values numbers entry trace) c w
-      → Comes (r .outcome) (r .cursor) (lent clocks marks values numbers exit trace) (branched (siteOf site) w (orFault (answer (L .branches) (w .ledger .path))))
+      → ComesTo (r .outcome) (r .cursor) (lent clocks marks values numbers exit trace) (branched (siteOf site) w (orFault (answer (L .branches) (w .ledger .path))))
   pushes-comes {most} {answer} {p} h to L w values trace room s =
-      subst (λ (B : ℕ). Comes (r .outcome) (r .cursor) (lent clocks marks values numbers exit trace) (branched (siteOf site) w (orFault (answer B (w .ledger .path))))) (records L room)
+      subst (λ (B : ℕ). ComesTo (r .outcome) (r .cursor) (lent clocks marks values numbers exit trace) (branched (siteOf site) w (orFault (answer B (w .ledger .path))))) (records L room)
       (answer-comes w values trace s (answer (recordsOf entry) (w .ledger .path)) p (h .says (w .ledger .path) (s .holds) (s .is-len)) (h .holds (w .ledger .path) (s .holds) (s .is-len)) to)
 
   pub pushes-thread-comes : {exploring : Bool} {seed : List ℕ} {p : Addition} → 16 * c .len ≤ length entry → PushesThread entry exit (c .len) exploring seed p → addedTo p site c r
       → (L : explorer.Limits) (w : Walk State) (values : Values) (trace : List ℕ) → Holding L entry → Stands (lent clocks marks values numbers entry trace) c w
-      → Comes (r .outcome) (r .cursor) (lent clocks marks values numbers exit trace) (branched (siteOf site) w (orFault (threadAdded (L .branches) (w .ledger .path) exploring seed)))
+      → ComesTo (r .outcome) (r .cursor) (lent clocks marks values numbers exit trace) (branched (siteOf site) w (orFault (threadAdded (L .branches) (w .ledger .path) exploring seed)))
   pushes-thread-comes {exploring} {seed} {p} within h to L w values trace room s =
-      subst (λ (B : ℕ). Comes (r .outcome) (r .cursor) (lent clocks marks values numbers exit trace) (branched (siteOf site) w (orFault (threadAdded B (w .ledger .path) exploring seed)))) (records L room)
+      subst (λ (B : ℕ). ComesTo (r .outcome) (r .cursor) (lent clocks marks values numbers exit trace) (branched (siteOf site) w (orFault (threadAdded B (w .ledger .path) exploring seed)))) (records L room)
       (answer-comes w values trace s (threadAdded (recordsOf entry) (w .ledger .path) exploring seed) p (h .says (w .ledger .path) (s .holds) (s .is-len)) (h .holds (w .ledger .path) (s .holds) (s .is-len) (omega (arith, room .branches, room .few, within))) to)
 
 -- The question of each kind
@@ -101,13 +101,13 @@ module _ (c : Cursor) (r : Ticked) (h : Here) (q : Question) (clocks : Clocks) (
   module _ (met : Met c r exit) where
     added-reaches : (k : Question) → q ≡ k
         → ((L : explorer.Limits) (w : Walk State) (values : Values) (trace : List ℕ) → Holding L entry → Stands (lent clocks marks values numbers entry trace) c w
-        → Comes (r .outcome) (r .cursor) (lent clocks marks values numbers exit trace) (adds k (state clocks marks values numbers) L w))
+        → ComesTo (r .outcome) (r .cursor) (lent clocks marks values numbers exit trace) (adds k (state clocks marks values numbers) L w))
         → Reaches c r clocks marks numbers entry exit (addedAt q h)
     added-reaches k e f =
         record {
           met = met;
           comes = λ L w values trace room s.
-              subst (λ (y : Tick State). Comes (r .outcome) (r .cursor) (lent clocks marks values numbers exit trace) y) (add-as k w values L e (s .is-state)) (f L w values trace room s);
+              subst (λ (y : Tick State). ComesTo (r .outcome) (r .cursor) (lent clocks marks values numbers exit trace) y) (add-as k w values L e (s .is-state)) (f L w values trace room s);
         }
 
     pub thread-reaches : {exploring : Bool} {seed : List ℕ} {p : Addition} → q ≡ question.Thread → exploring ≡ exploringNow numbers → seed ≡ seedOf (initial numbers) (map (standing numbers) everyThread)
@@ -116,8 +116,8 @@ module _ (c : Cursor) (r : Ticked) (h : Here) (q : Question) (clocks : Clocks) (
     thread-reaches {exploring} {seed} {p} e x y within push to =
         added-reaches question.Thread e
         (λ L w values trace room s.
-        subst (λ (z : List ℕ). Comes (r .outcome) (r .cursor) (lent clocks marks values numbers exit trace) (branched (siteOf (h .site)) w (orFault (threadAdded (L .branches) (w .ledger .path) (exploringNow numbers) z)))) y
-        (subst (λ (b : Bool). Comes (r .outcome) (r .cursor) (lent clocks marks values numbers exit trace) (branched (siteOf (h .site)) w (orFault (threadAdded (L .branches) (w .ledger .path) b seed)))) x
+        subst (λ (z : List ℕ). ComesTo (r .outcome) (r .cursor) (lent clocks marks values numbers exit trace) (branched (siteOf (h .site)) w (orFault (threadAdded (L .branches) (w .ledger .path) (exploringNow numbers) z)))) y
+        (subst (λ (b : Bool). ComesTo (r .outcome) (r .cursor) (lent clocks marks values numbers exit trace) (branched (siteOf (h .site)) w (orFault (threadAdded (L .branches) (w .ledger .path) b seed)))) x
         (pushes-thread-comes c r (h .site) clocks marks numbers entry exit within push to L w values trace room s)))
 
     pub bit-reaches : {exploring : Bool} {p : Addition} → q ≡ question.Bit → exploring ≡ exploringNow numbers
@@ -126,7 +126,7 @@ module _ (c : Cursor) (r : Ticked) (h : Here) (q : Question) (clocks : Clocks) (
     bit-reaches {exploring} {p} e x push to =
         added-reaches question.Bit e
         (λ L w values trace room s.
-        subst (λ (b : Bool). Comes (r .outcome) (r .cursor) (lent clocks marks values numbers exit trace) (branched (siteOf (h .site)) w (orFault (spuriousAdded (L .branches) (w .ledger .path) b)))) x
+        subst (λ (b : Bool). ComesTo (r .outcome) (r .cursor) (lent clocks marks values numbers exit trace) (branched (siteOf (h .site)) w (orFault (spuriousAdded (L .branches) (w .ledger .path) b)))) x
         (pushes-comes c r (h .site) clocks marks numbers entry exit push to L w values trace room s))
 
     pub slot-reaches : q ≡ question.Slot → Reaches c r clocks marks numbers entry exit (addedAt question.Slot h) → Reaches c r clocks marks numbers entry exit (addedAt q h)
@@ -150,7 +150,7 @@ module _ (c : Cursor) (r : Ticked) (h : Here) (q : Question) (clocks : Clocks) (
         met = a .met;
         comes = λ L w values trace room s.
             let e : eqb (w .pos) (length (w .ledger .path)) ≡ true = eq-eqb (w .pos) (length (w .ledger .path)) (s .is-pos ∙ n ∙ sym (s .is-len)) in
-            subst (λ (y : Tick State). Comes (r .outcome) (r .cursor) (lent clocks marks values numbers exit trace) y) (sym (ap (λ (b : Bool). cond b (addedAt q h L w) (goes w)) e)) (a .comes L w values trace room s);
+            subst (λ (y : Tick State). ComesTo (r .outcome) (r .cursor) (lent clocks marks values numbers exit trace) y) (sym (ap (λ (b : Bool). cond b (addedAt q h L w) (goes w)) e)) (a .comes L w values trace room s);
       }
 
 -- What a load or an RMW is offered
@@ -242,10 +242,10 @@ module _ (c : Cursor) (r : Ticked) (h : Here) (clocks : Clocks) (marks : MarkTab
   offers-comes : (exploring : Bool) → exploring ≡ exploringNow numbers → (n : ℕ) → {p : Addition} → Pushes entry exit (c .len) 6 (λ B bs. loadAdded B bs exploring (take n seed)) p → addedTo p (h .site) c r
       → (L : explorer.Limits) (w : Walk State) (values : Values) (trace : List ℕ) → Holding L entry → Stands (lent clocks marks values numbers entry trace) c w
       → (offer : rules.Matched) → ReadBack n seed offer
-      → Comes (r .outcome) (r .cursor) (lent clocks marks values numbers exit trace) (branched (siteOf (h .site)) w (explorer.loadPushed (L .branches) (w .ledger .path) (exploringNow numbers) offer))
+      → ComesTo (r .outcome) (r .cursor) (lent clocks marks values numbers exit trace) (branched (siteOf (h .site)) w (explorer.loadPushed (L .branches) (w .ledger .path) (exploringNow numbers) offer))
   offers-comes exploring x n push to L w values trace room s (rules.offers os) back =
-      subst (λ (z : List ℕ). Comes (r .outcome) (r .cursor) (lent clocks marks values numbers exit trace) (branched (siteOf (h .site)) w (orFault (loadAdded (L .branches) (w .ledger .path) (exploringNow numbers) z)))) back
-      (subst (λ (b : Bool). Comes (r .outcome) (r .cursor) (lent clocks marks values numbers exit trace) (branched (siteOf (h .site)) w (orFault (loadAdded (L .branches) (w .ledger .path) b (take n seed))))) x
+      subst (λ (z : List ℕ). ComesTo (r .outcome) (r .cursor) (lent clocks marks values numbers exit trace) (branched (siteOf (h .site)) w (orFault (loadAdded (L .branches) (w .ledger .path) (exploringNow numbers) z)))) back
+      (subst (λ (b : Bool). ComesTo (r .outcome) (r .cursor) (lent clocks marks values numbers exit trace) (branched (siteOf (h .site)) w (orFault (loadAdded (L .branches) (w .ledger .path) b (take n seed))))) x
       (pushes-comes c r (h .site) clocks marks numbers entry exit push to L w values trace room s))
   offers-comes exploring x n push to L w values trace room s rules.equal back = absurd back
 
@@ -265,12 +265,12 @@ module _ (c : Cursor) (r : Ticked) (h : Here) (clocks : Clocks) (marks : MarkTab
 
 module _ (c : Cursor) (r : Ticked) (h : Here) (clocks : Clocks) (marks : MarkTable) (numbers : Numbers) (entry : List ℕ) (dst seed : List ℕ) (m : Matched)
     (says : (values : Values) → scanned m seed ≡ offered (matchedFor (state clocks marks values numbers) (h .site .thread) (decodedOf (h .row))) dst) (met : Met c r entry) where
-  pub equal-reaches : m ≡ match.Equal → Stopped fault.Equal (h .site) c r → Reaches c r clocks marks numbers entry entry (addedAt question.Slot h)
+  pub equal-reaches : m ≡ match.Equal → Stopped fault.EqualOrders (h .site) c r → Reaches c r clocks marks numbers entry entry (addedAt question.Slot h)
   unfolding explorer.pushed
   equal-reaches e stop =
       added-reaches c r h question.Slot clocks marks numbers entry entry met question.Slot refl
       (λ L w values trace room s.
       let offer : rules.Matched = matchedFor (state clocks marks values numbers) (h .site .thread) (decodedOf (h .row)) in
-      comes-stops r _ w fault.Equal (h .site) _ (stop .is)
+      comes-stops r _ w fault.EqualOrders (h .site) _ (stop .is)
       (ap (branched (siteOf (h .site)) w) (equal-out c r h clocks marks numbers entry entry dst seed m says met offer (sym (ap (λ (y : Matched). scanned y seed) e) ∙ says values) (L .branches) (w .ledger .path) (exploringNow numbers)))
       (same-stands (stop .stays) s))

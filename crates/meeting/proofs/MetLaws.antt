@@ -15,21 +15,21 @@ use Rattle.record.specs.Answers.{offeredSlot}
 use Rattle.record.specs.declared.Offered.{Offered}
 use Rattle.record.specs.declared.Offered.the-variants as offered
 use Rattle.path.specs.Answers.{pushedWithin}
-use Rattle.path.specs.Choices.{Reads}
+use Rattle.path.specs.Choices.{ReadsSlot}
 use Rattle.path.specs.Pushes.{Pushes, PushesThread}
 use Rattle.path.specs.declared.Addition.{Addition}
 use Rattle.path.specs.declared.Addition.the-variants as pushed
 use Rattle.event.specs.declared.Fault.{Fault}
 use Rattle.event.specs.declared.Fault.the-variants as fault
 use Rattle.event.specs.declared.Site.{Site}
-use Rattle.meeting.specs.Stands.{Ahead, Same, Stopped}
+use Rattle.meeting.specs.Stands.{BranchThere, CursorSame, Stopped}
 use Rattle.meeting.specs.Branches.{Met, OneMore, pushedFew, addedTo}
 use Rattle.meeting.specs.declared.Cursor.{Cursor}
 use Rattle.meeting.specs.declared.Outcome.{Outcome}
 use Rattle.meeting.specs.declared.Outcome.the-variants as code
 use Rattle.meeting.specs.declared.Ticked.{Ticked}
 
-pub reads-within : {path : List ℕ} {pos : ℕ} {r : Offered} {slot mask : ℕ} → Reads path pos r → r ≡ offered.Slot slot mask → slot < 7
+pub reads-within : {path : List ℕ} {pos : ℕ} {r : Offered} {slot mask : ℕ} → ReadsSlot path pos r → r ≡ offered.Slot slot mask → slot < 7
 reads-within h e = subst (λ (x : Offered). offeredSlot x) e (h .slot)
 
 pub added-few : (p : Addition) {n : ℕ} → p ≡ pushed.Added n → pushedFew p → n ≤ 6
@@ -42,10 +42,10 @@ module _ (p : Addition) (s : Site) (c : Cursor) (r : Ticked) where
   pub added-full : p ≡ pushed.Full → Stopped fault.Full s c r → addedTo p s c r
   added-full e h = subst (λ (x : Addition). addedTo x s c r) (sym e) h
 
-  pub added-preempted : p ≡ pushed.Preempted → Stopped fault.Preempted s c r → addedTo p s c r
+  pub added-preempted : p ≡ pushed.Preempted → Stopped fault.Preemptions s c r → addedTo p s c r
   added-preempted e h = subst (λ (x : Addition). addedTo x s c r) (sym e) h
 
-ahead-any : (o : Outcome) (c : Cursor) → c .pos < c .len → Ahead o c
+ahead-any : (o : Outcome) (c : Cursor) → c .pos < c .len → BranchThere o c
 ahead-any code.Goes c h = h
 ahead-any code.Ends c h = tt
 ahead-any (code.Stops f s) c h = tt
@@ -97,7 +97,7 @@ module _ (c : Cursor) (r : Ticked) {entry exit : List ℕ} (passed : c .pos ≤ 
   pushes-thread-met {exploring} {seed} {p} s h a = within-met c r entry exit passed within (h .keeps) 5 (omega arith) p (h .within) s a
 
 -- a branch that was there
-pub goes-met : (c : Cursor) (r : Ticked) {path : List ℕ} → c .pos ≤ c .len → (c .pos ≡ c .len → ⊥) → 16 * c .len ≤ length path → Same c (r .cursor) → Met c r path
+pub goes-met : (c : Cursor) (r : Ticked) {path : List ℕ} → c .pos ≤ c .len → (c .pos ≡ c .len → ⊥) → 16 * c .len ≤ length path → CursorSame c (r .cursor) → Met c r path
 goes-met c r passed other within h =
     record {
       ahead = ahead-any (r .outcome) (r .cursor) (omega (arith, h .same-pos, h .same-len));
@@ -107,8 +107,8 @@ goes-met c r passed other within h =
       few = omega (arith, h .same-opened);
     }
 
-ahead-goes : (o : Outcome) (c : Cursor) → o ≡ code.Goes → Ahead o c → c .pos < c .len
-ahead-goes o c e h = subst (λ (x : Outcome). Ahead x c) e h
+ahead-goes : (o : Outcome) (c : Cursor) → o ≡ code.Goes → BranchThere o c → c .pos < c .len
+ahead-goes o c e h = subst (λ (x : Outcome). BranchThere x c) e h
 
 pub met-ahead : {c : Cursor} {m : Ticked} {path : List ℕ} → Met c m path → m .outcome ≡ code.Goes → m .cursor .pos < m .cursor .len
 met-ahead {c} {m} h e = ahead-goes (m .outcome) (m .cursor) e (h .ahead)

@@ -21,7 +21,7 @@ use Rattle.record.specs.Choices.{offeredBy, allSlots}
 use Rattle.record.specs.declared.Offered.{Offered}
 use Rattle.record.specs.declared.Offered.the-variants as offered
 use Rattle.path.specs.Holds.{Holds}
-use Rattle.path.specs.Choices.{Chooses, Reads, Says, chosenOf, chosenIn, saidBy}
+use Rattle.path.specs.Choices.{Chooses, ReadsSlot, Says, chosenOf, chosenIn, saidBy}
 use Rattle.path.specs.declared.Chosen.{Chosen}
 use Rattle.path.specs.declared.Chosen.the-variants as chosen
 use Rattle.path.specs.declared.Said.{Said}
@@ -119,7 +119,7 @@ slot-said pos (paths.load l) m =
     (load-by (ltb (l .pos) (length (l .values))) (allSlots (l .values)) (getD (l .values) (l .pos) 0) (l .values))
 slot-said pos (paths.spurious u) m = refl
 
-module _ (path : List ℕ) (pos : ℕ) (q : Question) (e : q ≡ question.Slot) (r : Offered) (h : Reads path pos r) where
+module _ (path : List ℕ) (pos : ℕ) (q : Question) (e : q ≡ question.Slot) (r : Offered) (h : ReadsSlot path pos r) where
   slot-replies : (a : Reply) → replyWithin a → ((x : explorer.Reply) → SlotSaid r x → AnswersBy a x) → RepliesBy path pos q a
   slot-replies a within f =
       subst (λ (k : Question). RepliesBy path pos k a) (sym e)

@@ -4,7 +4,7 @@
 --     pushedFew, OneMore, addedTo                           a branch that was added, and how it is counted
 --     branched, reached                                     the definition's: a branch added, the path met
 --     Met, Holding, Reaches, addedAt, reachedAt             a branch is added where there is none
---     replyWithin, Fits, AnswersBy, RepliesBy               what a branch chooses
+--     replyWithin, PickFits, AnswersBy, RepliesBy           what a branch chooses
 use Prim.Native.Nat.{ℕ, zero, suc, _+_, _*_, _≤_, _<_}
 use mathlib.Core.List.{List, map}
 use mathlib.Core.Bool.{Bool, cond}
@@ -34,7 +34,7 @@ use Rattle.event.specs.declared.Question.{Question}
 use Rattle.event.specs.declared.Question.the-variants as question
 use Rattle.event.specs.declared.Site.{Site}
 use Rattle.execution.specs.Answers.{choiceWithin}
-use Rattle.meeting.specs.Stands.{lent, Stands, Comes, Ahead, Stopped, siteOf}
+use Rattle.meeting.specs.Stands.{lent, Stands, ComesTo, BranchThere, Stopped, siteOf}
 use Rattle.meeting.specs.declared.Cursor.{Cursor}
 use Rattle.meeting.specs.declared.Here.{Here}
 use Rattle.meeting.specs.declared.Outcome.the-variants as outcome
@@ -112,11 +112,11 @@ pub record OneMore (c : Cursor) (n : ℕ) (d : Cursor) : Type 0 where
 abbrev pub addedTo : Addition → Site → Cursor → Ticked → Type 0
 addedTo (pushed.Added n) s c r = (r .outcome ≡ outcome.Goes) × OneMore c n (r .cursor)
 addedTo pushed.Full s c r = Stopped fault.Full s c r
-addedTo pushed.Preempted s c r = Stopped fault.Preempted s c r
+addedTo pushed.Preempted s c r = Stopped fault.Preemptions s c r
 
 -- a question has met the path, which these bytes now are
 pub record Met (c : Cursor) (r : Ticked) (path : List ℕ) : Type 0 where
-  pub ahead : Ahead (r .outcome) (r .cursor)
+  pub ahead : BranchThere (r .outcome) (r .cursor)
   pub passed : r .cursor .pos ≤ r .cursor .len
   pub within : 16 * r .cursor .len ≤ length path
   pub same-entries : r .cursor .entries ≡ c .entries
@@ -133,7 +133,7 @@ pub record Reaches (c : Cursor) (r : Ticked) (clocks : Clocks) (marks : MarkTabl
   pub comes :
       (L : explorer.Limits) (w : Walk State) (values : Values) (trace : List ℕ) → Holding L entry
       → Stands (lent clocks marks values numbers entry trace) c w
-      → Comes (r .outcome) (r .cursor) (lent clocks marks values numbers exit trace) (out L w)
+      → ComesTo (r .outcome) (r .cursor) (lent clocks marks values numbers exit trace) (out L w)
 
 -- a branch is added, or a fault met
 abbrev pub branched : rules.Site → Walk State → explorer.Pushed → Tick State
@@ -171,14 +171,14 @@ pub record FitsNobody (a : rules.Pick) : Type 0 where
   pub is : a ≡ rules.runThread nobody at
 
 -- a choice is the definition's answer
-abbrev pub Fits : Picked → rules.Pick → Type 0
-Fits (choice.Thread chosen branch) a = a ≡ rules.runThread (thread chosen) branch
-Fits choice.Nobody a = FitsNobody a
-Fits (choice.Slot slot mask) a = FitsSlot slot mask a
-Fits (choice.Bit bit) a = a ≡ rules.takeBit bit
+abbrev pub PickFits : Picked → rules.Pick → Type 0
+PickFits (choice.Thread chosen branch) a = a ≡ rules.runThread (thread chosen) branch
+PickFits choice.Nobody a = FitsNobody a
+PickFits (choice.Slot slot mask) a = FitsSlot slot mask a
+PickFits (choice.Bit bit) a = a ≡ rules.takeBit bit
 
 abbrev pub AnswersBy : Reply → explorer.Reply → Type 0
-AnswersBy (reply.Says choice) (says a) = Fits choice a
+AnswersBy (reply.Says choice) (says a) = PickFits choice a
 AnswersBy (reply.Says choice) unexpected = ⊥
 AnswersBy reply.Unexpected (says a) = ⊥
 AnswersBy reply.Unexpected unexpected = Unit

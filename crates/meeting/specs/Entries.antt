@@ -1,7 +1,7 @@
 -- The entry of a row that is complete, and what a tick comes to that asks nothing more, by the definition. Assumes nothing.
 --     Kept, Wrote                     how far an entry takes the cursor; the trace past its entries is left alone
 --     Lands                           what the functions promise, which have the trace alone
---     entryAt, completedBy, moveAt    an entry, and what an event comes to, of a thread at its row
+--     entryHere, completedBy, moveAt  an entry, and what an event comes to, of a thread at its row
 --     landed, notedAt, completedAt, concludedAt      the definition's
 use Prim.Native.Nat.{ℕ, _+_, _*_, _≤_}
 use mathlib.Core.List.{List}
@@ -18,7 +18,7 @@ use Rattle.rules.specs.Explorer.{Walk, Tick, goes, faulted}
 use Rattle.decode.specs.Ops.{decodedOf}
 use Rattle.event.specs.Moves.{entryIf, moveOf, matchedFor}
 use Rattle.event.specs.declared.Moved.{Moved}
-use Rattle.meeting.specs.Stands.{Lent, lent, Stands, Comes, siteOf}
+use Rattle.meeting.specs.Stands.{Lent, lent, Stands, ComesTo, siteOf}
 use Rattle.meeting.specs.declared.Cursor.{Cursor}
 use Rattle.meeting.specs.declared.Here.{Here}
 use Rattle.meeting.specs.declared.Ticked.{Ticked}
@@ -46,13 +46,13 @@ pub record Lands (c : Cursor) (r : Ticked) (entry exit : List ℕ) (out : Progra
   pub comes :
       (p : Program) (L : explorer.Limits) (x : Lent) (w : Walk State) → 16 * L .operations ≡ length entry
       → Stands (withTrace x entry) c w
-      → Comes (r .outcome) (r .cursor) (withTrace x exit) (out p L w)
+      → ComesTo (r .outcome) (r .cursor) (withTrace x exit) (out p L w)
 
 abbrev pub opcodeAt : Here → ℕ
 opcodeAt h = opcodeIn (decodedOf (h .row))
 
-abbrev pub entryAt : Here → ℕ → ℕ → ℕ → List rules.Entry
-entryAt h slot mask v = entry (h .site .thread) (h .site .row) (opcodeAt h) slot mask v
+abbrev pub entryHere : Here → ℕ → ℕ → ℕ → List rules.Entry
+entryHere h slot mask v = entry (h .site .thread) (h .site .row) (opcodeAt h) slot mask v
 
 -- the entry of a row that asks, if it is complete
 abbrev pub completedBy : Bool → Here → List rules.Entry
@@ -70,7 +70,7 @@ landed L site w es =
 
 -- the entry of a row that is complete, of one that asks then, and what an event comes to that asks nothing more
 abbrev pub notedAt : Here → ℕ → ℕ → ℕ → Program → explorer.Limits → Walk State → Tick State
-notedAt h slot mask v p L w = landed L (siteOf (h .site)) w (entryAt h slot mask v)
+notedAt h slot mask v p L w = landed L (siteOf (h .site)) w (entryHere h slot mask v)
 
 abbrev pub completedAt : Bool → Here → Program → explorer.Limits → Walk State → Tick State
 completedAt yielded h p L w = landed L (siteOf (h .site)) w (completedBy yielded h)

@@ -1,9 +1,9 @@
 -- What the lent tables, bytes and the cursor stand for in the definition. Assumes nothing.
 --     HereWithin    the thread is one of the five, and its row names only what there is
---     Same, Ahead, GoesOn, Stopped      where the cursor is left as it is
+--     CursorSame, BranchThere, GoesOn, Stopped  where the cursor is left as it is
 --     Lent          the tables and bytes that are lent
 --     Stands        they stand for a walk: its state, the path that the bytes hold, the counts, the trace at the front of its bytes
---     Comes         how a tick came out, as the definition has it
+--     ComesTo       how a tick came out, as the definition has it
 use Prim.Native.Nat.{ℕ, _*_, _<_}
 use mathlib.Core.List.{List}
 use mathlib.Core.Path.{_≡_}
@@ -31,28 +31,28 @@ pub record HereWithin (h : Here) : Type 0 where
   pub names : opWithin (h .row)
 
 -- the cursor c is left as it is
-pub record Same (c d : Cursor) : Type 0 where
+pub record CursorSame (c d : Cursor) : Type 0 where
   pub same-len : d .len ≡ c .len
   pub same-pos : d .pos ≡ c .pos
   pub same-opened : d .opened ≡ c .opened
   pub same-entries : d .entries ≡ c .entries
 
 -- where a tick goes on, there is a branch to be passed
-abbrev pub Ahead : Outcome → Cursor → Type 0
-Ahead code.Goes c = c .pos < c .len
-Ahead code.Ends c = Unit
-Ahead (code.Stops f s) c = Unit
+abbrev pub BranchThere : Outcome → Cursor → Type 0
+BranchThere code.Goes c = c .pos < c .len
+BranchThere code.Ends c = Unit
+BranchThere (code.Stops f s) c = Unit
 
 -- it goes on
 pub record GoesOn (c : Cursor) (r : Ticked) : Type 0 where
   pub is : r .outcome ≡ code.Goes
-  pub stays : Same c (r .cursor)
+  pub stays : CursorSame c (r .cursor)
 
 -- a fault, which leaves the cursor
 pub record Stopped (f : Fault) (s : Site) (c : Cursor) (r : Ticked) : Type 0 where
   pub is : r .outcome ≡ code.Stops f s
-  pub stays : Same c (r .cursor)
-  pub idle : Ahead (r .outcome) (r .cursor)
+  pub stays : CursorSame c (r .cursor)
+  pub idle : BranchThere (r .outcome) (r .cursor)
 
 pub record Lent : Type 0 where
   pub clocks : Clocks
@@ -81,13 +81,13 @@ pub record Faults (f : rules.Fault) (site : rules.Site) (x : Lent) (c : Cursor) 
   pub is-site : site ≡ there
   pub stands : Stands x c w
 
-abbrev pub Comes : Outcome → Cursor → Lent → explorer.Tick State → Type 0
-Comes code.Goes c x (goes w) = Stands x c w
-Comes code.Goes c x (over w) = ⊥
-Comes code.Goes c x (faulted g there w) = ⊥
-Comes code.Ends c x (goes w) = ⊥
-Comes code.Ends c x (over w) = Stands x c w
-Comes code.Ends c x (faulted g there w) = ⊥
-Comes (code.Stops f s) c x (goes w) = ⊥
-Comes (code.Stops f s) c x (over w) = ⊥
-Comes (code.Stops f s) c x (faulted g there w) = Faults (faultOf f) (siteOf s) x c g there w
+abbrev pub ComesTo : Outcome → Cursor → Lent → explorer.Tick State → Type 0
+ComesTo code.Goes c x (goes w) = Stands x c w
+ComesTo code.Goes c x (over w) = ⊥
+ComesTo code.Goes c x (faulted g there w) = ⊥
+ComesTo code.Ends c x (goes w) = ⊥
+ComesTo code.Ends c x (over w) = Stands x c w
+ComesTo code.Ends c x (faulted g there w) = ⊥
+ComesTo (code.Stops f s) c x (goes w) = ⊥
+ComesTo (code.Stops f s) c x (over w) = ⊥
+ComesTo (code.Stops f s) c x (faulted g there w) = Faults (faultOf f) (siteOf s) x c g there w

@@ -168,7 +168,7 @@ fn add_load(
     let mut seed = [0u8; MAX_ATOMIC_HISTORY];
     let Matched::Offers(n) = accesses::offers(clocks, marks, numbers, &mut seed, site.thread, row)
     else {
-        return stops(Fault::Equal, site, cursor);
+        return stops(Fault::EqualOrders, site, cursor);
     };
     let pushed = path::push_load(path, cursor.len, exploring, seed, n);
     added(site, pushed, cursor)
@@ -186,7 +186,7 @@ fn added(site: Site, pushed: Addition, mut cursor: Cursor) -> Ticked
             goes(cursor)
         }
         Addition::Full => stops(Fault::Full, site, cursor),
-        Addition::Preempted => stops(Fault::Preempted, site, cursor),
+        Addition::Preempted => stops(Fault::Preemptions, site, cursor),
     }
 }
 

@@ -23,7 +23,7 @@ use Rattle.ledger.specs.Replay.{Agrees, Answered, Replay, Follows}
 use Rattle.ledger.proofs.Lists.{every-map}
 use Rattle.ledger.proofs.Replay.{replay}
 use Rattle.offers.specs.Offered.{LoadOffered, RmwOffered}
-use Rattle.offers.specs.Chosen.{Reading, aLoad, anRmw, Noted, left, Chosen, Offering, OfferingCourse, Offers}
+use Rattle.offers.specs.Chosen.{OfferOfRow, aLoad, anRmw, Noted, left, Chosen, Offering, OfferingCourse, Offers}
 use Rattle.offers.proofs.Offered.{load-offered, rmw-offered}
 use Rattle.offers.proofs.Passing.{tick-passes}
 use Rattle.offers.proofs.Noting.{no-other}
@@ -66,7 +66,7 @@ module _ (p : Program) (limits : Limits) (site : Event.Site) (st s : State) (es 
     bare : es ≡ []
     cell : ℕ
     opcode : ℕ
-    reading : Reading p s m offered cell opcode
+    reading : OfferOfRow p s m offered cell opcode
     entry : EntryOf p limits site u s slot values cell opcode
 
   reads-from : (row : Decoded Op) → activeOp p st ≡ row → AsksFor st (current st) s es m row → Read

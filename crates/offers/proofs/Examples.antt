@@ -9,7 +9,7 @@ use Rattle.rules.specs.Vector as Vectors
 use Rattle.rules.specs.Vector.{zeros, less, atMost}
 use Rattle.rules.specs.Seen.{unseen, unseens, seen, seenThrough, seenBeforeYield}
 use Rattle.rules.specs.Event.{offers}
-use Rattle.rules.specs.State.{Clocks, Numbers, withVector, withNumber, causality, order, storeAt, count, lastYield, none}
+use Rattle.rules.specs.State.{Clocks, Numbers, withVector, withNumber, causality, modificationOrder, storeAt, count, lastYield, none}
 use Rattle.rules.specs.Cell.{matchedLoad, matchedRmw, matchedFrom, loadFate, rmwFate, fateFrom}
 
 -- thread 0 has made both stores, at its versions 1 and 2; thread 1 knows of the first
@@ -19,8 +19,8 @@ clocks =
     (withVector
     (withVector (withVector (replicate 124 (zeros 5)) (causality 0) (2 ∷ 0 ∷ 0 ∷ 0 ∷ 0 ∷ [])) (causality 1)
     (1 ∷ 1 ∷ 0 ∷ 0 ∷ 0 ∷ []))
-    (order (storeAt 0 0)) (1 ∷ 0 ∷ 0 ∷ 0 ∷ 0 ∷ []))
-    (order (storeAt 0 1)) (2 ∷ 0 ∷ 0 ∷ 0 ∷ 0 ∷ [])
+    (modificationOrder (storeAt 0 0)) (1 ∷ 0 ∷ 0 ∷ 0 ∷ 0 ∷ []))
+    (modificationOrder (storeAt 0 1)) (2 ∷ 0 ∷ 0 ∷ 0 ∷ 0 ∷ [])
 
 rows : List (List ℕ)
 rows = (1 ∷ unseen ∷ unseen ∷ unseen ∷ unseen ∷ []) ∷ (2 ∷ unseen ∷ unseen ∷ unseen ∷ unseen ∷ []) ∷ replicate 5 (unseens 5)

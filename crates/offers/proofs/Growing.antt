@@ -12,7 +12,7 @@ use lib.ListN.{getD, set}
 use Rattle.rules.specs.Vector.{atMost, joined, raised, oneMore, largest}
 use Rattle.rules.proofs.VectorLaws.{atMost-refl, atMost-trans, atMost-made, joined-left, joined-part, length-raised}
 use Rattle.rules.specs.State.{Clocks, Marks, Numbers, Vector, vector, withVector, vectorAt, storeAt, threads, number, marksOf}
-use Rattle.rules.specs.State.{causality, released, seqCst, happensBefore, order, sync, scheduleOf, count}
+use Rattle.rules.specs.State.{causality, released, seqCst, happensBefore, modificationOrder, sync, scheduleOf, count}
 use Rattle.rules.specs.Cell
 use Rattle.rules.specs.Cell.{joinInto, acquires, releases, Race, noRace, raceOf, recorded, withStore, kthOldest, seenBy}
 use Rattle.rules.proofs.MeasureRows.{pick}
@@ -153,8 +153,8 @@ module _ (n : ℕ) (a : Clocks) where
       Grows n n a (Cell.coherent a rows numbers t c slot)
   unfolding Cell.coherent
   coherent-grows rows numbers t c slot h l =
-      aside-grows n a (order (storeAt c slot)) _ (omega arith)
-      (λ b f. absurd (none-flows (vectorAt (order (storeAt c slot))) (omega arith) (omega arith) f))
+      aside-grows n a (modificationOrder (storeAt c slot)) _ (omega arith)
+      (λ b f. absurd (none-flows (vectorAt (modificationOrder (storeAt c slot))) (omega arith) (omega arith) f))
 
   -- a store's three vectors
   pub store-grows : (t store : ℕ) (so s : List ℕ) → t < threads → store < 28 → (Bounded n a → Small n s) →
@@ -162,20 +162,20 @@ module _ (n : ℕ) (a : Clocks) where
   store-grows t store so s h l p =
       let hb = vector a (causality t) in
       let a1 = withVector a (happensBefore store) hb in
-      let a2 = withVector a1 (order store) so in
+      let a2 = withVector a1 (modificationOrder store) so in
       record {
         grown = λ u k.
             let at = causality u in
             atMost-trans (vector a at) (vector a2 at) (vector (withVector a2 (sync store) s) at)
             (atMost-trans (vector a at) (vector a1 at) (vector a2 at)
             (write-grown a (happensBefore store) hb u (λ e. absurd (omega arith)))
-            (write-grown a1 (order store) so u (λ e. absurd (omega arith))))
+            (write-grown a1 (modificationOrder store) so u (λ e. absurd (omega arith))))
             (write-grown a2 (sync store) s u (λ e. absurd (omega arith)));
         bounded = λ b.
             write-bounded n n a2 (sync store) s (omega arith)
-            (write-bounded n n a1 (order store) so (omega arith)
+            (write-bounded n n a1 (modificationOrder store) so (omega arith)
             (write-bounded n n a (happensBefore store) hb (omega arith) b (λ f. b (vectorAt (causality t)) (low (omega arith))))
-            (λ f. absurd (none-flows (vectorAt (order store)) (omega arith) (omega arith) f)))
+            (λ f. absurd (none-flows (vectorAt (modificationOrder store)) (omega arith) (omega arith) f)))
             (λ f. p b);
       }
 

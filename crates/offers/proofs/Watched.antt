@@ -27,7 +27,7 @@ use Rattle.rules.proofs.MeasureSteps.{Asked, Lower, asking}
 use Rattle.rules.proofs.MeasureTicks.{next-lower}
 use Rattle.rules.proofs.MeasureWalk.{tick-lowers}
 use Rattle.ledger.specs.Replay.{Answered}
-use Rattle.offers.specs.Chosen.{Reading, aLoad, anRmw, Chosen}
+use Rattle.offers.specs.Chosen.{OfferOfRow, aLoad, anRmw, Chosen}
 use Rattle.offers.specs.Offered.{Below, Among}
 use Rattle.offers.specs.Seen.{Sees, Taken, Watched, Watching}
 use Rattle.offers.proofs.Sight.{Stays, rowIn, seen-stays}
@@ -300,7 +300,7 @@ module _ (p : Program) (limits : Limits) (limited : p .operations ≤ largest) (
       where
         by-reading : SoundState (length (v .trace) + 2) s → 44 ≤ length (s .numbers) → current s < threads →
             length (v .trace) + 2 < unseen →
-            (d o : ℕ) → Reading p s q (c .offered) d o →
+            (d o : ℕ) → OfferOfRow p s q (c .offered) d o →
             AfterOf (current s) d slot (Machine.answered p s (readSlot slot (c .by .values)))
         by-reading sound long below few d o (aLoad row m r) =
             load-read p (length (v .trace) + 2) s sound long below slot (c .by .values) slot-small few d _ _ row
@@ -339,7 +339,7 @@ module _ (p : Program) (limits : Limits) (limited : p .operations ≤ largest) (
       by-reading (c .cell) (c .opcode) (c .reading) (rw (c .all) at a) l
       (sees-calm calm (current s) (c .cell) j (omega (arith, same, h .ready .below)) k) b
     where
-      by-reading : (d o : ℕ) → Reading p s m (c .offered) d o → Among i (slotsOf (c .offered)) → j < liveIn (s .numbers) d →
+      by-reading : (d o : ℕ) → OfferOfRow p s m (c .offered) d o → Among i (slotsOf (c .offered)) → j < liveIn (s .numbers) d →
           Sees s (current s) d j → Below (s .clocks) d i j → ⊥
       by-reading d o (aLoad row f r) a l k b = r .never i j a l k b
       by-reading d o (anRmw row f r) a l k b = r .never i j a l tt b

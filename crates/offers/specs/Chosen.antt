@@ -1,6 +1,6 @@
 -- Demand 3, what a load or an RMW is offered in a run: the record that answers has the offers of that very state, the slot is one
 -- of them, and so are the trace's slot and mask. Assumes nothing.
---     Reading          a row that reads a slot, with what it is offered
+--     OfferOfRow       a row that reads a slot, with what it is offered
 --     Noted            the trace entry of such a row, or none where it faults
 --     Chosen           a tick at which a slot is chosen
 --     Offering         and that no other tick notes a load or an RMW
@@ -24,15 +24,15 @@ use Rattle.offers.specs.Offered.{OfferedRight}
 
 -- the active thread's row is a load or an RMW of cell c, with its opcode; what it is offered is judged in this state, by this
 -- thread, and is right
-pub data Reading (p : Program) (s : State) (m : Matched) (offered : List Bool) : (c opcode : ℕ) → Type 0 where
+pub data OfferOfRow (p : Program) (s : State) (m : Matched) (offered : List Bool) : (c opcode : ℕ) → Type 0 where
   aLoad : {c o r : ℕ} → activeOp p s ≡ decoded (Table.load c o r)
       → m ≡ matchedLoad (s .clocks) (marksOf (s .marks) c) (s .numbers) (current s) c o
       → OfferedRight (s .clocks) (s .numbers) c (λ j. seenBy (s .clocks) (marksOf (s .marks) c) (current s) j ≡ true) offered
-      → Reading p s m offered c 0
+      → OfferOfRow p s m offered c 0
   anRmw : {c o f r : ℕ} {change : Change} → activeOp p s ≡ decoded (Table.rmw c o f change r)
       → m ≡ matchedRmw (s .clocks) (s .numbers) c
       → OfferedRight (s .clocks) (s .numbers) c (λ j. Unit {0}) offered
-      → Reading p s m offered c 3
+      → OfferOfRow p s m offered c 3
 
 -- with the entry at the end of the trace, or none: "A faulting row has no entry"
 abbrev pub Noted : List Entry → List Entry → Tick State → Type 0
@@ -69,7 +69,7 @@ module _ (p : Program) (limits : Limits) where
     -- they are judged in this state, and are right
     pub cell : ℕ
     pub opcode : ℕ
-    pub reading : Reading p s m offered cell opcode
+    pub reading : OfferOfRow p s m offered cell opcode
     -- the entry names the slot, all that were offered, and the value that stands there
     pub noted :
         Noted (w .trace)

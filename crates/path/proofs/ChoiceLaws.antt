@@ -14,15 +14,15 @@ use Rattle.rules.specs.Vector.{Whom, nobody, thread}
 use Rattle.rules.specs.Path as rules
 use Rattle.rules.specs.Path.{Branch, encoded, noBranch, flag, scheduleAt, theSchedule, activeIn, active}
 use Rattle.record.specs.Choices.{offeredBy, OfLoad}
-use Rattle.record.specs.Fields.{fieldOf, statesAt}
+use Rattle.record.specs.Fields.{recordByte, statesAt}
 use Rattle.record.specs.Places.{First, orFive}
-use Rattle.record.specs.Stands.{Stands}
+use Rattle.record.specs.Stands.{BranchStands}
 use Rattle.record.specs.declared.Offered.{Offered}
 use Rattle.record.specs.declared.Offered.the-variants as offered
 use Rattle.record.proofs.StandsLaws.{stands-field}
 use Rattle.record.proofs.ScheduleLaws.{active-is, first-of-five}
 use Rattle.record.proofs.ThreadLaws.{none-of, some-of}
-use Rattle.path.specs.Choices.{Reads, saidBy, Says, chosenOf, Chooses}
+use Rattle.path.specs.Choices.{ReadsSlot, saidBy, Says, chosenOf, Chooses}
 use Rattle.path.specs.Holds.{Holds}
 use Rattle.path.specs.Places.{HasKind}
 use Rattle.path.specs.Walks.{HoldsAt}
@@ -33,7 +33,7 @@ use Rattle.path.proofs.KindLaws.{There, there, kind-yes, kind-past, kin
 use Rattle.path.proofs.PrevLaws.{schedule-there}
 
 -- the first byte of its record
-first-byte : {bytes : List ℕ} {bs : List Branch} → Holds bytes bs → (k : ℕ) → k < length bs → fieldOf bytes k 0 ≡ getD (encoded (getD bs k noBranch)) 0 0
+first-byte : {bytes : List ℕ} {bs : List Branch} → Holds bytes bs → (k : ℕ) → k < length bs → recordByte bytes k 0 ≡ getD (encoded (getD bs k noBranch)) 0 0
 first-byte {bytes} {bs} h k l = stands-field (holds-stands h k (getD bs k noBranch) l refl) 0 (omega arith)
 
 -- A load
@@ -48,7 +48,7 @@ no-load : offered.Unexpected ≡ offeredBy noBranch
 unfolding offeredBy
 no-load = refl
 
-a-load : {bytes : List ℕ} {at : ℕ} (b : Branch) → Stands bytes at b → (r : Offered) → OfLoad bytes at r → eqb (getD (encoded b) 0 0) 2 ≡ true → r ≡ offeredBy b
+a-load : {bytes : List ℕ} {at : ℕ} (b : Branch) → BranchStands bytes at b → (r : Offered) → OfLoad bytes at r → eqb (getD (encoded b) 0 0) 2 ≡ true → r ≡ offeredBy b
 unfolding encoded
 a-load (rules.schedule s) q r o e = absurd (false≢true e)
 a-load (rules.load l) q r o e = o .is l q
@@ -61,10 +61,10 @@ module _ (bytes : List ℕ) (at : ℕ) (k : Bool) (g : HasKind bytes at 2 k) whe
       other-load (getD bs at noBranch) (ap (λ (x : ℕ). eqb x 2) (sym (first-byte h at l)) ∙ kind-not g h e l)
   load-none {bs} h e false f = no-load ∙ ap offeredBy (sym (List·getD-eq-default bs noBranch {n = at} (ltb-false at (length bs) f)))
 
-  pub load-not : k ≡ false → Reads bytes at offered.Unexpected
+  pub load-not : k ≡ false → ReadsSlot bytes at offered.Unexpected
   load-not e = record { slot = tt; past = λ l. refl; other = λ f. refl; is = λ bs h. load-none h e (ltb at (length bs)) refl }
 
-  pub load-is : k ≡ true → (r : Offered) → OfLoad bytes at r → Reads bytes at r
+  pub load-is : k ≡ true → (r : Offered) → OfLoad bytes at r → ReadsSlot bytes at r
   load-is e r o = record {
     slot = o .slot;
     past = λ l. absurd (kind-past g e l);
@@ -106,7 +106,7 @@ module _ (bytes : List ℕ) (at : ℕ) (k : Bool) (g : HasKind bytes at 3 k) whe
   pub spurious-not : k ≡ false → Says bytes at said.Unexpected
   spurious-not e = record { past = λ l. refl; other = λ f. refl; is = λ bs h. spurious-none h e (ltb at (length bs)) refl }
 
-  pub spurious-is : k ≡ true → (f : ℕ) → f ≡ fieldOf bytes at 2 → Says bytes at (said.Bit (not (eqb f 0)))
+  pub spurious-is : k ≡ true → (f : ℕ) → f ≡ recordByte bytes at 2 → Says bytes at (said.Bit (not (eqb f 0)))
   spurious-is e f i = record {
     past = λ l. absurd (kind-past g e l);
     other = λ x. absurd (kind-unlike g e x);

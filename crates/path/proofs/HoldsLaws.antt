@@ -16,8 +16,8 @@ use lib.Seq.{set-at, getD-at, getD-append-add}
 use Rattle.rules.specs.Path.{Branch, Schedule, schedule, encoded, encodedAll, written, noBranch, withStates, lastSchedule, prevOf}
 use Rattle.rules.specs.Records.{recordAt, withRecord}
 use Rattle.rules.proofs.RecordLaws.{flat, Sized, none, more, length-flat, flat-record, flat-put, flat-more, sized-append}
-use Rattle.record.specs.Fields.{fieldOf, statesAt, withStatesAt}
-use Rattle.record.specs.Stands.{Stands, shaped}
+use Rattle.record.specs.Fields.{recordByte, statesAt, withStatesAt}
+use Rattle.record.specs.Stands.{BranchStands, shaped}
 use Rattle.record.proofs.StandsLaws.{length-encoded, stands-states, stands-states-put, five-states}
 use Rattle.path.specs.Holds.{Holds, Prevs, allShaped}
 use Rattle.path.specs.Walks.{HoldsAt}
@@ -111,14 +111,14 @@ module _ {bytes : List ℕ} {bs : List Branch} (h : Holds bytes bs) where
       ∙ flat-record (sized bs (h .shapes)) k (omega (arith, length-map bs encoded)) (replicate (length bytes - 16 * length bs) 0)
       ∙ map-at bs k b
 
-  pub holds-stands : (k : ℕ) (b : Branch) → k < length bs → getD bs k noBranch ≡ b → Stands bytes k b
+  pub holds-stands : (k : ℕ) (b : Branch) → k < length bs → getD bs k noBranch ≡ b → BranchStands bytes k b
   holds-stands k b l e = record {
     fits = omega (arith, holds-room);
     shape = ap shaped (sym e) ∙ shape-at bs (h .shapes) k l;
     same = holds-record k l ∙ ap encoded e;
   }
 
-  pub blank-field : (k j : ℕ) → length bs ≤ k → fieldOf bytes k j ≡ 0
+  pub blank-field : (k j : ℕ) → length bs ≤ k → recordByte bytes k j ≡ 0
   blank-field k j l =
       let m : ℕ = 16 * k + j - 16 * length bs in
       let e : 16 * k + j ≡ length (flat (map encoded bs)) + m = omega (arith, long) in
@@ -179,7 +179,7 @@ module _ {bytes : List ℕ} {bs : List Branch} {k : ℕ} {s : Schedule} (h : Hol
   pub inside : k < length bs
   inside = stands-inside bs k s (h .there)
 
-  pub at-stands : Stands bytes k (schedule s)
+  pub at-stands : BranchStands bytes k (schedule s)
   at-stands = holds-stands (h .path) k (schedule s) inside (h .there)
 
   pub at-five : length (s .states) ≡ 5

@@ -11,7 +11,7 @@ use lib.ListN.{length, getD, set, length-set, length-map}
 use lib.Seq.{set-getD}
 use Rattle.rules.specs.Path.{Branch, Schedule, schedule, skipToPending, marked, madePending, takesMarks, scheduleMarked, noBranch, disabled, visited}
 use Rattle.rules.proofs.MarkLaws.{made-same}
-use Rattle.record.specs.Fields.{fieldOf, withStatesAt}
+use Rattle.record.specs.Fields.{recordByte, withStatesAt}
 use Rattle.record.specs.Schedules as one
 use Rattle.record.proofs.ScheduleLaws.{stands-preemptions}
 use Rattle.path.specs.Bounds.{boundOf, reaches}
@@ -34,9 +34,9 @@ unfolding takesMarks
 takes-by Unbounded s f e = refl
 takes-by (AtMost n) s f e = ap (λ (x : ℕ). not (eqb x n)) (sym e)
 
-module _ (bytes : List ℕ) (k : ℕ) (bound : Bound) (t : ℕ) (full : Bool) (e : full ≡ reaches bound (fieldOf bytes k 7)) where
+module _ (bytes : List ℕ) (k : ℕ) (bound : Bound) (t : ℕ) (full : Bool) (e : full ≡ reaches bound (recordByte bytes k 7)) where
   takes : {bs : List Branch} {s : Schedule} → HoldsAt bytes bs k s → takesMarks (boundOf bound) s ≡ not full
-  takes {bs} {s} h = takes-by bound s (fieldOf bytes k 7) (stands-preemptions (at-stands h)) ∙ ap not (sym e)
+  takes {bs} {s} h = takes-by bound s (recordByte bytes k 7) (stands-preemptions (at-stands h)) ∙ ap not (sym e)
 
   pub marks-by : full ≡ false → (exit : List ℕ) (r : ℕ) → one.RecordMarked bytes exit k t r → MarksAt bytes exit k (boundOf bound) t r
   unfolding scheduleMarked

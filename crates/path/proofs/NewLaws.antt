@@ -12,13 +12,13 @@ use lib.Dec.{leb, ltb, eqb}
 use lib.ListN.{length, set, replicate, length-append, length-set}
 use lib.Seq.{take-at, drop-at}
 use Rattle.rules.specs.Path as rules
-use Rattle.rules.specs.Path.{Branch, Schedule, Last, schedule, none, at, encoded, flag, activeIn, activeOf, orNone, toggled, lastSchedule, preemptionsAfter, initialAfter, prevOf, newSchedule, threadAdded, openAt, pendings, noThread, positions}
+use Rattle.rules.specs.Path.{Branch, Schedule, schedule, none, at, encoded, flag, activeIn, activeOf, orNone, toggled, lastSchedule, preemptionsAfter, initialAfter, prevOf, newSchedule, threadAdded, openAt, pendings, noThread, positions}
 use Rattle.rules.specs.Records.{recordAt, withRecord}
 use Rattle.rules.proofs.RecordLaws.{record-now, record-again, record-other}
-use Rattle.record.specs.Fields.{withField, begun, statesIn, withStatesIn, statesAt, withStatesAt}
+use Rattle.record.specs.Fields.{withRecordByte, recordBegun, statesIn, withStatesIn, statesAt, withStatesAt}
 use Rattle.path.specs.Holds.{Holds}
 use Rattle.record.specs.Places.{foundBelow}
-use Rattle.record.specs.Answers.{Counts}
+use Rattle.record.specs.Answers.{CountIs}
 use Rattle.record.specs.Schedules.{positionOf, initialAt}
 use Rattle.path.specs.Pushes.{PushesThread, pushedOf, grown}
 use Rattle.path.specs.Places.{recordsOf}
@@ -104,7 +104,7 @@ module _ (f : ℕ) where
   fields-of (a ∷ b ∷ c ∷ d ∷ e ∷ []) p i lo hi l = refl
   fields-of (a ∷ b ∷ c ∷ d ∷ e ∷ x ∷ s) p i lo hi l = absurd (omega arith)
 
-position-is : (l : Last) → positionOf (lastAs l) ≡ prevOf l
+position-is : (l : rules.ScheduleAt) → positionOf (lastAs l) ≡ prevOf l
 position-is none = refl
 position-is (at k s) = refl
 
@@ -112,8 +112,8 @@ module _ (bytes : List ℕ) (len : ℕ) (room : 16 * len + 16 ≤ length bytes) 
   abbrev kept : List ℕ → List ℕ
   kept s = withRecord bytes len (begins (flag exploring) s)
 
-  kept-first : recordAt bytes len ≡ replicate 16 0 → begun bytes len 1 exploring ≡ kept (replicate 5 0)
-  unfolding begun
+  kept-first : recordAt bytes len ≡ replicate 16 0 → recordBegun bytes len 1 exploring ≡ kept (replicate 5 0)
+  unfolding recordBegun
   kept-first blank = rw blank
 
   module _ (s : List ℕ) (l : length s ≡ 5) where
@@ -134,20 +134,20 @@ module _ (bytes : List ℕ) (len : ℕ) (room : 16 * len + 16 ≤ length bytes) 
         ∙ record-again bytes len room (begins (flag exploring) s) (withStatesIn (begins (flag exploring) s) t) (length-begins (flag exploring) s l)
         ∙ ap (withRecord bytes len) (begin-again (flag exploring) s t l)
 
-    kept-fields : (p i lo hi : ℕ) → withField (withField (withField (withField (kept s) len 8 i) len 7 p) len 9 lo) len 10 hi ≡ withRecord bytes len (1 ∷ flag exploring ∷ (s ++ (p ∷ i ∷ lo ∷ hi ∷ replicate 5 0)))
+    kept-fields : (p i lo hi : ℕ) → withRecordByte (withRecordByte (withRecordByte (withRecordByte (kept s) len 8 i) len 7 p) len 9 lo) len 10 hi ≡ withRecord bytes len (1 ∷ flag exploring ∷ (s ++ (p ∷ i ∷ lo ∷ hi ∷ replicate 5 0)))
     kept-fields p i lo hi =
         let r : List ℕ = begins (flag exploring) s in
         let l0 : length r ≡ 16 = length-begins (flag exploring) s l in
         let l1 : length (set r 8 i) ≡ 16 = length-set r 8 i ∙ l0 in
         let l2 : length (set (set r 8 i) 7 p) ≡ 16 = length-set (set r 8 i) 7 p ∙ l1 in
         let l3 : length (set (set (set r 8 i) 7 p) 9 lo) ≡ 16 = length-set (set (set r 8 i) 7 p) 9 lo ∙ l2 in
-        ap (λ (x : List ℕ). withField (withField (withField x len 7 p) len 9 lo) len 10 hi) (put-again bytes len room r l0 8 i (omega arith))
-        ∙ ap (λ (x : List ℕ). withField (withField x len 9 lo) len 10 hi) (put-again bytes len room (set r 8 i) l1 7 p (omega arith))
-        ∙ ap (λ (x : List ℕ). withField x len 10 hi) (put-again bytes len room (set (set r 8 i) 7 p) l2 9 lo (omega arith))
+        ap (λ (x : List ℕ). withRecordByte (withRecordByte (withRecordByte x len 7 p) len 9 lo) len 10 hi) (put-again bytes len room r l0 8 i (omega arith))
+        ∙ ap (λ (x : List ℕ). withRecordByte (withRecordByte x len 9 lo) len 10 hi) (put-again bytes len room (set r 8 i) l1 7 p (omega arith))
+        ∙ ap (λ (x : List ℕ). withRecordByte x len 10 hi) (put-again bytes len room (set (set r 8 i) 7 p) l2 9 lo (omega arith))
         ∙ put-again bytes len room (set (set (set r 8 i) 7 p) 9 lo) l3 10 hi (omega arith)
         ∙ ap (withRecord bytes len) (fields-of (flag exploring) s p i lo hi l)
 
-    initial-is : {bs : List Branch} → Holds bytes bs → (last : Last) → standsIn bs last → foundBelow len (lastAs last) → initialAt (kept s) len (lastAs last) ≡ initialAfter last (orNone (activeIn s))
+    initial-is : {bs : List Branch} → Holds bytes bs → (last : rules.ScheduleAt) → standsIn bs last → foundBelow len (lastAs last) → initialAt (kept s) len (lastAs last) ≡ initialAfter last (orNone (activeIn s))
     unfolding activeOf
     initial-is h none g b = ap (λ (x : List ℕ). orNone (activeIn x)) kept-states
     initial-is h (at k q) g b =
@@ -165,12 +165,12 @@ module _ (bytes : List ℕ) (len : ℕ) (exploring : Bool) (seed : List ℕ) (ro
   five-toggled = length-toggled seed ∙ five
 
   module _ (b₁ b₂ b₃ b₄ b₅ b₆ : List ℕ)
-      (e₁ : b₁ ≡ begun bytes len 1 exploring)
+      (e₁ : b₁ ≡ recordBegun bytes len 1 exploring)
       (e₂ : b₂ ≡ withStatesAt b₁ len seed)
       (e₃ : b₃ ≡ withStatesAt b₂ len (toggled (statesAt b₂ len)))
-      (e₄ : b₄ ≡ withField b₃ len 8 (initialAt b₃ len prev))
-      (e₅ : b₅ ≡ withField b₄ len 7 (p % 256))
-      (e₆ : b₆ ≡ withField (withField b₅ len 9 (positionOf prev % 256)) len 10 (positionOf prev / 256 % 256))
+      (e₄ : b₄ ≡ withRecordByte b₃ len 8 (initialAt b₃ len prev))
+      (e₅ : b₅ ≡ withRecordByte b₄ len 7 (p % 256))
+      (e₆ : b₆ ≡ withRecordByte (withRecordByte b₅ len 9 (positionOf prev % 256)) len 10 (positionOf prev / 256 % 256))
     where
       module _ {bs : List Branch} (h : Holds bytes bs) (same : length bs ≡ len) where
         blank : recordAt bytes len ≡ replicate 16 0
@@ -189,7 +189,7 @@ module _ (bytes : List ℕ) (len : ℕ) (exploring : Bool) (seed : List ℕ) (ro
             ∙ ap (λ (x : List ℕ). withStatesAt (kept bytes len room exploring seed) len (toggled x)) (kept-states bytes len room exploring seed five)
             ∙ kept-again bytes len room exploring seed five toggledSeed
 
-        abbrev last : Last
+        abbrev last : rules.ScheduleAt
         last = lastSchedule bs
 
         prev-is : prev ≡ lastAs last
@@ -213,7 +213,7 @@ module _ (bytes : List ℕ) (len : ℕ) (exploring : Bool) (seed : List ℕ) (ro
         position-now : positionOf prev ≡ prevOf last
         position-now = ap positionOf prev-is ∙ position-is last
 
-        prev-small : (l : Last) → foundBelow len (lastAs l) → len ≤ positions → prevOf l / 256 % 256 ≡ prevOf l / 256
+        prev-small : (l : rules.ScheduleAt) → foundBelow len (lastAs l) → len ≤ positions → prevOf l / 256 % 256 ≡ prevOf l / 256
         prev-small none b z = refl
         prev-small (at k s) b z = omega arith
 
@@ -224,12 +224,12 @@ module _ (bytes : List ℕ) (len : ℕ) (exploring : Bool) (seed : List ℕ) (ro
         cut-written : b₆ ≡ withRecord bytes len (1 ∷ flag exploring ∷ (toggledSeed ++ (preemptionsAfter last ∷ initialAfter last (orNone (activeIn toggledSeed)) ∷ lowByte ∷ prevOf last / 256 % 256 ∷ replicate 5 0)))
         cut-written =
             e₆
-            ∙ ap (λ (x : ℕ). withField (withField b₅ len 9 (x % 256)) len 10 (x / 256 % 256)) position-now
-            ∙ ap (λ (x : List ℕ). withField (withField x len 9 lowByte) len 10 (prevOf last / 256 % 256))
+            ∙ ap (λ (x : ℕ). withRecordByte (withRecordByte b₅ len 9 (x % 256)) len 10 (x / 256 % 256)) position-now
+            ∙ ap (λ (x : List ℕ). withRecordByte (withRecordByte x len 9 lowByte) len 10 (prevOf last / 256 % 256))
             (e₅
-            ∙ ap (withField b₄ len 7) preemptions-now
-            ∙ ap (λ (x : List ℕ). withField x len 7 (preemptionsAfter last))
-            (e₄ ∙ ap (withField b₃ len 8) initial-now ∙ ap (λ (x : List ℕ). withField x len 8 (initialAfter last (orNone (activeIn toggledSeed)))) with-toggled))
+            ∙ ap (withRecordByte b₄ len 7) preemptions-now
+            ∙ ap (λ (x : List ℕ). withRecordByte x len 7 (preemptionsAfter last))
+            (e₄ ∙ ap (withRecordByte b₃ len 8) initial-now ∙ ap (λ (x : List ℕ). withRecordByte x len 8 (initialAfter last (orNone (activeIn toggledSeed)))) with-toggled))
             ∙ kept-fields bytes len room exploring toggledSeed five-toggled (preemptionsAfter last) (initialAfter last (orNone (activeIn toggledSeed))) lowByte (prevOf last / 256 % 256)
 
         states-now : statesAt b₆ len ≡ toggledSeed
@@ -275,7 +275,7 @@ module _ (bytes : List ℕ) (len : ℕ) (exploring : Bool) (seed : List ℕ) (ro
 
 -- What it opens
 
-pub opens-some : {exploring : Bool} {n m : ℕ} → exploring ≡ true → Counts 5 m n → n ≡ cond exploring m 0
+pub opens-some : {exploring : Bool} {n m : ℕ} → exploring ≡ true → CountIs 5 m n → n ≡ cond exploring m 0
 opens-some {exploring} {n} {m} e c = c .is ∙ sym (ap (λ (x : Bool). cond x m 0) e)
 
 pub opens-nothing : {exploring : Bool} (m : ℕ) → exploring ≡ false → 0 ≡ cond exploring m 0

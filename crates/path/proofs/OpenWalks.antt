@@ -14,12 +14,12 @@ use lib.ListN.{length, getD, set, take, length-append}
 use lib.Seq.{take-all, take-suc, set-at, length-take-le, getD-take}
 use Rattle.rules.specs.Path.{Branch, schedule, load, spurious, noBranch, openAt, openIn, orTurned, stepped, turnedBranch}
 use Rattle.record.specs.Fields.{cleared}
-use Rattle.record.specs.Stands.{Stands}
-use Rattle.record.specs.Steps.{OpenAt, StepsAt, spent, tried}
+use Rattle.record.specs.Stands.{BranchStands}
+use Rattle.record.specs.Steps.{OpenAt, StepsAt, spent, branchStepped}
 use Rattle.record.proofs.OpenLaws.{tried-open, tried-shaped}
 use Rattle.path.specs.Holds.{Holds}
 use Rattle.path.specs.Places.{Present, recordsOf}
-use Rattle.path.specs.Steps.{AnyOpen, OpenIn, Steps}
+use Rattle.path.specs.Steps.{AnyOpen, OpenIn, StepsPath}
 use Rattle.path.proofs.HoldsLaws.{holds-room, holds-stands, holds-put, holds-dropped}
 use Rattle.path.proofs.PrevLaws.{skeleton}
 
@@ -117,8 +117,8 @@ spent-alike (schedule s) = refl
 spent-alike (load l) = refl
 spent-alike (spurious u) = refl
 
-tried-alike : (b : Branch) → skeleton b ≡ skeleton (tried b)
-unfolding tried
+tried-alike : (b : Branch) → skeleton b ≡ skeleton (branchStepped b)
+unfolding branchStepped
 tried-alike b = either-alike (ltb 0 (openAt b)) (turnedBranch b) (spent b) b (turned-alike b) (spent-alike b)
 
 kept : (bs : List Branch) (b c : Branch) → orTurned (bs ++ (b ∷ [])) c ≡ c ∷ (bs ++ (b ∷ []))
@@ -164,7 +164,7 @@ module _ (start path mid : List ℕ) (len n : ℕ) (h : 0 < n) (k : n ≤ len) (
     abbrev its : Branch
     its = getD bs (n - 1) noBranch
 
-    stands : Stands path (n - 1) its
+    stands : BranchStands path (n - 1) its
     stands = holds-stands (v .holds bs q e) (n - 1) its inside same
 
     said : r ≡ ltb 0 (openAt its)
@@ -173,12 +173,12 @@ module _ (start path mid : List ℕ) (len n : ℕ) (h : 0 < n) (k : n ≤ len) (
     long : length (take (n - 1) bs) ≡ n - 1
     long = length-take-le (n - 1) bs (omega arith)
 
-    now : Holds mid (take (n - 1) bs ++ (tried its ∷ []))
+    now : Holds mid (take (n - 1) bs ++ (branchStepped its ∷ []))
     now =
-        let x : set (take n bs) (n - 1) (tried its) ≡ take (n - 1) bs ++ (tried its ∷ []) =
-        ap (λ (l : List Branch). set l (n - 1) (tried its)) whole ∙ set-at (take (n - 1) bs) its [] (tried its) (n - 1) long in
-        let y : Holds mid (set (take n bs) (n - 1) (tried its)) =
-        rw (o .puts its stands) (holds-put (v .holds bs q e) (n - 1) (tried its) inside (tried-shaped its (stands .shape)) (ap skeleton same ∙ tried-alike its)) in
+        let x : set (take n bs) (n - 1) (branchStepped its) ≡ take (n - 1) bs ++ (branchStepped its ∷ []) =
+        ap (λ (l : List Branch). set l (n - 1) (branchStepped its)) whole ∙ set-at (take (n - 1) bs) its [] (branchStepped its) (n - 1) long in
+        let y : Holds mid (set (take n bs) (n - 1) (branchStepped its)) =
+        rw (o .puts its stands) (holds-put (v .holds bs q e) (n - 1) (branchStepped its) inside (tried-shaped its (stands .shape)) (ap skeleton same ∙ tried-alike its)) in
         subst (Holds mid) x y
 
     turned-to : r ≡ true → stepped bs ≡ take (n - 1) bs ++ (turnedBranch its ∷ [])
@@ -196,15 +196,15 @@ module _ (start path mid : List ℕ) (len n : ℕ) (h : 0 < n) (k : n ≤ len) (
 
     dropped-holds : Holds (cleared mid (n - 1)) (take (n - 1) bs)
     unfolding cleared
-    dropped-holds = rw long at (holds-dropped (take (n - 1) bs) (tried its) now)
+    dropped-holds = rw long at (holds-dropped (take (n - 1) bs) (branchStepped its) now)
 
-  pub step-here : r ≡ true → 16 * n ≤ length start → length mid ≡ length start → Steps start mid len n
+  pub step-here : r ≡ true → 16 * n ≤ length start → length mid ≡ length start → StepsPath start mid len n
   step-here t f w = record { few = k; fits = f; keeps = w; left = λ bs q e. turned-length bs q e t; holds = λ bs q e. turned-holds bs q e t }
 
   pub step-on : r ≡ false → (exit : List ℕ) → exit ≡ cleared mid (n - 1) → StillLeft start exit len (n - 1)
   step-on t exit f = record { holds = λ bs q e. rw f (dropped-holds bs q e); next = λ bs q e. dropped-next bs q e t }
 
-pub step-none : (start path : List ℕ) (len n : ℕ) → n ≤ 0 → length path ≡ length start → StillLeft start path len n → Steps start path len 0
+pub step-none : (start path : List ℕ) (len n : ℕ) → n ≤ 0 → length path ≡ length start → StillLeft start path len n → StepsPath start path len 0
 unfolding stepped
 step-none start path len zero h w v = record {
   few = omega arith;

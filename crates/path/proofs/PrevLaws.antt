@@ -15,7 +15,7 @@ use borrow.Author.Tests.{ltb-true, ltb-false, eqb-true, eqb-false}
 use lib.Dec.{ltb, eqb}
 use lib.ListN.{length, getD, set, take, length-append, List·getD-append, List·getD-eq-default}
 use lib.Seq.{take-suc, take-all, length-take-le, getD-set-same, getD-set-other, getD-at}
-use Rattle.rules.specs.Path.{Branch, Schedule, Last, Placed, schedule, load, spurious, none, at, noBranch, theSchedule, scheduleAt, andSchedule, schedulesBelow, switchIn, ifExploring, activeOf, lastSchedule, orFirst, oneFurther, prevOf}
+use Rattle.rules.specs.Path.{Branch, Schedule, ScheduleAt, Placed, schedule, load, spurious, none, at, noBranch, theSchedule, scheduleAt, andSchedule, schedulesBelow, switchIn, ifExploring, activeOf, lastSchedule, orFirst, oneFurther, prevOf}
 use Rattle.path.specs.Holds.{lastIn, Prevs}
 use Rattle.path.specs.Walks.{standsIn}
 
@@ -119,7 +119,7 @@ unfolding lastSchedule
 last-here [] s = refl
 last-here (x ∷ xs) s =
     let e : length xs + 1 ≡ suc (length xs) = omega arith in
-    ap (λ (l : Last). orFirst (oneFurther l) x) (last-here xs s) ∙ ap (λ (m : ℕ). at m s) e
+    ap (λ (l : ScheduleAt). orFirst (oneFurther l) x) (last-here xs s) ∙ ap (λ (m : ℕ). at m s) e
 
 first-other : (b : Branch) (k : ℕ) → theSchedule k b ≡ none → orFirst none b ≡ none
 first-other (schedule s) k e = let z : _≡_ {A = ℕ} 0 1 = cc in absurd (omega arith)
@@ -129,7 +129,7 @@ first-other (spurious u) k e = refl
 pub last-other : (xs : List Branch) (b : Branch) (k : ℕ) → theSchedule k b ≡ none → lastSchedule (xs ++ (b ∷ [])) ≡ lastSchedule xs
 unfolding lastSchedule
 last-other [] b k e = first-other b k e
-last-other (x ∷ xs) b k e = ap (λ (l : Last). orFirst (oneFurther l) x) (last-other xs b k e)
+last-other (x ∷ xs) b k e = ap (λ (l : ScheduleAt). orFirst (oneFurther l) x) (last-other xs b k e)
 
 last-on : (k : ℕ) (b : Branch) (xs : List Branch) (m : List Placed) → length xs ≡ k → lastIn m ≡ lastSchedule xs → lastIn (andSchedule k b m) ≡ lastSchedule (xs ++ (b ∷ []))
 last-on k (schedule s) xs m l e = sym (last-here xs s ∙ ap (λ (n : ℕ). at n s) l)
@@ -239,13 +239,13 @@ prevs-none k s e = let l : k < 0 = stands-inside [] k s e in absurd (omega arith
 
 -- What is found stands in the path
 
-pub if-true : (k : ℕ) (s : Schedule) (l : Last) → s .exploring ≡ true → ifExploring (at k s) l ≡ at k s
+pub if-true : (k : ℕ) (s : Schedule) (l : ScheduleAt) → s .exploring ≡ true → ifExploring (at k s) l ≡ at k s
 if-true k s l e = ap (λ (x : Bool). cond x (at k s) l) e
 
-pub if-false : (k : ℕ) (s : Schedule) (l : Last) → s .exploring ≡ false → ifExploring (at k s) l ≡ l
+pub if-false : (k : ℕ) (s : Schedule) (l : ScheduleAt) → s .exploring ≡ false → ifExploring (at k s) l ≡ l
 if-false k s l e = ap (λ (x : Bool). cond x (at k s) l) e
 
-pub if-stands : (bs : List Branch) (k : ℕ) (s : Schedule) (l : Last) → standsIn bs (at k s) → standsIn bs l → standsIn bs (ifExploring (at k s) l)
+pub if-stands : (bs : List Branch) (k : ℕ) (s : Schedule) (l : ScheduleAt) → standsIn bs (at k s) → standsIn bs l → standsIn bs (ifExploring (at k s) l)
 if-stands bs k s l h g = go (s .exploring) refl
   where
     go : (x : Bool) → s .exploring ≡ x → standsIn bs (ifExploring (at k s) l)
@@ -266,7 +266,7 @@ unfolding schedulesBelow
 standing bs zero = tt
 standing bs (suc k) = and-standing bs k (getD bs k noBranch) (schedulesBelow bs k) refl (standing bs k)
 
-either-stands : (bs : List Branch) (c : Bool) (l m : Last) → standsIn bs l → standsIn bs m → standsIn bs (cond c l m)
+either-stands : (bs : List Branch) (c : Bool) (l m : ScheduleAt) → standsIn bs l → standsIn bs m → standsIn bs (cond c l m)
 either-stands bs true l m p q = p
 either-stands bs false l m p q = q
 
@@ -298,7 +298,7 @@ module _ (bs : List Branch) (k : ℕ) (s : Schedule) (e : getD bs k noBranch ≡
         let n : Newest bs k p q = newest-is bs k p q f in
         below-here bs k s e ∙ ap (λ (m : List Placed). placed k s ∷ m) (n .same ∙ below-here bs p q (n .stands))
 
-    abbrev pick : Bool → Bool → Last
+    abbrev pick : Bool → Bool → ScheduleAt
     pick x a = cond (x && not a) (at k s) (switchIn (placed p q ∷ schedulesBelow bs p))
 
     switch-by : (x a : Bool) → s .exploring ≡ x → eqb (activeOf s) (activeOf q) ≡ a → switchIn (schedulesBelow bs (suc k)) ≡ pick x a

@@ -11,18 +11,18 @@ use native.Mathlib.Omega.{arith}
 use borrow.Author.Tests.{ltb-true, lt-ltb}
 use lib.Dec.{ltb, eqb}
 use lib.ListN.{length, getD}
-use Rattle.rules.specs.Path.{Branch, Schedule, Last, schedule, load, spurious, none, at, noBranch, theSchedule, scheduleAt, ifExploring, activeOf, prevOf, schedulesBelow, switchIn}
+use Rattle.rules.specs.Path.{Branch, Schedule, ScheduleAt, schedule, load, spurious, none, at, noBranch, theSchedule, scheduleAt, ifExploring, activeOf, prevOf, schedulesBelow, switchIn}
 use Rattle.path.specs.Holds.{Prevs, lastIn}
 use Rattle.path.proofs.PrevLaws.{stands-inside, schedule-there, Newest, newest-is, none-is, none-below, switch-first, switch-here, switch-quiet, switch-same}
 
 -- one that does not stand below it, which no path has, counts as none
-unfoldable pub before : List Branch → Last → Last
+unfoldable pub before : List Branch → ScheduleAt → ScheduleAt
 before bs none = none
 before bs (at k s) = cond (ltb (s .prev) k) (scheduleAt bs (s .prev)) none
 
 -- from a schedule down to the last exploring one whose Active is not that of the schedule before it; the very first counts, if it
 -- is exploring. The walk takes at most n steps
-unfoldable pub switchFrom : List Branch → ℕ → Last → Last
+unfoldable pub switchFrom : List Branch → ℕ → ScheduleAt → ScheduleAt
 switchFrom bs n none = none
 switchFrom bs zero (at k s) = none
 switchFrom bs (suc n) (at k s) =
@@ -44,7 +44,7 @@ module _ (bs : List Branch) (h : Prevs bs) where
   none-by k p e false f = refl
 
   module _ (k : ℕ) (s : Schedule) (there : getD bs k noBranch ≡ schedule s) where
-    before-by : (l : Last) → lastIn (schedulesBelow bs k) ≡ l → before bs (at k s) ≡ l
+    before-by : (l : ScheduleAt) → lastIn (schedulesBelow bs k) ≡ l → before bs (at k s) ≡ l
     unfolding before
     before-by none e = none-by k (s .prev) e (ltb (s .prev) k) refl
     before-by (at p q) e =
@@ -56,13 +56,13 @@ module _ (bs : List Branch) (h : Prevs bs) where
     before-is = before-by (lastIn (schedulesBelow bs k)) refl
 
     -- a step of the walk, by the schedule before
-    abbrev turn : ℕ → Last → Last
+    abbrev turn : ℕ → ScheduleAt → ScheduleAt
     turn n l = elim l [
       | none ↦ ifExploring (at k s) none
       | at p q ↦ elim (s .exploring && not (eqb (activeOf s) (activeOf q))) [ true ↦ at k s | false ↦ switchFrom bs n (at p q) ]
     ]
 
-    turn-is : (n : ℕ) (l : Last) → lastIn (schedulesBelow bs k) ≡ l → switchFrom bs (suc n) (at k s) ≡ turn n l
+    turn-is : (n : ℕ) (l : ScheduleAt) → lastIn (schedulesBelow bs k) ≡ l → switchFrom bs (suc n) (at k s) ≡ turn n l
     unfolding switchFrom
     turn-is n l e = ap (turn n) (before-is ∙ e)
 
@@ -70,7 +70,7 @@ module _ (bs : List Branch) (h : Prevs bs) where
       onwards : switchFrom bs n (at p q) ≡ switchIn (schedulesBelow bs (suc p))
       onwards = ih ∙ ap switchIn (newest-is bs k p q e .same)
 
-      abbrev pick : Bool → Bool → Last
+      abbrev pick : Bool → Bool → ScheduleAt
       pick x a = elim (x && not a) [ true ↦ at k s | false ↦ switchFrom bs n (at p q) ]
 
       pick-is : (x a : Bool) → s .exploring ≡ x → eqb (activeOf s) (activeOf q) ≡ a → pick x a ≡ switchIn (schedulesBelow bs (suc k))
@@ -81,7 +81,7 @@ module _ (bs : List Branch) (h : Prevs bs) where
       on : switchFrom bs (suc n) (at k s) ≡ switchIn (schedulesBelow bs (suc k))
       on = turn-is n (at p q) e ∙ pick-is (s .exploring) (eqb (activeOf s) (activeOf q)) refl refl
 
-    step : (n : ℕ) → switchFrom bs n (lastIn (schedulesBelow bs k)) ≡ switchIn (schedulesBelow bs k) → (l : Last) → lastIn (schedulesBelow bs k) ≡ l → switchFrom bs (suc n) (at k s) ≡ switchIn (schedulesBelow bs (suc k))
+    step : (n : ℕ) → switchFrom bs n (lastIn (schedulesBelow bs k)) ≡ switchIn (schedulesBelow bs k) → (l : ScheduleAt) → lastIn (schedulesBelow bs k) ≡ l → switchFrom bs (suc n) (at k s) ≡ switchIn (schedulesBelow bs (suc k))
     step n ih none e = turn-is n none e ∙ sym (switch-first bs k s there e)
     step n ih (at p q) e = on n p q e (ap (switchFrom bs n) (sym e) ∙ ih)
 
@@ -90,7 +90,7 @@ module _ (bs : List Branch) (h : Prevs bs) where
   nowhere zero k e = ap (switchFrom bs zero) e ∙ ap switchIn (sym (none-is bs k e))
   nowhere (suc n) k e = ap (switchFrom bs (suc n)) e ∙ ap switchIn (sym (none-is bs k e))
 
-  further : (n : ℕ) → ((p : ℕ) → p ≤ n → switchFrom bs n (lastIn (schedulesBelow bs p)) ≡ switchIn (schedulesBelow bs p)) → (k : ℕ) → k ≤ suc n → (l : Last) → lastIn (schedulesBelow bs k) ≡ l → switchFrom bs (suc n) (lastIn (schedulesBelow bs k)) ≡ switchIn (schedulesBelow bs k)
+  further : (n : ℕ) → ((p : ℕ) → p ≤ n → switchFrom bs n (lastIn (schedulesBelow bs p)) ≡ switchIn (schedulesBelow bs p)) → (k : ℕ) → k ≤ suc n → (l : ScheduleAt) → lastIn (schedulesBelow bs k) ≡ l → switchFrom bs (suc n) (lastIn (schedulesBelow bs k)) ≡ switchIn (schedulesBelow bs k)
   further n ih k b none e = nowhere (suc n) k e
   further n ih k b (at p q) e =
       let m : Newest bs k p q = newest-is bs k p q e in

@@ -18,7 +18,7 @@ use Rattle.rules.specs.Path.{Branch, Schedule, encoded, spuriousAdded, loadAdde
 use Rattle.rules.specs.Records.{recordAt, withRecord}
 use Rattle.rules.proofs.RecordLaws.{record-now, record-again}
 use Rattle.record.specs.Answers.{Left}
-use Rattle.record.specs.Fields.{begun, withValues}
+use Rattle.record.specs.Fields.{recordBegun, withOffers}
 use Rattle.record.specs.Stands.{shaped}
 use Rattle.record.proofs.LoadLaws.{load-new, left-whole}
 use Rattle.path.specs.Holds.{Holds}
@@ -78,11 +78,11 @@ module _ (bytes : List ℕ) (len : ℕ) (exploring : Bool) where
   unfolding spuriousAdded
   spurious-refused h = refused bytes len 1 (λ B bs. spuriousAdded B bs exploring) h (λ B bs e. rw e)
 
-  spurious-put : recordAt bytes len ≡ replicate 16 0 → begun bytes len 3 exploring ≡ withRecord bytes len (encoded (newSpurious exploring))
-  unfolding begun encoded
+  spurious-put : recordAt bytes len ≡ replicate 16 0 → recordBegun bytes len 3 exploring ≡ withRecord bytes len (encoded (newSpurious exploring))
+  unfolding recordBegun encoded
   spurious-put e = rw e
 
-  pub spurious-added : 16 * len + 16 ≤ length bytes → (exit : List ℕ) → length exit ≡ length bytes → (n : ℕ) → n ≡ cond exploring 1 0 → n ≤ 1 → exit ≡ begun bytes len 3 exploring → Pushes bytes exit len 1 (λ B bs. spuriousAdded B bs exploring) (Added n)
+  pub spurious-added : 16 * len + 16 ≤ length bytes → (exit : List ℕ) → length exit ≡ length bytes → (n : ℕ) → n ≡ cond exploring 1 0 → n ≤ 1 → exit ≡ recordBegun bytes len 3 exploring → Pushes bytes exit len 1 (λ B bs. spuriousAdded B bs exploring) (Added n)
   unfolding spuriousAdded openAt
   spurious-added room exit keeps n opens few e =
       added-as bytes len 1 (λ B bs. spuriousAdded B bs exploring) room exit keeps (newSpurious exploring) n few opens refl no-prev (λ z. e ∙ spurious-put z) (λ B bs q. rw q)
@@ -108,12 +108,12 @@ module _ (bytes : List ℕ) (len : ℕ) (exploring : Bool) (seed : List ℕ) (n 
   load-refused h = refused bytes len 6 (λ B bs. loadAdded B bs exploring (take n seed)) h (λ B bs e. rw e)
 
   module _ (room : 16 * len + 16 ≤ length bytes) (l : length seed ≡ 7) (h : n ≤ 7) where
-    begun-blank : recordAt bytes len ≡ replicate 16 0 → begun bytes len 2 exploring ≡ withRecord bytes len (2 ∷ rules.flag exploring ∷ replicate 14 0)
-    unfolding begun
+    begun-blank : recordAt bytes len ≡ replicate 16 0 → recordBegun bytes len 2 exploring ≡ withRecord bytes len (2 ∷ rules.flag exploring ∷ replicate 14 0)
+    unfolding recordBegun
     begun-blank e = rw e
 
-    load-put : (mid : List ℕ) → mid ≡ withRecord bytes len (2 ∷ rules.flag exploring ∷ replicate 14 0) → withValues mid len seed n ≡ withRecord bytes len (encoded (newLoad exploring (take n seed)))
-    unfolding withValues
+    load-put : (mid : List ℕ) → mid ≡ withRecord bytes len (2 ∷ rules.flag exploring ∷ replicate 14 0) → withOffers mid len seed n ≡ withRecord bytes len (encoded (newLoad exploring (take n seed)))
+    unfolding withOffers
     load-put mid e =
         let r : List ℕ = 2 ∷ rules.flag exploring ∷ replicate 14 0 in
         let now : recordAt mid len ≡ r = ap (λ (x : List ℕ). recordAt x len) e ∙ record-now bytes len room r refl in
@@ -124,7 +124,7 @@ module _ (bytes : List ℕ) (len : ℕ) (exploring : Bool) (seed : List ℕ) (n 
 
     -- the same slots are offered where more are asked for than there are
     pub load-added :
-        (all : ℕ) → take n seed ≡ take all seed → (mid exit : List ℕ) → length exit ≡ length bytes → (m : ℕ) → m ≡ cond exploring (n - 1) 0 → m ≤ 6 → mid ≡ begun bytes len 2 exploring → exit ≡ withValues mid len seed n
+        (all : ℕ) → take n seed ≡ take all seed → (mid exit : List ℕ) → length exit ≡ length bytes → (m : ℕ) → m ≡ cond exploring (n - 1) 0 → m ≤ 6 → mid ≡ recordBegun bytes len 2 exploring → exit ≡ withOffers mid len seed n
         → Pushes bytes exit len 6 (λ B bs. loadAdded B bs exploring (take all seed)) (Added m)
     unfolding loadAdded openAt
     load-added all same mid exit keeps m opens few e f =

@@ -19,8 +19,8 @@ use lib.Dec.{leb, eqb}
 use lib.ListN.{length, getD, take, length-set, List·getD-eq-default}
 use lib.Seq.{take-suc, take-all, length-take-le, getD-set-same}
 use Rattle.rules.specs.Path as rules
-use Rattle.rules.specs.Path.{Branch, Schedule, Last, Marked, Placed, schedule, load, spurious, none, at, noBranch, scheduleAt, theSchedule, ifExploring, exploringBelow, lastSchedule, orFirst, oneFurther, schedulesBelow, switchIn, preemptionsAfter, active, activeIn, activeOf, scheduleMarked, markedAt, markedBefore, withOpened, backtracked}
-use Rattle.record.specs.Fields.{fieldOf, statesAt}
+use Rattle.rules.specs.Path.{Branch, Schedule, Marked, Placed, schedule, load, spurious, none, at, noBranch, scheduleAt, theSchedule, ifExploring, exploringBelow, lastSchedule, orFirst, oneFurther, schedulesBelow, switchIn, preemptionsAfter, active, activeIn, activeOf, scheduleMarked, markedAt, markedBefore, withOpened, backtracked}
+use Rattle.record.specs.Fields.{recordByte, statesAt}
 use Rattle.record.specs.Places.{First, orFive}
 use Rattle.record.specs.Schedules.{PrevOf, PreemptionsOf}
 use Rattle.record.specs.declared.schedule.ScheduleAt.{ScheduleAt}
@@ -38,15 +38,15 @@ use Rattle.path.proofs.PrevLaws.{schedule-there, last-here, last-other,
 
 -- An answer
 
-pub found-none : (l : Last) → Nowhere ≡ lastAs l → l ≡ none
+pub found-none : (l : rules.ScheduleAt) → Nowhere ≡ lastAs l → l ≡ none
 found-none none e = refl
 found-none (at k s) e = let z : _≡_ {A = ℕ} 0 1 = cc in absurd (omega arith)
 
-pub record Named (l : Last) (p : ℕ) : Type 0 where
+pub record Named (l : rules.ScheduleAt) (p : ℕ) : Type 0 where
   pub of : Schedule
   pub is : l ≡ at p of
 
-pub found-at : (l : Last) (p : ℕ) → At p ≡ lastAs l → Named l p
+pub found-at : (l : rules.ScheduleAt) (p : ℕ) → At p ≡ lastAs l → Named l p
 found-at none p e = let z : _≡_ {A = ℕ} 0 1 = cc in absurd (omega arith)
 found-at (at k s) p e = let q : k ≡ p = cc in record { of = s; is = ap (λ (x : ℕ). at x s) q }
 
@@ -94,14 +94,14 @@ look-start path point n t {bs} h = go (leb (recordsOf path) point) refl
         ap (exploringBelow bs) m ∙ all-looked bs n (point + 1 - n) (omega (arith, holds-room h))
     go false e = ap (exploringBelow bs) (sym (t .is ∙ ap (λ (x : Bool). cond x (recordsOf path) (point + 1)) e))
 
-module _ (bytes : List ℕ) (n : ℕ) (pos : 0 < n) (kind : Bool) (is : kind ≡ eqb (fieldOf bytes (n - 1) 0) 1) {bs : List Branch} (h : Holds bytes bs) where
+module _ (bytes : List ℕ) (n : ℕ) (pos : 0 < n) (kind : Bool) (is : kind ≡ eqb (recordByte bytes (n - 1) 0) 1) {bs : List Branch} (h : Holds bytes bs) where
   one-less : n ≡ suc (n - 1)
   one-less = omega arith
 
   pub look-other : kind ≡ false → exploringBelow bs n ≡ exploringBelow bs (n - 1)
   look-other e = ap (exploringBelow bs) one-less ∙ look-past bs (n - 1) (not-there h (n - 1) (sym is ∙ e))
 
-  module _ (e : kind ≡ true) (x : Bool) (g : x ≡ eqb (fieldOf bytes (n - 1) 1) 1) where
+  module _ (e : kind ≡ true) (x : Bool) (g : x ≡ eqb (recordByte bytes (n - 1) 1) 1) where
     here : There bs (n - 1)
     here = there h (n - 1) (sym is ∙ e)
 
@@ -120,7 +120,7 @@ unfolding exploringBelow
 look-none bs zero h = refl
 look-none bs (suc n) h = absurd (omega arith)
 
-at-stands-in : (bs : List Branch) (k : ℕ) (b : Branch) (l : Last) → getD bs k noBranch ≡ b → standsIn bs l → standsIn bs (ifExploring (theSchedule k b) l)
+at-stands-in : (bs : List Branch) (k : ℕ) (b : Branch) (l : rules.ScheduleAt) → getD bs k noBranch ≡ b → standsIn bs l → standsIn bs (ifExploring (theSchedule k b) l)
 at-stands-in bs k (schedule s) l e g = if-stands bs k s l e g
 at-stands-in bs k (load u) l e g = g
 at-stands-in bs k (spurious u) l e g = g
@@ -132,7 +132,7 @@ exploring-stands bs (suc n) = at-stands-in bs n (getD bs n noBranch) (exploringB
 
 -- Down to the last schedule
 
-module _ (bytes : List ℕ) (n : ℕ) (pos : 0 < n) (kind : Bool) (is : kind ≡ eqb (fieldOf bytes (n - 1) 0) 1) {bs : List Branch} (h : Holds bytes bs) (l : n ≤ length bs) where
+module _ (bytes : List ℕ) (n : ℕ) (pos : 0 < n) (kind : Bool) (is : kind ≡ eqb (recordByte bytes (n - 1) 0) 1) {bs : List Branch} (h : Holds bytes bs) (l : n ≤ length bs) where
   one-more : take n bs ≡ take (n - 1) bs ++ (getD bs (n - 1) noBranch ∷ [])
   one-more =
       let e : n ≡ suc (n - 1) = omega arith in
@@ -162,7 +162,7 @@ unfolding lastSchedule
 last-none bs zero h = refl
 last-none bs (suc n) h = absurd (omega arith)
 
-last-on-stands : (b : Branch) (bs : List Branch) (l : Last) → standsIn bs l → standsIn (b ∷ bs) (orFirst (oneFurther l) b)
+last-on-stands : (b : Branch) (bs : List Branch) (l : rules.ScheduleAt) → standsIn bs l → standsIn (b ∷ bs) (orFirst (oneFurther l) b)
 last-on-stands (schedule s) bs none h = refl
 last-on-stands (load l) bs none h = tt
 last-on-stands (spurious u) bs none h = tt
@@ -177,11 +177,11 @@ last-stands (b ∷ bs) = last-on-stands b bs (lastSchedule bs) (last-stands bs)
 
 -- The preemptions before a new one
 
-pub before-none : (l : Last) → Nowhere ≡ lastAs l → 0 ≡ preemptionsAfter l
+pub before-none : (l : rules.ScheduleAt) → Nowhere ≡ lastAs l → 0 ≡ preemptionsAfter l
 before-none none e = refl
 before-none (at k s) e = let z : _≡_ {A = ℕ} 0 1 = cc in absurd (omega arith)
 
-pub before-at : {bytes : List ℕ} {bs : List Branch} (h : Holds bytes bs) (l : Last) (p r : ℕ) → standsIn bs l → At p ≡ lastAs l → PreemptionsOf bytes p r → r ≡ preemptionsAfter l
+pub before-at : {bytes : List ℕ} {bs : List Branch} (h : Holds bytes bs) (l : rules.ScheduleAt) (p r : ℕ) → standsIn bs l → At p ≡ lastAs l → PreemptionsOf bytes p r → r ≡ preemptionsAfter l
 before-at h none p r s e f = let z : _≡_ {A = ℕ} 0 1 = cc in absurd (omega arith)
 before-at {bytes} {bs} h (at k q) p r s e f =
     let n : p ≡ k = cc in
@@ -201,7 +201,7 @@ Walks bytes from curr = (bs : List Branch) (s : Schedule) → HoldsAt bytes bs f
 pub walk-none : (bytes : List ℕ) (from : ℕ) → Walks bytes from from
 walk-none bytes from bs s h = record { now = s; stands = h .there; same = ap (λ (n : ℕ). switchIn (schedulesBelow bs n)) (add-one from) }
 
-module _ (bytes : List ℕ) (from curr : ℕ) (w : Walks bytes from curr) (f : ScheduleAt) (g : PrevOf bytes curr f) (x : Bool) (i : x ≡ eqb (fieldOf bytes curr 1) 1) where
+module _ (bytes : List ℕ) (from curr : ℕ) (w : Walks bytes from curr) (f : ScheduleAt) (g : PrevOf bytes curr f) (x : Bool) (i : x ≡ eqb (recordByte bytes curr 1) 1) where
   module _ {bs : List Branch} {s : Schedule} (h : HoldsAt bytes bs from s) where
     this : Walk bs from curr
     this = w bs s h
@@ -261,10 +261,10 @@ module _ (bytes : List ℕ) (from curr : ℕ) (w : Walks bytes from curr) (f : S
 -- The second mark
 
 module _ (bound : rules.Bound) (k t : ℕ) (m : Marked) (s : Schedule) where
-  abbrev second : Last → Marked
+  abbrev second : rules.ScheduleAt → Marked
   second l = withOpened (m .opened) (markedAt bound (m .path) l t)
 
-  second-is : (l : Last) → switchIn (schedulesBelow (m .path) k) ≡ l → markedBefore bound m (at k s) t ≡ second l
+  second-is : (l : rules.ScheduleAt) → switchIn (schedulesBelow (m .path) k) ≡ l → markedBefore bound m (at k s) t ≡ second l
   unfolding markedBefore
   second-is l e = ap second e
 
@@ -285,7 +285,7 @@ module _ {entry : List ℕ} (bound : rules.Bound) (k t : ℕ) (f : ScheduleAt) (
     newest : Newest (m .path) k p (prior-is .of)
     newest = newest-is (m .path) k p (prior-is .of) (prior-is .is)
 
-    abbrev met : Last
+    abbrev met : rules.ScheduleAt
     met = switchIn (schedulesBelow (m .path) k)
 
     met-is : c ≡ lastAs met
@@ -313,7 +313,7 @@ unfolding markedBefore
 second-same bound m k s u t = refl
 
 module _ {entry : List ℕ} (point t : ℕ) (f : ScheduleAt) (g : ExploringFrom entry point f) {bs : List Branch} (h : Holds entry bs) where
-  abbrev first : Last
+  abbrev first : rules.ScheduleAt
   first = exploringBelow bs (point + 1)
 
   unmarked-by : (bound : Bound) → first ≡ none → PathMarked entry (backtracked (boundOf bound) bs point t) 0
@@ -359,11 +359,11 @@ module _ {entry : List ℕ} (point t : ℕ) (f : ScheduleAt) (g : ExploringFrom 
 
 -- As many branches as before
 
-length-markedAt : (bound : rules.Bound) (bs : List Branch) (l : Last) (t : ℕ) → length (markedAt bound bs l t .path) ≡ length bs
+length-markedAt : (bound : rules.Bound) (bs : List Branch) (l : rules.ScheduleAt) (t : ℕ) → length (markedAt bound bs l t .path) ≡ length bs
 length-markedAt bound bs none t = refl
 length-markedAt bound bs (at k s) t = length-set bs k (schedule (scheduleMarked bound s t))
 
-length-second : (bound : rules.Bound) (m : Marked) (l : Last) (t : ℕ) → length (markedBefore bound m l t .path) ≡ length (m .path)
+length-second : (bound : rules.Bound) (m : Marked) (l : rules.ScheduleAt) (t : ℕ) → length (markedBefore bound m l t .path) ≡ length (m .path)
 unfolding markedBefore
 length-second bound m none t = refl
 length-second bound m (at k s) t = length-markedAt bound (m .path) (switchIn (schedulesBelow (m .path) k)) t
@@ -372,5 +372,5 @@ pub length-backtracked : (bound : rules.Bound) (bs : List Branch) (point t : ℕ
 unfolding backtracked
 length-backtracked rules.unbounded bs point t = length-markedAt rules.unbounded bs (exploringBelow bs (point + 1)) t
 length-backtracked (rules.atMost n) bs point t =
-    let first : Last = exploringBelow bs (point + 1) in
+    let first : rules.ScheduleAt = exploringBelow bs (point + 1) in
     length-second (rules.atMost n) (markedAt (rules.atMost n) bs first t) first t ∙ length-markedAt (rules.atMost n) bs first t

@@ -8,14 +8,14 @@ use mathlib.Core.List.{List, [], _∷_}
 use mathlib.Core.Bool.{Bool, true, _&&_}
 use mathlib.Core.Path.{_≡_}
 use lib.ListN.{length, getD}
-use Rattle.rules.specs.Path.{Branch, Schedule, Last, Placed, schedule, none, at, noBranch, written, prevOf, schedulesBelow}
+use Rattle.rules.specs.Path.{Branch, Schedule, ScheduleAt, Placed, schedule, none, at, noBranch, written, prevOf, schedulesBelow}
 use Rattle.record.specs.Stands.{shaped}
 
 unfoldable pub allShaped : List Branch → Bool
 allShaped [] = true
 allShaped (b ∷ bs) = shaped b && allShaped bs
 
-abbrev pub lastIn : List Placed → Last
+abbrev pub lastIn : List Placed → ScheduleAt
 lastIn [] = none
 lastIn (a ∷ more) = at (a .place) (a .schedule)
 

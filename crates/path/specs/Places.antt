@@ -8,7 +8,7 @@ use mathlib.Core.Bool.{Bool, true, cond, _&&_}
 use mathlib.Core.Path.{_≡_}
 use lib.Dec.{ltb, leb, eqb}
 use lib.ListN.{length}
-use Rattle.record.specs.Fields.{fieldOf}
+use Rattle.record.specs.Fields.{recordByte}
 
 abbrev pub recordsOf : List ℕ → ℕ
 recordsOf path = length path / 16
@@ -25,4 +25,4 @@ pub record Through (path : List ℕ) (point r : ℕ) : Type 0 where
 
 pub record HasKind (path : List ℕ) (pos kind : ℕ) (r : Bool) : Type 0 where
   pub fits : r ≡ true → 16 * pos + 16 ≤ length path
-  pub is : r ≡ ltb pos (recordsOf path) && eqb (fieldOf path pos 0) kind
+  pub is : r ≡ ltb pos (recordsOf path) && eqb (recordByte path pos 0) kind

@@ -15,7 +15,7 @@ pub record OpenIn (path : List ℕ) (len r : ℕ) : Type 0 where
   pub few : r ≤ 6 * len
   pub is : (bs : List Branch) → Holds path bs → length bs ≡ len → r ≡ openIn bs
 
-pub record Steps (entry exit : List ℕ) (len r : ℕ) : Type 0 where
+pub record StepsPath (entry exit : List ℕ) (len r : ℕ) : Type 0 where
   pub few : r ≤ len
   pub fits : 16 * r ≤ length entry
   pub keeps : length exit ≡ length entry

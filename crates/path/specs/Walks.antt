@@ -9,14 +9,14 @@ use mathlib.Core.List.{List}
 use mathlib.Core.Path.{_≡_}
 use lib.ListN.{length, getD}
 use Rattle.rules.specs.Path as rules
-use Rattle.rules.specs.Path.{Branch, Schedule, Last, Bound, Marked, noBranch}
+use Rattle.rules.specs.Path.{Branch, Schedule, Bound, Marked, noBranch}
 use Rattle.record.specs.Places.{foundBelow}
 use Rattle.record.specs.declared.schedule.ScheduleAt.{ScheduleAt}
 use Rattle.record.specs.declared.schedule.ScheduleAt.the-variants.{At, Nowhere}
 use Rattle.path.specs.Holds.{Holds}
 use Rattle.path.specs.Places.{recordsOf}
 
-abbrev pub lastAs : Last → ScheduleAt
+abbrev pub lastAs : rules.ScheduleAt → ScheduleAt
 lastAs rules.none = Nowhere
 lastAs (rules.at k s) = At k
 
@@ -26,7 +26,7 @@ pub record HoldsAt (bytes : List ℕ) (bs : List Branch) (k : ℕ) (s : Schedule
   pub there : getD bs k noBranch ≡ rules.schedule s
 
 -- a schedule that stands in a path where it says
-abbrev pub standsIn : List Branch → Last → Type 0
+abbrev pub standsIn : List Branch → rules.ScheduleAt → Type 0
 standsIn bs rules.none = Unit
 standsIn bs (rules.at k s) = getD bs k noBranch ≡ rules.schedule s
 
@@ -38,7 +38,7 @@ pub record LastOf (path : List ℕ) (len : ℕ) (r : ScheduleAt) : Type 0 where
 -- the preemptions up to the schedule that was found, if one was
 pub record PreemptionsBefore (path : List ℕ) (prev : ScheduleAt) (r : ℕ) : Type 0 where
   pub few : r ≤ 256
-  pub says : (bs : List Branch) → Holds path bs → (l : Last) → standsIn bs l → prev ≡ lastAs l → r ≡ rules.preemptionsAfter l
+  pub says : (bs : List Branch) → Holds path bs → (l : rules.ScheduleAt) → standsIn bs l → prev ≡ lastAs l → r ≡ rules.preemptionsAfter l
 
 -- the last exploring one that does not stand after a point: one of the buffer's records
 pub record ExploringFrom (path : List ℕ) (point : ℕ) (r : ScheduleAt) : Type 0 where

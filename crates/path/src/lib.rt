@@ -6,13 +6,13 @@ ghost use Prim.Native.Nat.{_+_, _*_, _/_, _≤_};
 ghost use mathlib.Core.Path.{_≡_};
 ghost use lib.ListN.{length, take};
 ghost use Rattle.rules.specs.Path.{spuriousAdded, loadAdded};
-ghost use Rattle.record.specs.Fields.{fieldOf};
+ghost use Rattle.record.specs.Fields.{recordByte};
 ghost use Rattle.record.specs.Places.{foundBelow};
-ghost use Rattle.path.specs.Choices.{Reads, Says, Chooses};
+ghost use Rattle.path.specs.Choices.{ReadsSlot, Says, Chooses};
 ghost use Rattle.path.specs.Pushes.{Pushes, PushesThread, Seven};
 ghost use Rattle.path.specs.Bounds.{boundOf, reaches};
 ghost use Rattle.path.specs.Places.{Present, Through, HasKind};
-ghost use Rattle.path.specs.Steps.{AnyOpen, OpenIn, Steps};
+ghost use Rattle.path.specs.Steps.{AnyOpen, OpenIn, StepsPath};
 ghost use Rattle.path.specs.Walks.{LastOf, PreemptionsBefore, ExploringFrom, SwitchFrom, MarksAt, MarksBefore, Backtracks};
 use layout::MAX_ATOMIC_HISTORY;
 use layout::MAX_THREADS;
@@ -121,7 +121,7 @@ pub fn push_load(
 
 // The slot that the branch at a position chooses now, with its offers.
 pub fn branch_load(path: &[u8], pos: usize) -> Offered
-    ensures { λ r. ⌜ Reads (now (path .entry)) pos r ⌝ }
+    ensures { λ r. ⌜ ReadsSlot (now (path .entry)) pos r ⌝ }
 {
     if !has_kind(path, pos, fields::KIND_LOAD) {
         return Offered::Unexpected;
@@ -202,7 +202,7 @@ pub fn open(path: &[u8], len: usize) -> u64
 // answers how many branches are left: none where no choice was open. So the tree of choices is
 // walked depth first.
 pub fn step(path: &mut [u8], len: usize) -> usize
-    ensures { λ r. ⌜ Steps (now (path .entry)) (now (path .exit)) len r ⌝ }
+    ensures { λ r. ⌜ StepsPath (now (path .entry)) (now (path .exit)) len r ⌝ }
 {
     let mut left = present(path, len);
     while 0 < left {
@@ -314,7 +314,7 @@ fn backtrack_at(path: &mut [u8], at: usize, bound: Bound, thread: usize) -> u64
 // Whether the preemptions before the record are as many as the bound.
 fn is_bound(path: &[u8], at: usize, bound: Bound) -> bool
     requires { ⌜ 16 * at + 16 ≤ length (now path) ⌝ }
-    ensures { λ r. ⌜ r ≡ reaches bound (fieldOf (now (path .entry)) at 7) ⌝ }
+    ensures { λ r. ⌜ r ≡ reaches bound (recordByte (now (path .entry)) at 7) ⌝ }
 {
     let Bound::AtMost(most) = bound else {
         return false;

@@ -8,7 +8,7 @@ ghost use Rattle.layout.specs.Tables.{state};
 ghost use Rattle.track.specs.Tracked.{raceOf, Tracked};
 ghost use Rattle.atomic.specs.Accesses.{accessOf};
 ghost use Rattle.plain.specs.Writes.{Writes};
-use atomic::Loaded;
+use atomic::AccessResult;
 use layout::Clocks;
 use layout::Values;
 use layout::of_plain::READ_ACCESS;
@@ -53,14 +53,14 @@ pub fn track_write(clocks: &mut Clocks, thread: usize, plain: usize) -> Race
 }
 
 // Reads the value.
-pub fn read(clocks: &mut Clocks, values: &Values, thread: usize, plain: usize) -> Loaded
+pub fn read(clocks: &mut Clocks, values: &Values, thread: usize, plain: usize) -> AccessResult
     requires { ⌜ (thread < 5) × (plain < 4) ⌝ }
     ensures { λ r. ⌜ ((marks : rules.Marks) (numbers : rules.Numbers) → accessOf r (state (now (clocks .exit)) marks (now (values .entry)) numbers) ≡ plainReadDone (state (now (clocks .entry)) marks (now (values .entry)) numbers) thread plain) ⌝ }
 {
     if let Race::With { kind, other } = track_read(clocks, thread, plain) {
-        return Loaded::Raced { kind, other };
+        return AccessResult::Raced { kind, other };
     }
-    Loaded::Value(values[VALUE + plain])
+    AccessResult::Value(values[VALUE + plain])
 }
 
 // Writes a value; with a race nothing changes.

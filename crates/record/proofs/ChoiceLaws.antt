@@ -9,10 +9,10 @@ use lib.Dec.{ltb}
 use lib.ListN.{length, getD}
 use Rattle.rules.specs.Path as rules
 use Rattle.rules.specs.Path.{Load}
-use Rattle.record.specs.Answers.{Offers}
+use Rattle.record.specs.Answers.{OfferIs}
 use Rattle.record.specs.Choices.{allSlots, offers, offeredBy, OfLoad}
-use Rattle.record.specs.Fields.{fieldOf, valuesAt}
-use Rattle.record.specs.Stands.{Stands}
+use Rattle.record.specs.Fields.{recordByte, valuesAt}
+use Rattle.record.specs.Stands.{BranchStands}
 use Rattle.record.specs.declared.Offered.{Offered}
 use Rattle.record.specs.declared.Offered.the-variants as offered
 use Rattle.record.proofs.LoadLaws.{value-at, length-valuesAt}
@@ -30,7 +30,7 @@ bad-slot (v ∷ vs) (suc i) h l = second (ltb v 7) (allSlots vs) (bad-slot vs i 
     second false b e = refl
 
 -- a load's record, with its position and length as they were read
-module _ (bytes : List ℕ) (at : ℕ) (fits : 16 * at + 16 ≤ length bytes) (pos len : ℕ) (ep : pos ≡ fieldOf bytes at 9) (el : len ≡ fieldOf bytes at 10) where
+module _ (bytes : List ℕ) (at : ℕ) (fits : 16 * at + 16 ≤ length bytes) (pos len : ℕ) (ep : pos ≡ recordByte bytes at 9) (el : len ≡ recordByte bytes at 10) where
   pub offered-many : 7 < len → OfLoad bytes at offered.Unexpected
   offered-many h = record { slot = tt; is = λ l q. absurd (omega (arith, stands-len q, seven-values q)) }
 
@@ -43,8 +43,8 @@ module _ (bytes : List ℕ) (at : ℕ) (fits : 16 * at + 16 ≤ length bytes) (p
         rw (le-ltb (l .pos) (length (l .values)) k);
   }
 
-  module _ (few : len ≤ 7) (inside : pos < len) (slot : ℕ) (es : slot ≡ fieldOf bytes at (2 + pos)) where
-    picked : (l : Load) → Stands bytes at (rules.load l) → offers slot 0 (valuesAt bytes at len) ≡ offeredBy (rules.load l)
+  module _ (few : len ≤ 7) (inside : pos < len) (slot : ℕ) (es : slot ≡ recordByte bytes at (2 + pos)) where
+    picked : (l : Load) → BranchStands bytes at (rules.load l) → offers slot 0 (valuesAt bytes at len) ≡ offeredBy (rules.load l)
     unfolding offeredBy
     picked l q =
         let p : pos ≡ l .pos = ep ∙ stands-pos q in
@@ -64,5 +64,5 @@ module _ (bytes : List ℕ) (at : ℕ) (fits : 16 * at + 16 ≤ length bytes) (p
     pub offered-bad : 7 ≤ slot → OfLoad bytes at offered.Unexpected
     offered-bad h = record { slot = tt; is = λ l q. sym (spoilt h (length-valuesAt bytes at len fits few)) ∙ picked l q }
 
-    pub offered-some : (r : Offered) → Offers (offers slot 0 (valuesAt bytes at len)) r → OfLoad bytes at r
+    pub offered-some : (r : Offered) → OfferIs (offers slot 0 (valuesAt bytes at len)) r → OfLoad bytes at r
     offered-some r o = record { slot = o .slot; is = λ l q. o .is ∙ picked l q }

@@ -21,7 +21,7 @@ use Rattle.rules.specs.Records.{recordAt}
 use Rattle.rules.proofs.RecordLaws.{length-recordAt, byte-at}
 use Rattle.record.specs.Answers.{Left}
 use Rattle.record.specs.Choices.{offers, allSlots}
-use Rattle.record.specs.Fields.{fieldOf, valuesAt}
+use Rattle.record.specs.Fields.{recordByte, valuesAt}
 use Rattle.record.specs.declared.Offered.the-variants.{Slot, Unexpected}
 
 pub left-many : (pos len : ℕ) → 7 < len → Left pos len 0
@@ -116,7 +116,7 @@ module _ (bytes : List ℕ) (at n : ℕ) (fits : 16 * at + 16 ≤ length bytes) 
   unfolding valuesAt
   length-valuesAt = simp (length-take, length-drop) (omega (arith, length-recordAt bytes at fits))
 
-  pub value-at : (i : ℕ) → i < n → fieldOf bytes at (2 + i) ≡ getD (valuesAt bytes at n) i 0
+  pub value-at : (i : ℕ) → i < n → recordByte bytes at (2 + i) ≡ getD (valuesAt bytes at n) i 0
   unfolding valuesAt
   value-at i b =
       byte-at bytes at fits (2 + i) (omega arith)
@@ -158,7 +158,7 @@ module _ (slot mask : ℕ) (vs : List ℕ) (i : ℕ) where
 
 -- the same for the record at a position: v is the byte that was read
 module _ (bytes : List ℕ) (at n : ℕ) (fits : 16 * at + 16 ≤ length bytes) (h : n ≤ 7) (slot mask i : ℕ) where
-  module _ (b : i < n) (v : ℕ) (e : v ≡ fieldOf bytes at (2 + i)) where
+  module _ (b : i < n) (v : ℕ) (e : v ≡ recordByte bytes at (2 + i)) where
     in-values : i < length (valuesAt bytes at n)
     in-values = omega (arith, length-valuesAt bytes at n fits h)
 

@@ -15,7 +15,7 @@ use lib.ListN.{length, getD, set, List·getD-eq-default}
 use lib.Seq.{set-getD, set-out}
 use Rattle.rules.specs.Path.{skipToPending, marked, skip, disabled, visited}
 use Rattle.rules.proofs.MarkLaws.{isSkip, skips, made-same, made-set, made-all}
-use Rattle.record.specs.Fields.{fieldOf, withField, statesAt, withStatesAt}
+use Rattle.record.specs.Fields.{recordByte, withRecordByte, statesAt, withStatesAt}
 use Rattle.record.specs.Schedules.{Explores, ExploresAll, RecordMarked}
 use Rattle.record.proofs.StatesLaws.{length-statesAt, state-at, state-put, states-same, states-now, states-again}
 
@@ -87,11 +87,11 @@ module _ (bytes : List ℕ) (k : ℕ) (fits : 16 * k + 16 ≤ length bytes) wher
 
   -- One thread: f is the byte that was read
 
-  module _ (t f : ℕ) (b : t < 5) (e : f ≡ fieldOf bytes k (2 + t)) where
+  module _ (t f : ℕ) (b : t < 5) (e : f ≡ recordByte bytes k (2 + t)) where
     state-is : f ≡ getD own t visited
     state-is = e ∙ state-at bytes k fits t b ∙ getD-any own t 0 visited (omega (arith, five))
 
-    pub explore-here : f ≡ 1 → (exit : List ℕ) → exit ≡ withField bytes k (2 + t) 3 → Explores bytes exit k t 1
+    pub explore-here : f ≡ 1 → (exit : List ℕ) → exit ≡ withRecordByte bytes k (2 + t) 3 → Explores bytes exit k t 1
     explore-here q exit p =
         let z : eqb (getD own t visited) skip ≡ true = eq-eqb (getD own t visited) skip (sym state-is ∙ q) in
         record { few = omega arith; opens = sym (made-set own t ∙ rw z); puts = rw z (p ∙ state-put bytes k fits t 3 b) }

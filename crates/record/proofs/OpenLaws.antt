@@ -15,10 +15,10 @@ use Rattle.rules.specs.Vector.{Whom, nobody, thread}
 use Rattle.rules.specs.Path.{Branch, Schedule, Load, Spurious, schedule, load, spurious, encoded, isExploring, flag, withStates, openAt, pendings, pending, firstIn, toActive, left, turned, turnedBranch}
 use Rattle.rules.specs.Records.{withRecord}
 use Rattle.rules.proofs.RecordLaws.{byte-put}
-use Rattle.record.specs.Answers.{Counts, Left}
-use Rattle.record.specs.Fields.{fieldOf, withField, statesAt, withStatesAt}
-use Rattle.record.specs.Stands.{Stands, shaped}
-use Rattle.record.specs.Steps.{Visits, Moves, Sets, OpenAt, StepsAt, spent, tried}
+use Rattle.record.specs.Answers.{CountIs, Left}
+use Rattle.record.specs.Fields.{recordByte, withRecordByte, statesAt, withStatesAt}
+use Rattle.record.specs.Stands.{BranchStands, shaped}
+use Rattle.record.specs.Steps.{Visits, Moves, Sets, OpenAt, StepsAt, spent, branchStepped}
 use Rattle.record.proofs.StandsLaws.{stands-field, stands-same, stands-states, stands-states-put, stands-pos, stands-len, stands-moved, seven-values}
 use Rattle.record.proofs.ScheduleLaws.{flag-is}
 use Rattle.record.proofs.StepLaws.{either, length-turned, length-left, Some, some-in, pendings-left}
@@ -45,13 +45,13 @@ three-kinds (spurious u) f g h = h refl
 
 -- What is open
 
-open-schedule-of : {bytes : List ℕ} {at : ℕ} (b : Branch) → Stands bytes at b → getD (encoded b) 0 0 ≡ 1 → isExploring b ≡ true → pendings (statesAt bytes at) ≡ openAt b
+open-schedule-of : {bytes : List ℕ} {at : ℕ} (b : Branch) → BranchStands bytes at b → getD (encoded b) 0 0 ≡ 1 → isExploring b ≡ true → pendings (statesAt bytes at) ≡ openAt b
 unfolding encoded openAt
 open-schedule-of (schedule s) q k x = ap pendings (stands-states q) ∙ rw x
 open-schedule-of (load m) q k x = absurd (omega arith)
 open-schedule-of (spurious u) q k x = absurd (omega arith)
 
-open-load-of : {bytes : List ℕ} {at : ℕ} (b : Branch) → Stands bytes at b → getD (encoded b) 0 0 ≡ 2 → isExploring b ≡ true → (r : ℕ) → Left (fieldOf bytes at 9) (fieldOf bytes at 10) r → r ≡ openAt b
+open-load-of : {bytes : List ℕ} {at : ℕ} (b : Branch) → BranchStands bytes at b → getD (encoded b) 0 0 ≡ 2 → isExploring b ≡ true → (r : ℕ) → Left (recordByte bytes at 9) (recordByte bytes at 10) r → r ≡ openAt b
 unfolding encoded openAt
 open-load-of (schedule s) q k x r o = absurd (omega arith)
 open-load-of (load m) q k x r o =
@@ -63,41 +63,41 @@ bit-open : (b : Bool) → _≡_ {A = ℕ} (cond (eqb (flag b) 0) 1 0) (cond b 0 
 bit-open true = refl
 bit-open false = refl
 
-spurious-bit : {bytes : List ℕ} {at : ℕ} {u : Spurious} → Stands bytes at (spurious u) → fieldOf bytes at 2 ≡ flag (u .bit)
+spurious-bit : {bytes : List ℕ} {at : ℕ} {u : Spurious} → BranchStands bytes at (spurious u) → recordByte bytes at 2 ≡ flag (u .bit)
 unfolding encoded
 spurious-bit q = stands-field q 2 (omega arith)
 
-open-spurious-of : {bytes : List ℕ} {at : ℕ} (b : Branch) → Stands bytes at b → getD (encoded b) 0 0 ≡ 3 → isExploring b ≡ true → cond (eqb (fieldOf bytes at 2) 0) 1 0 ≡ openAt b
+open-spurious-of : {bytes : List ℕ} {at : ℕ} (b : Branch) → BranchStands bytes at b → getD (encoded b) 0 0 ≡ 3 → isExploring b ≡ true → cond (eqb (recordByte bytes at 2) 0) 1 0 ≡ openAt b
 unfolding encoded openAt
 open-spurious-of (schedule s) q k x = absurd (omega arith)
 open-spurious-of (load m) q k x = absurd (omega arith)
 open-spurious-of (spurious u) q k x = ap (λ (y : ℕ). cond (eqb y 0) 1 0) (spurious-bit q) ∙ bit-open (u .bit) ∙ rw x
 
 -- as they are read: x whether it is explored
-module _ (bytes : List ℕ) (at : ℕ) (x : Bool) (ex : x ≡ eqb (fieldOf bytes at 1) 1) where
-  explored : {b : Branch} → Stands bytes at b → x ≡ isExploring b
+module _ (bytes : List ℕ) (at : ℕ) (x : Bool) (ex : x ≡ eqb (recordByte bytes at 1) 1) where
+  explored : {b : Branch} → BranchStands bytes at b → x ≡ isExploring b
   explored {b} q = ex ∙ ap (λ (y : ℕ). eqb y 1) (stands-field q 1 (omega arith)) ∙ explores b
 
   pub open-not : x ≡ false → OpenAt bytes at 0
   open-not e = record { few = omega arith; is = λ b q. sym (not-open b (sym (explored q) ∙ e)) }
 
-  module _ (t : x ≡ true) (kind : ℕ) (ek : kind ≡ fieldOf bytes at 0) where
-    of-kind : {b : Branch} → Stands bytes at b → (k : ℕ) → kind ≡ k → getD (encoded b) 0 0 ≡ k
+  module _ (t : x ≡ true) (kind : ℕ) (ek : kind ≡ recordByte bytes at 0) where
+    of-kind : {b : Branch} → BranchStands bytes at b → (k : ℕ) → kind ≡ k → getD (encoded b) 0 0 ≡ k
     of-kind q k e = sym (ek ∙ stands-field q 0 (omega arith)) ∙ e
 
-    yes : {b : Branch} → Stands bytes at b → isExploring b ≡ true
+    yes : {b : Branch} → BranchStands bytes at b → isExploring b ≡ true
     yes q = sym (explored q) ∙ t
 
-    pub open-schedule : kind ≡ 1 → (r : ℕ) → Counts 5 (pendings (statesAt bytes at)) r → OpenAt bytes at r
+    pub open-schedule : kind ≡ 1 → (r : ℕ) → CountIs 5 (pendings (statesAt bytes at)) r → OpenAt bytes at r
     open-schedule k r o = record { few = omega (arith, o .few); is = λ b q. o .is ∙ open-schedule-of b q (of-kind q 1 k) (yes q) }
 
-    pub open-load : kind ≡ 2 → (r : ℕ) → Left (fieldOf bytes at 9) (fieldOf bytes at 10) r → OpenAt bytes at r
+    pub open-load : kind ≡ 2 → (r : ℕ) → Left (recordByte bytes at 9) (recordByte bytes at 10) r → OpenAt bytes at r
     open-load k r o = record { few = o .few; is = λ b q. open-load-of b q (of-kind q 2 k) (yes q) r o }
 
-    pub open-spurious : kind ≡ 3 → (r : ℕ) → Counts 1 (cond (eqb (fieldOf bytes at 2) 0) 1 0) r → OpenAt bytes at r
+    pub open-spurious : kind ≡ 3 → (r : ℕ) → CountIs 1 (cond (eqb (recordByte bytes at 2) 0) 1 0) r → OpenAt bytes at r
     open-spurious k r o = record { few = omega (arith, o .few); is = λ b q. o .is ∙ open-spurious-of b q (of-kind q 3 k) (yes q) }
 
-    none-other : {b : Branch} → Stands bytes at b → kind ≢ 1 → kind ≢ 2 → kind ≢ 3 → ⊥
+    none-other : {b : Branch} → BranchStands bytes at b → kind ≢ 1 → kind ≢ 2 → kind ≢ 3 → ⊥
     none-other {b} q f g h =
         let e : kind ≡ getD (encoded b) 0 0 = ek ∙ stands-field q 0 (omega arith) in
         three-kinds b (λ y. f (e ∙ y)) (λ y. g (e ∙ y)) (λ y. h (e ∙ y))
@@ -108,15 +108,15 @@ module _ (bytes : List ℕ) (at : ℕ) (x : Bool) (ex : x ≡ eqb (fieldOf bytes
 -- The next choice
 
 module _ (b : Branch) where
-  pub tried-open : ltb 0 (openAt b) ≡ true → tried b ≡ turnedBranch b
-  unfolding tried
+  pub tried-open : ltb 0 (openAt b) ≡ true → branchStepped b ≡ turnedBranch b
+  unfolding branchStepped
   tried-open e = rw e
 
-  tried-spent : ltb 0 (openAt b) ≡ false → tried b ≡ spent b
-  unfolding tried
+  tried-spent : ltb 0 (openAt b) ≡ false → branchStepped b ≡ spent b
+  unfolding branchStepped
   tried-spent e = rw e
 
-not-spent : (b : Branch) → isExploring b ≡ false → tried b ≡ b
+not-spent : (b : Branch) → isExploring b ≡ false → branchStepped b ≡ b
 unfolding spent
 not-spent b e = tried-spent b (ap (ltb 0) (not-open b e)) ∙ same b e
   where
@@ -135,11 +135,11 @@ left-only s e = none (firstIn pending (left s)) (some-in (left s))
     none (thread t) h = absurd (omega (arith, h .0, pendings-left s))
 
 -- its record, where it stays as it was
-unchanged : {bytes : List ℕ} {at : ℕ} {b : Branch} → Stands bytes at b → tried b ≡ b → bytes ≡ withRecord bytes at (encoded (tried b))
+unchanged : {bytes : List ℕ} {at : ℕ} {b : Branch} → BranchStands bytes at b → branchStepped b ≡ b → bytes ≡ withRecord bytes at (encoded (branchStepped b))
 unchanged {bytes} {at} q t = stands-same q ∙ ap (λ (y : Branch). withRecord bytes at (encoded y)) (sym t)
 
 -- a schedule
-tried-schedule : (s : Schedule) → s .exploring ≡ true → tried (schedule s) ≡ schedule (withStates s (turned (s .states)))
+tried-schedule : (s : Schedule) → s .exploring ≡ true → branchStepped (schedule s) ≡ schedule (withStates s (turned (s .states)))
 unfolding openAt turnedBranch spent
 tried-schedule s x =
     ⊎-elim
@@ -151,7 +151,7 @@ tried-schedule s x =
     ∙ ap (λ (y : List ℕ). schedule (withStates s y)) (sym (left-only (s .states) z)))
     (either (ltb 0 (openAt (schedule s))))
 
-step-schedule-of : {bytes : List ℕ} {at : ℕ} (b : Branch) → Stands bytes at b → getD (encoded b) 0 0 ≡ 1 → isExploring b ≡ true → (exit : List ℕ) → exit ≡ withStatesAt bytes at (turned (statesAt bytes at)) → exit ≡ withRecord bytes at (encoded (tried b))
+step-schedule-of : {bytes : List ℕ} {at : ℕ} (b : Branch) → BranchStands bytes at b → getD (encoded b) 0 0 ≡ 1 → isExploring b ≡ true → (exit : List ℕ) → exit ≡ withStatesAt bytes at (turned (statesAt bytes at)) → exit ≡ withRecord bytes at (encoded (branchStepped b))
 unfolding encoded
 step-schedule-of {bytes} {at} (schedule s) q k x exit f =
     f
@@ -169,20 +169,20 @@ one-left p n =
     (λ t. t ∙ sym (le-ltb 0 (n - 1 - p) (omega (arith, ltb-false (p + 1) n t))))
     (either (ltb (p + 1) n))
 
-load-said : {bytes : List ℕ} {at : ℕ} (m : Load) → m .exploring ≡ true → Stands bytes at (load m) → ltb (fieldOf bytes at 9 + 1) (fieldOf bytes at 10) ≡ ltb 0 (openAt (load m))
+load-said : {bytes : List ℕ} {at : ℕ} (m : Load) → m .exploring ≡ true → BranchStands bytes at (load m) → ltb (recordByte bytes at 9 + 1) (recordByte bytes at 10) ≡ ltb 0 (openAt (load m))
 unfolding openAt
 load-said m x q = rw (stands-pos q, stands-len q) (one-left (m .pos) (length (m .values)) ∙ rw x)
 
-load-puts : {bytes : List ℕ} {at : ℕ} (m : Load) → Stands bytes at (load m) → (r : Bool) → r ≡ ltb 0 (openAt (load m)) → (exit : List ℕ) → exit ≡ cond r (withField bytes at 9 (fieldOf bytes at 9 + 1)) bytes → exit ≡ withRecord bytes at (encoded (tried (load m)))
+load-puts : {bytes : List ℕ} {at : ℕ} (m : Load) → BranchStands bytes at (load m) → (r : Bool) → r ≡ ltb 0 (openAt (load m)) → (exit : List ℕ) → exit ≡ cond r (withRecordByte bytes at 9 (recordByte bytes at 9 + 1)) bytes → exit ≡ withRecord bytes at (encoded (branchStepped (load m)))
 unfolding turnedBranch spent
 load-puts {bytes} {at} m q true o exit f =
     f
-    ∙ ap (λ (y : ℕ). withField bytes at 9 (y + 1)) (stands-pos q)
+    ∙ ap (λ (y : ℕ). withRecordByte bytes at 9 (y + 1)) (stands-pos q)
     ∙ stands-moved q (m .pos + 1)
     ∙ ap (λ (y : Branch). withRecord bytes at (encoded y)) (sym (tried-open (load m) (sym o)))
 load-puts m q false o exit f = f ∙ unchanged q (tried-spent (load m) (sym o))
 
-step-load-of : {bytes : List ℕ} {at : ℕ} (b : Branch) → Stands bytes at b → getD (encoded b) 0 0 ≡ 2 → isExploring b ≡ true → (exit : List ℕ) (r : Bool) → Moves bytes exit at r → (r ≡ ltb 0 (openAt b)) × (exit ≡ withRecord bytes at (encoded (tried b)))
+step-load-of : {bytes : List ℕ} {at : ℕ} (b : Branch) → BranchStands bytes at b → getD (encoded b) 0 0 ≡ 2 → isExploring b ≡ true → (exit : List ℕ) (r : Bool) → Moves bytes exit at r → (r ≡ ltb 0 (openAt b)) × (exit ≡ withRecord bytes at (encoded (branchStepped b)))
 unfolding encoded
 step-load-of (schedule s) q k x exit r m = absurd (omega arith)
 step-load-of (load n) q k x exit r m =
@@ -195,22 +195,22 @@ bit-said : (b : Bool) → eqb (flag b) 0 ≡ ltb 0 (cond b 0 1)
 bit-said true = refl
 bit-said false = refl
 
-spurious-said : {bytes : List ℕ} {at : ℕ} (u : Spurious) → u .exploring ≡ true → Stands bytes at (spurious u) → eqb (fieldOf bytes at 2) 0 ≡ ltb 0 (openAt (spurious u))
+spurious-said : {bytes : List ℕ} {at : ℕ} (u : Spurious) → u .exploring ≡ true → BranchStands bytes at (spurious u) → eqb (recordByte bytes at 2) 0 ≡ ltb 0 (openAt (spurious u))
 unfolding openAt
 spurious-said u x q = ap (λ (y : ℕ). eqb y 0) (spurious-bit q) ∙ bit-said (u .bit) ∙ rw x
 
-spurious-yes : {bytes : List ℕ} {at : ℕ} (u : Spurious) → Stands bytes at (spurious u) → withField bytes at 2 1 ≡ withRecord bytes at (encoded (turnedBranch (spurious u)))
+spurious-yes : {bytes : List ℕ} {at : ℕ} (u : Spurious) → BranchStands bytes at (spurious u) → withRecordByte bytes at 2 1 ≡ withRecord bytes at (encoded (turnedBranch (spurious u)))
 unfolding encoded turnedBranch
 spurious-yes {bytes} {at} u q =
     byte-put bytes at (q .fits) 2 1 (omega arith) ∙ ap (λ (y : List ℕ). withRecord bytes at (set y 2 1)) (q .same)
 
-spurious-puts : {bytes : List ℕ} {at : ℕ} (u : Spurious) → Stands bytes at (spurious u) → (r : Bool) → r ≡ ltb 0 (openAt (spurious u)) → (exit : List ℕ) → exit ≡ cond r (withField bytes at 2 1) bytes → exit ≡ withRecord bytes at (encoded (tried (spurious u)))
+spurious-puts : {bytes : List ℕ} {at : ℕ} (u : Spurious) → BranchStands bytes at (spurious u) → (r : Bool) → r ≡ ltb 0 (openAt (spurious u)) → (exit : List ℕ) → exit ≡ cond r (withRecordByte bytes at 2 1) bytes → exit ≡ withRecord bytes at (encoded (branchStepped (spurious u)))
 unfolding spent
 spurious-puts {bytes} {at} u q true o exit f =
     f ∙ spurious-yes u q ∙ ap (λ (y : Branch). withRecord bytes at (encoded y)) (sym (tried-open (spurious u) (sym o)))
 spurious-puts u q false o exit f = f ∙ unchanged q (tried-spent (spurious u) (sym o))
 
-step-spurious-of : {bytes : List ℕ} {at : ℕ} (b : Branch) → Stands bytes at b → getD (encoded b) 0 0 ≡ 3 → isExploring b ≡ true → (exit : List ℕ) (r : Bool) → Sets bytes exit at r → (r ≡ ltb 0 (openAt b)) × (exit ≡ withRecord bytes at (encoded (tried b)))
+step-spurious-of : {bytes : List ℕ} {at : ℕ} (b : Branch) → BranchStands bytes at b → getD (encoded b) 0 0 ≡ 3 → isExploring b ≡ true → (exit : List ℕ) (r : Bool) → Sets bytes exit at r → (r ≡ ltb 0 (openAt b)) × (exit ≡ withRecord bytes at (encoded (branchStepped b)))
 unfolding encoded
 step-spurious-of (schedule s) q k x exit r m = absurd (omega arith)
 step-spurious-of (load n) q k x exit r m = absurd (omega arith)
@@ -219,17 +219,17 @@ step-spurious-of (spurious u) q k x exit r m =
     (o, spurious-puts u q r o exit (m .now))
 
 -- as they are read
-module _ (bytes : List ℕ) (at : ℕ) (x : Bool) (ex : x ≡ eqb (fieldOf bytes at 1) 1) where
+module _ (bytes : List ℕ) (at : ℕ) (x : Bool) (ex : x ≡ eqb (recordByte bytes at 1) 1) where
   pub step-not : x ≡ false → StepsAt bytes bytes at false
   step-not e =
-      let no : (b : Branch) → Stands bytes at b → isExploring b ≡ false = λ b q. sym (explored bytes at x ex q) ∙ e in
+      let no : (b : Branch) → BranchStands bytes at b → isExploring b ≡ false = λ b q. sym (explored bytes at x ex q) ∙ e in
       record { said = λ b q. sym (ap (ltb 0) (not-open b (no b q))); puts = λ b q. unchanged q (not-spent b (no b q)) }
 
-  module _ (t : x ≡ true) (kind : ℕ) (ek : kind ≡ fieldOf bytes at 0) (exit : List ℕ) (r : Bool) where
-    abbrev kinds : {b : Branch} → Stands bytes at b → (k : ℕ) → kind ≡ k → getD (encoded b) 0 0 ≡ k
+  module _ (t : x ≡ true) (kind : ℕ) (ek : kind ≡ recordByte bytes at 0) (exit : List ℕ) (r : Bool) where
+    abbrev kinds : {b : Branch} → BranchStands bytes at b → (k : ℕ) → kind ≡ k → getD (encoded b) 0 0 ≡ k
     kinds = of-kind bytes at x ex t kind ek
 
-    abbrev on : {b : Branch} → Stands bytes at b → isExploring b ≡ true
+    abbrev on : {b : Branch} → BranchStands bytes at b → isExploring b ≡ true
     on = yes bytes at x ex t kind ek
 
     pub step-schedule : kind ≡ 1 → Visits bytes exit at r → StepsAt bytes exit at r
@@ -282,6 +282,6 @@ spent-shaped (schedule s) h =
 spent-shaped (load l) h = h
 spent-shaped (spurious u) h = refl
 
-pub tried-shaped : (b : Branch) → shaped b ≡ true → shaped (tried b) ≡ true
-unfolding tried
+pub tried-shaped : (b : Branch) → shaped b ≡ true → shaped (branchStepped b) ≡ true
+unfolding branchStepped
 tried-shaped b h = either-shaped (ltb 0 (openAt b)) (turnedBranch b) (spent b) (turned-shaped b h) (spent-shaped b h)

@@ -16,10 +16,10 @@ use lib.ListN.{length, getD, replicate}
 use lib.Seq.{getD-append-add}
 use Rattle.rules.specs.Vector.{Whom, nobody, thread, oneUp}
 use Rattle.rules.specs.Path.{Schedule, schedule, encoded, flag, firstIn, activeIn, active, activeOf, orNone, preemptionsWith}
-use Rattle.record.specs.Fields.{fieldOf, statesAt}
+use Rattle.record.specs.Fields.{recordByte, statesAt}
 use Rattle.record.specs.Places.{First, orFive}
 use Rattle.record.specs.Schedules.{byteOf, positionAt, prevIn}
-use Rattle.record.specs.Stands.{Stands}
+use Rattle.record.specs.Stands.{BranchStands}
 use Rattle.record.specs.declared.schedule.ScheduleAt.the-variants.{At, Nowhere}
 use Rattle.record.proofs.StandsLaws.{stands-field, stands-states, five-states}
 
@@ -58,8 +58,8 @@ pub flag-is : (b : Bool) → eqb (flag b) 1 ≡ b
 flag-is true = refl
 flag-is false = refl
 
-module _ {bytes : List ℕ} {k : ℕ} {s : Schedule} (h : Stands bytes k (schedule s)) where
-  pub stands-exploring : eqb (fieldOf bytes k 1) 1 ≡ s .exploring
+module _ {bytes : List ℕ} {k : ℕ} {s : Schedule} (h : BranchStands bytes k (schedule s)) where
+  pub stands-exploring : eqb (recordByte bytes k 1) 1 ≡ s .exploring
   unfolding encoded
   stands-exploring = ap (λ (x : ℕ). eqb x 1) (stands-field h 1 (omega arith)) ∙ flag-is (s .exploring)
 
@@ -71,19 +71,19 @@ module _ {bytes : List ℕ} {k : ℕ} {s : Schedule} (h : Stands bytes k (schedu
   abbrev rest : List ℕ
   rest = s .preemptions ∷ s .initial ∷ s .prev % 256 ∷ s .prev / 256 ∷ replicate 5 0
 
-  pub stands-preemptions : fieldOf bytes k 7 ≡ s .preemptions
+  pub stands-preemptions : recordByte bytes k 7 ≡ s .preemptions
   unfolding encoded
   stands-preemptions = stands-field h 7 (omega arith) ∙ late rest 0 5 refl
 
-  pub stands-initial : fieldOf bytes k 8 ≡ s .initial
+  pub stands-initial : recordByte bytes k 8 ≡ s .initial
   unfolding encoded
   stands-initial = stands-field h 8 (omega arith) ∙ late rest 1 6 refl
 
-  low : fieldOf bytes k 9 ≡ s .prev % 256
+  low : recordByte bytes k 9 ≡ s .prev % 256
   unfolding encoded
   low = stands-field h 9 (omega arith) ∙ late rest 2 7 refl
 
-  high : fieldOf bytes k 10 ≡ s .prev / 256
+  high : recordByte bytes k 10 ≡ s .prev / 256
   unfolding encoded
   high = stands-field h 10 (omega arith) ∙ late rest 3 8 refl
 
@@ -101,7 +101,7 @@ module _ {bytes : List ℕ} {k : ℕ} {s : Schedule} (h : Stands bytes k (schedu
 
   -- Its preemptions
 
-  module _ (p i : ℕ) (e : p ≡ fieldOf bytes k 7) (f : i ≡ fieldOf bytes k 8) where
+  module _ (p i : ℕ) (e : p ≡ recordByte bytes k 7) (f : i ≡ recordByte bytes k 8) where
     pub preempts-none : i ≡ 255 → p ≡ preemptionsWith s
     unfolding preemptionsWith
     preempts-none n = let z : eqb (s .initial) 255 ≡ true = eq-eqb (s .initial) 255 (sym stands-initial ∙ sym f ∙ n) in rw z (e ∙ stands-preemptions)
@@ -124,7 +124,7 @@ module _ {bytes : List ℕ} {k : ℕ} {s : Schedule} (h : Stands bytes k (schedu
 
 -- The schedule before it, with the position as it was read
 
-module _ (bytes : List ℕ) (k low high : ℕ) (e : low ≡ fieldOf bytes k 9) (f : high ≡ fieldOf bytes k 10) where
+module _ (bytes : List ℕ) (k low high : ℕ) (e : low ≡ recordByte bytes k 9) (f : high ≡ recordByte bytes k 10) where
   position-is : low + 256 * high ≡ positionAt bytes k
   position-is = omega arith
 
@@ -132,12 +132,12 @@ module _ (bytes : List ℕ) (k low high : ℕ) (e : low ≡ fieldOf bytes k 9) (
   unfolding prevIn
   prev-above b = let z : ltb (positionAt bytes k) k ≡ false = le-ltb (positionAt bytes k) k (omega arith) in rw z
 
-  module _ (b : low + 256 * high < k) (kind : Bool) (g : kind ≡ eqb (fieldOf bytes (low + 256 * high) 0) 1) where
+  module _ (b : low + 256 * high < k) (kind : Bool) (g : kind ≡ eqb (recordByte bytes (low + 256 * high) 0) 1) where
     below-it : ltb (positionAt bytes k) k ≡ true
     below-it = lt-ltb (positionAt bytes k) k (omega arith)
 
-    kind-is : kind ≡ eqb (fieldOf bytes (positionAt bytes k) 0) 1
-    kind-is = g ∙ ap (λ (x : ℕ). eqb (fieldOf bytes x 0) 1) position-is
+    kind-is : kind ≡ eqb (recordByte bytes (positionAt bytes k) 0) 1
+    kind-is = g ∙ ap (λ (x : ℕ). eqb (recordByte bytes x 0) 1) position-is
 
     pub prev-other : kind ≡ false → Nowhere ≡ prevIn bytes k
     unfolding prevIn

@@ -20,7 +20,7 @@ use Rattle.rules.specs.Path.{Schedule, schedule, encoded, withStates, firstIn, 
 use Rattle.rules.specs.Records.{recordAt, withRecord}
 use Rattle.rules.proofs.RecordLaws.{length-recordAt, record-same, length-withRecord, record-now, record-again, byte-at, byte-put, set-append-add, three}
 use Rattle.record.specs.Places.{orFive}
-use Rattle.record.specs.Fields.{fieldOf, withField, statesIn, withStatesIn, statesAt, withStatesAt}
+use Rattle.record.specs.Fields.{recordByte, withRecordByte, statesIn, withStatesIn, statesAt, withStatesAt}
 
 -- Among a record's bytes
 
@@ -74,11 +74,11 @@ module _ (bytes : List ℕ) (at : ℕ) (fits : 16 * at + 16 ≤ length bytes) wh
   unfolding statesAt
   length-statesAt = length-statesIn (recordAt bytes at) (length-recordAt bytes at fits)
 
-  pub state-at : (j : ℕ) → j < 5 → fieldOf bytes at (2 + j) ≡ getD (statesAt bytes at) j 0
+  pub state-at : (j : ℕ) → j < 5 → recordByte bytes at (2 + j) ≡ getD (statesAt bytes at) j 0
   unfolding statesAt
   state-at j b = byte-at bytes at fits (2 + j) (omega arith) ∙ in-at (recordAt bytes at) (length-recordAt bytes at fits) j b
 
-  pub state-put : (j v : ℕ) → j < 5 → withField bytes at (2 + j) v ≡ withStatesAt bytes at (set (statesAt bytes at) j v)
+  pub state-put : (j v : ℕ) → j < 5 → withRecordByte bytes at (2 + j) v ≡ withStatesAt bytes at (set (statesAt bytes at) j v)
   unfolding statesAt withStatesAt
   state-put j v b =
       byte-put bytes at fits (2 + j) v (omega arith)
@@ -164,7 +164,7 @@ module _ (bytes : List ℕ) (at x : ℕ) (fits : 16 * at + 16 ≤ length bytes) 
   pub first-start : found bytes at x 0 ≡ orFive (firstIn x (statesAt bytes at))
   first-start = from-zero (firstIn x (statesAt bytes at))
 
-  module _ (n f : ℕ) (k : n < 5) (r : f ≡ fieldOf bytes at (2 + n)) where
+  module _ (n f : ℕ) (k : n < 5) (r : f ≡ recordByte bytes at (2 + n)) where
     pub first-here : f ≡ x → n ≡ found bytes at x n
     first-here e = from-here (statesAt bytes at) x n (length-statesAt bytes at fits) k (sym (state-at bytes at fits n k) ∙ sym r ∙ e)
 
@@ -181,7 +181,7 @@ unfolding pendings
 counts-cons states i h = rw (add-one, drop-cons states i 0 h)
 
 module _ (bytes : List ℕ) (at : ℕ) (fits : 16 * at + 16 ≤ length bytes) (i : ℕ) where
-  module _ (b : i < 5) (f : ℕ) (r : f ≡ fieldOf bytes at (2 + i)) where
+  module _ (b : i < 5) (f : ℕ) (r : f ≡ recordByte bytes at (2 + i)) where
     count-cons : pendings (drop i (statesAt bytes at)) ≡ isPending f + pendings (drop (i + 1) (statesAt bytes at))
     count-cons =
         counts-cons (statesAt bytes at) i (omega (arith, length-statesAt bytes at fits))

@@ -16,8 +16,8 @@ use lib.ListN.{length, getD, set, length-set}
 use lib.Seq.{set-out}
 use Rattle.rules.specs.Vector.{Whom, nobody, thread, oneUp}
 use Rattle.rules.specs.Path.{firstIn, activeIn, toVisited, toActive, left, turned, pendings, isPending, active, pending, visited}
-use Rattle.record.specs.Answers.{Counts}
-use Rattle.record.specs.Fields.{fieldOf, withField, statesAt, withStatesAt}
+use Rattle.record.specs.Answers.{CountIs}
+use Rattle.record.specs.Fields.{recordByte, withRecordByte, statesAt, withStatesAt}
 use Rattle.record.specs.Places.{orFive, First}
 use Rattle.record.specs.Steps.{Visits, Moves, Sets}
 use Rattle.record.proofs.StatesLaws.{length-statesAt, state-put, states-same, states-now, states-again, length-withStatesAt}
@@ -113,7 +113,7 @@ is-none s (thread t) l p h = absurd (omega (arith, p .1))
 -- The record at a position: mid is the path once its Active is left
 
 module _ (bytes : List ℕ) (at : ℕ) (fits : 16 * at + 16 ≤ length bytes) where
-  pub visited-by : (exit : List ℕ) (t : ℕ) → First (statesAt bytes at) active t → t < 5 → exit ≡ withField bytes at (2 + t) visited → exit ≡ withStatesAt bytes at (left (statesAt bytes at))
+  pub visited-by : (exit : List ℕ) (t : ℕ) → First (statesAt bytes at) active t → t < 5 → exit ≡ withRecordByte bytes at (2 + t) visited → exit ≡ withStatesAt bytes at (left (statesAt bytes at))
   visited-by exit t f h e =
       e ∙ state-put bytes at fits t visited h ∙ ap (withStatesAt bytes at) (visited-at (activeIn (statesAt bytes at)) (statesAt bytes at) t (f .is) h)
 
@@ -138,7 +138,7 @@ module _ (bytes : List ℕ) (at : ℕ) (fits : 16 * at + 16 ≤ length bytes) wh
     again : (s : List ℕ) → withStatesAt mid at s ≡ withStatesAt bytes at s
     again s = ap (λ (x : List ℕ). withStatesAt x at s) m ∙ states-again bytes at fits (left (statesAt bytes at)) five-left s
 
-    pub turned-by : (exit : List ℕ) → t < 5 → exit ≡ withField mid at (2 + t) active → Visits bytes exit at true
+    pub turned-by : (exit : List ℕ) → t < 5 → exit ≡ withRecordByte mid at (2 + t) active → Visits bytes exit at true
     unfolding turned
     turned-by exit h e =
         let s : List ℕ = left (statesAt bytes at) in
@@ -166,33 +166,33 @@ module _ (bytes : List ℕ) (at : ℕ) (fits : 16 * at + 16 ≤ length bytes) wh
 
 -- A load's record, with its position and length as they were read
 
-module _ (bytes : List ℕ) (at pos len : ℕ) (ep : pos ≡ fieldOf bytes at 9) (el : len ≡ fieldOf bytes at 10) where
-  pub moved-by : (exit : List ℕ) (v : ℕ) → pos + 1 < len → v ≡ pos + 1 → exit ≡ withField bytes at 9 v → Moves bytes exit at true
+module _ (bytes : List ℕ) (at pos len : ℕ) (ep : pos ≡ recordByte bytes at 9) (el : len ≡ recordByte bytes at 10) where
+  pub moved-by : (exit : List ℕ) (v : ℕ) → pos + 1 < len → v ≡ pos + 1 → exit ≡ withRecordByte bytes at 9 v → Moves bytes exit at true
   moved-by exit v h e f = record {
-    said = sym (lt-ltb (fieldOf bytes at 9 + 1) (fieldOf bytes at 10) (omega arith));
-    now = f ∙ ap (withField bytes at 9) (e ∙ ap (λ (x : ℕ). x + 1) ep);
+    said = sym (lt-ltb (recordByte bytes at 9 + 1) (recordByte bytes at 10) (omega arith));
+    now = f ∙ ap (withRecordByte bytes at 9) (e ∙ ap (λ (x : ℕ). x + 1) ep);
   }
 
   pub moved-not : len ≤ pos + 1 → Moves bytes bytes at false
-  moved-not h = record { said = sym (le-ltb (fieldOf bytes at 9 + 1) (fieldOf bytes at 10) (omega arith)); now = refl }
+  moved-not h = record { said = sym (le-ltb (recordByte bytes at 9 + 1) (recordByte bytes at 10) (omega arith)); now = refl }
 
 -- A spurious branch's record, with its bit as it was read
 
-module _ (bytes : List ℕ) (at f : ℕ) (r : f ≡ fieldOf bytes at 2) where
-  unset : f ≡ 0 → eqb (fieldOf bytes at 2) 0 ≡ true
-  unset e = eq-eqb (fieldOf bytes at 2) 0 (sym r ∙ e)
+module _ (bytes : List ℕ) (at f : ℕ) (r : f ≡ recordByte bytes at 2) where
+  unset : f ≡ 0 → eqb (recordByte bytes at 2) 0 ≡ true
+  unset e = eq-eqb (recordByte bytes at 2) 0 (sym r ∙ e)
 
-  isSet : f ≢ 0 → eqb (fieldOf bytes at 2) 0 ≡ false
-  isSet e = ne-eqb (fieldOf bytes at 2) 0 (λ q. e (r ∙ q))
+  isSet : f ≢ 0 → eqb (recordByte bytes at 2) 0 ≡ false
+  isSet e = ne-eqb (recordByte bytes at 2) 0 (λ q. e (r ∙ q))
 
-  pub set-by : f ≡ 0 → (exit : List ℕ) → exit ≡ withField bytes at 2 1 → Sets bytes exit at true
+  pub set-by : f ≡ 0 → (exit : List ℕ) → exit ≡ withRecordByte bytes at 2 1 → Sets bytes exit at true
   set-by e exit g = record { said = sym (unset e); now = g }
 
   pub set-not : f ≢ 0 → Sets bytes bytes at false
   set-not e = record { said = sym (isSet e); now = refl }
 
-  pub open-unset : f ≡ 0 → Counts 1 (cond (eqb (fieldOf bytes at 2) 0) 1 0) 1
+  pub open-unset : f ≡ 0 → CountIs 1 (cond (eqb (recordByte bytes at 2) 0) 1 0) 1
   open-unset e = record { few = omega arith; is = rw (unset e) }
 
-  pub open-set : f ≢ 0 → Counts 1 (cond (eqb (fieldOf bytes at 2) 0) 1 0) 0
+  pub open-set : f ≢ 0 → CountIs 1 (cond (eqb (recordByte bytes at 2) 0) 1 0) 0
   open-set e = record { few = omega arith; is = rw (isSet e) }

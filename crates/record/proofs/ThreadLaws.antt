@@ -18,7 +18,7 @@ use Rattle.rules.specs.Vector.{Whom, nobody, thread}
 use Rattle.rules.specs.Path.{firstIn, activeIn, active, yield, orNone, toActive, unlessActive, toggled}
 use Rattle.rules.specs.Records.{recordAt, withRecord}
 use Rattle.rules.proofs.RecordLaws.{put-on, bytes-put}
-use Rattle.record.specs.Fields.{withField, statesAt, withStatesAt, withStatesIn}
+use Rattle.record.specs.Fields.{withRecordByte, statesAt, withStatesAt, withStatesIn}
 use Rattle.record.specs.Places.{First, orFive}
 use Rattle.record.specs.Schedules.{byteOf, initialAt}
 use Rattle.record.specs.declared.schedule.ScheduleAt.{ScheduleAt}
@@ -77,11 +77,11 @@ module _ (bytes : List ℕ) (k : ℕ) (fits : 16 * k + 16 ≤ length bytes) wher
   threads-none seed = paste-zero bytes (16 * k + 2) seed
 
   module _ (seed : List ℕ) (five : length seed ≡ 5) where
-    pub threads-on : (p q : List ℕ) (j v : ℕ) → j < 5 → p ≡ paste bytes (16 * k + 2) seed j → v ≡ getD seed j 0 → q ≡ withField p k (2 + j) v → q ≡ paste bytes (16 * k + 2) seed (j + 1)
+    pub threads-on : (p q : List ℕ) (j v : ℕ) → j < 5 → p ≡ paste bytes (16 * k + 2) seed j → v ≡ getD seed j 0 → q ≡ withRecordByte p k (2 + j) v → q ≡ paste bytes (16 * k + 2) seed (j + 1)
     threads-on p q j v b e g f =
         let n : 16 * k + (2 + j) ≡ 16 * k + 2 + j = omega arith in
         f
-        ∙ ap (λ (x : List ℕ). withField x k (2 + j) v) e
+        ∙ ap (λ (x : List ℕ). withRecordByte x k (2 + j) v) e
         ∙ ap (λ (x : ℕ). set (paste bytes (16 * k + 2) seed j) x v) n
         ∙ put-on bytes (16 * k + 2) seed j v (omega arith) (omega arith) g
 
@@ -107,7 +107,7 @@ module _ (bytes : List ℕ) (k : ℕ) (fits : 16 * k + 16 ≤ length bytes) wher
     unfolding toggled
     toggled-none b = rw (missing active a f h, missing yield y g b) (sym (states-same bytes k fits))
 
-    pub toggled-put : y < 5 → (q : List ℕ) → q ≡ withField bytes k (2 + y) 4 → q ≡ withStatesAt bytes k (toggled own)
+    pub toggled-put : y < 5 → (q : List ℕ) → q ≡ withRecordByte bytes k (2 + y) 4 → q ≡ withStatesAt bytes k (toggled own)
     unfolding toggled
     toggled-put b q e = rw (missing active a f h, found yield y g b) (e ∙ state-put bytes k fits y 4 b)
 
@@ -133,8 +133,8 @@ module _ (bytes : List ℕ) (k : ℕ) (fits : 16 * k + 16 ≤ length bytes) wher
       pub initial-same : a ≡ b → (r : ℕ) → r ≡ byteOf a → r ≡ initialAt bytes k prev
       initial-same n r q = rw (e, ← alike, eq-eqb a b n) (q ∙ own-byte)
 
-pub prev-put : (bytes : List ℕ) (k : ℕ) (p q : List ℕ) (n m : ℕ) → p ≡ withField bytes k 9 (n % 256) → q ≡ withField p k 10 (n / 256 % 256) → n ≡ m → q ≡ withField (withField bytes k 9 (m % 256)) k 10 (m / 256 % 256)
+pub prev-put : (bytes : List ℕ) (k : ℕ) (p q : List ℕ) (n m : ℕ) → p ≡ withRecordByte bytes k 9 (n % 256) → q ≡ withRecordByte p k 10 (n / 256 % 256) → n ≡ m → q ≡ withRecordByte (withRecordByte bytes k 9 (m % 256)) k 10 (m / 256 % 256)
 prev-put bytes k p q n m a b e =
     b
-    ∙ ap (λ (x : List ℕ). withField x k 10 (n / 256 % 256)) a
-    ∙ ap (λ (x : ℕ). withField (withField bytes k 9 (x % 256)) k 10 (x / 256 % 256)) e
+    ∙ ap (λ (x : List ℕ). withRecordByte x k 10 (n / 256 % 256)) a
+    ∙ ap (λ (x : ℕ). withRecordByte (withRecordByte bytes k 9 (x % 256)) k 10 (x / 256 % 256)) e

@@ -12,7 +12,7 @@ offeredSlot (offered.Slot slot mask) = slot < 7
 offeredSlot offered.Unexpected = Unit
 
 -- the slot and the mask are those that are offered
-pub record Offers (offer r : Offered) : Type 0 where
+pub record OfferIs (offer r : Offered) : Type 0 where
   pub slot : offeredSlot r
   pub is : r ≡ offer
 
@@ -22,6 +22,6 @@ pub record Left (pos len r : ℕ) : Type 0 where
   pub is : r ≡ cond (ltb 7 len) 0 (len - 1 - pos)
 
 -- a count, and the most that it can be
-pub record Counts (most n r : ℕ) : Type 0 where
+pub record CountIs (most n r : ℕ) : Type 0 where
   pub few : r ≤ most
   pub is : r ≡ n

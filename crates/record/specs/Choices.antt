@@ -10,7 +10,7 @@ use lib.ListN.{length, getD}
 use Rattle.rules.specs.Machine.{maskOf}
 use Rattle.rules.specs.Path as rules
 use Rattle.record.specs.Answers.{offeredSlot}
-use Rattle.record.specs.Stands.{Stands}
+use Rattle.record.specs.Stands.{BranchStands}
 use Rattle.record.specs.declared.Offered.{Offered}
 use Rattle.record.specs.declared.Offered.the-variants as offered
 
@@ -33,4 +33,4 @@ offeredBy (rules.spurious u) = offered.Unexpected
 -- what is answered at a record that is a load's
 pub record OfLoad (path : List ℕ) (at : ℕ) (r : Offered) : Type 0 where
   pub slot : offeredSlot r
-  pub is : (l : rules.Load) → Stands path at (rules.load l) → r ≡ offeredBy (rules.load l)
+  pub is : (l : rules.Load) → BranchStands path at (rules.load l) → r ≡ offeredBy (rules.load l)

@@ -1,7 +1,7 @@
 -- A path record's bytes among those of the path. Assumes nothing.
---     fieldOf, withField           one byte of a record
---     begun, cleared               a record begun, and one set to zeros
---     withValues, valuesAt         the values of a load's record
+--     recordByte, withRecordByte   one byte of a record
+--     recordBegun, cleared         a record begun, and one set to zeros
+--     withOffers, valuesAt         the values of a load's record
 --     statesAt, withStatesAt       the five states of a schedule's record
 use Prim.Native.Nat.{ℕ, _+_, _*_}
 use mathlib.Core.List.{List, _++_}
@@ -12,24 +12,24 @@ use Rattle.rules.specs.Path.{flag}
 use Rattle.rules.specs.Records.{recordAt, withRecord}
 
 -- byte k of the record at a position
-abbrev pub fieldOf : List ℕ → ℕ → ℕ → ℕ
-fieldOf path at k = getD path (16 * at + k) 0
+abbrev pub recordByte : List ℕ → ℕ → ℕ → ℕ
+recordByte path at k = getD path (16 * at + k) 0
 
 -- the path with that byte set
-abbrev pub withField : List ℕ → ℕ → ℕ → ℕ → List ℕ
-withField path at k v = set path (16 * at + k) v
+abbrev pub withRecordByte : List ℕ → ℕ → ℕ → ℕ → List ℕ
+withRecordByte path at k v = set path (16 * at + k) v
 
 -- the path with a record's kind set, and whether it is explored
-unfoldable pub begun : List ℕ → ℕ → ℕ → Bool → List ℕ
-begun path at kind exploring = withRecord path at (set (set (recordAt path at) 0 kind) 1 (flag exploring))
+unfoldable pub recordBegun : List ℕ → ℕ → ℕ → Bool → List ℕ
+recordBegun path at kind exploring = withRecord path at (set (set (recordAt path at) 0 kind) 1 (flag exploring))
 
 -- the path with a record of zeros
 unfoldable pub cleared : List ℕ → ℕ → List ℕ
 cleared path at = withRecord path at (replicate 16 0)
 
 -- the path with a load record's first n values put, and how many there are
-unfoldable pub withValues : List ℕ → ℕ → List ℕ → ℕ → List ℕ
-withValues path at seed n = withRecord path at (set (paste (recordAt path at) 2 seed n) 10 n)
+unfoldable pub withOffers : List ℕ → ℕ → List ℕ → ℕ → List ℕ
+withOffers path at seed n = withRecord path at (set (paste (recordAt path at) 2 seed n) 10 n)
 
 -- the first n values of a load's record
 unfoldable pub valuesAt : List ℕ → ℕ → ℕ → List ℕ

@@ -11,9 +11,9 @@ use lib.Dec.{ltb, eqb}
 use lib.ListN.{getD, set}
 use Rattle.rules.specs.Path as rules
 use Rattle.rules.specs.Path.{Schedule, noThread, noPrev, activeIn, orNone, marked, madePending}
-use Rattle.record.specs.Fields.{fieldOf, statesAt, withStatesAt}
+use Rattle.record.specs.Fields.{recordByte, statesAt, withStatesAt}
 use Rattle.record.specs.Places.{foundBelow}
-use Rattle.record.specs.Stands.{Stands}
+use Rattle.record.specs.Stands.{BranchStands}
 use Rattle.record.specs.declared.schedule.ScheduleAt.{ScheduleAt}
 use Rattle.record.specs.declared.schedule.ScheduleAt.the-variants.{At, Nowhere}
 
@@ -28,12 +28,12 @@ positionOf (At p) = p
 
 -- the position that a record's prev names
 abbrev pub positionAt : List ℕ → ℕ → ℕ
-positionAt path at = fieldOf path at 9 + 256 * fieldOf path at 10
+positionAt path at = recordByte path at 9 + 256 * recordByte path at 10
 
 -- the schedule there, if it is one and stands below
 unfoldable pub prevIn : List ℕ → ℕ → ScheduleAt
 prevIn path at =
-    cond (ltb (positionAt path at) at && eqb (fieldOf path (positionAt path at) 0) 1) (At (positionAt path at)) Nowhere
+    cond (ltb (positionAt path at) at && eqb (recordByte path (positionAt path at) 0) 1) (At (positionAt path at)) Nowhere
 
 -- the schedule before the one at a position
 pub record PrevOf (path : List ℕ) (at : ℕ) (r : ScheduleAt) : Type 0 where
@@ -43,7 +43,7 @@ pub record PrevOf (path : List ℕ) (at : ℕ) (r : ScheduleAt) : Type 0 where
 -- the preemptions up to the schedule at a position and with it
 pub record PreemptionsOf (path : List ℕ) (at r : ℕ) : Type 0 where
   pub few : r ≤ 256
-  pub says : (s : Schedule) → Stands path at (rules.schedule s) → r ≡ rules.preemptionsWith s
+  pub says : (s : Schedule) → BranchStands path at (rules.schedule s) → r ≡ rules.preemptionsWith s
 
 -- one thread explored
 abbrev pub exploredAt : List ℕ → ℕ → List ℕ

@@ -5,7 +5,7 @@ ghost use Prim.Native.Nat.{_+_, _*_, _≤_, _<_};
 ghost use lib.ListN.{length};
 ghost use lib.Dec.{eqb};
 ghost use Rattle.rules.specs.Path.{flag};
-ghost use Rattle.record.specs.Fields.{fieldOf, withField, begun, cleared};
+ghost use Rattle.record.specs.Fields.{recordByte, withRecordByte, recordBegun, cleared};
 pub use layout::RECORD;
 
 // Every record: its kind.
@@ -62,7 +62,7 @@ pub const NO_PREV: usize = 65535;
 // Byte k of the record at a position.
 pub fn field(path: &[u8], at: usize, k: usize) -> u8
     requires { ⌜ (16 * at + 16 ≤ length (now path)) × (k < 16) ⌝ }
-    ensures { λ r. ⌜ r ≡ fieldOf (now (path .entry)) at k ⌝ }
+    ensures { λ r. ⌜ r ≡ recordByte (now (path .entry)) at k ⌝ }
 {
     path[RECORD * at + k]
 }
@@ -70,7 +70,7 @@ pub fn field(path: &[u8], at: usize, k: usize) -> u8
 // Sets byte k of the record at a position, and leaves every other byte.
 pub fn put(path: &mut [u8], at: usize, k: usize, v: u8)
     requires { ⌜ (16 * at + 16 ≤ length (now path)) × (k < 16) ⌝ }
-    ensures { λ _. ⌜ now (path .exit) ≡ withField (now (path .entry)) at k v ⌝ }
+    ensures { λ _. ⌜ now (path .exit) ≡ withRecordByte (now (path .entry)) at k v ⌝ }
 {
     path[RECORD * at + k] = v;
 }
@@ -79,7 +79,7 @@ pub fn put(path: &mut [u8], at: usize, k: usize, v: u8)
 // explored. The fields that are to be zero need no more.
 pub fn begin(path: &mut [u8], at: usize, kind: u8, exploring: bool)
     requires { ⌜ 16 * at + 16 ≤ length (now path) ⌝ }
-    ensures { λ _. ⌜ now (path .exit) ≡ begun (now (path .entry)) at kind exploring ⌝ }
+    ensures { λ _. ⌜ now (path .exit) ≡ recordBegun (now (path .entry)) at kind exploring ⌝ }
 {
     put(path, at, KIND, kind);
     put(path, at, EXPLORING, flag(exploring));
@@ -100,7 +100,7 @@ pub fn clear(path: &mut [u8], at: usize)
 // Whether the record at a position is of a kind.
 pub fn is_kind(path: &[u8], at: usize, kind: u8) -> bool
     requires { ⌜ 16 * at + 16 ≤ length (now path) ⌝ }
-    ensures { λ r. ⌜ r ≡ eqb (fieldOf (now (path .entry)) at 0) kind ⌝ }
+    ensures { λ r. ⌜ r ≡ eqb (recordByte (now (path .entry)) at 0) kind ⌝ }
 {
     field(path, at, KIND) == kind
 }
@@ -108,7 +108,7 @@ pub fn is_kind(path: &[u8], at: usize, kind: u8) -> bool
 // Whether the choices of the record at a position are explored.
 pub fn is_exploring(path: &[u8], at: usize) -> bool
     requires { ⌜ 16 * at + 16 ≤ length (now path) ⌝ }
-    ensures { λ r. ⌜ r ≡ eqb (fieldOf (now (path .entry)) at 1) 1 ⌝ }
+    ensures { λ r. ⌜ r ≡ eqb (recordByte (now (path .entry)) at 1) 1 ⌝ }
 {
     field(path, at, EXPLORING) == 1
 }

@@ -3,10 +3,10 @@
 ghost use mathlib.Core.Path.{_≡_};
 ghost use Prim.Native.Nat.{_+_, _*_, _≤_, _<_};
 ghost use lib.ListN.{length};
-ghost use Rattle.record.specs.Fields.{fieldOf, withValues, valuesAt};
+ghost use Rattle.record.specs.Fields.{recordByte, withOffers, valuesAt};
 ghost use Rattle.record.specs.Choices.{offers, OfLoad};
 ghost use Rattle.record.specs.Steps.{Moves};
-ghost use Rattle.record.specs.Answers.{Offers, Left};
+ghost use Rattle.record.specs.Answers.{OfferIs, Left};
 use crate::Offered;
 use crate::fields;
 use crate::fields::field;
@@ -17,7 +17,7 @@ use layout::wide8;
 // Sets the values to the seed's first n, and how many there are.
 pub fn put_values(path: &mut [u8], at: usize, seed: [u8; MAX_ATOMIC_HISTORY], n: usize)
     requires { ⌜ (16 * at + 16 ≤ length (now path)) × (n ≤ 7) ⌝ }
-    ensures { λ _. ⌜ now (path .exit) ≡ withValues (now (path .entry)) at seed n ⌝ }
+    ensures { λ _. ⌜ now (path .exit) ≡ withOffers (now (path .entry)) at seed n ⌝ }
 {
     let mut i = 0;
     while i < n {
@@ -51,7 +51,7 @@ pub fn offered(path: &[u8], at: usize) -> Offered
 // The slot, with the mask of the record's first n values: bit i for slot i.
 fn with_mask(path: &[u8], at: usize, slot: usize, n: usize) -> Offered
     requires { ⌜ (16 * at + 16 ≤ length (now path)) × (n ≤ 7) × (slot < 7) ⌝ }
-    ensures { λ r. ⌜ Offers (offers slot 0 (valuesAt (now (path .entry)) at n)) r ⌝ }
+    ensures { λ r. ⌜ OfferIs (offers slot 0 (valuesAt (now (path .entry)) at n)) r ⌝ }
 {
     let mut mask = 0;
     let mut i = 0;
@@ -82,7 +82,7 @@ pub fn left(len: usize, pos: usize) -> u64
 // How many of the record's values are still to be read.
 pub fn open(path: &[u8], at: usize) -> u64
     requires { ⌜ 16 * at + 16 ≤ length (now path) ⌝ }
-    ensures { λ r. ⌜ Left (fieldOf (now (path .entry)) at 9) (fieldOf (now (path .entry)) at 10) r ⌝ }
+    ensures { λ r. ⌜ Left (recordByte (now (path .entry)) at 9) (recordByte (now (path .entry)) at 10) r ⌝ }
 {
     left(
         wide8(field(path, at, fields::LEN)),

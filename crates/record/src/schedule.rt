@@ -3,8 +3,8 @@ ghost use mathlib.Core.Path.{_≡_};
 ghost use Prim.Native.Nat.{_+_, _*_, _/_, _%_, _≤_, _<_};
 ghost use lib.ListN.{length};
 ghost use Rattle.rules.specs.Path.{active, toggled, pendings, left};
-ghost use Rattle.record.specs.Answers.{Counts};
-ghost use Rattle.record.specs.Fields.{withField, statesAt, withStatesAt};
+ghost use Rattle.record.specs.Answers.{CountIs};
+ghost use Rattle.record.specs.Fields.{withRecordByte, statesAt, withStatesAt};
 ghost use Rattle.record.specs.Steps.{Visits};
 ghost use Rattle.record.specs.Places.{foundBelow, First};
 ghost use Rattle.record.specs.Schedules.{byteOf, positionOf, initialAt, Explores, ExploresAll, RecordMarked, PrevOf, PreemptionsOf};
@@ -93,7 +93,7 @@ pub fn prev(path: &[u8], at: usize) -> ScheduleAt
 // Sets the position of the schedule record before this one, or NO_PREV where there is none.
 pub fn put_prev(path: &mut [u8], at: usize, prev: ScheduleAt)
     requires { ⌜ 16 * at + 16 ≤ length (now path) ⌝ }
-    ensures { λ _. ⌜ now (path .exit) ≡ withField (withField (now (path .entry)) at 9 (positionOf prev % 256)) at 10 (positionOf prev / 256 % 256) ⌝ }
+    ensures { λ _. ⌜ now (path .exit) ≡ withRecordByte (withRecordByte (now (path .entry)) at 9 (positionOf prev % 256)) at 10 (positionOf prev / 256 % 256) ⌝ }
 {
     let position = position_of(prev);
     put(path, at, fields::PREV_LOW, (position % 256) as u8);
@@ -139,7 +139,7 @@ pub fn toggle_yield(path: &mut [u8], at: usize)
 // Sets the initial active thread.
 pub fn put_initial_active(path: &mut [u8], at: usize, prev: ScheduleAt)
     requires { ⌜ (16 * at + 16 ≤ length (now path)) × foundBelow at prev ⌝ }
-    ensures { λ _. ⌜ now (path .exit) ≡ withField (now (path .entry)) at 8 (initialAt (now (path .entry)) at prev) ⌝ }
+    ensures { λ _. ⌜ now (path .exit) ≡ withRecordByte (now (path .entry)) at 8 (initialAt (now (path .entry)) at prev) ⌝ }
 {
     let initial = initial_active(path, at, prev);
     put(path, at, fields::INITIAL_ACTIVE, initial);
@@ -205,7 +205,7 @@ fn explore_all(path: &mut [u8], at: usize) -> u64
 // How many threads are Pending.
 pub fn pending(path: &[u8], at: usize) -> u64
     requires { ⌜ 16 * at + 16 ≤ length (now path) ⌝ }
-    ensures { λ r. ⌜ Counts 5 (pendings (statesAt (now (path .entry)) at)) r ⌝ }
+    ensures { λ r. ⌜ CountIs 5 (pendings (statesAt (now (path .entry)) at)) r ⌝ }
 {
     let mut count = 0;
     let mut thread = 0;

@@ -3,8 +3,8 @@ ghost use Prim.Native.Nat.{_+_, _*_, _≤_};
 ghost use mathlib.Core.Bool.{cond};
 ghost use lib.Dec.{eqb};
 ghost use lib.ListN.{length};
-ghost use Rattle.record.specs.Answers.{Counts};
-ghost use Rattle.record.specs.Fields.{fieldOf};
+ghost use Rattle.record.specs.Answers.{CountIs};
+ghost use Rattle.record.specs.Fields.{recordByte};
 ghost use Rattle.record.specs.Steps.{Sets};
 use crate::fields;
 use crate::fields::field;
@@ -13,7 +13,7 @@ use crate::fields::put;
 // How many choices are open: a branch that says no can still say yes.
 pub fn open(path: &[u8], at: usize) -> u64
     requires { ⌜ 16 * at + 16 ≤ length (now path) ⌝ }
-    ensures { λ r. ⌜ Counts 1 (cond (eqb (fieldOf (now (path .entry)) at 2) 0) 1 0) r ⌝ }
+    ensures { λ r. ⌜ CountIs 1 (cond (eqb (recordByte (now (path .entry)) at 2) 0) 1 0) r ⌝ }
 {
     if field(path, at, fields::SPUR) == 0 {
         return 1;

@@ -29,6 +29,6 @@ abbrev bad : List ℕ
 bad = 1 ∷ 2 ∷ []
 
 pub unnamed : (l : Page) (t condition : List ℕ) (j : Judged) → OneOf bad (tagOf the-type j) → putHeader l t ≡ putUnnamed l t condition (judgedOf j)
-unnamed l t condition judged.Accepted k = absurd (miss bad 0 tt k)
-unnamed l t condition judged.Header k = refl
-unnamed l t condition (judged.Row thread row) k = refl
+unnamed l t condition judged.Good k = absurd (miss bad 0 tt k)
+unnamed l t condition judged.BadHeader k = refl
+unnamed l t condition (judged.BadRow thread row) k = refl

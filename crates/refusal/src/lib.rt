@@ -24,7 +24,7 @@ pub fn put(
     if thread != NO_PLACE {
         return bad_row::put(page, at, table, (thread % 256) as u8, (number % 256) as u8);
     }
-    if let Judged::Accepted = table::judge(table) {
+    if let Judged::Good = table::judge(table) {
         return bad_condition::put(page, at, table, condition);
     }
     header::put(page, at, table)

@@ -47,11 +47,11 @@ pub no-race : (f : Fault) → OneOf (0 ∷ 1 ∷ 2 ∷ 3 ∷ 5 ∷ 6 ∷ 7 ∷ 8
 no-race fault.Deadlock k = (refl, refl)
 no-race fault.Full k = (refl, refl)
 no-race fault.Rows k = (refl, refl)
-no-race fault.Equal k = (refl, refl)
+no-race fault.EqualOrders k = (refl, refl)
 no-race (fault.Race kind other) k = absurd (miss (0 ∷ 1 ∷ 2 ∷ 3 ∷ 5 ∷ 6 ∷ 7 ∷ 8 ∷ []) 4 tt k)
 no-race fault.Check k = (refl, refl)
 no-race fault.Flags k = (refl, refl)
-no-race fault.Preempted k = (refl, refl)
+no-race fault.Preemptions k = (refl, refl)
 no-race fault.Impossible k = (refl, refl)
 
 module _ (a : Answer) (f : Fault) (s : Site) (e : a ≡ answer.Stopped f s) where

@@ -17,7 +17,7 @@ pub const FULL: u64 = 11;
 
 pub const ROWS: u64 = 12;
 
-pub const EQUAL: u64 = 13;
+pub const EQUAL_ORDERS: u64 = 13;
 
 pub const RACE: u64 = 14;
 
@@ -25,7 +25,7 @@ pub const CHECK: u64 = 15;
 
 pub const FLAGS: u64 = 16;
 
-pub const PREEMPTED: u64 = 17;
+pub const PREEMPTIONS: u64 = 17;
 
 pub const UNMET: u64 = 18;
 

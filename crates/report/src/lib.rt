@@ -114,11 +114,11 @@ pub fn fault_number(fault: Fault) -> u64
         Fault::Deadlock => answers::DEADLOCK,
         Fault::Full => answers::FULL,
         Fault::Rows => answers::ROWS,
-        Fault::Equal => answers::EQUAL,
+        Fault::EqualOrders => answers::EQUAL_ORDERS,
         Fault::Race { .. } => answers::RACE,
         Fault::Check => answers::CHECK,
         Fault::Flags => answers::FLAGS,
-        Fault::Preempted => answers::PREEMPTED,
+        Fault::Preemptions => answers::PREEMPTIONS,
         Fault::Impossible => answers::IMPOSSIBLE,
     }
 }

@@ -29,7 +29,7 @@ use layout::of_run::EXPLORING;
 use layout::of_run::ROWS_BEGUN;
 use layout::of_run::SKIPPING;
 use layout::of_thread::CAUSALITY;
-use layout::of_thread::OBJECT;
+use layout::of_thread::OPERATES_ON;
 use layout::of_thread::OPERATION;
 use layout::of_thread::PHASE;
 use layout::of_thread::REGISTER;
@@ -55,7 +55,7 @@ pub fn begin(numbers: &mut Numbers, limit: u16, thread: usize, op: Op) -> Moved
         return Moved::Moves;
     };
     numbers[OPERATION + thread] = operation.action;
-    numbers[OBJECT + thread] = operation.cell as u16;
+    numbers[OPERATES_ON + thread] = operation.cell as u16;
     Moved::Asks {
         question: Question::Thread,
         yielded: false,

@@ -75,7 +75,7 @@ inVectors (State.mutated c) = c < 4
 inVectors (State.lastAccess c) = c < 4
 inVectors (State.lastNonLoad c) = c < 4
 inVectors (State.happensBefore s) = s < 28
-inVectors (State.order s) = s < 28
+inVectors (State.modificationOrder s) = s < 28
 inVectors (State.sync s) = s < 28
 inVectors (State.readAccess c) = c < 4
 inVectors (State.writeAccess c) = c < 4
@@ -93,7 +93,7 @@ vectorNamed n =
     (cond (ltb n 36) (State.lastAccess (n - 32))
     (cond (ltb n 40) (State.lastNonLoad (n - 36))
     (cond (ltb n 68) (State.happensBefore (n - 40))
-    (cond (ltb n 96) (State.order (n - 68))
+    (cond (ltb n 96) (State.modificationOrder (n - 68))
     (cond (ltb n 124) (State.sync (n - 96))
     (cond (ltb n 128) (State.readAccess (n - 124))
     (State.writeAccess (n - 128)))))))))))))))
@@ -119,7 +119,7 @@ vector-found (State.mutated c) h = rw (past (28 + c) 5 (omega arith), past (28 +
 vector-found (State.lastAccess c) h = rw (past (32 + c) 5 (omega arith), past (32 + c) 10 (omega arith), past (32 + c) 15 (omega arith), past (32 + c) 16 (omega arith), past (32 + c) 20 (omega arith), past (32 + c) 24 (omega arith), past (32 + c) 28 (omega arith), past (32 + c) 32 (omega arith), lt-ltb (32 + c) 36 (omega arith), within 32 c)
 vector-found (State.lastNonLoad c) h = rw (past (36 + c) 5 (omega arith), past (36 + c) 10 (omega arith), past (36 + c) 15 (omega arith), past (36 + c) 16 (omega arith), past (36 + c) 20 (omega arith), past (36 + c) 24 (omega arith), past (36 + c) 28 (omega arith), past (36 + c) 32 (omega arith), past (36 + c) 36 (omega arith), lt-ltb (36 + c) 40 (omega arith), within 36 c)
 vector-found (State.happensBefore s) h = rw (past (40 + s) 5 (omega arith), past (40 + s) 10 (omega arith), past (40 + s) 15 (omega arith), past (40 + s) 16 (omega arith), past (40 + s) 20 (omega arith), past (40 + s) 24 (omega arith), past (40 + s) 28 (omega arith), past (40 + s) 32 (omega arith), past (40 + s) 36 (omega arith), past (40 + s) 40 (omega arith), lt-ltb (40 + s) 68 (omega arith), within 40 s)
-vector-found (State.order s) h = rw (past (68 + s) 5 (omega arith), past (68 + s) 10 (omega arith), past (68 + s) 15 (omega arith), past (68 + s) 16 (omega arith), past (68 + s) 20 (omega arith), past (68 + s) 24 (omega arith), past (68 + s) 28 (omega arith), past (68 + s) 32 (omega arith), past (68 + s) 36 (omega arith), past (68 + s) 40 (omega arith), past (68 + s) 68 (omega arith), lt-ltb (68 + s) 96 (omega arith), within 68 s)
+vector-found (State.modificationOrder s) h = rw (past (68 + s) 5 (omega arith), past (68 + s) 10 (omega arith), past (68 + s) 15 (omega arith), past (68 + s) 16 (omega arith), past (68 + s) 20 (omega arith), past (68 + s) 24 (omega arith), past (68 + s) 28 (omega arith), past (68 + s) 32 (omega arith), past (68 + s) 36 (omega arith), past (68 + s) 40 (omega arith), past (68 + s) 68 (omega arith), lt-ltb (68 + s) 96 (omega arith), within 68 s)
 vector-found (State.sync s) h = rw (past (96 + s) 5 (omega arith), past (96 + s) 10 (omega arith), past (96 + s) 15 (omega arith), past (96 + s) 16 (omega arith), past (96 + s) 20 (omega arith), past (96 + s) 24 (omega arith), past (96 + s) 28 (omega arith), past (96 + s) 32 (omega arith), past (96 + s) 36 (omega arith), past (96 + s) 40 (omega arith), past (96 + s) 68 (omega arith), past (96 + s) 96 (omega arith), lt-ltb (96 + s) 124 (omega arith), within 96 s)
 vector-found (State.readAccess c) h = rw (past (124 + c) 5 (omega arith), past (124 + c) 10 (omega arith), past (124 + c) 15 (omega arith), past (124 + c) 16 (omega arith), past (124 + c) 20 (omega arith), past (124 + c) 24 (omega arith), past (124 + c) 28 (omega arith), past (124 + c) 32 (omega arith), past (124 + c) 36 (omega arith), past (124 + c) 40 (omega arith), past (124 + c) 68 (omega arith), past (124 + c) 96 (omega arith), past (124 + c) 124 (omega arith), lt-ltb (124 + c) 128 (omega arith), within 124 c)
 vector-found (State.writeAccess c) h = rw (past (128 + c) 5 (omega arith), past (128 + c) 10 (omega arith), past (128 + c) 15 (omega arith), past (128 + c) 16 (omega arith), past (128 + c) 20 (omega arith), past (128 + c) 24 (omega arith), past (128 + c) 28 (omega arith), past (128 + c) 32 (omega arith), past (128 + c) 36 (omega arith), past (128 + c) 40 (omega arith), past (128 + c) 68 (omega arith), past (128 + c) 96 (omega arith), past (128 + c) 124 (omega arith), past (128 + c) 128 (omega arith), within 128 c)
@@ -222,7 +222,7 @@ vectorAt-within (State.mutated c) h = omega arith
 vectorAt-within (State.lastAccess c) h = omega arith
 vectorAt-within (State.lastNonLoad c) h = omega arith
 vectorAt-within (State.happensBefore s) h = omega arith
-vectorAt-within (State.order s) h = omega arith
+vectorAt-within (State.modificationOrder s) h = omega arith
 vectorAt-within (State.sync s) h = omega arith
 vectorAt-within (State.readAccess c) h = omega arith
 vectorAt-within (State.writeAccess c) h = omega arith

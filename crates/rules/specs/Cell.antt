@@ -15,7 +15,7 @@ use Rattle.rules.specs.Seen.{seen, seenBeforeYield, touchedAt, touched, 
 use Rattle.rules.specs.Event.{Matched, offers}
 use Rattle.rules.specs.Event as Event
 use Rattle.rules.specs.State.{State, Clocks, Marks, Values, Numbers, Vector, vector, withVector, marksOf, withMarks, value, withValue, number, withNumber, storeAt, history, threads}
-use Rattle.rules.specs.State.{causality, released, seqCst, loaded, unsyncLoaded, stored, mutated, happensBefore, order, sync, ofStore, count, isSeqCst, lastYield}
+use Rattle.rules.specs.State.{causality, released, seqCst, loaded, unsyncLoaded, stored, mutated, happensBefore, modificationOrder, sync, ofStore, count, isSeqCst, lastYield}
 
 -- Orders
 
@@ -58,7 +58,7 @@ abbrev pub liveIn : Numbers → ℕ → ℕ
 liveIn numbers c = liveStores (number numbers (count c))
 
 abbrev pub orderOf : Clocks → ℕ → ℕ → List ℕ
-orderOf clocks c i = vector clocks (order (storeAt c i))
+orderOf clocks c i = vector clocks (modificationOrder (storeAt c i))
 
 -- "j seen": the slot's store, by the thread's causality
 abbrev pub seenBy : Clocks → List (List ℕ) → ℕ → ℕ → Bool
@@ -205,7 +205,7 @@ coherentFrom clocks rows t c slot so (suc n) i =
 -- the chosen store's order
 unfoldable pub coherent : Clocks → List (List ℕ) → Numbers → ℕ → ℕ → ℕ → Clocks
 coherent clocks rows numbers t c slot =
-    withVector clocks (order (storeAt c slot)) (coherentFrom clocks rows t c slot (orderOf clocks c slot) (liveIn numbers c) 0)
+    withVector clocks (modificationOrder (storeAt c slot)) (coherentFrom clocks rows t c slot (orderOf clocks c slot) (liveIn numbers c) 0)
 
 -- "A thread's version is its own part."
 abbrev pub version : Clocks → ℕ → ℕ
@@ -238,7 +238,7 @@ storeOrder clocks rows cnt t c = storeOrderFrom clocks rows t c (vector clocks (
 -- a store's three vectors
 abbrev pub withStore : Clocks → ℕ → List ℕ → List ℕ → List ℕ → Clocks
 withStore clocks store hb so s =
-    withVector (withVector (withVector clocks (happensBefore store) hb) (order store) so) (sync store) s
+    withVector (withVector (withVector clocks (happensBefore store) hb) (modificationOrder store) so) (sync store) s
 
 -- the new store is seen by its own thread alone (atomic.rs: State::store)
 abbrev pub seenByOwn : Clocks → List (List ℕ) → ℕ → ℕ → List (List ℕ)

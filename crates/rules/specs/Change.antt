@@ -16,10 +16,10 @@ pub data Change : Type 0 where
   or : ℕ → Change
   xor : ℕ → Change
   nand : ℕ → Change
-  greatest : ℕ → Change
-  least : ℕ → Change
-  signedGreatest : ℕ → Change
-  signedLeast : ℕ → Change
+  max : ℕ → Change
+  min : ℕ → Change
+  signedMax : ℕ → Change
+  signedMin : ℕ → Change
   compare : ℕ → ℕ → Change
   decrement : Change
 
@@ -51,9 +51,9 @@ applied (and a) v = success (bitAnd v a)
 applied (or a) v = success (bitOr v a)
 applied (xor a) v = success (bitXor v a)
 applied (nand a) v = success (word - 1 - bitAnd v a)
-applied (greatest a) v = success (greater (ltb v a) v a)
-applied (least a) v = success (lesser (ltb v a) v a)
-applied (signedGreatest a) v = success (greater (ltb (signed v) (signed a)) v a)
-applied (signedLeast a) v = success (lesser (ltb (signed v) (signed a)) v a)
+applied (max a) v = success (greater (ltb v a) v a)
+applied (min a) v = success (lesser (ltb v a) v a)
+applied (signedMax a) v = success (greater (ltb (signed v) (signed a)) v a)
+applied (signedMin a) v = success (lesser (ltb (signed v) (signed a)) v a)
 applied (compare a b) v = cond (eqb v a) (success b) failure
 applied decrement v = cond (eqb v 0) failure (success (v - 1))

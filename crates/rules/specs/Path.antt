@@ -141,37 +141,37 @@ preemptionsWith s =
 
 -- The schedule before a new branch
 
-pub data Last : Type 0 where
-  none : Last
-  at : ℕ → Schedule → Last
+pub data ScheduleAt : Type 0 where
+  none : ScheduleAt
+  at : ℕ → Schedule → ScheduleAt
 
 -- one branch further on
-abbrev pub oneFurther : Last → Last
+abbrev pub oneFurther : ScheduleAt → ScheduleAt
 oneFurther none = none
 oneFurther (at k s) = at (k + 1) s
 
-abbrev pub orFirst : Last → Branch → Last
+abbrev pub orFirst : ScheduleAt → Branch → ScheduleAt
 orFirst (at k s) b = at k s
 orFirst none (schedule s) = at 0 s
 orFirst none (load l) = none
 orFirst none (spurious u) = none
 
 -- the last schedule of a path, with its position among all branches (path.rs: last_schedule)
-unfoldable pub lastSchedule : List Branch → Last
+unfoldable pub lastSchedule : List Branch → ScheduleAt
 lastSchedule [] = none
 lastSchedule (b ∷ bs) = orFirst (oneFurther (lastSchedule bs)) b
 
 -- the preemptions before a new branch [Q20]
-abbrev pub preemptionsAfter : Last → ℕ
+abbrev pub preemptionsAfter : ScheduleAt → ℕ
 preemptionsAfter none = 0
 preemptionsAfter (at k s) = preemptionsWith s
 
 -- the Active of the new branch, unless the schedule before has another [Q20] (path.rs: branch_thread)
-abbrev pub initialAfter : Last → ℕ → ℕ
+abbrev pub initialAfter : ScheduleAt → ℕ → ℕ
 initialAfter none now = now
 initialAfter (at k s) now = cond (eqb now (activeOf s)) now noThread
 
-abbrev pub prevOf : Last → ℕ
+abbrev pub prevOf : ScheduleAt → ℕ
 prevOf none = noPrev
 prevOf (at k s) = k
 
@@ -182,7 +182,7 @@ pub data Added : Type 0 where
   full : Added
   preempted : Added
 
-abbrev pub newSchedule : Bool → Last → List ℕ → Schedule
+abbrev pub newSchedule : Bool → ScheduleAt → List ℕ → Schedule
 newSchedule exploring last states = record {
   exploring = exploring;
   states = states;
@@ -256,7 +256,7 @@ pub record Marked : Type 0 where
 abbrev pub unmarked : List Branch → Marked
 unmarked bs = record { path = bs; opened = 0 }
 
-abbrev pub markedAt : Bound → List Branch → Last → ℕ → Marked
+abbrev pub markedAt : Bound → List Branch → ScheduleAt → ℕ → Marked
 markedAt bound bs none t = unmarked bs
 markedAt bound bs (at k s) t = record {
   path = set bs k (schedule (scheduleMarked bound s t));
@@ -264,7 +264,7 @@ markedAt bound bs (at k s) t = record {
 }
 
 -- the schedule at a position, if there is one
-abbrev pub theSchedule : ℕ → Branch → Last
+abbrev pub theSchedule : ℕ → Branch → ScheduleAt
 theSchedule k (schedule s) = at k s
 theSchedule k (load l) = none
 theSchedule k (spurious u) = none
@@ -273,15 +273,15 @@ theSchedule k (spurious u) = none
 abbrev pub noBranch : Branch
 noBranch = load (record { exploring = false; values = []; pos = 0 })
 
-unfoldable pub scheduleAt : List Branch → ℕ → Last
+unfoldable pub scheduleAt : List Branch → ℕ → ScheduleAt
 scheduleAt bs k = theSchedule k (getD bs k noBranch)
 
-abbrev pub ifExploring : Last → Last → Last
+abbrev pub ifExploring : ScheduleAt → ScheduleAt → ScheduleAt
 ifExploring none other = other
 ifExploring (at k s) other = cond (s .exploring) (at k s) other
 
 -- the last exploring schedule among the first n branches (path.rs: backtrack)
-unfoldable pub exploringBelow : List Branch → ℕ → Last
+unfoldable pub exploringBelow : List Branch → ℕ → ScheduleAt
 exploringBelow bs zero = none
 exploringBelow bs (suc k) = let below = exploringBelow bs k in ifExploring (scheduleAt bs k) below
 
@@ -302,7 +302,7 @@ schedulesBelow bs (suc k) = andSchedule k (getD bs k noBranch) (schedulesBelow b
 
 -- "With a bound, the second backtrack walks `prev` as in the source" (path.rs: backtrack): of these schedules, newest first,
 -- the first exploring one whose Active is not that of the schedule before it; the very first of all counts, if it is exploring
-unfoldable pub switchIn : List Placed → Last
+unfoldable pub switchIn : List Placed → ScheduleAt
 switchIn [] = none
 switchIn (a ∷ []) = ifExploring (at (a .place) (a .schedule)) none
 switchIn (a ∷ b ∷ more) =
@@ -315,7 +315,7 @@ withOpened n m = record { path = m .path; opened = n + m .opened }
 
 -- the second mark, where the first was looked for at this schedule: not where no exploring schedule was found, nor where none
 -- stands before it [Q32]
-unfoldable pub markedBefore : Bound → Marked → Last → ℕ → Marked
+unfoldable pub markedBefore : Bound → Marked → ScheduleAt → ℕ → Marked
 markedBefore bound m none t = m
 markedBefore bound m (at k s) t =
     withOpened (m .opened) (markedAt bound (m .path) (switchIn (schedulesBelow (m .path) k)) t)

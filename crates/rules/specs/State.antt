@@ -56,7 +56,7 @@ pub data Vector : Type 0 where
   lastNonLoad : ℕ → Vector
   -- of a store (atomic.rs: Store)
   happensBefore : ℕ → Vector
-  order : ℕ → Vector
+  modificationOrder : ℕ → Vector
   sync : ℕ → Vector
   -- of a plain cell: the accesses that races are judged by (cell.rs: State)
   readAccess : ℕ → Vector
@@ -74,7 +74,7 @@ vectorAt (mutated c) = 28 + c
 vectorAt (lastAccess c) = 32 + c
 vectorAt (lastNonLoad c) = 36 + c
 vectorAt (happensBefore s) = 40 + s
-vectorAt (order s) = 68 + s
+vectorAt (modificationOrder s) = 68 + s
 vectorAt (sync s) = 96 + s
 vectorAt (readAccess c) = 124 + c
 vectorAt (writeAccess c) = 128 + c

@@ -25,7 +25,7 @@ use Rattle.rules.specs.Vector.{Whom, nobody, thread, atMost}
 use Rattle.rules.specs.Machine.{isIn, runnable, canRun, noOperation, operationOf, cellOf, dependentBranch, dependentVector, conflict, yieldsLess, fewestFrom, initial, accessMade, othersAwake, switched, scheduled, allOver, someCanRun}
 use Rattle.layout.specs.Tables.{state}
 use Rattle.layout.specs.declared.Operation.{Operation}
-use Rattle.track.specs.LastAccess.{grown, accessed}
+use Rattle.track.specs.LastAccess.{grownBy, accessed}
 use Rattle.thread.proofs.ThreadLaws.{one-left, none-left}
 use Rattle.scheduling.specs.Schedules.{On, operationMeans, orFive}
 use Rattle.event.specs.declared.Pending.{Pending}
@@ -166,7 +166,7 @@ module _ (st : State) (t at : ℕ) where
   access-none e = rw (eq-eqb (operationOf st t) noOperation e)
 
   own : operationOf st t ≢ noOperation → accessed st t (operationOf st t) (cellOf st t) at ≡ accessMade st t at
-  unfolding accessMade accessed grown
+  unfolding accessMade accessed grownBy
   own n = rw (ne-eqb (operationOf st t) noOperation n)
 
   pub access-on : (action cell : ℕ) → On st t action cell → accessed st t action cell at ≡ accessMade st t at

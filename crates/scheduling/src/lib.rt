@@ -23,7 +23,7 @@ use layout::NONE;
 use layout::Numbers;
 use layout::Operation;
 use layout::of_run::ACTIVE_THREAD;
-use layout::of_thread::OBJECT;
+use layout::of_thread::OPERATES_ON;
 use layout::of_thread::OPERATION;
 use layout::of_thread::STATE;
 use layout::of_thread::YIELDS;
@@ -49,7 +49,7 @@ pub fn pending_operation(numbers: &Numbers, thread: usize) -> Pending
     if action == NO_OPERATION {
         return Pending::Nothing;
     }
-    let cell = wide16(numbers[OBJECT + thread]);
+    let cell = wide16(numbers[OPERATES_ON + thread]);
     if MAX_CELLS <= cell {
         return Pending::Nothing;
     }

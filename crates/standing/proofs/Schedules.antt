@@ -24,8 +24,8 @@ use Rattle.rules.proofs.Measure.{toActive}
 use Rattle.rules.proofs.MeasureRows.{pick, both-left, both-right}
 use Rattle.rules.proofs.AccessLaws.{access-kept}
 use Rattle.rules.proofs.MeasureTicks.{switched-is, can-act}
-use Rattle.kept.specs.Kept.{FittingThread, Scheduling}
-use Rattle.standing.specs.Standing.{Over, Schedules}
+use Rattle.kept.specs.Kept.{FittingThread, FineScheduling}
+use Rattle.standing.specs.Standing.{FactsOver, Schedules}
 use Rattle.standing.proofs.Facts.{acts-so, Facts, keep, awake-facts, opened, holding}
 use Rattle.standing.proofs.Steps.{After, going, ending, stops-at}
 
@@ -159,7 +159,7 @@ module _ (numbers : Numbers) where
 module _ (p : Program) where
   -- the initial thread is one that can run; there is none only where the others that can have yielded
   pub is-answerable : (st : State) (n : ℕ) (first : Whom) (stand : List Standing) → Schedules p st n first stand →
-      Scheduling first stand
+      FineScheduling first stand
   is-answerable st n first stand h =
       let a = st .numbers in
       rw (h .isFirst, h .stand)
@@ -187,7 +187,7 @@ module _ (p : Program) (held : cellsOf (p .table) ≤ cells) (few : threadsOf (p
       (access-kept (Facts p t _ _ _ 0) (λ a c at l f. keep p held few t below f (accessBranch c) at (omega arith))
       (λ a c at l f. keep p held few t below f (nonLoadBranch c) at (omega arith)) now t at h facts)
 
-  module _ (st : State) (n : ℕ) (over : Over p st n) where
+  module _ (st : State) (n : ℕ) (over : FactsOver p st n) where
     abbrev a : Numbers
     a = st .numbers
 

@@ -20,7 +20,7 @@ use Rattle.rules.proofs.MeasureRows.{Names}
 use Rattle.rules.proofs.Measure.{seen, otherWork}
 use Rattle.kept.specs.Kept.{FittingSlot, Offering}
 use Rattle.kept.proofs.Answers.{slot-offered}
-use Rattle.standing.specs.Standing.{Thread, Over, Holds, Reading, ofLoad, ofRmw, SomeOffered, underWay}
+use Rattle.standing.specs.Standing.{Thread, FactsOver, FactsHold, MatchOfRow, ofLoad, ofRmw, SomeOffered, underWay}
 use Rattle.standing.proofs.Facts.{opened}
 use Rattle.standing.proofs.Rows.{accepted-row}
 use Rattle.standing.proofs.Steps as Steps
@@ -47,7 +47,7 @@ rmw-long st c = matched-long _ (liveIn (st .numbers) c) 0
 
 -- A row that has asked
 module _ (p : Program) (held : cellsOf (p .table) ≤ cells) (few : threadsOf (p .table) ≤ threads) (accepted : judged (p .table) ≡ good)
-    (st : State) (n : ℕ) (holds : Holds p st n) (acts : number (st .numbers) (phase (current st)) ≡ toAct) where
+    (st : State) (n : ℕ) (holds : FactsHold p st n) (acts : number (st .numbers) (phase (current st)) ≡ toAct) where
   abbrev a : Numbers
   a = st .numbers
 
@@ -69,7 +69,7 @@ module _ (p : Program) (held : cellsOf (p .table) ≤ cells) (few : threadsOf (p
   abbrev q : ℕ
   q = underWay a - number a (phase t)
 
-  stands : Over p st n
+  stands : FactsOver p st n
   stands = holds .over
 
   below : t < threads
@@ -86,7 +86,7 @@ module _ (p : Program) (held : cellsOf (p .table) ≤ cells) (few : threadsOf (p
       subst (Names (roomOf (p .table) (rowCount p t) k)) same (said .2)
 
   -- some slot is offered, and those that are offered are slots
-  pub slot-answerable : SomeOffered → (m : Matched) → Reading p st m → Offering m
+  pub slot-answerable : SomeOffered → (m : Matched) → MatchOfRow p st m → Offering m
   slot-answerable some m (ofLoad c o r e f) = record {
     some = λ offered g. some .toLoad (st .clocks) (marksOf (st .marks) c) a t c o offered (stands .counted c (names _ e)) (sym f ∙ g);
     few = λ offered g. omega (arith, offered-long (liveIn a c) m (rw f (load-long st t c o)) offered g, live-most (number a (count c)));
@@ -105,7 +105,7 @@ module _ (p : Program) (held : cellsOf (p .table) ≤ cells) (few : threadsOf (p
     facts = opened p held few t below st n threads (λ d. refl) stands;
   }
 
-  read-after : (m : Matched) → Reading p st m → (slot mask : ℕ) (values : List ℕ) → FittingSlot m slot values →
+  read-after : (m : Matched) → MatchOfRow p st m → (slot mask : ℕ) (values : List ℕ) → FittingSlot m slot values →
       After p n (Machine.readFrom st t k slot mask (activeRole p st))
   read-after m (ofLoad c o r e f) slot mask values fit =
       rw e
@@ -116,7 +116,7 @@ module _ (p : Program) (held : cellsOf (p .table) ≤ cells) (few : threadsOf (p
       (Steps.rmw-after p held few t s k w b (otherWork a t) q n (stands .runs) (holds .ready) own sum (stands .limited) st c o f change r slot mask
       (names _ e) (slot-live a c m (rw g (rmw-long st c)) slot values fit) on)
 
-  pub slot-after : (m : Matched) → Reading p st m → (slot : ℕ) (values : List ℕ) → FittingSlot m slot values →
+  pub slot-after : (m : Matched) → MatchOfRow p st m → (slot : ℕ) (values : List ℕ) → FittingSlot m slot values →
       After p n (Machine.answered p st (readSlot slot values))
   unfolding Machine.answered
   slot-after m reading slot values fit = read-after m reading slot (Machine.maskOf 0 values) values fit

@@ -20,7 +20,7 @@ use Rattle.rules.proofs.MeasureSteps.{Lower, lowered}
 use Rattle.rules.proofs.MeasureTicks.{next-lower, thread-lower, slot-lower, spurious-lower}
 use Rattle.kept.specs.Kept.{Fitting, OfNext, OfAnswer, Keeps, Possible, Answerable, Falls, Never}
 use Rattle.kept.proofs.Held.{answer-next}
-use Rattle.standing.specs.Standing.{Over, Holds, Asked, SomeOffered}
+use Rattle.standing.specs.Standing.{FactsOver, FactsHold, FactsAsked, SomeOffered}
 use Rattle.standing.proofs.Steps.{After, going, stopping, ending, Good, moving, asking}
 use Rattle.standing.proofs.Ticks.{next-good}
 use Rattle.standing.proofs.Schedules.{is-answerable, thread-after}
@@ -29,7 +29,7 @@ use Rattle.standing.proofs.Start.{start-holds}
 
 -- What is known of a move, in the words of crate kept
 module _ (p : Program) (n : ℕ) where
-  after-keeps : {m : Move State} → After p n m → OfAnswer (machine p) (Holds p) (Over p) n m
+  after-keeps : {m : Move State} → After p n m → OfAnswer (machine p) (FactsHold p) (FactsOver p) n m
   after-keeps (going h) = h
   after-keeps (stopping h f) = h
   after-keeps (ending h) = h
@@ -39,8 +39,8 @@ module _ (p : Program) (n : ℕ) where
   after-possible (stopping h f) = f
   after-possible (ending h) = tt
 
-  good-keeps : {m : Move State} → Good p n m → OfNext (machine p) (Holds p) (Asked p) (Over p) n m
-  good-keeps {m} (moving h) = answer-next (machine p) (Holds p) (Asked p) (Over p) n m (after-keeps h)
+  good-keeps : {m : Move State} → Good p n m → OfNext (machine p) (FactsHold p) (FactsAsked p) (FactsOver p) n m
+  good-keeps {m} (moving h) = answer-next (machine p) (FactsHold p) (FactsAsked p) (FactsOver p) n m (after-keeps h)
   good-keeps (asking h) = h
 
   good-possible : {m : Move State} → Good p n m → Possible m
@@ -81,14 +81,14 @@ module _ (table condition : List ℕ) (s : Settings) (accepted : judged table �
   limited : s .operations ≤ largest
   limited = operations-within s fine
 
-  nexts : (st : State) (n : ℕ) → Holds p st n → Good p n (next p st .move)
+  nexts : (st : State) (n : ℕ) → FactsHold p st n → Good p n (next p st .move)
   nexts st n h = next-good p (within .2) (within .1) limited st n h accepted
 
-  lowers : (st : State) (n : ℕ) → Holds p st n → Lower p (measure p st) (next p st .move)
+  lowers : (st : State) (n : ℕ) → FactsHold p st n → Lower p (measure p st) (next p st .move)
   lowers st n h =
       next-lower p limited st (record { whole = h .over .whole; below = omega (arith, h .over .runs, within); runs = h .ready })
 
-  answers : (st : State) (n : ℕ) (q : Question) (a : Pick) → Asked p st n q → Fitting q a → After p n (answered p st a)
+  answers : (st : State) (n : ℕ) (q : Question) (a : Pick) → FactsAsked p st n q → Fitting q a → After p n (answered p st a)
   answers st n (whichThread points first standings) (runThread whom at) h fit =
       thread-after p (within .2) (within .1) st n first standings h whom at fit
   answers st n (whichSlot m) (readSlot slot values) h fit =
@@ -102,17 +102,17 @@ module _ (table condition : List ℕ) (s : Settings) (accepted : judged table �
   answers st n whichBit (runThread whom at) h fit = absurd fit
   answers st n whichBit (readSlot slot values) h fit = absurd fit
 
-  asked-over : (st : State) (n : ℕ) (q : Question) → Asked p st n q → Over p st n
+  asked-over : (st : State) (n : ℕ) (q : Question) → FactsAsked p st n q → FactsOver p st n
   asked-over st n (whichThread points first standings) h = h .over
   asked-over st n (whichSlot m) h = h .holds .over
   asked-over st n whichBit h = h .holds .over
 
-  answerable : SomeOffered → (st : State) (n : ℕ) (q : Question) → Asked p st n q → Answerable q
+  answerable : SomeOffered → (st : State) (n : ℕ) (q : Question) → FactsAsked p st n q → Answerable q
   answerable some st n (whichThread points first standings) h = is-answerable p st n first standings h
   answerable some st n (whichSlot m) h = slot-answerable p (within .2) (within .1) accepted st n (h .holds) (h .toAct) some m (h .reading)
   answerable some st n whichBit h = tt
 
-  pub standing-keeps : Keeps (machine p) (Holds p) (Asked p) (Over p)
+  pub standing-keeps : Keeps (machine p) (FactsHold p) (FactsAsked p) (FactsOver p)
   standing-keeps = record {
     at-start = start-holds p (within .0) (within .1) (within .2);
     at-next = λ st n h. good-keeps p n (nexts st n h);
@@ -122,7 +122,7 @@ module _ (table condition : List ℕ) (s : Settings) (accepted : judged table �
   }
 
   -- where every match offers some store, unless orders are equal
-  pub standing-never : SomeOffered → Never (machine p) (limitsOf s) (Holds p) (Asked p) (Over p)
+  pub standing-never : SomeOffered → Never (machine p) (limitsOf s) (FactsHold p) (FactsAsked p) (FactsOver p)
   standing-never some = record {
     keeps = standing-keeps;
     room = λ st n h. omega (arith, h .entries, h .limited);

@@ -30,22 +30,22 @@ use Rattle.rules.proofs.NumberLaws.{after, more-some}
 use Rattle.rules.proofs.Measure.{Is, aside, toState, toPhase}
 use Rattle.rules.proofs.MeasureRows.{pick, Names}
 use Rattle.rules.proofs.AccessLaws.{Leaves, isRaced, isRead, load-leaves, rmw-leaves, unsync-leaves, mut-leaves, plain-leaves}
-use Rattle.standing.specs.Standing.{Thread, Over, Holds, Schedules, Reading, ofLoad, ofRmw, Reads, Takes, Asked}
+use Rattle.standing.specs.Standing.{Thread, FactsOver, FactsHold, Schedules, MatchOfRow, ofLoad, ofRmw, FactsRead, Takes, FactsAsked}
 use Rattle.standing.proofs.Facts.{acts-so, Facts, keep, toRow, closed, holding}
 
 -- What is to be known of a move, with n entries in the trace before it
 
 pub data After (p : Program) (n : ℕ) : Move State → Type 0 where
-  going : {st : State} {es : List Entry} → Holds p st (n + length es) → After p n (moves st es)
-  stopping : {st : State} {f : Fault} → Over p st n → (f ≡ impossible → ⊥) → After p n (stops st f)
-  ending : {st : State} → Over p st n → After p n (ends st)
+  going : {st : State} {es : List Entry} → FactsHold p st (n + length es) → After p n (moves st es)
+  stopping : {st : State} {f : Fault} → FactsOver p st n → (f ≡ impossible → ⊥) → After p n (stops st f)
+  ending : {st : State} → FactsOver p st n → After p n (ends st)
 
 pub data Good (p : Program) (n : ℕ) : Move State → Type 0 where
   moving : {m : Move State} → After p n m → Good p n m
-  asking : {st : State} {es : List Entry} {explores : Bool} {q : Question} → Asked p st (n + length es) q → Good p n (asks st es explores q)
+  asking : {st : State} {es : List Entry} {explores : Bool} {q : Question} → FactsAsked p st (n + length es) q → Good p n (asks st es explores q)
 
 -- a fault that document 01 has
-pub stops-at : {p : Program} {n : ℕ} (st : State) (f : Fault) → faultNumber f ≢ 20 → Over p st n → After p n (stops st f)
+pub stops-at : {p : Program} {n : ℕ} (st : State) (f : Fault) → faultNumber f ≢ 20 → FactsOver p st n → After p n (stops st f)
 stops-at st f d over = stopping over (λ e. d (ap faultNumber e))
 
 -- What a row that is to act does: thread t runs at row k; b rows have begun, and of the other threads' rows q are under way
@@ -118,7 +118,7 @@ module _ (p : Program) (held : cellsOf (p .table) ≤ cells) (few : threadsOf (p
   op-is : (st : State) → At st → activeOp p st ≡ rowOf p t k
   op-is st at = rw (at .is .runs, at .facts .at) refl
 
-  holds-at : (st : State) (x : ℕ) → x ≡ n → At st → Holds p st x
+  holds-at : (st : State) (x : ℕ) → x ≡ n → At st → FactsHold p st x
   holds-at st x e at = holding p held few t below st x within can (at .is) (at .facts) own (omega arith)
 
   -- the row is complete
@@ -186,9 +186,9 @@ module _ (p : Program) (held : cellsOf (p .table) ≤ cells) (few : threadsOf (p
       (record { is = aside below (at .is) exploring v (omega arith); facts = keep p held few t below (at .facts) exploring v (omega arith) })))
 
   -- a load or an RMW asks for its slot
-  slot-good : (st : State) (explores : Bool) (m′ : Matched) → At st → Reading p st m′ → Good p n (asks st [] explores (whichSlot m′))
+  slot-good : (st : State) (explores : Bool) (m′ : Matched) → At st → MatchOfRow p st m′ → Good p n (asks st [] explores (whichSlot m′))
   slot-good st explores m′ at reading =
-      let asked : Reads p st (n + 0) m′ =
+      let asked : FactsRead p st (n + 0) m′ =
       record { holds = holds-at st (n + 0) (omega arith) at; toAct = rw (at .is .runs) (at .is .inPhase); reading = reading } in
       asking asked
 

@@ -21,7 +21,7 @@ use Rattle.rules.proofs.NumberLaws.{five-has, more-below}
 use Rattle.rules.proofs.Measure.{Is, aside, toState, toPhase, toBegun, toCell, seen, otherWork}
 use Rattle.rules.proofs.MeasureLoops.{freed-all}
 use Rattle.rules.proofs.MeasureRows.{pick, both-left, both-right, Names, OnCell, row-on-cell}
-use Rattle.standing.specs.Standing.{Thread, Over, Holds, Schedules, underWay}
+use Rattle.standing.specs.Standing.{Thread, FactsOver, FactsHold, Schedules, underWay}
 use Rattle.standing.proofs.Facts.{acts-so, Facts, keep, begunOne, freed-facts, freed-none, opened, closed, holding}
 use Rattle.standing.proofs.Rows.{accepted-row}
 use Rattle.standing.proofs.Steps.{going, Good, moving, asking, stops-at, acts-good}
@@ -30,7 +30,7 @@ module _ (p : Program) (held : cellsOf (p .table) ≤ cells) (few : threadsOf (p
   -- A row has begun: thread t runs at row k, which is to act
   module _ (t s k w b m q n : ℕ) (within : t < threadsOf (p .table)) (can : CanAct s) (own : Thread p t s k toAct w)
       (sum : n + (q + toAct) ≡ b) (most : b ≤ p .operations) where
-    begun-holds : (st : State) → Is t s toAct b m (st .numbers) → Facts p t k q b threads (st .numbers) → Holds p st (n + 0)
+    begun-holds : (st : State) → Is t s toAct b m (st .numbers) → Facts p t k q b threads (st .numbers) → FactsHold p st (n + 0)
     begun-holds st is facts = holding p held few t (omega arith) st (n + 0) within can is facts own (omega arith)
 
     begun-good : (st : State) (row : Op) (pending : Pending) → rowOf p t k ≡ decoded row →
@@ -49,7 +49,7 @@ module _ (p : Program) (held : cellsOf (p .table) ≤ cells) (few : threadsOf (p
         asking asked
 
   -- The active thread
-  module _ (st : State) (n : ℕ) (holds : Holds p st n) where
+  module _ (st : State) (n : ℕ) (holds : FactsHold p st n) where
     abbrev a : Numbers
     a = st .numbers
 
@@ -65,7 +65,7 @@ module _ (p : Program) (held : cellsOf (p .table) ≤ cells) (few : threadsOf (p
     abbrev q : ℕ
     q = underWay a - number a (phase t)
 
-    stands : Over p st n
+    stands : FactsOver p st n
     stands = holds .over
 
     below : t < threads

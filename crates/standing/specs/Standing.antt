@@ -2,9 +2,9 @@
 -- entries of the trace; and what stands where the machine asks. It is what a machine keeps (crate kept), so it speaks of every
 -- state that a run comes to: between ticks, where it asks, where it stops and where it ends. Assumes nothing.
 --     Thread              one thread's state, row and phase, and whom it waits for
---     Over                the numbers of a state, with so many entries in the trace
---     Holds               and between ticks, where the active thread runs
---     Asked               and of a state that asks, its question
+--     FactsOver           the numbers of a state, with so many entries in the trace
+--     FactsHold           and between ticks, where the active thread runs
+--     FactsAsked          and of a state that asks, its question
 --     SomeOffered         where orders are not equal, some store is offered
 use Prim.Native.Nat.{ℕ, _+_, _≤_, _<_}
 use mathlib.Core.List.{List, map}
@@ -55,7 +55,7 @@ abbrev pub begunBy : Numbers → ℕ
 begunBy a = number a (rowsOf 0) + number a (rowsOf 1) + number a (rowsOf 2) + number a (rowsOf 3) + number a (rowsOf 4)
 
 -- a state, with n entries in the trace
-pub record Over (p : Program) (st : State) (n : ℕ) : Type 0 where
+pub record FactsOver (p : Program) (st : State) (n : ℕ) : Type 0 where
   -- the numbers are all there, and every pending operation is on a cell
   pub whole : Whole (st .numbers)
   -- the active thread is one of the table's
@@ -76,42 +76,42 @@ pub record Over (p : Program) (st : State) (n : ℕ) : Type 0 where
 
 -- between ticks the active thread is one that can act: runnable, or yielded and chosen nevertheless; where a scheduling is asked for,
 -- and where an execution has stopped or ended, it may be blocked or have ended
-pub record Holds (p : Program) (st : State) (n : ℕ) : Type 0 where
-  pub over : Over p st n
+pub record FactsHold (p : Program) (st : State) (n : ℕ) : Type 0 where
+  pub over : FactsOver p st n
   pub ready : CanAct (number (st .numbers) (State.state (current st)))
 
 -- Where it asks
 
 -- for a scheduling
 pub record Schedules (p : Program) (st : State) (n : ℕ) (first : Whom) (standings : List Standing) : Type 0 where
-  pub over : Over p st n
+  pub over : FactsOver p st n
   pub isFirst : first ≡ Machine.initial (st .numbers)
   pub stand : standings ≡ map (Machine.standing (st .numbers)) everyThread
 
 -- the active thread's row is a load or an RMW, and what is asked is the match of that cell in this very state
-pub data Reading (p : Program) (st : State) (m : Matched) : Type 0 where
+pub data MatchOfRow (p : Program) (st : State) (m : Matched) : Type 0 where
   ofLoad : (c o r : ℕ) → activeOp p st ≡ decoded (Table.load c o r) →
-      m ≡ matchedLoad (st .clocks) (marksOf (st .marks) c) (st .numbers) (current st) c o → Reading p st m
+      m ≡ matchedLoad (st .clocks) (marksOf (st .marks) c) (st .numbers) (current st) c o → MatchOfRow p st m
   ofRmw : (c o f : ℕ) (change : Change) (r : ℕ) → activeOp p st ≡ decoded (Table.rmw c o f change r) →
-      m ≡ matchedRmw (st .clocks) (st .numbers) c → Reading p st m
+      m ≡ matchedRmw (st .clocks) (st .numbers) c → MatchOfRow p st m
 
 -- for a slot
-pub record Reads (p : Program) (st : State) (n : ℕ) (m : Matched) : Type 0 where
-  pub holds : Holds p st n
+pub record FactsRead (p : Program) (st : State) (n : ℕ) (m : Matched) : Type 0 where
+  pub holds : FactsHold p st n
   pub toAct : number (st .numbers) (phase (current st)) ≡ toAct
-  pub reading : Reading p st m
+  pub reading : MatchOfRow p st m
 
 -- for a bit
 pub record Takes (p : Program) (st : State) (n : ℕ) : Type 0 where
-  pub holds : Holds p st n
+  pub holds : FactsHold p st n
   pub toAct : number (st .numbers) (phase (current st)) ≡ toAct
   pub register : ℕ
   pub isSpurious : activeOp p st ≡ decoded (Table.spurious register)
 
-abbrev pub Asked : Program → State → ℕ → Question → Type 0
-Asked p st n (whichThread points first standings) = Schedules p st n first standings
-Asked p st n (whichSlot m) = Reads p st n m
-Asked p st n whichBit = Takes p st n
+abbrev pub FactsAsked : Program → State → ℕ → Question → Type 0
+FactsAsked p st n (whichThread points first standings) = Schedules p st n first standings
+FactsAsked p st n (whichSlot m) = FactsRead p st n m
+FactsAsked p st n whichBit = Takes p st n
 
 -- What is taken from the match: a cell that has a store offers one, where no equal orders are met
 

@@ -7,14 +7,14 @@ use Rattle.rules.specs.Table as rules
 use Rattle.decode.specs.declared.Decoded.{Decoded}
 use Rattle.decode.specs.Ops.{decodedOf, opWithin}
 use Rattle.table.specs.declared.Judged.{Judged}
-use Rattle.table.specs.declared.Judged.the-variants.{Accepted, Header, Row}
+use Rattle.table.specs.declared.Judged.the-variants.{Good, BadHeader, BadRow}
 use Rattle.table.specs.declared.RowStart.{RowStart}
 use Rattle.table.specs.declared.RowStart.the-variants.{Nowhere, At}
 
 abbrev pub judgedOf : Judged → rules.Judged
-judgedOf Accepted = rules.good
-judgedOf Header = rules.badHeader
-judgedOf (Row thread row) = rules.badRow thread row
+judgedOf Good = rules.good
+judgedOf BadHeader = rules.badHeader
+judgedOf (BadRow thread row) = rules.badRow thread row
 
 -- where a row stands: there it is what the definition decodes; a row that stands nowhere is refused
 abbrev pub PlaceOf : List ℕ → rules.Room → ℕ → RowStart → Type 0

@@ -23,7 +23,7 @@ use fields::A;
 use fields::B;
 use fields::FAILURE;
 use fields::KIND;
-use fields::OBJECT;
+use fields::OPERATES_ON;
 use fields::ORDER;
 use fields::REGISTER;
 use fields::TARGET;
@@ -71,9 +71,9 @@ pub const LAST_FIRST: usize = FIRSTS + MAX_THREADS - 1;
 
 // What is wrong with a table, if anything is: the header or the length, or else the first bad row in byte order.
 pub enum Judged {
-    Accepted,
-    Header,
-    Row { thread: usize, row: usize },
+    Good,
+    BadHeader,
+    BadRow { thread: usize, row: usize },
 }
 
 // The first byte of a row, or that the table does not hold it.
@@ -87,7 +87,7 @@ pub fn judge(table: &[u8]) -> Judged
     ensures { λ r. ⌜ judgedOf r ≡ judged (now (table .entry)) ⌝ }
 {
     if !header_fine(table) {
-        return Judged::Header;
+        return Judged::BadHeader;
     }
     let mut thread = 0;
     let mut first = 0;
@@ -95,12 +95,12 @@ pub fn judge(table: &[u8]) -> Judged
         let count = wide8(table[ROW_COUNTS + thread]);
         let row = first_bad(table, first, count);
         if row < count {
-            return Judged::Row { thread, row };
+            return Judged::BadRow { thread, row };
         }
         first += count;
         thread += 1;
     }
-    Judged::Accepted
+    Judged::Good
 }
 
 // The shape; zeros where the table is shorter than a header.
@@ -247,7 +247,7 @@ fn row_from(table: &[u8], at: usize) -> Row
 {
     Row {
         opcode: table[at],
-        object: table[at + OBJECT],
+        object: table[at + OPERATES_ON],
         order: table[at + ORDER],
         failure: table[at + FAILURE],
         kind: table[at + KIND],

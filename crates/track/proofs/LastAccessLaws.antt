@@ -19,7 +19,7 @@ use Rattle.rules.specs.Machine.{aLoad, noOperation, dependentBranch, dependentV
 use Rattle.rules.specs.State.{State, Clocks, Marks, Values, Numbers, vector, withVector, vectorAt, withNumber, numberAt, scheduleOf, lastAccess, lastNonLoad, accessBranch, nonLoadBranch, none}
 use Rattle.rules.specs.Vector.{joined, raised, atMost}
 use Rattle.layout.specs.Tables.{state}
-use Rattle.track.specs.LastAccess.{grown, accessed}
+use Rattle.track.specs.LastAccess.{grownBy, accessed}
 use Rattle.synchronize.proofs.SeenLaws.{or-or}
 
 module _ (op c at : ℕ) where
@@ -43,16 +43,16 @@ module _ (at k : ℕ) (xs ys vs : List ℕ) (b : Bool) (met : k ≡ at) where
   conflict-asked n e f = rw (← met, ne-eqb k none n, ← e, f)
 
 module _ (st : State) (t op c k : ℕ) (own row : List ℕ) (met : k ≡ dependentBranch (st .numbers) op c) (raise : row ≡ raised own t) where
-  pub grown-none : k ≡ none → own ≡ vector (st .clocks) (scheduleOf t) → row ≡ grown st t op c
-  unfolding grown
+  pub grown-none : k ≡ none → own ≡ vector (st .clocks) (scheduleOf t) → row ≡ grownBy st t op c
+  unfolding grownBy
   grown-none e f = rw (← met, eq-eqb k none e, ← f) raise
 
   pub grown-joined : k ≢ none → (version : List ℕ) → version ≡ dependentVector (st .clocks) op c →
-      own ≡ joined (vector (st .clocks) (scheduleOf t)) version → row ≡ grown st t op c
-  unfolding grown
+      own ≡ joined (vector (st .clocks) (scheduleOf t)) version → row ≡ grownBy st t op c
+  unfolding grownBy
   grown-joined n version e f = rw (← met, ne-eqb k none n, ← e, ← f) raise
 
-module _ (clocks : Clocks) (marks : Marks) (values : Values) (numbers : Numbers) (t op c at : ℕ) (row : List ℕ) (grew : row ≡ grown (state clocks marks values numbers) t op c) where
+module _ (clocks : Clocks) (marks : Marks) (values : Values) (numbers : Numbers) (t op c at : ℕ) (row : List ℕ) (grew : row ≡ grownBy (state clocks marks values numbers) t op c) where
   pub recorded-load : op ≡ aLoad →
       state (withVector (withVector clocks (scheduleOf t) row) (lastAccess c) row) marks values (withNumber numbers (accessBranch c) at)
       ≡ accessed (state clocks marks values numbers) t op c at
@@ -81,5 +81,5 @@ module _ (st : State) (t : ℕ) where
 
   pub accessMade-is : (at : ℕ) →
       accessMade st t at ≡ cond (eqb (operationOf st t) noOperation) st (accessed st t (operationOf st t) (cellOf st t) at)
-  unfolding accessMade accessed grown
+  unfolding accessMade accessed grownBy
   accessMade-is at = refl

@@ -10,12 +10,12 @@ use Rattle.rules.specs.State.{State, vector, withVector, scheduleOf, none}
 use Rattle.rules.specs.Vector.{joined, raised}
 
 -- "join the last dependent access's vector into its schedule vector, raise its own part"
-unfoldable pub grown : State → ℕ → ℕ → ℕ → List ℕ
-grown st t op c =
+unfoldable pub grownBy : State → ℕ → ℕ → ℕ → List ℕ
+grownBy st t op c =
     let own = vector (st .clocks) (scheduleOf t) in
     raised (cond (eqb (dependentBranch (st .numbers) op c) none) own (joined own (dependentVector (st .clocks) op c))) t
 
 -- "record access with this branch and vector"
 unfoldable pub accessed : State → ℕ → ℕ → ℕ → ℕ → State
 accessed st t op c at =
-    accessRecorded (withClocks st (withVector (st .clocks) (scheduleOf t) (grown st t op c))) op c at (grown st t op c)
+    accessRecorded (withClocks st (withVector (st .clocks) (scheduleOf t) (grownBy st t op c))) op c at (grownBy st t op c)

@@ -156,7 +156,7 @@ fn put_failed(page: &mut Page, at: usize, number: u64, thread: u64, row: u64) ->
             at,
             b"answer 10: failed: deadlock: no thread can run, and not every thread has ended\n",
         ),
-        answers::EQUAL => page::fill(
+        answers::EQUAL_ORDERS => page::fill(
             page,
             at,
             b"answer 13: failed: two stores that a load may read have no order between them, at thread #, row #\n",

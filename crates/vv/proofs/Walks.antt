@@ -19,7 +19,7 @@ use Rattle.rules.specs.Vector.{largest, atMost, equal, less, joined, oneMore, r
 use Rattle.rules.proofs.VectorLaws.{atMost-refl, equal-true}
 use Rattle.vv.specs.declared.Ordering.{Ordering}
 use Rattle.vv.specs.declared.Ordering.the-variants.{Less, Equal, Neither}
-use Rattle.vv.specs.Compared.{compared}
+use Rattle.vv.specs.Compared.{orderingOf}
 
 module _ {A : Type 0} (f : List ℕ → List ℕ → A) (xs ys : List ℕ) (i : ℕ) where
   pub left-cons : i < length xs → i < length ys →
@@ -82,29 +82,29 @@ so-far true = refl
 so-far false = refl
 
 module _ (x y : ℕ) (xs ys : List ℕ) (l : x ≤ y) (so : Bool) where
-  past-same : eqb x y ≡ true → after (so && eqb x y) (compared xs ys) ≡ after so (compared (x ∷ xs) (y ∷ ys))
+  past-same : eqb x y ≡ true → after (so && eqb x y) (orderingOf xs ys) ≡ after so (orderingOf (x ∷ xs) (y ∷ ys))
   unfolding atMost equal less
   past-same e = rw (e, le-leb x y l, so-far so)
 
-  past-less : eqb x y ≡ false → after (so && eqb x y) (compared xs ys) ≡ after so (compared (x ∷ xs) (y ∷ ys))
+  past-less : eqb x y ≡ false → after (so && eqb x y) (orderingOf xs ys) ≡ after so (orderingOf (x ∷ xs) (y ∷ ys))
   unfolding atMost equal less
   past-less e = rw (e, le-leb x y l) (only-most so (equal xs ys) (atMost xs ys) (equal-most xs ys))
 
 module _ (xs ys : List ℕ) (i : ℕ) (h : i < length xs) (k : i < length ys) where
   pub compared-on : (so : Bool) → getD xs i 0 ≤ getD ys i 0 →
-      after (so && eqb (getD xs i 0) (getD ys i 0)) (compared (drop (i + 1) xs) (drop (i + 1) ys)) ≡ after so (compared (drop i xs) (drop i ys))
+      after (so && eqb (getD xs i 0) (getD ys i 0)) (orderingOf (drop (i + 1) xs) (drop (i + 1) ys)) ≡ after so (orderingOf (drop i xs) (drop i ys))
   compared-on so l =
-      rw (left-cons compared xs ys i h k) (⊎-elim (past-same _ _ _ _ l so) (past-less _ _ _ _ l so) (flag (eqb (getD xs i 0) (getD ys i 0))))
+      rw (left-cons orderingOf xs ys i h k) (⊎-elim (past-same _ _ _ _ l so) (past-less _ _ _ _ l so) (flag (eqb (getD xs i 0) (getD ys i 0))))
 
-  pub compared-ends : (so : Bool) → getD ys i 0 < getD xs i 0 → after so (compared (drop i xs) (drop i ys)) ≡ Neither
+  pub compared-ends : (so : Bool) → getD ys i 0 < getD xs i 0 → after so (orderingOf (drop i xs) (drop i ys)) ≡ Neither
   unfolding atMost equal less
   compared-ends so l =
-      rw (left-cons compared xs ys i h k, lt-leb (getD xs i 0) (getD ys i 0) l, ne-eqb (getD xs i 0) (getD ys i 0) (λ e. omega (arith, e))) (after-neither so)
+      rw (left-cons orderingOf xs ys i h k, lt-leb (getD xs i 0) (getD ys i 0) l, ne-eqb (getD xs i 0) (getD ys i 0) (λ e. omega (arith, e))) (after-neither so)
 
 -- with no part left, what was found so far is the answer
-pub compared-none : (xs ys : List ℕ) (i : ℕ) → length xs ≤ i → length ys ≤ i → (so t : Bool) → so ≡ t → after t Equal ≡ after so (compared (drop i xs) (drop i ys))
+pub compared-none : (xs ys : List ℕ) (i : ℕ) → length xs ≤ i → length ys ≤ i → (so t : Bool) → so ≡ t → after t Equal ≡ after so (orderingOf (drop i xs) (drop i ys))
 unfolding equal
-compared-none xs ys i h k so t e = rw (left-none compared xs ys i h k, e)
+compared-none xs ys i h k so t e = rw (left-none orderingOf xs ys i h k, e)
 
 -- which answer says less
 abbrev pub is-less : Ordering → Bool
@@ -118,7 +118,7 @@ less-of true false = refl
 less-of false true = refl
 less-of false false = refl
 
-pub less-told : (xs ys : List ℕ) (r s : Ordering) → r ≡ compared xs ys → r ≡ s → is-less s ≡ less xs ys
+pub less-told : (xs ys : List ℕ) (r s : Ordering) → r ≡ orderingOf xs ys → r ≡ s → is-less s ≡ less xs ys
 unfolding less
 less-told xs ys r s e told = rw (← told, e) (less-of (equal xs ys) (atMost xs ys))
 

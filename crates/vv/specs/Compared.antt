@@ -7,5 +7,5 @@ use Rattle.vv.specs.declared.Ordering.{Ordering}
 use Rattle.vv.specs.declared.Ordering.the-variants.{Less, Equal, Neither}
 
 -- `Equal` where "all equal", `Less` where "x < y", and `Neither` where it is neither
-abbrev pub compared : List ℕ → List ℕ → Ordering
-compared xs ys = cond (equal xs ys) Equal (cond (less xs ys) Less Neither)
+abbrev pub orderingOf : List ℕ → List ℕ → Ordering
+orderingOf xs ys = cond (equal xs ys) Equal (cond (less xs ys) Less Neither)

@@ -1,7 +1,7 @@
 // Version vectors, after loom's rt/vv.rs. Each promise is an equation with the definition in rules.
 ghost use mathlib.Core.Path.{_≡_};
 ghost use Rattle.rules.specs.Vector.{atMost, equal, less, joined, ahead, oneMore, raised, zeros};
-ghost use Rattle.vv.specs.Compared.{compared};
+ghost use Rattle.vv.specs.Compared.{orderingOf};
 ghost use Rattle.vv.specs.Whom.{whom};
 use layout::MAX_THREADS;
 
@@ -101,7 +101,7 @@ impl VersionVec {
     // Less, equal or neither. The first part that is greater ends the walk; loom's goes on there to tell greater from neither,
     // which nobody asks here.
     pub fn partial_cmp(self, other: VersionVec) -> Ordering
-        ensures { λ r. ⌜ r ≡ compared (self .versions) (other .versions) ⌝ }
+        ensures { λ r. ⌜ r ≡ orderingOf (self .versions) (other .versions) ⌝ }
     {
         let mut same = true;
         let mut i = 0;

@@ -33,8 +33,8 @@ use Rattle.event.specs.declared.Moved.{Moved}
 use Rattle.event.specs.declared.Fault.the-variants as fault
 use Rattle.event.specs.declared.Question.{Question}
 use Rattle.event.specs.declared.Question.the-variants as question
-use Rattle.meeting.specs.Stands.{Lent, lent, Stands, Comes, Stopped, siteOf}
-use Rattle.meeting.specs.Branches.{questionOf, askedAt, branched, reached, reachedAt, Fits, AnswersBy, RepliesBy, Reaches, Holding}
+use Rattle.meeting.specs.Stands.{Lent, lent, Stands, ComesTo, Stopped, siteOf}
+use Rattle.meeting.specs.Branches.{questionOf, askedAt, branched, reached, reachedAt, PickFits, AnswersBy, RepliesBy, Reaches, Holding}
 use Rattle.meeting.specs.Entries.{moveAt, concludedAt, Lands}
 use Rattle.meeting.specs.declared.Cursor.{Cursor}
 use Rattle.meeting.specs.declared.Here.{Here}
@@ -52,7 +52,7 @@ use Rattle.walk.proofs.WalkLaws.{meet-stops, meet-on}
 use Rattle.meeting.proofs.ComesLaws.{wrote-none}
 
 module _ (f : Walk State → Tick State) (c : Cursor) (x : Lent) where
-  pub stays-then : (o : Outcome) → OneOf (1 ∷ 2 ∷ []) (tagOf outcomes o) → (t : Tick State) → Comes o c x t → Comes o c x (thenOn f t)
+  pub stays-then : (o : Outcome) → OneOf (1 ∷ 2 ∷ []) (tagOf outcomes o) → (t : Tick State) → ComesTo o c x t → ComesTo o c x (thenOn f t)
   stays-then code.Goes k t h = absurd (miss (1 ∷ 2 ∷ []) 0 tt k)
   stays-then code.Ends k (goes w) h = absurd h
   stays-then code.Ends k (over w) h = h
@@ -66,13 +66,13 @@ pub record WentOn (x : Lent) (c : Cursor) (t : Tick State) : Type 0 where
   pub is : t ≡ goes walk
   pub stands : Stands x c walk
 
-went-by : (x : Lent) (c : Cursor) (t : Tick State) → Comes code.Goes c x t → WentOn x c t
+went-by : (x : Lent) (c : Cursor) (t : Tick State) → ComesTo code.Goes c x t → WentOn x c t
 went-by x c (goes w) h = record { walk = w; is = refl; stands = h }
 went-by x c (over w) h = absurd h
 went-by x c (faulted g s w) h = absurd h
 
-pub went-on : {x : Lent} {c : Cursor} (o : Outcome) (t : Tick State) → o ≡ code.Goes → Comes o c x t → WentOn x c t
-went-on {x} {c} o t e h = went-by x c t (subst (λ (y : Outcome). Comes y c x t) e h)
+pub went-on : {x : Lent} {c : Cursor} (o : Outcome) (t : Tick State) → o ≡ code.Goes → ComesTo o c x t → WentOn x c t
+went-on {x} {c} o t e h = went-by x c t (subst (λ (y : Outcome). ComesTo y c x t) e h)
 
 -- The meeting in its two parts
 
@@ -151,7 +151,7 @@ module _ (p : Program) (h : Here) (st : State) (move : rules.Move State) (is-row
   unfolding answered
   nobody-is at e = e
 
-  pub answered-is : (ch : Picked) (a : rules.Pick) → Fits ch a → AnswerRow a st h → Goes-with ch → move ≡ answered p st a
+  pub answered-is : (ch : Picked) (a : rules.Pick) → PickFits ch a → AnswerRow a st h → Goes-with ch → move ≡ answered p st a
   answered-is (choice.Thread chosen branch) a f row g = thread-is chosen branch g ∙ ap (answered p st) (sym f)
   answered-is choice.Nobody a f row g = nobody-is (f .at) (g (f .at)) ∙ ap (answered p st) (sym (f .is))
   answered-is (choice.Slot slot mask) a f row g =
@@ -186,7 +186,7 @@ module _ (c : Cursor) (m : Ticked) (h : Here) (q : Question) (clocks : Clocks) (
         };
         wrote = wrote-none c (m .cursor) trace (reach .met .same-entries);
         comes = λ p L w rooms needs s.
-            subst (λ (y : Tick State). Comes (m .outcome) (m .cursor) reaching y) (sym (met-reached p L (siteOf (h .site)) w (askedAt q h (w .state)) (exploringNow (w .state .numbers))))
+            subst (λ (y : Tick State). ComesTo (m .outcome) (m .cursor) reaching y) (sym (met-reached p L (siteOf (h .site)) w (askedAt q h (w .state)) (exploringNow (w .state .numbers))))
             (stays-then (replies p L w) (m .cursor) reaching (m .outcome) k (reachedAt q h L w) (reach .comes L w values trace (rooms .holding) s));
       }
 
@@ -201,19 +201,19 @@ module _ (c : Cursor) (m : Ticked) (h : Here) (q : Question) (clocks : Clocks) (
 
     meets-by :
         ((p : Program) (L : explorer.Limits) (v : Walk State) → Rooms p L h path trace → Stands reaching (m .cursor) v → (x : explorer.Reply) → AnswersBy a x → ReplyRow x (v .state) h
-        → Comes (r .outcome) (r .cursor) exit (explorer.replied (machine p) L (siteOf (h .site)) v x))
-        → (p : Program) (L : explorer.Limits) (w : Walk State) → Rooms p L h path trace → AsksAt q (w .state) h → Stands before c w → Comes (r .outcome) (r .cursor) exit (metAt q h p L w)
+        → ComesTo (r .outcome) (r .cursor) exit (explorer.replied (machine p) L (siteOf (h .site)) v x))
+        → (p : Program) (L : explorer.Limits) (w : Walk State) → Rooms p L h path trace → AsksAt q (w .state) h → Stands before c w → ComesTo (r .outcome) (r .cursor) exit (metAt q h p L w)
     meets-by f p L w rooms asks s =
         let on = went-on (m .outcome) (reachedAt q h L w) goes-on (reach .comes L w values trace (rooms .holding) s) in
         let v = on .walk in
         let row : AsksAt q (v .state) h = subst (λ (st : State). AsksAt q st h) (s .is-state ∙ sym (on .stands .is-state)) asks in
-        subst (λ (y : Tick State). Comes (r .outcome) (r .cursor) exit y)
+        subst (λ (y : Tick State). ComesTo (r .outcome) (r .cursor) exit y)
         (sym (met-reached p L (siteOf (h .site)) w (askedAt q h (w .state)) (exploringNow (w .state .numbers)) ∙ ap (thenOn (replies p L w)) (on .is)))
         (f p L v rooms (on .stands) (explorer.reply (v .pos) (getD (v .ledger .path) (v .pos) noBranch) (askedAt q h (w .state))) (answers p L w v (rooms .holding) (on .stands))
         (reply-row q (v .state) h row (v .pos) (getD (v .ledger .path) (v .pos) noBranch) (w .state) (h .site .thread) (decodedOf (h .row))))
 
   unexpected-comes : (r : Ticked) → Stopped fault.Impossible (h .site) (m .cursor) r → (p : Program) (L : explorer.Limits) (v : Walk State) → Stands reaching (m .cursor) v
-      → (x : explorer.Reply) → AnswersBy answer.Unexpected x → Comes (r .outcome) (r .cursor) reaching (explorer.replied (machine p) L (siteOf (h .site)) v x)
+      → (x : explorer.Reply) → AnswersBy answer.Unexpected x → ComesTo (r .outcome) (r .cursor) reaching (explorer.replied (machine p) L (siteOf (h .site)) v x)
   unexpected-comes r s p L v stands (says a) f = absurd f
   unexpected-comes r s p L v stands unexpected f = comes-stops r reaching v fault.Impossible (h .site) _ (s .is) refl (same-stands (s .stays) stands)
 
@@ -249,11 +249,11 @@ module _ (c : Cursor) (m : Ticked) (h : Here) (q : Question) (clocks : Clocks) (
         }
 
     says-comes : (p : Program) (L : explorer.Limits) (v : Walk State) → Rooms p L h path trace → Stands reaching (m .cursor) v
-        → (x : explorer.Reply) → AnswersBy (answer.Says ch) x → ReplyRow x (v .state) h → Comes (r .outcome) (r .cursor) leaving (explorer.replied (machine p) L (siteOf (h .site)) v x)
+        → (x : explorer.Reply) → AnswersBy (answer.Says ch) x → ReplyRow x (v .state) h → ComesTo (r .outcome) (r .cursor) leaving (explorer.replied (machine p) L (siteOf (h .site)) v x)
     says-comes p L v rooms s (says a) f row =
         let there-row : AnswerRow a (state clocks marks values numbers) h = subst (λ (st : State). AnswerRow a st h) (s .is-state) row in
         let is : moveAt ev h leaves ≡ answered p (v .state) a = answered-is p h (state clocks marks values numbers) (moveAt ev h leaves) (rooms .is-row) ch a f there-row goes-with ∙ ap (λ (st : State). answered p st a) (sym (s .is-state)) in
-        subst (λ (y : Tick State). Comes (r .outcome) (r .cursor) leaving y)
+        subst (λ (y : Tick State). ComesTo (r .outcome) (r .cursor) leaving y)
         (followed-state p L (siteOf (h .site)) (explorer.onward v) leaves (moveAt ev h leaves) ∙ ap (explorer.followed (machine p) L (siteOf (h .site)) (explorer.onward v)) is)
         (lands .comes p L (lent clocks2 marks2 values2 numbers2 there trace) (explorer.withState (explorer.onward v) leaves) (rooms .room) (passed-stands v s))
     says-comes p L v rooms s unexpected f row = absurd f

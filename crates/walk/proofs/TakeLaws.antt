@@ -24,7 +24,7 @@ use Rattle.event.specs.declared.Moved.{Moved}
 use Rattle.event.specs.declared.Moved.the-variants as event
 use Rattle.event.specs.declared.Question.{Question}
 use Rattle.event.specs.declared.Question.the-variants as question
-use Rattle.meeting.specs.Stands.{Lent, lent, Stands, Comes, siteOf}
+use Rattle.meeting.specs.Stands.{Lent, lent, Stands, ComesTo, siteOf}
 use Rattle.meeting.specs.Branches.{askedAt, CursorMarks}
 use Rattle.meeting.specs.Entries.{Kept, completedBy, completedAt, concludedAt, Lands}
 use Rattle.meeting.specs.declared.Cursor.{Cursor}
@@ -76,7 +76,7 @@ module _ (c : Cursor) (h : Here) (ev : Moved) (bound : Bound) (clocks : Clocks) 
         gone = kept-gone (l .kept);
         wrote = l .wrote;
         comes = λ p L w rooms needs s.
-            subst (λ (y : Tick State). Comes (r .outcome) (r .cursor) (lent clocks marks values numbers path left) y) (concluded-taken h ev k p L w)
+            subst (λ (y : Tick State). ComesTo (r .outcome) (r .cursor) (lent clocks marks values numbers path left) y) (concluded-taken h ev k p L w)
             (l .comes p L before w (rooms .room) s);
       }
 
@@ -94,7 +94,7 @@ module _ (c : Cursor) (h : Here) (ev : Moved) (bound : Bound) (clocks : Clocks) 
           gone = kept-gone (l .kept);
           wrote = l .wrote;
           comes = λ p L w rooms needs s.
-              subst (λ (y : Tick State). Comes (n .outcome) (n .cursor) noted y) (sym (taken-asks h q yielded p L w))
+              subst (λ (y : Tick State). ComesTo (n .outcome) (n .cursor) noted y) (sym (taken-asks h q yielded p L w))
               (stays-then (asking h q p L (w .state)) (n .cursor) noted (n .outcome) k (completedAt yielded h p L w) (l .comes p L before w (rooms .room) s));
         })
 
@@ -112,9 +112,9 @@ module _ (c : Cursor) (h : Here) (ev : Moved) (bound : Bound) (clocks : Clocks) 
       marking p L v b st = explorer.met (machine p) L (siteOf (h .site)) (explorer.withLedger v (explorer.firstMarked b (v .ledger) (askedAt q h st))) (exploringNow (st .numbers)) (askedAt q h st)
 
       meets-comes : (p : Program) (L : explorer.Limits) (w v : Walk State) → Rooms p L h path trace → AsksAt q (w .state) h → L .bound ≡ boundOf bound → v .state ≡ w .state → Stands noted (n .cursor) v
-          → Comes (r .outcome) (r .cursor) exit (asking h q p L (w .state) v)
+          → ComesTo (r .outcome) (r .cursor) exit (asking h q p L (w .state) v)
       meets-comes p L w v rooms asks b same s =
-          subst (λ (y : Tick State). Comes (r .outcome) (r .cursor) exit y)
+          subst (λ (y : Tick State). ComesTo (r .outcome) (r .cursor) exit y)
           (ap (λ (x : paths.Bound). marking p L v x (v .state)) (sym b) ∙ ap (marking p L v (L .bound)) same)
           (g .comes p L (explorer.withLedger v (explorer.firstMarked (boundOf bound) (v .ledger) (askedAt q h (v .state)))) (meets-rooms p L rooms)
           (subst (λ (st : State). AsksAt q st h) (sym same) asks) (m .stands v marks values left h s))
@@ -131,6 +131,6 @@ module _ (c : Cursor) (h : Here) (ev : Moved) (bound : Bound) (clocks : Clocks) 
             };
             comes = λ p L w rooms needs s.
                 let on = went-on (n .outcome) (completedAt yielded h p L w) goes-on (l .comes p L before w (rooms .room) s) in
-                subst (λ (y : Tick State). Comes (r .outcome) (r .cursor) exit y) (sym (taken-asks h q yielded p L w ∙ ap (thenOn (asking h q p L (w .state))) (on .is)))
+                subst (λ (y : Tick State). ComesTo (r .outcome) (r .cursor) exit y) (sym (taken-asks h q yielded p L w ∙ ap (thenOn (asking h q p L (w .state))) (on .is)))
                 (meets-comes p L w (on .walk) rooms (needs .moves) (needs .is-bound) (on .stands .is-state ∙ sym (s .is-state)) (on .stands));
           })

@@ -31,7 +31,7 @@ use Rattle.event.specs.declared.Question.{Question}
 use Rattle.event.specs.declared.Question.the-variants as question
 use Rattle.execution.specs.Next.{nextWith}
 use Rattle.execution.proofs.TickLaws.{next-with}
-use Rattle.meeting.specs.Stands.{Lent, lent, Comes, siteOf}
+use Rattle.meeting.specs.Stands.{Lent, lent, ComesTo, siteOf}
 use Rattle.meeting.specs.Entries.{moveAt}
 use Rattle.meeting.specs.declared.Cursor.{Cursor}
 use Rattle.meeting.specs.declared.Here.{Here}
@@ -211,7 +211,7 @@ module _ (c : Cursor) (h : Here) (ev : Moved) (shape : List ℕ) (limits : Limit
             let there : AtRow first h = subst (λ (st : State). AtRow st h) (s .is-state) (needs .there) in
             let kept : AskKeeps (h .site .thread) first (moveAt ev h left) =
             subst (λ (m : Move State). AskKeeps (h .site .thread) first m) (sym is) (next-keeps (h .site .thread) below first p (h .site .row)) in
-            subst (λ (y : Tick State). Comes (r .outcome) (r .cursor) exit y)
+            subst (λ (y : Tick State). ComesTo (r .outcome) (r .cursor) exit y)
             (taken-state p L (siteOf (h .site)) w left (moveAt ev h left)
             ∙ ap (explorer.taken (machine p) L (siteOf (h .site)) w) (is ∙ ap (λ (st : State). nextAt p st (h .site .thread) (h .site .row)) (sym (s .is-state))))
             (g .comes p L (explorer.withState w left) rooms (record { moves = moves-at ev first left h there kept; is-bound = needs .is-bound })

@@ -21,7 +21,7 @@ use Rattle.decode.specs.Ops.{decodedOf}
 use Rattle.table.specs.Answers.{OpAt, roomIn}
 use Rattle.event.specs.declared.Fault.the-variants as fault
 use Rattle.event.specs.declared.Site.{Site}
-use Rattle.meeting.specs.Stands.{Lent, lent, Stands, Comes, Stopped, siteOf}
+use Rattle.meeting.specs.Stands.{Lent, lent, Stands, ComesTo, Stopped, siteOf}
 use Rattle.meeting.specs.declared.Cursor.{Cursor}
 use Rattle.meeting.specs.declared.Here.{Here}
 use Rattle.meeting.specs.declared.Ticked.{Ticked}
@@ -94,7 +94,7 @@ module _ (table shape : List ℕ) (limits : Limits) (c : Cursor) (r : Ticked) (c
               let at = at-row w stands in
               let s : (k : ℕ) → getD shape k 0 ≡ getD (shapeOf table) k 0 = λ k. ap (λ (l : List ℕ). getD l k 0) (runs .is-shape) in
               let on : ltb (current (w .state)) 5 ≡ true = subst (λ (n : ℕ). ltb n 5 ≡ true) (sym (at .who)) (lt-ltb t 5 few) in
-              subst (λ (y : Tick State). Comes (r .outcome) (r .cursor) exit y) (sym (someone-tick p L w h on at))
+              subst (λ (y : Tick State). ComesTo (r .outcome) (r .cursor) exit y) (sym (someone-tick p L w h on at))
               (g .comes p L w
               (record { holding = record { branches = runs .branches; few = runs .few }; room = runs .room; is-row = is-row p L runs })
               (record {

@@ -20,7 +20,7 @@ use Rattle.event.specs.declared.Moved.{Moved}
 use Rattle.event.specs.declared.Moved.the-variants as event
 use Rattle.event.specs.declared.Question.{Question}
 use Rattle.event.specs.declared.Question.the-variants as question
-use Rattle.meeting.specs.Stands.{Lent, Stands, Comes, siteOf}
+use Rattle.meeting.specs.Stands.{Lent, Stands, ComesTo, siteOf}
 use Rattle.meeting.specs.Branches.{askedAt, Holding}
 use Rattle.meeting.specs.Entries.{moveAt, Wrote}
 use Rattle.meeting.specs.declared.Cursor.{Cursor}
@@ -71,7 +71,7 @@ pub record Goes (entry exit : Lent) (c : Cursor) (r : Ticked) (most : ℕ) (h : 
   pub comes :
       (p : Program) (L : explorer.Limits) (w : Walk State) → Rooms p L h (entry .path) (entry .trace) → needs p L (w .state)
       → Stands entry c w
-      → Comes (r .outcome) (r .cursor) exit (out p L w)
+      → ComesTo (r .outcome) (r .cursor) exit (out p L w)
 
 abbrev pub metAt : Question → Here → Program → explorer.Limits → Walk State → Tick State
 metAt q h p L w = explorer.met (machine p) L (siteOf (h .site)) w (exploringNow (w .state .numbers)) (askedAt q h (w .state))

@@ -14,7 +14,7 @@ use Rattle.rules.specs.Machine.{Program, machine}
 use Rattle.rules.specs.Explorer as explorer
 use Rattle.rules.specs.Explorer.{Walk}
 use Rattle.path.specs.Bounds.{boundOf}
-use Rattle.meeting.specs.Stands.{Lent, Stands, Comes}
+use Rattle.meeting.specs.Stands.{Lent, Stands, ComesTo}
 use Rattle.meeting.specs.declared.Cursor.{Cursor}
 use Rattle.meeting.specs.declared.Ticked.{Ticked}
 use Rattle.walk.specs.declared.Limits.{Limits}
@@ -55,7 +55,7 @@ pub record Ticks (entry exit : Lent) (table shape : List ℕ) (limits : Limits) 
       (p : Program) (L : explorer.Limits) (w : Walk State)
       → Runs p L table shape limits (entry .path) (entry .trace)
       → Stands entry c w
-      → Comes (r .outcome) (r .cursor) exit (explorer.tick (machine p) L w)
+      → ComesTo (r .outcome) (r .cursor) exit (explorer.tick (machine p) L w)
   pub gone : Gone c (r .cursor) 60 (exit .path) (exit .trace)
   pub more : c .entries ≤ r .cursor .entries
   pub beyond : (i : ℕ) → 16 * r .cursor .entries ≤ i → getD (exit .trace) i 0 ≡ getD (entry .trace) i 0

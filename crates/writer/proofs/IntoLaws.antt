@@ -18,7 +18,7 @@ use Rattle.rules.specs.Text.{filled}
 use Rattle.rules.specs.Writer.{WrittenInto, unfit, short, written, writtenText, writtenInto}
 use Rattle.rules.proofs.MeasureAccepted.{good-header}
 use Rattle.table.specs.declared.Judged.{Judged}
-use Rattle.table.specs.declared.Judged.the-variants.{Header, Row}
+use Rattle.table.specs.declared.Judged.the-variants.{BadHeader, BadRow}
 use Rattle.table.specs.Answers.{judgedOf}
 use Rattle.put.specs.Puts.{last, upToLast, Puts}
 use Rattle.condition_line.proofs.FineLaws.{fine-claim}
@@ -65,10 +65,10 @@ module _ (t c text : List ℕ) where
   unfolding writtenInto
   into-all = refl
 
-  pub into-header : (r : Judged) → judgedOf r ≡ judged t → r ≡ Header → withText Unfit text ≡ writtenInto t c text
+  pub into-header : (r : Judged) → judgedOf r ≡ judged t → r ≡ BadHeader → withText Unfit text ≡ writtenInto t c text
   into-header r e h = sym (into-all ∙ ap into (sym e ∙ ap judgedOf h))
 
-  pub into-row : (r : Judged) (k n : ℕ) → judgedOf r ≡ judged t → r ≡ Row k n → withText Unfit text ≡ writtenInto t c text
+  pub into-row : (r : Judged) (k n : ℕ) → judgedOf r ≡ judged t → r ≡ BadRow k n → withText Unfit text ≡ writtenInto t c text
   into-row r k n e h = sym (into-all ∙ ap into (sym e ∙ ap judgedOf h))
 
   module _ (accepted : judged t ≡ good) where

@@ -34,9 +34,9 @@ pub fn write(table: &[u8], condition: &[u8], text: &mut [u8]) -> Written
     ensures { λ r. ⌜ withText r (now (text .exit)) ≡ writtenInto (now (table .entry)) (now (condition .entry)) (now (text .entry)) ⌝ }
 {
     match table::judge(table) {
-        Judged::Accepted => write_fit(table, condition, text),
-        Judged::Header => Written::Unfit,
-        Judged::Row { thread, row } => Written::Unfit,
+        Judged::Good => write_fit(table, condition, text),
+        Judged::BadHeader => Written::Unfit,
+        Judged::BadRow { thread, row } => Written::Unfit,
     }
 }
 

@@ -7,7 +7,7 @@ use borrow.Author.Tests.{not-true, not-false}
 use Rattle.rules.specs.Table.{threadsOf}
 use Rattle.rules.specs.Condition.{isCondition}
 use Rattle.rules.specs.Explored.{settingsFine}
-use Rattle.iteration.specs.Executes.{Ready}
+use Rattle.iteration.specs.Executes.{RunReady}
 use Rattle.settings.specs.Given.{settingsOf}
 use Rattle.explorer.proofs.RefuseLaws.{refuse-settings, refuse-path, refuse-trace, refuse-header, refuse-row, refuse-condition, judged-by, ready-made, ran-ready}
 use borrow.Author.Needs.{needs}
@@ -25,7 +25,7 @@ trace-held : (c : tie.Else3) → eqb (length (c .before .before .before .before 
 trace-held c = sym (c .before .holds-exactly2 .ensures) ∙ not-false _ (c .if3 .left)
 
 -- and check 5
-ready : (c : tie.After-enum-told) → Ready (c .before .before .before .before .before .before .before .before .before .before .before .before .before .args .table .now) (settingsOf (c .before .before .before .before .before .before .before .before .before .before .before .before .before .args .settings)) (c .before .before .before .before .before .before .before .before .before .before .before .before .before .args .path .now) (c .before .before .before .before .before .before .before .before .before .before .before .before .before .args .trace .now)
+ready : (c : tie.After-enum-told) → RunReady (c .before .before .before .before .before .before .before .before .before .before .before .before .before .args .table .now) (settingsOf (c .before .before .before .before .before .before .before .before .before .before .before .before .before .args .settings)) (c .before .before .before .before .before .before .before .before .before .before .before .before .before .args .path .now) (c .before .before .before .before .before .before .before .before .before .before .before .before .before .args .trace .now)
 ready c =
     let judge = c .before .before in
     let held = judge .before in

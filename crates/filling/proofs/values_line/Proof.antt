@@ -5,7 +5,7 @@ use Rattle.rules.specs.Token.{pastBlanks}
 use Rattle.rules.specs.Text.{Line, Draft, valuesLine}
 use Rattle.token.specs.Finds.{foundOf}
 use Rattle.token.proofs.PlaceLaws.{left-by}
-use Rattle.filling.specs.Tables.{HeldTable, howMany, withValue}
+use Rattle.filling.specs.Tables.{HeldTable, howMany, withCellOrPlain}
 use Rattle.filling.proofs.HeldLaws.{held-many, counts-low, more-many, within}
 use Rattle.filling.proofs.LineLaws.{Underway, lined-bare, values-out, values-found, values-bare, values-none}
 use borrow.Author.Needs.{needs}
@@ -15,7 +15,7 @@ use Rattle.filling.proofs.values_line.Tie as tie
 abbrev Inv-loop : tie.InvT-loop
 Inv-loop text table₀ most place n at from₀ long₀ left₀ table from long left =
     (length table ≡ length table₀)
-    × ((m : Draft) → HeldTable table₀ n m → Underway text table place long left from (valuesLine (withValue place) (howMany place) most m (drop at text)))
+    × ((m : Draft) → HeldTable table₀ n m → Underway text table place long left from (valuesLine (withCellOrPlain place) (howMany place) most m (drop at text)))
 
 abbrev μ-loop : tie.MeasureT-loop
 μ-loop text table₀ most place n at from₀ long₀ left₀ table from long left = left
@@ -24,7 +24,7 @@ abbrev μ-loop : tie.MeasureT-loop
 abbrev whole : (at : tie.At-loop Inv-loop μ-loop) → Draft → Line
 whole at m =
     let a = at .before .before .before .args in
-    valuesLine (withValue (a .place)) (howMany (a .place)) (a .most) m (drop (a .at) (a .text .now))
+    valuesLine (withCellOrPlain (a .place)) (howMany (a .place)) (a .most) m (drop (a .at) (a .text .now))
 
 -- a table that the buffer holds on the way
 way : (at : tie.At-loop Inv-loop μ-loop) → Underway (at .before .before .before .args .text .now) (at .loop .table) (at .before .before .before .args .place) (at .loop .long) (at .loop .left) (at .loop .from) (whole at (at .before .before .before .pre .0 .made))
@@ -83,7 +83,7 @@ returns c = record {
       let at = got .before .before in
       let a = at .before .before .before .args in
       let w = at .loop .inv .1 m held in
-      sym (w .same) ∙ values-none (withValue (a .place)) (howMany (a .place)) (a .text .now) (at .loop .from) (at .loop .left) (w .made) (got .past-blanks .result) (long .token-end .result) (skipped got) (long .token-end .ensures) (got .before .loop-test .taken) (sym (num .number .ensures) ∙ ap foundOf (told .enum-told .given .1)) (omega (arith, c .if1 .taken, many at (w .made) (w .held)));
+      sym (w .same) ∙ values-none (withCellOrPlain (a .place)) (howMany (a .place)) (a .text .now) (at .loop .from) (at .loop .left) (w .made) (got .past-blanks .result) (long .token-end .result) (skipped got) (long .token-end .ensures) (got .before .loop-test .taken) (sym (num .number .ensures) ∙ ap foundOf (told .enum-told .given .1)) (omega (arith, c .if1 .taken, many at (w .made) (w .held)));
 }
 
 behind-values-requires : tie.Need-behind-values-requires Inv-loop μ-loop
@@ -102,7 +102,7 @@ returns-2 c = record {
       let at = got .before .before in
       let a = at .before .before .before .args in
       let w = at .loop .inv .1 m held in
-      lined-bare (a .text .now) (at .loop .from) 0 (at .loop .long) (c .behind-values .result) (c .behind-values .ensures) (at .loop .table) (a .length) (w .made) (w .held) _ (values-bare (withValue (a .place)) (howMany (a .place)) (a .text .now) (at .loop .from) (at .loop .left) (w .made) (got .past-blanks .result) (long .token-end .result) (skipped got) (long .token-end .ensures) (got .before .loop-test .taken) (sym (num .number .ensures) ∙ ap foundOf (told .enum-told .given .1)) (omega (arith, c .before .if1 .left, many at (w .made) (w .held))) ∙ w .same);
+      lined-bare (a .text .now) (at .loop .from) 0 (at .loop .long) (c .behind-values .result) (c .behind-values .ensures) (at .loop .table) (a .length) (w .made) (w .held) _ (values-bare (withCellOrPlain (a .place)) (howMany (a .place)) (a .text .now) (at .loop .from) (at .loop .left) (w .made) (got .past-blanks .result) (long .token-end .result) (skipped got) (long .token-end .ensures) (got .before .loop-test .taken) (sym (num .number .ensures) ∙ ap foundOf (told .enum-told .given .1)) (omega (arith, c .before .if1 .left, many at (w .made) (w .held))) ∙ w .same);
 }
 
 add-value-requires : tie.Need-add-value-requires Inv-loop μ-loop
@@ -135,10 +135,10 @@ loop-again c =
       λ m held.
           let w = at .loop .inv .1 m held in
           record {
-            made = withValue (a .place) (w .made) (val .value .given .0 .0);
+            made = withCellOrPlain (a .place) (w .made) (val .value .given .0 .0);
             held = put .add-value .ensures (w .made) (w .held);
             count = omega (arith, w .count, got .before .loop-test .taken, more-many (a .place) (w .made) (val .value .given .0 .0));
-            same = values-found (withValue (a .place)) (howMany (a .place)) (a .text .now) (at .loop .from) (at .loop .left) (w .made) (got .past-blanks .result) (long .token-end .result) (skipped got) (long .token-end .ensures) (got .before .loop-test .taken) _ (sym (num .number .ensures) ∙ ap foundOf (val .value .given .1)) ∙ w .same;
+            same = values-found (withCellOrPlain (a .place)) (howMany (a .place)) (a .text .now) (at .loop .from) (at .loop .left) (w .made) (got .past-blanks .result) (long .token-end .result) (skipped got) (long .token-end .ensures) (got .before .loop-test .taken) _ (sym (num .number .ensures) ∙ ap foundOf (val .value .given .1)) ∙ w .same;
           },
     )
 
@@ -154,7 +154,7 @@ returns-3 c = record {
       let at = c .before .before in
       let a = at .before .before .before .args in
       let w = at .loop .inv .1 m held in
-      lined-bare (a .text .now) (at .loop .from) 0 (at .loop .long) (c .behind-values2 .result) (c .behind-values2 .ensures) (at .loop .table) (a .length) (w .made) (w .held) _ (values-out (withValue (a .place)) (howMany (a .place)) (a .text .now) (at .loop .from) (at .loop .left) (w .made) (c .before .loop-test .left) ∙ w .same);
+      lined-bare (a .text .now) (at .loop .from) 0 (at .loop .long) (c .behind-values2 .result) (c .behind-values2 .ensures) (at .loop .table) (a .length) (w .made) (w .held) _ (values-out (withCellOrPlain (a .place)) (howMany (a .place)) (a .text .now) (at .loop .from) (at .loop .left) (w .made) (c .before .loop-test .left) ∙ w .same);
 }
 
 pub values-line-spec : {M : Type 1} → statement M

@@ -1,5 +1,5 @@
 use borrow.Author.Needs.{needs}
-use Rattle.record.specs.Fields.{withField}
+use Rattle.record.specs.Fields.{withRecordByte}
 use Prim.Native.Nat.{ℕ}
 use mathlib.Core.Path.{ap, _∙_}
 use Rattle.record.proofs.schedule.put_initial_active.Statement.{statement}
@@ -19,7 +19,7 @@ returns c =
     let put = c .before .before in
     let initial = put .before .before in
     let start = initial .before .before .before in
-    put .put .ensures ∙ ap (λ (x : ℕ). withField (start .args .path .now) (start .args .at) 8 x) (initial .initial-active .ensures)
+    put .put .ensures ∙ ap (λ (x : ℕ). withRecordByte (start .args .path .now) (start .args .at) 8 x) (initial .initial-active .ensures)
 
 pub put-initial-active-spec : {M : Type 1} → statement M
 put-initial-active-spec =

@@ -3,14 +3,14 @@ use native.Mathlib.Omega.{arith}
 use Prim.Native.Nat.{_≤_, _-_}
 use mathlib.Core.Path.{_≡_, refl, sym, _∙_}
 use lib.ListN.{length, drop}
-use Rattle.vv.specs.Compared.{compared}
+use Rattle.vv.specs.Compared.{orderingOf}
 use Rattle.vv.proofs.Walks.{after, compared-on, compared-ends, compared-none}
 use Rattle.vv.proofs.VersionVec.partial_cmp.Statement.{statement}
 use Rattle.vv.proofs.VersionVec.partial_cmp.Tie as tie
 
 abbrev Inv-loop : tie.InvT-loop
 Inv-loop self other same₀ i₀ same i =
-    (i ≤ 5) × (after same (compared (drop i (self .versions)) (drop i (other .versions))) ≡ compared (self .versions) (other .versions))
+    (i ≤ 5) × (after same (orderingOf (drop i (self .versions)) (drop i (other .versions))) ≡ orderingOf (self .versions) (other .versions))
 
 abbrev μ-loop : tie.MeasureT-loop
 μ-loop self other same₀ i₀ same i = 5 - i
