@@ -12,7 +12,7 @@ pub struct Place {
 }
 
 // The rows from here on up to the next thread, to the condition or to the end; so many lines at most.
-pub fn rows_ahead(text: &[u8], at: usize, lines: usize) -> usize
+pub fn rows_ahead(text: &[u8], lines: usize, at: usize) -> usize
     ensures { λ r. ⌜ LinesCounted r lines (rowsAhead lines (drop at (now (text .entry)))) ⌝ }
 {
     let mut rows = 0;
@@ -48,7 +48,7 @@ fn row_here(text: &[u8], at: usize) -> usize
 }
 
 // The threads from here on; so many lines at most.
-pub fn threads_ahead(text: &[u8], at: usize, lines: usize) -> usize
+pub fn threads_ahead(text: &[u8], lines: usize, at: usize) -> usize
     ensures { λ r. ⌜ LinesCounted r lines (threadsAhead lines (drop at (now (text .entry)))) ⌝ }
 {
     let mut threads = 0;

@@ -17,7 +17,7 @@ use Rattle.rules.specs.Machine.{Program, current, machine}
 use Rattle.rules.proofs.NumberLaws.{five-has, five-same}
 use Rattle.kept.specs.Kept.{OfNext, OfAnswer}
 use Rattle.kept.proofs.Held.{answer-next}
-use Rattle.bounds.specs.Bounds.{Counter, ofVersions, ofChoices, given, but, nothing, rowsIn, owed, waiting, PartBounded, NumbersBounded, Bounded, BoundsHold, BoundsScheduling, BoundsReading, BoundsAsked, BoundsOver}
+use Rattle.bounds.specs.Bounds.{Counter, ofVersions, ofChoices, given, but, nothing, rowsIn, owed, waiting, PartBounded, NumbersBounded, Bounded, BoundsHold, BoundsScheduling, BoundsReading, BoundsAsked, BoundsLeft}
 use Rattle.bounds.proofs.Parts.{eased}
 use Rattle.bounds.proofs.Accesses.{Sound}
 use Rattle.bounds.proofs.Numbers.{given-own, given-other, of-given, re-owed, Links}
@@ -69,7 +69,7 @@ module _ {p : Program} {t n : ℕ} {rows owing waits least o w : ℕ → ℕ} (s
             (s .sound .clocks .since);
       }
 
-  pub over : BoundsOver p st n
+  pub over : BoundsLeft p st n
   over = bounded nothing nothing (λ u b. omega arith) (λ u b. omega arith)
 
   pub holds : ((u : ℕ) → u < threads → owing u ≤ o u) → ((u : ℕ) → u < threads → but t waits u ≤ w u) → BoundsHold p st n
@@ -133,10 +133,10 @@ has-room a t b h s = omega (arith, five-has (rowsIn a) t b, s .rows, s .limit)
 
 -- a move that does not ask
 abbrev pub Ending : Program → ℕ → Move State → Type 0
-Ending p n m = OfAnswer (machine p) (BoundsHold p) (BoundsOver p) n m
+Ending p n m = OfAnswer (machine p) (BoundsHold p) (BoundsLeft p) n m
 
 abbrev pub Going : Program → ℕ → Move State → Type 0
-Going p n m = OfNext (machine p) (BoundsHold p) (BoundsAsked p) (BoundsOver p) n m
+Going p n m = OfNext (machine p) (BoundsHold p) (BoundsAsked p) (BoundsLeft p) n m
 
 pub ending-going : (p : Program) (n : ℕ) (m : Move State) → Ending p n m → Going p n m
-ending-going p = answer-next (machine p) (BoundsHold p) (BoundsAsked p) (BoundsOver p)
+ending-going p = answer-next (machine p) (BoundsHold p) (BoundsAsked p) (BoundsLeft p)

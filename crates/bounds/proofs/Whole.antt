@@ -23,13 +23,13 @@ use Rattle.rules.proofs.SlotLaws.{live-most}
 use Rattle.rules.specs.Machine.{Program, machine, answered}
 use Rattle.kept.specs.Kept.{Fitting, Keeps}
 use Rattle.kept.proofs.Answers.{slot-offered}
-use Rattle.bounds.specs.Bounds.{ProgramFits, Counter, ofVersions, ofChoices, counterOf, nothing, rowsIn, PartBounded, BoundsHold, BoundsAsked, BoundsOver, InRange}
+use Rattle.bounds.specs.Bounds.{ProgramFits, Counter, ofVersions, ofChoices, counterOf, nothing, rowsIn, PartBounded, BoundsHold, BoundsAsked, BoundsLeft, InRange}
 use Rattle.bounds.proofs.Stands.{over, opened, Ending}
 use Rattle.bounds.proofs.Moves.{next-going, thread-ending, slot-ending, spurious-ending}
 use Rattle.bounds.proofs.Start.{start-holds}
 
 module _ (p : Program) (fits : ProgramFits p) where
-  asked-over : (st : State) (n : ℕ) (q : Question) → BoundsAsked p st n q → BoundsOver p st n
+  asked-over : (st : State) (n : ℕ) (q : Question) → BoundsAsked p st n q → BoundsLeft p st n
   asked-over st n (whichThread points initial standings) s = over st (opened st s)
   asked-over st n (whichSlot m) s = over st (opened st (s .0 .0))
   asked-over st n whichBit s = over st (opened st (s .0))
@@ -47,7 +47,7 @@ module _ (p : Program) (fits : ProgramFits p) where
   goes-on st n whichBit (takeBit bit) s f = spurious-ending p fits n st bit s
 
   -- at every tick of every execution
-  pub keeps : Keeps (machine p) (BoundsHold p) (BoundsAsked p) (BoundsOver p)
+  pub keeps : Keeps (machine p) (BoundsHold p) (BoundsAsked p) (BoundsLeft p)
   keeps = record {
     at-start = start-holds p fits;
     at-next = λ st n s. next-going p fits st n s;
@@ -60,7 +60,7 @@ module _ (p : Program) (fits : ProgramFits p) where
   part-below rows ofVersions u x h q = omega (arith, fits .limited)
   part-below rows ofChoices u x h q = omega (arith, fits .limited)
 
-  pub in-range : (st : State) (n : ℕ) → BoundsOver p st n → InRange st
+  pub in-range : (st : State) (n : ℕ) → BoundsLeft p st n → InRange st
   in-range st n s =
       let rows : (u : ℕ) → u < threads → rowsIn (st .numbers) u ≤ p .operations =
       λ u b. omega (arith, five-has (rowsIn (st .numbers)) u b, s .tally .rows, s .tally .limit) in

@@ -3,9 +3,12 @@
 --     Counter, counterOf   a vector counts versions or choices
 --     owed, waiting        a row that has begun and not acted; a pending operation
 --     PartBounded          how far a part of a vector may have come
---     Vectors, Sights, NumbersBounded  the vectors, the marks of first sight, the numbers
+--     Vectors, Sights      the vectors, the marks of first sight
+--     NumbersBounded       the numbers
 --     Bounded              the three, of a state
---     BoundsHold, BoundsAsked, BoundsOver  between ticks; where the machine asks; where it has asked, stopped or ended
+--     BoundsHold           between ticks
+--     BoundsAsked          where the machine asks: BoundsScheduling, BoundsReading
+--     BoundsLeft           where it has asked, stopped or ended
 --     InRange              what follows for every part, count and mark
 use Prim.Native.Nat.{ℕ, _+_, _≤_, _<_}
 use mathlib.Core.List.{List, []}
@@ -147,8 +150,8 @@ BoundsAsked p st n (whichThread points initial standings) = BoundsScheduling p s
 BoundsAsked p st n (whichSlot m) = BoundsReading p st n × ((offered : List Bool) → m ≡ offers offered → length offered ≤ history)
 BoundsAsked p st n whichBit = BoundsReading p st n
 
-abbrev pub BoundsOver : Program → State → ℕ → Type 0
-BoundsOver p st n = Bounded p nothing nothing st n
+abbrev pub BoundsLeft : Program → State → ℕ → Type 0
+BoundsLeft p st n = Bounded p nothing nothing st n
 
 -- What follows: numbers that a u16 holds, and that are none of those that stand for none
 pub record InRange (st : State) : Type 0 where

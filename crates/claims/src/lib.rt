@@ -226,7 +226,7 @@ fn number_behind(text: &[u8], lines: usize, register: u64, sign: u64, from: usiz
     Unit {
         whole: true,
         size: COMPARISON,
-        bytes: comparison(sign, register, n),
+        bytes: comparison(register, sign, n),
         at: to,
     }
 }
@@ -239,13 +239,13 @@ fn broken(register: u64, at: usize) -> Unit
     Unit {
         whole: false,
         size: COMPARISON,
-        bytes: comparison(EQUALS as u64, register, 0),
+        bytes: comparison(register, EQUALS as u64, 0),
         at,
     }
 }
 
 // A comparison's bytes: its sign, the thread, the register, the number's eight, the lowest first.
-fn comparison(sign: u64, register: u64, n: u64) -> [u8; COMPARISON]
+fn comparison(register: u64, sign: u64, n: u64) -> [u8; COMPARISON]
     requires { ⌜ (register < 20) × (sign ≤ 6) ⌝ }
     ensures { λ r. ⌜ r ≡ rules.comparisonOf sign register n ⌝ }
 {

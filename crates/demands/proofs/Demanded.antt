@@ -39,7 +39,7 @@ use Rattle.standing.proofs.Standing.{standing-never}
 use Rattle.bounds.specs.Range.{RangeIn, RangeHeld}
 use Rattle.bounds.proofs.Whole.{accepted-fits}
 use Rattle.bounds.proofs.Range.{range-held}
-use Rattle.offers.specs.Offered.{SomeToLoad, SomeOfferedRmw}
+use Rattle.offers.specs.Offered.{SomeOfferedToLoad, SomeOfferedRmw}
 use Rattle.offers.specs.Chosen.{Offers}
 use Rattle.offers.specs.Seen.{Seen}
 use Rattle.offers.proofs.Chosen.{all-offers}
@@ -268,19 +268,19 @@ module _ (table condition : List ℕ) (s : Settings) (path trace : List ℕ) (r 
   -- What holds at every tick
 
   some : standing.SomeOffered
-  unfolding SomeToLoad SomeOfferedRmw
+  unfolding SomeOfferedToLoad SomeOfferedRmw
   some = record { toLoad = some-offered; toRmw = some-offered-rmw }
 
-  never : Never itself (limitsOf s) (standing.FactsHold (programOf table condition s)) (standing.FactsAsked (programOf table condition s)) (standing.FactsOver (programOf table condition s))
+  never : Never itself (limitsOf s) (standing.FactsHold (programOf table condition s)) (standing.FactsAsked (programOf table condition s)) (standing.FactsLeft (programOf table condition s))
   never = standing-never table condition s (r .accepted) (r .range) some
 
-  possible-so : PossibleRun itself (limitsOf s) (standing.FactsHold (programOf table condition s)) (standing.FactsAsked (programOf table condition s)) (standing.FactsOver (programOf table condition s)) (s .executions)
+  possible-so : PossibleRun itself (limitsOf s) (standing.FactsHold (programOf table condition s)) (standing.FactsAsked (programOf table condition s)) (standing.FactsLeft (programOf table condition s)) (s .executions)
   unfolding NeverImpossible
-  possible-so = never-impossible itself (limitsOf s) (standing.FactsHold (programOf table condition s)) (standing.FactsAsked (programOf table condition s)) (standing.FactsOver (programOf table condition s)) never (s .executions)
+  possible-so = never-impossible itself (limitsOf s) (standing.FactsHold (programOf table condition s)) (standing.FactsAsked (programOf table condition s)) (standing.FactsLeft (programOf table condition s)) never (s .executions)
 
   ruled-so : RuledRun itself (limitsOf s) (s .executions)
   unfolding Ruled
-  ruled-so = ruled itself (limitsOf s) (standing.FactsHold (programOf table condition s)) (standing.FactsAsked (programOf table condition s)) (standing.FactsOver (programOf table condition s)) (never .keeps) (never .question) (s .executions)
+  ruled-so = ruled itself (limitsOf s) (standing.FactsHold (programOf table condition s)) (standing.FactsAsked (programOf table condition s)) (standing.FactsLeft (programOf table condition s)) (never .keeps) (never .question) (s .executions)
 
   pub never-so : (site : Site) → whole .verdict ≡ stopped impossible site → ⊥
   unfolding stopOf
@@ -290,7 +290,7 @@ module _ (table condition : List ℕ) (s : Settings) (path trace : List ℕ) (r 
   unfolding RangeHeld
   ranges-so =
       range-held (programOf table condition s) (accepted-fits table condition s (good-header table (r .accepted)) (r .range)) (standing.FactsHold (programOf table condition s))
-      (standing.FactsAsked (programOf table condition s)) (standing.FactsOver (programOf table condition s)) (never .keeps) (never .question) (limitsOf s) (s .executions)
+      (standing.FactsAsked (programOf table condition s)) (standing.FactsLeft (programOf table condition s)) (never .keeps) (never .question) (limitsOf s) (s .executions)
 
   follows-so : Every (Follows itself (limitsOf s)) (executions right table condition s path trace)
   unfolding Replay
@@ -300,11 +300,11 @@ module _ (table condition : List ℕ) (s : Settings) (path trace : List ℕ) (r 
   Facts = HoldsOfWalk itself (standing.FactsHold (programOf table condition s))
 
   abbrev FactsLeft : Walk State → Type 0
-  FactsLeft = HoldsOfWalk itself (standing.FactsOver (programOf table condition s))
+  FactsLeft = HoldsOfWalk itself (standing.FactsLeft (programOf table condition s))
 
   pub sound : Demands.Sound right table condition s path trace
   sound =
-      let P = PossibleIn itself (standing.FactsHold (programOf table condition s)) (standing.FactsAsked (programOf table condition s)) (standing.FactsOver (programOf table condition s)) in
+      let P = PossibleIn itself (standing.FactsHold (programOf table condition s)) (standing.FactsAsked (programOf table condition s)) (standing.FactsLeft (programOf table condition s)) in
       let cs = executions right table condition s path trace in
       record {
         possible = every-map P (λ c. (site : Site) (w : Walk State) → c .outcome ≡ faulted impossible site w → ⊥) cs (λ c h. h .never) (possible-so .executions);

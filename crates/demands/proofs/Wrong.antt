@@ -34,7 +34,7 @@ use Rattle.ledger.specs.Replay as replay
 use Rattle.kept.specs.Held.{HoldsOfWalk}
 use Rattle.kept.specs.Rules.{RecordRules, PathRules, RuledIn}
 use Rattle.standing.specs.Standing as standing
-use Rattle.bounds.specs.Bounds.{BoundsOver}
+use Rattle.bounds.specs.Bounds.{BoundsLeft}
 use Rattle.bounds.specs.Range.{RangeIn}
 use Rattle.offers.specs.Chosen as chosen
 use Rattle.offers.specs.Chosen.{OfferOfRow, Offers, Offering, OfferingCourse, left}
@@ -43,7 +43,7 @@ use Rattle.offers.proofs.Chosen.{all-offers}
 use Rattle.demands.specs.Demands as Demands
 use Rattle.demands.specs.Demands.{Explorer, right, LastIs, ButLast, theAnswers, openedChoices, turnedChoices, openChoices}
 use Rattle.demands.specs.Wrong as Wrong
-use Rattle.demands.specs.Wrong.{settings, p3, tight, pathFor, traceFor, ofThreadOne, aBit, storeThenLoad, twoLoads, yieldAndLoad, loadThenBit, withParts, noCourse, noWalk}
+use Rattle.demands.specs.Wrong.{settings, p3Settings, tight, pathFor, traceFor, ofThreadOne, aBit, storeThenLoad, twoLoads, yieldAndLoad, loadThenBit, withParts, noCourse, noWalk}
 use Rattle.demands.proofs.Answered.{true-false}
 use Rattle.demands.proofs.WrongRuns.{isOver, faultIn, isGood, valuesIn, statesIn, preemptionsIn, prevIn, cellIn, slotsIn, matchIn, questionIn, stateIn, entriesIn, exploringIn}
 use Rattle.demands.proofs.WrongRuns.{isSlot, asksSlot, maskIn, madeBy, courseAt, walkAt, knownBy, sees, There, Misoffers, computed}
@@ -182,10 +182,10 @@ wrong-turns =
           repeats {A = Name} ([] ∷ [] ∷ []) 0 1 [] (omega arith) (omega arith) refl (subst List·Nodup (c .anew-turned) (h .different));
       dropped = λ h.
           let x = withParts droppingStep in
-          let z = length-append (turnedChoices x storeAndLoad [] (p3 2) [] []) (openChoices x storeAndLoad [] (p3 2) [] []) in
+          let z = length-append (turnedChoices x storeAndLoad [] (p3Settings 2) [] []) (openChoices x storeAndLoad [] (p3Settings 2) [] []) in
           omega (arith, perm-length (h .together), z, c .dropped-opened, c .dropped-turned, c .dropped-open);
       again = λ h.
-          repeats (openedChoices Wrong.forgetful storeAndLoad [] (p3 6) [] []) 2 5 [] (omega arith) (omega (arith, c .forgetful-opened))
+          repeats (openedChoices Wrong.forgetful storeAndLoad [] (p3Settings 6) [] []) 2 5 [] (omega arith) (omega (arith, c .forgetful-opened))
           (c .forgetful-first ∙ sym (c .forgetful-again)) (h .once);
       left-open = λ h. omega (arith, h .exhausted (c .early) .0, c .early-open);
       never-taken = λ h.
@@ -205,19 +205,19 @@ wrong-stops =
       behind-none = λ h.
           let z = ap verdictNumber (sym (c .none-verdict) ∙ h .unmet .whenever (c .none-last, c .none-false)) in omega (arith, z);
       behind-one = λ h.
-          let s = p3 2 in
+          let s = p3Settings 2 in
           let P = Demands.Met Wrong.judgingLast storeAndLoad ofThreadOne s (pathFor s) (traceFor s) in
           let z = every-at P (Wrong.judgingLast .executions storeAndLoad ofThreadOne s) 1 noCourse (omega (arith, c .one-made)) (h .met (omega (arith, c .one-said))) in
           true-false (z .1) (c .one-false);
       unjudged = λ h.
-          let s = p3 3 in
+          let s = p3Settings 3 in
           let P = Demands.Met Wrong.unjudging storeAndLoad ofThreadOne s (pathFor s) (traceFor s) in
           let z = but-last-at P (Wrong.unjudging .executions storeAndLoad ofThreadOne s) 1 (omega (arith, c .unjudged-made)) (h .earlier) in
           true-false (z .1) (c .unjudged-false);
       condemned = λ h. true-false (c .condemned-true) (h .unmet .only (c .condemned) .1);
       misplaced = λ h. omega (arith, h .place (c .place-said) .1, c .place-row);
       invented = λ h.
-          let z = last-of-one (madeBy (withParts inventing) storeAndLoad (p3 1)) _ (c .invented-listed) (h .fault _ _ (c .invented)) in
+          let z = last-of-one (madeBy (withParts inventing) storeAndLoad (p3Settings 1)) _ (c .invented-listed) (h .fault _ _ (c .invented)) in
           omega (arith, ap isOver z, c .invented-last);
     }
 
@@ -294,17 +294,17 @@ pub wrong-offers : Wrong.WrongOffers
 unfolding Offers
 wrong-offers =
     let c = computed in
-    let p = programOf storeAndLoad [] (p3 2) in
-    let limits = limitsOf (p3 2) in
+    let p = programOf storeAndLoad [] (p3Settings 2) in
+    let limits = limitsOf (p3Settings 2) in
     record {
       shortened = λ h.
-          breaks-offers Wrong.shortening storeAndLoad (p3 2) 1 4 (c .shortened-there) 1 2 (λ e. omega (arith, e)) (c .shortened) (h .offers);
+          breaks-offers Wrong.shortening storeAndLoad (p3Settings 2) 1 4 (c .shortened-there) 1 2 (λ e. omega (arith, e)) (c .shortened) (h .offers);
       too-few = λ h.
           breaks-offers Wrong.tooFew loadThenBit (settings 6 3 2) 1 4 (c .few-there) 1 2 (λ e. omega (arith, e)) (c .few) (h .offers);
       too-few-at-first = λ h.
-          let M = machine (programOf storeAndLoad [] (p3 1)) in
-          let stop = Wrong.tooFew .run storeAndLoad [] (p3 1) in
-          let z = made-first M (limitsOf (p3 1)) 1 (stop .walk) (stop .verdict) empty (madeBy Wrong.tooFew storeAndLoad (p3 1)) noCourse (omega (arith, c .few-made)) (h .told .made) in
+          let M = machine (programOf storeAndLoad [] (p3Settings 1)) in
+          let stop = Wrong.tooFew .run storeAndLoad [] (p3Settings 1) in
+          let z = made-first M (limitsOf (p3Settings 1)) 1 (stop .walk) (stop .verdict) empty (madeBy Wrong.tooFew storeAndLoad (p3Settings 1)) noCourse (omega (arith, c .few-made)) (h .told .made) in
           omega (arith, ap (maskIn 1) z, c .few-mask, c .right-mask);
       too-many = λ h.
           breaks-offers Wrong.tooMany storeThenLoad (settings 4 2 2) 1 3 (c .many-there) 2 1 (λ e. omega (arith, e)) (c .many) (h .offers);
@@ -320,9 +320,9 @@ wrong-offers =
           (λ taken. omega (arith, taken .0, c .wiped-slot)) (e .lasting) (c .wiped-seen))
           (c .wiped-unseen);
       unseen =
-          unwatched p limits Wrong.beforeLoad (Wrong.tickOf Wrong.unseeing storeAndLoad (p3 2) Wrong.beforeLoad) 1 0 1
+          unwatched p limits Wrong.beforeLoad (Wrong.tickOf Wrong.unseeing storeAndLoad (p3Settings 2) Wrong.beforeLoad) 1 0 1
           (c .ticks-asked) (ltb-true _ _ (c .ticks-passed)) (c .ticks-branch) (c .ticks-thread) (c .ticks-cell) (c .ticks-unseen)
-          (at-tick right storeAndLoad (p3 2) 1 4 (c .ticks-there) (Offering p limits) (all-offers p limits 2));
+          (at-tick right storeAndLoad (p3Settings 2) 1 4 (c .ticks-there) (Offering p limits) (all-offers p limits 2));
     }
 
 -- What holds at every tick
@@ -380,7 +380,7 @@ abbrev Standing : List ℕ → Settings → Walk State → Type 0
 Standing table s = HoldsOfWalk (machine (programOf table [] s)) (standing.FactsHold (programOf table [] s))
 
 abbrev Stood : List ℕ → Settings → Walk State → Type 0
-Stood table s = HoldsOfWalk (machine (programOf table [] s)) (standing.FactsOver (programOf table [] s))
+Stood table s = HoldsOfWalk (machine (programOf table [] s)) (standing.FactsLeft (programOf table [] s))
 
 pub wrong-ticks : Wrong.WrongTicks
 wrong-ticks =
@@ -405,7 +405,7 @@ wrong-ticks =
           omega (arith, z .limited, c .refused-begun);
       raised = λ h.
           let p = programOf oneLoad [] (settings 3 1 1) in
-          let P = HoldsOfWalk (machine p) (BoundsOver p) in
+          let P = HoldsOfWalk (machine p) (BoundsLeft p) in
           let z =
           at-tick Wrong.raising oneLoad (settings 3 1 1) 0 2 (c .raised-there) P
           (every-map (RangeIn p) (λ (d : Course State). Every P (d .ticks)) (madeBy Wrong.raising oneLoad (settings 3 1 1))
@@ -413,15 +413,15 @@ wrong-ticks =
           let v = z .vectors .parts (State.causality 0) (omega arith) 0 (omega arith) in
           omega (arith, v, c .raised-version, c .raised-rows);
       two-active = λ h.
-          let M = machine (programOf storeAndLoad [] (p3 3)) in
-          let known = knownBy Wrong.bothActive storeAndLoad (p3 3) 2 in
-          let z = every-at (RuledIn M (limitsOf (p3 3))) (madeBy Wrong.bothActive storeAndLoad (p3 3)) 2 noCourse (omega (arith, c .active-made)) (h .records) in
+          let M = machine (programOf storeAndLoad [] (p3Settings 3)) in
+          let known = knownBy Wrong.bothActive storeAndLoad (p3Settings 3) 2 in
+          let z = every-at (RuledIn M (limitsOf (p3Settings 3))) (madeBy Wrong.bothActive storeAndLoad (p3Settings 3)) 2 noCourse (omega (arith, c .active-made)) (h .records) in
           two-active (take 0 known) (getD known 0 noBranch) (c .active-first) (c .active-second)
           (z .at-start .records 0 (omega (arith, c .active-known)));
       pointed = λ h.
-          let M = machine (programOf storeAndLoad [] (p3 2)) in
-          let known = knownBy Wrong.pointing storeAndLoad (p3 2) 1 in
-          let z = every-at (RuledIn M (limitsOf (p3 2))) (madeBy Wrong.pointing storeAndLoad (p3 2)) 1 noCourse (omega (arith, c .pointed-made)) (h .records) in
+          let M = machine (programOf storeAndLoad [] (p3Settings 2)) in
+          let known = knownBy Wrong.pointing storeAndLoad (p3Settings 2) 1 in
+          let z = every-at (RuledIn M (limitsOf (p3Settings 2))) (madeBy Wrong.pointing storeAndLoad (p3Settings 2)) 1 noCourse (omega (arith, c .pointed-made)) (h .records) in
           pointed-back (take 0 known) (getD known 0 noBranch) refl (c .pointed-first)
           (z .at-start .records 0 (omega (arith, c .pointed-known)));
       past-bound = λ h.
@@ -430,14 +430,14 @@ wrong-ticks =
           let z = every-at (RuledIn M (limitsOf (tight 3))) (madeBy Wrong.unheeding storeAndLoad (tight 3)) 2 noCourse (omega (arith, c .past-made)) (h .records) in
           passes (limitsOf (tight 3)) 0 refl known 0 (getD known 0 noBranch) refl (omega (arith, c .past-first)) (z .at-start);
       disagreeing = λ h.
-          let p = programOf storeAndLoad [] (p3 2) in
-          let limits = limitsOf (p3 2) in
+          let p = programOf storeAndLoad [] (p3Settings 2) in
+          let limits = limitsOf (p3Settings 2) in
           let P = replay.Answered (machine p) limits in
           let m = c .shortened in
-          disagrees p limits (walkAt Wrong.shortening storeAndLoad (p3 2) 1 4) 1 2 (λ e. omega (arith, e))
+          disagrees p limits (walkAt Wrong.shortening storeAndLoad (p3Settings 2) 1 4) 1 2 (λ e. omega (arith, e))
           (m .asked) (ltb-true _ _ (m .passed)) (m .values) (m .slots)
-          (at-tick Wrong.shortening storeAndLoad (p3 2) 1 4 (c .shortened-there) P
-          (every-map (replay.Follows (machine p) limits) (λ (d : Course State). Every P (d .ticks)) (madeBy Wrong.shortening storeAndLoad (p3 2))
+          (at-tick Wrong.shortening storeAndLoad (p3Settings 2) 1 4 (c .shortened-there) P
+          (every-map (replay.Follows (machine p) limits) (λ (d : Course State). Every P (d .ticks)) (madeBy Wrong.shortening storeAndLoad (p3Settings 2))
           (λ d r. r .answered) (h .follows)));
     }
 

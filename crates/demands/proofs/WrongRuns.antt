@@ -38,7 +38,7 @@ use Rattle.offers.specs.Chosen.{left}
 use Rattle.demands.specs.Demands.{Explorer, right, LastIs, it, report, openedChoices, turnedChoices, openChoices}
 use Rattle.demands.specs.Exchanged.{ticksFromBy, courseBy, coursesFromBy, coursesBy, runningBy}
 use Rattle.demands.specs.Wrong as Wrong
-use Rattle.demands.specs.Wrong.{settings, p3, tight, pathFor, traceFor, noSuchRow, ofThreadOne, notSeven, aBit, storeThenLoad, twoLoads, yieldAndLoad, loadThenBit, withParts, noCourse, noWalk}
+use Rattle.demands.specs.Wrong.{settings, p3Settings, tight, pathFor, traceFor, noSuchRow, ofThreadOne, notSeven, aBit, storeThenLoad, twoLoads, yieldAndLoad, loadThenBit, withParts, noCourse, noWalk}
 
 -- What is read off
 
@@ -236,15 +236,15 @@ pub record Computed : Type 0 where
   pub left-over : getD (leftFor Wrong.leavingOver oneLoad (settings 3 2 1) .trace) 16 0 ≡ 90
   pub zero-past : getD (traceLeft 32 (stopBy Wrong.leavingOver oneLoad (settings 3 2 1) .walk .trace)) 16 0 ≡ 0
   -- The balance
-  pub twice : Counts Wrong.twice storeAndLoad (p3 2) 2 3 1
-  pub uncounted-two : Counts (withParts uncounted) storeAndLoad (p3 2) 2 1 1
-  pub uncounted-one : Counts (withParts uncounted) storeAndLoad (p3 1) 1 1 2
+  pub twice : Counts Wrong.twice storeAndLoad (p3Settings 2) 2 3 1
+  pub uncounted-two : Counts (withParts uncounted) storeAndLoad (p3Settings 2) 2 1 1
+  pub uncounted-one : Counts (withParts uncounted) storeAndLoad (p3Settings 1) 1 1 2
   pub fault-begun : reportFor Wrong.faultsNotBegun oneLoad (settings 2 1 1) .begun ≡ 0
   pub fault-made : length (madeBy Wrong.faultsNotBegun oneLoad (settings 2 1 1)) ≡ 1
-  pub twice-counted : reportFor Wrong.twice storeAndLoad (p3 1) .opened ≡ 3
-  pub twice-opened : length (openedChoices Wrong.twice storeAndLoad [] (p3 1) [] []) ≡ 2
-  pub none-open : reportFor Wrong.noneOpen storeAndLoad (p3 1) .stillOpen ≡ 0
-  pub some-open : length (openChoices Wrong.noneOpen storeAndLoad [] (p3 1) [] []) ≡ 2
+  pub twice-counted : reportFor Wrong.twice storeAndLoad (p3Settings 1) .opened ≡ 3
+  pub twice-opened : length (openedChoices Wrong.twice storeAndLoad [] (p3Settings 1) [] []) ≡ 2
+  pub none-open : reportFor Wrong.noneOpen storeAndLoad (p3Settings 1) .stillOpen ≡ 0
+  pub some-open : length (openChoices Wrong.noneOpen storeAndLoad [] (p3Settings 1) [] []) ≡ 2
   pub untold-made : length (madeBy Wrong.untold oneLoad (settings 3 1 1)) ≡ 1
   pub untold : length (stopBy Wrong.untold oneLoad (settings 3 1 1) .history) ≡ 0
   -- The tree and the turning points
@@ -253,51 +253,51 @@ pub record Computed : Type 0 where
   pub anew-same : choicesIn Wrong.anew aBit (settings 2 1 2) 0 ≡ choicesIn Wrong.anew aBit (settings 2 1 2) 1
   pub anew-point : length (turningPoint (courseAt Wrong.anew aBit (settings 2 1 2) 1)) ≡ 0
   pub anew-turned : turnedChoices Wrong.anew aBit [] (settings 2 1 3) [] [] ≡ [] ∷ [] ∷ []
-  pub dropped-opened : length (openedChoices (withParts droppingStep) storeAndLoad [] (p3 2) [] []) ≡ 3
-  pub dropped-turned : length (turnedChoices (withParts droppingStep) storeAndLoad [] (p3 2) [] []) ≡ 1
-  pub dropped-open : length (openChoices (withParts droppingStep) storeAndLoad [] (p3 2) [] []) ≡ 1
-  pub forgetful-opened : length (openedChoices Wrong.forgetful storeAndLoad [] (p3 6) [] []) ≡ 6
-  pub forgetful-first : getD (openedChoices Wrong.forgetful storeAndLoad [] (p3 6) [] []) 2 [] ≡ running 1 ∷ running 0 ∷ []
-  pub forgetful-again : getD (openedChoices Wrong.forgetful storeAndLoad [] (p3 6) [] []) 5 [] ≡ running 1 ∷ running 0 ∷ []
-  pub early : reportFor Wrong.early storeAndLoad (p3 2) .answer ≡ 0
-  pub early-open : reportFor Wrong.early storeAndLoad (p3 2) .stillOpen ≡ 2
-  pub early-verdict : stopBy Wrong.early storeAndLoad (p3 2) .verdict ≡ exhausted
-  pub untaken : reportFor Wrong.neverTaking storeAndLoad (p3 2) .answer ≡ 0
-  pub untaken-opened : length (openedChoices Wrong.neverTaking storeAndLoad [] (p3 2) [] []) ≡ 2
-  pub untaken-turned : length (turnedChoices Wrong.neverTaking storeAndLoad [] (p3 2) [] []) ≡ 1
+  pub dropped-opened : length (openedChoices (withParts droppingStep) storeAndLoad [] (p3Settings 2) [] []) ≡ 3
+  pub dropped-turned : length (turnedChoices (withParts droppingStep) storeAndLoad [] (p3Settings 2) [] []) ≡ 1
+  pub dropped-open : length (openChoices (withParts droppingStep) storeAndLoad [] (p3Settings 2) [] []) ≡ 1
+  pub forgetful-opened : length (openedChoices Wrong.forgetful storeAndLoad [] (p3Settings 6) [] []) ≡ 6
+  pub forgetful-first : getD (openedChoices Wrong.forgetful storeAndLoad [] (p3Settings 6) [] []) 2 [] ≡ running 1 ∷ running 0 ∷ []
+  pub forgetful-again : getD (openedChoices Wrong.forgetful storeAndLoad [] (p3Settings 6) [] []) 5 [] ≡ running 1 ∷ running 0 ∷ []
+  pub early : reportFor Wrong.early storeAndLoad (p3Settings 2) .answer ≡ 0
+  pub early-open : reportFor Wrong.early storeAndLoad (p3Settings 2) .stillOpen ≡ 2
+  pub early-verdict : stopBy Wrong.early storeAndLoad (p3Settings 2) .verdict ≡ exhausted
+  pub untaken : reportFor Wrong.neverTaking storeAndLoad (p3Settings 2) .answer ≡ 0
+  pub untaken-opened : length (openedChoices Wrong.neverTaking storeAndLoad [] (p3Settings 2) [] []) ≡ 2
+  pub untaken-turned : length (turnedChoices Wrong.neverTaking storeAndLoad [] (p3Settings 2) [] []) ≡ 1
   -- Why it stopped
   pub spent-last : reportFor Wrong.spentAtLast oneLoad (settings 3 1 1) .answer ≡ 1
   pub exhausted-last : verdictNumber (stopBy Wrong.spentAtLast oneLoad (settings 3 1 1) .verdict) ≡ 0
   pub overlooked : stopBy Wrong.overlooking oneLoad (settings 2 1 1) .verdict ≡ exhausted
   pub overlooked-listed : length (madeBy Wrong.overlooking oneLoad (settings 2 1 1)) ≡ 1
   pub overlooked-last : isOver (courseAt Wrong.overlooking oneLoad (settings 2 1 1) 0 .outcome) ≡ 0
-  pub unspent : reportFor Wrong.unspent storeAndLoad (p3 2) .begun ≡ 1
-  pub unspent-verdict : stopBy Wrong.unspent storeAndLoad (p3 2) .verdict ≡ spent
-  pub invented : stopBy (withParts inventing) storeAndLoad (p3 1) .verdict ≡ stopped Event.deadlock Event.noSite
-  pub invented-listed : length (madeBy (withParts inventing) storeAndLoad (p3 1)) ≡ 1
-  pub invented-last : isOver (courseAt (withParts inventing) storeAndLoad (p3 1) 0 .outcome) ≡ 1
+  pub unspent : reportFor Wrong.unspent storeAndLoad (p3Settings 2) .begun ≡ 1
+  pub unspent-verdict : stopBy Wrong.unspent storeAndLoad (p3Settings 2) .verdict ≡ spent
+  pub invented : stopBy (withParts inventing) storeAndLoad (p3Settings 1) .verdict ≡ stopped Event.deadlock Event.noSite
+  pub invented-listed : length (madeBy (withParts inventing) storeAndLoad (p3Settings 1)) ≡ 1
+  pub invented-last : isOver (courseAt (withParts inventing) storeAndLoad (p3Settings 1) 0 .outcome) ≡ 1
   pub none-verdict : Wrong.judgingLast .run oneLoad notSeven (settings 3 1 1) .verdict ≡ exhausted
   pub none-last :
       LastIs (Wrong.judgingLast .executions oneLoad notSeven (settings 3 1 1)) (over (Wrong.judgingLast .run oneLoad notSeven (settings 3 1 1) .walk))
   pub none-false :
       final (programOf oneLoad notSeven (settings 3 1 1)) (Wrong.judgingLast .run oneLoad notSeven (settings 3 1 1) .walk .state) ≡ false
-  pub one-said : leftUnder Wrong.judgingLast storeAndLoad ofThreadOne (p3 2) .report .answer ≡ 1
-  pub one-made : length (Wrong.judgingLast .executions storeAndLoad ofThreadOne (p3 2)) ≡ 2
-  pub one-false : endsUnder Wrong.judgingLast storeAndLoad ofThreadOne (p3 2) 1 ≡ false
-  pub unjudged-made : length (Wrong.unjudging .executions storeAndLoad ofThreadOne (p3 3)) ≡ 3
-  pub unjudged-false : endsUnder Wrong.unjudging storeAndLoad ofThreadOne (p3 3) 1 ≡ false
+  pub one-said : leftUnder Wrong.judgingLast storeAndLoad ofThreadOne (p3Settings 2) .report .answer ≡ 1
+  pub one-made : length (Wrong.judgingLast .executions storeAndLoad ofThreadOne (p3Settings 2)) ≡ 2
+  pub one-false : endsUnder Wrong.judgingLast storeAndLoad ofThreadOne (p3Settings 2) 1 ≡ false
+  pub unjudged-made : length (Wrong.unjudging .executions storeAndLoad ofThreadOne (p3Settings 3)) ≡ 3
+  pub unjudged-false : endsUnder Wrong.unjudging storeAndLoad ofThreadOne (p3Settings 3) 1 ≡ false
   pub condemned : stopBy Wrong.condemning oneLoad (settings 3 1 1) .verdict ≡ unmet
   pub condemned-true : final (programOf oneLoad [] (settings 3 1 1)) (stopBy Wrong.condemning oneLoad (settings 3 1 1) .walk .state) ≡ true
   pub place-said : leftUnder Wrong.misplacing oneLoad notSeven (settings 3 1 1) .report .answer ≡ 18
   pub place-row : leftUnder Wrong.misplacing oneLoad notSeven (settings 3 1 1) .report .row ≡ 256
   -- What is offered
-  pub shortened-there : There Wrong.shortening storeAndLoad (p3 2) 1 4
-  pub shortened : Misoffers Wrong.shortening storeAndLoad (p3 2) 1 4 1 2
+  pub shortened-there : There Wrong.shortening storeAndLoad (p3Settings 2) 1 4
+  pub shortened : Misoffers Wrong.shortening storeAndLoad (p3Settings 2) 1 4 1 2
   pub few-there : There Wrong.tooFew loadThenBit (settings 6 3 2) 1 4
   pub few : Misoffers Wrong.tooFew loadThenBit (settings 6 3 2) 1 4 1 2
-  pub few-made : length (madeBy Wrong.tooFew storeAndLoad (p3 1)) ≡ 1
-  pub few-mask : maskIn 1 (courseAt Wrong.tooFew storeAndLoad (p3 1) 0) ≡ 1
-  pub right-mask : maskIn 1 (courseOf (machine (programOf storeAndLoad [] (p3 1))) (limitsOf (p3 1)) empty) ≡ 3
+  pub few-made : length (madeBy Wrong.tooFew storeAndLoad (p3Settings 1)) ≡ 1
+  pub few-mask : maskIn 1 (courseAt Wrong.tooFew storeAndLoad (p3Settings 1) 0) ≡ 1
+  pub right-mask : maskIn 1 (courseOf (machine (programOf storeAndLoad [] (p3Settings 1))) (limitsOf (p3Settings 1)) empty) ≡ 3
   pub many-there : There Wrong.tooMany storeThenLoad (settings 4 2 2) 1 3
   pub many : Misoffers Wrong.tooMany storeThenLoad (settings 4 2 2) 1 3 2 1
   pub blind-there : There Wrong.blind storeThenLoad (settings 4 2 2) 1 3
@@ -306,13 +306,13 @@ pub record Computed : Type 0 where
   pub wiped-seen : sees (walkAt Wrong.wiping oneLoad (settings 3 1 1) 0 1) 0 0 0 ≡ true
   pub wiped-unseen : sees (walkAt Wrong.wiping oneLoad (settings 3 1 1) 0 2) 0 0 0 ≡ false
   pub wiped-slot : slotOf (number (walkAt Wrong.wiping oneLoad (settings 3 1 1) 0 1 .state .numbers) (count 0)) ≡ 1
-  pub ticks-there : There right storeAndLoad (p3 2) 1 4
-  pub ticks-asked : asksSlot (moveAt right storeAndLoad (p3 2) 1 4) ≡ 1
-  pub ticks-passed : ltb (walkAt right storeAndLoad (p3 2) 1 4 .pos) (leftAt right storeAndLoad (p3 2) 1 4 .pos) ≡ true
-  pub ticks-branch : choiceOf (answeringAt right storeAndLoad (p3 2) 1 4) ≡ Path.reads 1
-  pub ticks-thread : current (stateIn (moveAt right storeAndLoad (p3 2) 1 4)) ≡ 1
-  pub ticks-cell : cellIn (activeOp (programOf storeAndLoad [] (p3 2)) (stateIn (moveAt right storeAndLoad (p3 2) 1 4))) ≡ 0
-  pub ticks-unseen : sees (Wrong.tickOf Wrong.unseeing storeAndLoad (p3 2) Wrong.beforeLoad) 1 0 1 ≡ false
+  pub ticks-there : There right storeAndLoad (p3Settings 2) 1 4
+  pub ticks-asked : asksSlot (moveAt right storeAndLoad (p3Settings 2) 1 4) ≡ 1
+  pub ticks-passed : ltb (walkAt right storeAndLoad (p3Settings 2) 1 4 .pos) (leftAt right storeAndLoad (p3Settings 2) 1 4 .pos) ≡ true
+  pub ticks-branch : choiceOf (answeringAt right storeAndLoad (p3Settings 2) 1 4) ≡ Path.reads 1
+  pub ticks-thread : current (stateIn (moveAt right storeAndLoad (p3Settings 2) 1 4)) ≡ 1
+  pub ticks-cell : cellIn (activeOp (programOf storeAndLoad [] (p3Settings 2)) (stateIn (moveAt right storeAndLoad (p3Settings 2) 1 4))) ≡ 0
+  pub ticks-unseen : sees (Wrong.tickOf Wrong.unseeing storeAndLoad (p3Settings 2) Wrong.beforeLoad) 1 0 1 ≡ false
   -- What holds at every tick
   pub no-ticks : length (madeBy Wrong.oneTick oneLoad (settings 3 1 1)) ≡ 1
   pub no-tick : faultIn (courseAt Wrong.oneTick oneLoad (settings 3 1 1) 0 .outcome) ≡ Event.impossible
@@ -326,15 +326,15 @@ pub record Computed : Type 0 where
   pub raised-there : There Wrong.raising oneLoad (settings 3 1 1) 0 2
   pub raised-version : getD (vector (walkAt Wrong.raising oneLoad (settings 3 1 1) 0 2 .state .clocks) (State.causality 0)) 0 0 ≡ 4
   pub raised-rows : number (walkAt Wrong.raising oneLoad (settings 3 1 1) 0 2 .state .numbers) (State.rowsOf 0) ≡ 1
-  pub active-made : length (madeBy Wrong.bothActive storeAndLoad (p3 3)) ≡ 3
-  pub active-known : length (knownBy Wrong.bothActive storeAndLoad (p3 3) 2) ≡ 1
-  pub active-first : getD (statesIn (getD (knownBy Wrong.bothActive storeAndLoad (p3 3) 2) 0 noBranch)) 0 0 ≡ 4
-  pub active-second : getD (statesIn (getD (knownBy Wrong.bothActive storeAndLoad (p3 3) 2) 0 noBranch)) 1 0 ≡ 4
+  pub active-made : length (madeBy Wrong.bothActive storeAndLoad (p3Settings 3)) ≡ 3
+  pub active-known : length (knownBy Wrong.bothActive storeAndLoad (p3Settings 3) 2) ≡ 1
+  pub active-first : getD (statesIn (getD (knownBy Wrong.bothActive storeAndLoad (p3Settings 3) 2) 0 noBranch)) 0 0 ≡ 4
+  pub active-second : getD (statesIn (getD (knownBy Wrong.bothActive storeAndLoad (p3Settings 3) 2) 0 noBranch)) 1 0 ≡ 4
   pub past-made : length (madeBy Wrong.unheeding storeAndLoad (tight 3)) ≡ 3
   pub past-first : preemptionsIn (getD (knownBy Wrong.unheeding storeAndLoad (tight 3) 2) 0 noBranch) ≡ 1
-  pub pointed-made : length (madeBy Wrong.pointing storeAndLoad (p3 2)) ≡ 2
-  pub pointed-known : length (knownBy Wrong.pointing storeAndLoad (p3 2) 1) ≡ 4
-  pub pointed-first : prevIn (getD (knownBy Wrong.pointing storeAndLoad (p3 2) 1) 0 noBranch) ≡ 0
+  pub pointed-made : length (madeBy Wrong.pointing storeAndLoad (p3Settings 2)) ≡ 2
+  pub pointed-known : length (knownBy Wrong.pointing storeAndLoad (p3Settings 2) 1) ≡ 4
+  pub pointed-first : prevIn (getD (knownBy Wrong.pointing storeAndLoad (p3Settings 2) 1) 0 noBranch) ≡ 0
 
 pub computed : Computed
 unfolding Cell.loadSynced Cell.storeSynced Cell.fateFrom Cell.loadFate Cell.rmwFate Cell.matchedFrom Cell.matchedLoad

@@ -203,7 +203,7 @@ module _ (x : Explorer) (table condition : List ℕ) (s : Settings) (path trace 
     pub possible : Every (λ c. (site : Site) (w : Walk State) → c .outcome ≡ faulted impossible site w → ⊥) executions
     -- threads, rows and entries stand as they should at every tick, and where an execution has ended or stopped
     pub stands : Every (λ c. Every (HoldsOfWalk theMachine (standing.FactsHold (programOf table condition s))) (c .ticks)) executions
-    pub stood : Every (λ c. HoldsOfWalk theMachine (standing.FactsOver (programOf table condition s)) (end c)) executions
+    pub stood : Every (λ c. HoldsOfWalk theMachine (standing.FactsLeft (programOf table condition s)) (end c)) executions
     -- every part of every vector, every count and every mark is in range, by the rows that were begun
     pub ranges : Every (RangeIn (programOf table condition s)) executions
     -- every record of the path obeys document 01's rules, and no preemption bound is passed, at every moment

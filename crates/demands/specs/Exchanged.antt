@@ -1,5 +1,5 @@
 -- The definition's explorer over its parts, so that one of them can be exchanged. With the definition's own parts it is the right
--- one (`Same`). Assumes nothing.
+-- one (`SameExplorer`). Assumes nothing.
 --     Pieces, own         the machine's next and answered, the limits, the marks and what follows an execution
 --     coursesBy           the executions of ledger's `runBy`, from their beginnings to their ends
 --     explorerBy          the explorer with given parts

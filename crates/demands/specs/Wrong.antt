@@ -52,8 +52,8 @@ abbrev pub Broken : (Explorer → List ℕ → List ℕ → Settings → List �
 Broken Sentences x table s = BrokenUnder Sentences x table [] s
 
 -- case P3, "thread 0 stores 1, thread 1 loads", with a budget; its right run has five executions and opens four choices
-abbrev pub p3 : ℕ → Settings
-p3 N = settings 5 2 N
+abbrev pub p3Settings : ℕ → Settings
+p3Settings N = settings 5 2 N
 
 -- the same under the bound 0, by which its right run has two executions
 abbrev pub tight : ℕ → Settings
@@ -297,17 +297,17 @@ noneOpen = reporting (λ s r. saying (r .answer) 0 (r .row) r)
 
 pub record WrongBalances : Type 0 where
   -- [equation] two executions have opened two choices, one of them by a mark, and one is open: three are counted
-  pub counted-twice : Broken Balances twice storeAndLoad (p3 2)
+  pub counted-twice : Broken Balances twice storeAndLoad (p3Settings 2)
   -- [equation] and here one, since what marks open is not counted
-  pub not-counted : Broken Balances (withParts uncounted) storeAndLoad (p3 2)
+  pub not-counted : Broken Balances (withParts uncounted) storeAndLoad (p3Settings 2)
   -- [within] after one execution one is counted, and two are open
-  pub not-within : Broken Balances (withParts uncounted) storeAndLoad (p3 1)
+  pub not-within : Broken Balances (withParts uncounted) storeAndLoad (p3Settings 1)
   -- [begun] the only execution finds the path full
   pub not-begun : Broken Balances faultsNotBegun oneLoad (settings 2 1 1)
   -- [opened] after one execution two are opened, and three are counted
-  pub not-opened : Broken Balances twice storeAndLoad (p3 1)
+  pub not-opened : Broken Balances twice storeAndLoad (p3Settings 1)
   -- [left] two are open
-  pub not-left : Broken Balances noneOpen storeAndLoad (p3 1)
+  pub not-left : Broken Balances noneOpen storeAndLoad (p3Settings 1)
   -- [told] one execution, and no history
   pub not-told : Broken Balances untold oneLoad (settings 3 1 1)
 
@@ -347,13 +347,13 @@ pub record WrongTurns : Type 0 where
   -- [different] the second and the third have no turning point but the same
   pub same : Broken Turns anew aBit (settings 2 1 3)
   -- [together] a record is dropped with something open: the load's second value is neither turned to nor open
-  pub dropped : Broken Turns (withParts droppingStep) storeAndLoad (p3 2)
+  pub dropped : Broken Turns (withParts droppingStep) storeAndLoad (p3Settings 2)
   -- [once] the storing thread is opened again where it was turned to before
-  pub again : Broken Turns forgetful storeAndLoad (p3 6)
+  pub again : Broken Turns forgetful storeAndLoad (p3Settings 6)
   -- [exhausted] 0 is answered, and two are open
-  pub left-open : Broken Turns early storeAndLoad (p3 2)
+  pub left-open : Broken Turns early storeAndLoad (p3Settings 2)
   -- [exhausted] 0 is answered, nothing is open, and what was marked was no turning point
-  pub never-taken : Broken Turns neverTaking storeAndLoad (p3 2)
+  pub never-taken : Broken Turns neverTaking storeAndLoad (p3Settings 2)
 
 -- What is offered
 
@@ -427,18 +427,18 @@ noCourse = record { known = []; ticks = []; outcome = over noWalk }
 
 -- the walk from which the loading thread loads, in the second execution of the right run; and the one that a tick leaves
 abbrev pub beforeLoad : Walk State
-beforeLoad = getD (getD (right .executions storeAndLoad [] (p3 2)) 1 noCourse .ticks) 4 noWalk
+beforeLoad = getD (getD (right .executions storeAndLoad [] (p3Settings 2)) 1 noCourse .ticks) 4 noWalk
 
 abbrev pub tickOf : Pieces → List ℕ → Settings → Walk State → Walk State
 tickOf y table s w = leftBy (tickBy (machineBy y (programOf table [] s)) (y .limits s) (y .parts) w)
 
 pub record WrongOffers : Type 0 where
   -- [offers] the second execution reads slot 1 from a record that says that it alone is offered
-  pub shortened : Broken Offered shortening storeAndLoad (p3 2)
+  pub shortened : Broken Offered shortening storeAndLoad (p3Settings 2)
   -- [offers] slot 1 is not offered, to which no store is greater: the second execution passes the record of the first
   pub too-few : Broken Offered tooFew loadThenBit (settings 6 3 2)
   -- [told] and in the first execution, where the record is new, the entry of the load says so
-  pub too-few-at-first : Broken Balances tooFew storeAndLoad (p3 1)
+  pub too-few-at-first : Broken Balances tooFew storeAndLoad (p3Settings 1)
   -- [offers] slot 0 is offered to the thread that has itself stored slot 1
   pub too-many : Broken Offered tooMany storeThenLoad (settings 4 2 2)
   -- [offers] and so it is where nothing counts as seen
@@ -447,7 +447,7 @@ pub record WrongOffers : Type 0 where
   pub wiped : Broken Offered wiping oneLoad (settings 3 1 1)
   -- from a tick to the next, on which [seen] rests: the loading thread reads slot 1, and then has not seen it
   pub unseen :
-      Watched (programOf storeAndLoad [] (p3 2)) (limitsOf (p3 2)) beforeLoad (tickOf unseeing storeAndLoad (p3 2) beforeLoad) → ⊥
+      Watched (programOf storeAndLoad [] (p3Settings 2)) (limitsOf (p3Settings 2)) beforeLoad (tickOf unseeing storeAndLoad (p3Settings 2) beforeLoad) → ⊥
 
 -- Why it stopped
 
@@ -481,23 +481,23 @@ pub record WrongStops : Type 0 where
   -- [says] the verdict is that nothing is open
   pub said : Broken Stops spentAtLast oneLoad (settings 3 1 1)
   -- [exhausted] something is open
-  pub some-open : Broken Stops early storeAndLoad (p3 2)
+  pub some-open : Broken Stops early storeAndLoad (p3Settings 2)
   -- [exhausted] the only execution found the path full
   pub overlooked : Broken Stops overlooking oneLoad (settings 2 1 1)
   -- [spent] one of two executions has begun
-  pub unspent : Broken Stops unspent storeAndLoad (p3 2)
+  pub unspent : Broken Stops unspent storeAndLoad (p3Settings 2)
   -- [unmet] the condition is false at the end of the only execution: 0 is answered
   pub behind-none : BrokenUnder Stops judgingLast oneLoad notSeven (settings 3 1 1)
   -- [met] it is false at the end of the second execution, the last that is allowed: 1 is answered
-  pub behind-one : BrokenUnder Stops judgingLast storeAndLoad ofThreadOne (p3 2)
+  pub behind-one : BrokenUnder Stops judgingLast storeAndLoad ofThreadOne (p3Settings 2)
   -- [earlier] and here a third begins
-  pub unjudged : BrokenUnder Stops unjudging storeAndLoad ofThreadOne (p3 3)
+  pub unjudged : BrokenUnder Stops unjudging storeAndLoad ofThreadOne (p3Settings 3)
   -- [unmet] there is no condition: 18 is answered
   pub condemned : Broken Stops condemning oneLoad (settings 3 1 1)
   -- [place] it is said to be row 256
   pub misplaced : BrokenUnder Stops misplacing oneLoad notSeven (settings 3 1 1)
   -- [fault] a deadlock, which the only execution has not met
-  pub invented : Broken Stops (withParts inventing) storeAndLoad (p3 1)
+  pub invented : Broken Stops (withParts inventing) storeAndLoad (p3Settings 1)
 
 -- What holds at every tick
 
@@ -552,13 +552,13 @@ pub record WrongTicks : Type 0 where
   -- [ranges] one row has raised a version by two
   pub raised : Broken Sound raising oneLoad (settings 3 1 1)
   -- [records] two threads are Active in the first record of the third execution
-  pub two-active : Broken Sound bothActive storeAndLoad (p3 3)
+  pub two-active : Broken Sound bothActive storeAndLoad (p3Settings 3)
   -- [records] the first record has one before it
-  pub pointed : Broken Sound pointing storeAndLoad (p3 2)
+  pub pointed : Broken Sound pointing storeAndLoad (p3Settings 2)
   -- [records] the bound is 0, and the third execution begins with a preemption
   pub past-bound : Broken Sound unheeding storeAndLoad (tight 3)
   -- [follows] the record does not agree with what is asked
-  pub disagreeing : Broken Sound shortening storeAndLoad (p3 2)
+  pub disagreeing : Broken Sound shortening storeAndLoad (p3Settings 2)
 
 pub record Wrong : Type 0 where
   pub answers : WrongAnswers

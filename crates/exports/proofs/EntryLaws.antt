@@ -21,7 +21,7 @@ use Rattle.report.specs.Answers.{reportOf, answerNumber}
 use Rattle.report.specs.declared.Report.{Report}
 use Rattle.explorer.specs.Explores.{exploredOf}
 use Rattle.numbers.specs.Numbers.{numbersOf}
-use Rattle.exports.specs.Entry.{boundFor, settingsFor, Entered, exploredLeft, entered, enteredBy}
+use Rattle.exports.specs.Entry.{boundFor, settingsFor, Entered, leftBehind, entered, enteredBy}
 
 module _ (n : ℕ) where
   pub bound-none : 255 < n → unbounded ≡ boundFor n
@@ -48,16 +48,16 @@ module _ (table condition : List ℕ) (branches operations executions bound expl
   abbrev whole : Entered
   whole = entered table condition branches operations executions bound exploring path trace report
 
-  pub entered-bound : 256 < bound → exploredLeft 255 path trace report ≡ whole
+  pub entered-bound : 256 < bound → leftBehind 255 path trace report ≡ whole
   unfolding entered
   entered-bound h = rw (lt-ltb 256 bound h) refl
 
-  pub entered-exploring : bound ≤ 256 → 1 < exploring → exploredLeft 255 path trace report ≡ whole
+  pub entered-exploring : bound ≤ 256 → 1 < exploring → leftBehind 255 path trace report ≡ whole
   unfolding entered
   entered-exploring h k = rw (le-ltb 256 bound h, lt-ltb 1 exploring k) refl
 
   module _ (h : bound ≤ 256) (k : exploring ≤ 1) where
-    pub entered-report : (length report ≡ 29 → ⊥) → exploredLeft 255 path trace report ≡ whole
+    pub entered-report : (length report ≡ 29 → ⊥) → leftBehind 255 path trace report ≡ whole
     unfolding entered
     entered-report n = rw (le-ltb 256 bound h, le-ltb 1 exploring k, ne-eqb (length report) 29 n) refl
 
@@ -68,7 +68,7 @@ module _ (table condition : List ℕ) (branches operations executions bound expl
     pub entered-run : length report ≡ 29 → (done : Report) (number : ℕ) (numbers : List ℕ) {exitPath exitTrace : List ℕ}
         → exploredOf done exitPath exitTrace ≡ rules.explored table condition (settingsFor branches operations executions bound exploring) path trace
         → number ≡ answerNumber (done .answer) → numbers ≡ numbersOf (reportOf done)
-        → exploredLeft number exitPath exitTrace numbers ≡ whole
+        → leftBehind number exitPath exitTrace numbers ≡ whole
     entered-run n done number numbers e f g = rw (f, g) (ap enteredBy e ∙ sym (entered-so n))
 
 -- with the settings that the numbers stand for

@@ -48,5 +48,5 @@ entered table condition branches operations executions bound exploring path trac
     (record { answer = 255; path = path; trace = trace; report = report })
     (enteredBy (explored table condition (settingsFor branches operations executions bound exploring) path trace))
 
-abbrev pub exploredLeft : ℕ → List ℕ → List ℕ → List ℕ → Entered
-exploredLeft answer path trace report = record { answer = answer; path = path; trace = trace; report = report }
+abbrev pub leftBehind : ℕ → List ℕ → List ℕ → List ℕ → Entered
+leftBehind answer path trace report = record { answer = answer; path = path; trace = trace; report = report }

@@ -3,15 +3,15 @@
 use Prim.Native.Nat.{ℕ}
 use mathlib.Core.List.{List}
 use mathlib.Core.Path.{_≡_}
-use Rattle.exports.specs.Entry.{exploredLeft, entered}
+use Rattle.exports.specs.Entry.{leftBehind, entered}
 use Rattle.exports.specs.Texts.{readLeft, readEntered, writtenLeft, writtenEntered}
 
 unfoldable pub OneEntered : Type 0
 OneEntered =
     (table condition : List ℕ) (branches operations executions bound exploring : ℕ) (path trace report : List ℕ)
     (a b : ℕ) (leftPath leftTrace leftReport otherPath otherTrace otherReport : List ℕ)
-    → exploredLeft a leftPath leftTrace leftReport ≡ entered table condition branches operations executions bound exploring path trace report
-    → exploredLeft b otherPath otherTrace otherReport ≡ entered table condition branches operations executions bound exploring path trace report
+    → leftBehind a leftPath leftTrace leftReport ≡ entered table condition branches operations executions bound exploring path trace report
+    → leftBehind b otherPath otherTrace otherReport ≡ entered table condition branches operations executions bound exploring path trace report
     → (a ≡ b) × (leftPath ≡ otherPath) × (leftTrace ≡ otherTrace) × (leftReport ≡ otherReport)
 
 -- of the entry that reads a text

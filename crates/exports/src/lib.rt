@@ -3,7 +3,7 @@ ghost use mathlib.Core.Path.{_≡_};
 ghost use Prim.Native.Nat.{_≤_};
 ghost use lib.ListN.{length};
 ghost use Rattle.path.specs.Bounds.{boundOf};
-ghost use Rattle.exports.specs.Entry.{boundFor, noCondition, entered, exploredLeft};
+ghost use Rattle.exports.specs.Entry.{boundFor, noCondition, entered, leftBehind};
 use numbers::REPORT_NUMBERS;
 use path::Bound;
 use settings::MAX_BOUND;
@@ -16,6 +16,15 @@ pub const NO_RUN: u64 = 255;
 
 // The number that stands for no bound.
 const NO_BOUND: u64 = MAX_BOUND + 1;
+
+// The settings as a caller gives them: numbers alone.
+struct SettingNumbers {
+    branches: u64,
+    operations: u64,
+    executions: u64,
+    bound: u64,
+    exploring: u64,
+}
 
 // Explores without a final condition; `bound` is 0 to 255, or 256 for none, `exploring` 0 or 1, and `report` takes exactly 29
 // numbers. Answers the report's first number; another bound, exploring or report length gives 255, and nothing is written.
@@ -31,21 +40,17 @@ pub extern "C" fn chjirvollu_explore(
     trace: &mut [u8],
     report: &mut [u64],
 ) -> u64
-    ensures { λ r. ⌜ exploredLeft r (now (path .exit)) (now (trace .exit)) (now (report .exit)) ≡ entered (now (table .entry)) noCondition branches operations executions bound exploring (now (path .entry)) (now (trace .entry)) (now (report .entry)) ⌝ }
+    ensures { λ r. ⌜ leftBehind r (now (path .exit)) (now (trace .exit)) (now (report .exit)) ≡ entered (now (table .entry)) noCondition branches operations executions bound exploring (now (path .entry)) (now (trace .entry)) (now (report .entry)) ⌝ }
 {
     let condition = &table[..0];
-    enter(
-        table,
-        condition,
-        path,
-        trace,
-        report,
+    let given = SettingNumbers {
         branches,
         operations,
         executions,
         bound,
         exploring,
-    )
+    };
+    enter(table, condition, path, trace, report, given)
 }
 
 // The same under a final condition, whose bytes follow the table's. No bytes are no condition.
@@ -62,20 +67,16 @@ pub extern "C" fn chjirvollu_explore_condition(
     trace: &mut [u8],
     report: &mut [u64],
 ) -> u64
-    ensures { λ r. ⌜ exploredLeft r (now (path .exit)) (now (trace .exit)) (now (report .exit)) ≡ entered (now (table .entry)) (now (condition .entry)) branches operations executions bound exploring (now (path .entry)) (now (trace .entry)) (now (report .entry)) ⌝ }
+    ensures { λ r. ⌜ leftBehind r (now (path .exit)) (now (trace .exit)) (now (report .exit)) ≡ entered (now (table .entry)) (now (condition .entry)) branches operations executions bound exploring (now (path .entry)) (now (trace .entry)) (now (report .entry)) ⌝ }
 {
-    enter(
-        table,
-        condition,
-        path,
-        trace,
-        report,
+    let given = SettingNumbers {
         branches,
         operations,
         executions,
         bound,
         exploring,
-    )
+    };
+    enter(table, condition, path, trace, report, given)
 }
 
 // What both entries do.
@@ -85,30 +86,26 @@ fn enter(
     path: &mut [u8],
     trace: &mut [u8],
     report: &mut [u64],
-    branches: u64,
-    operations: u64,
-    executions: u64,
-    bound: u64,
-    exploring: u64,
+    given: SettingNumbers,
 ) -> u64
-    ensures { λ r. ⌜ exploredLeft r (now (path .exit)) (now (trace .exit)) (now (report .exit)) ≡ entered (now (table .entry)) (now (condition .entry)) branches operations executions bound exploring (now (path .entry)) (now (trace .entry)) (now (report .entry)) ⌝ }
+    ensures { λ r. ⌜ leftBehind r (now (path .exit)) (now (trace .exit)) (now (report .exit)) ≡ entered (now (table .entry)) (now (condition .entry)) (given .branches) (given .operations) (given .executions) (given .bound) (given .exploring) (now (path .entry)) (now (trace .entry)) (now (report .entry)) ⌝ }
 {
-    if NO_BOUND < bound {
+    if NO_BOUND < given.bound {
         return NO_RUN;
     }
-    if 1 < exploring {
+    if 1 < given.exploring {
         return NO_RUN;
     }
     if report.len() != REPORT_NUMBERS {
         return NO_RUN;
     }
-    let bound = bound_of(bound);
+    let bound = bound_of(given.bound);
     let settings = Settings {
-        branches,
-        operations,
-        executions,
+        branches: given.branches,
+        operations: given.operations,
+        executions: given.executions,
         bound,
-        exploring: exploring == 1,
+        exploring: given.exploring == 1,
     };
     let done = explorer::explore(table, condition, path, trace, settings);
     let answer = done.answer;

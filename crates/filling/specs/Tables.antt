@@ -1,7 +1,8 @@
 -- A table that grows in a buffer. Assumes nothing.
 --     HeldTable                       the buffer is the table so far, then zeros, and the table is within its limits
 --     HoldsTable                      it is so for some table
---     CountsAt, howMany, withCellOrPlain  where the header counts start values, how many there are, and one more
+--     CountsAt, howMany               where the header counts start values, how many there are;
+--     withCellOrPlain                 and one more
 --     Grows                           from any table that it held, one step of the definition
 --     Blank                           zeros
 use Prim.Native.Nat.{ℕ, _+_, _-_, _*_, _≤_, _<_}

@@ -106,7 +106,7 @@ fn a_thread(
     if MAX_THREADS <= threads {
         return Line::Refused(here);
     }
-    let rows = ahead::rows_ahead(text, token::next_line(text, here), lines);
+    let rows = ahead::rows_ahead(text, lines, token::next_line(text, here));
     add_thread(table, length);
     bare_then(
         text,
@@ -189,7 +189,7 @@ fn values_line(
             }
             return behind_values(text, long, from);
         };
-        add_value(table, long, place, value);
+        add_value(table, place, long, value);
         long += VALUE_BYTES;
         from = to;
         left -= 1;
@@ -227,7 +227,7 @@ fn bare_then(text: &[u8], reached: Reached) -> Line
 }
 
 // One start value more, which the header counts at this place.
-fn add_value(table: &mut [u8], length: usize, place: usize, value: u64)
+fn add_value(table: &mut [u8], place: usize, length: usize, value: u64)
     requires { ⌜ HoldsTable (now table) length × CountsAt place × (getD (now table) place 0 < 4) ⌝ }
     ensures { λ _. ⌜ Grows (now (table .entry)) (now (table .exit)) length (length + 8) (λ m. withCellOrPlain place m value) ⌝ }
 {

@@ -1,5 +1,5 @@
 -- What may stand for a piece of a form. Assumes nothing.
---     field-none, kind-.., may-stand-any       a letter's field, kind and values
+--     field-none, kind-.., may-stand-any    a letter's field, kind and values
 --     as-..                                 an order as a row has it
 --     letter-steps, letter-by               what may stand for a letter, in two steps
 --     field-long, field-one                 the field of a piece

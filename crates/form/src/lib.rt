@@ -21,8 +21,8 @@ use decode::is_store_order;
 use layout::order::SEQ_CST;
 use table::fields::FAILURE;
 use table::fields::KIND;
+use table::fields::OBJECT;
 use table::fields::OPCODE;
-use table::fields::OPERATES_ON;
 use table::fields::ORDER;
 use table::fields::REGISTER;
 use table::fields::TARGET;
@@ -124,7 +124,7 @@ pub fn row_bytes(fields: Fields) -> [u8; ROW_BYTES]
     let b = low_bytes(fields[OPERAND_B]);
     [
         (fields[OPCODE] % 256) as u8,
-        (fields[OPERATES_ON] % 256) as u8,
+        (fields[OBJECT] % 256) as u8,
         (fields[ORDER] % 256) as u8,
         (fields[FAILURE] % 256) as u8,
         (fields[KIND] % 256) as u8,
@@ -289,7 +289,7 @@ pub fn field_of(letter: u8) -> usize
 {
     match letter {
         b'R' => REGISTER,
-        b'C' | b'T' | b'P' => OPERATES_ON,
+        b'C' | b'T' | b'P' => OBJECT,
         b'J' | b'G' => TARGET,
         b'A' => OPERAND_A,
         b'B' => OPERAND_B,

@@ -6,7 +6,7 @@ use Rattle.report.specs.Answers.{summaryOf, summariesOf}
 use Rattle.report.specs.declared.Summary.{Summary}
 use Rattle.into.specs.Same.{OneInto}
 
--- a summary is a thread record's numbers, and no two records have the same
+-- a summary of the definition is the code's by its numbers, and no two summaries have the same
 same-record : (x y : Summary) → summaryOf x ≡ summaryOf y → x ≡ y
 same-record x y e = ap (λ (s : rules.Summary). record { state = s .state; rows = s .rows; yields = s .yields; version = s .version }) e
 

@@ -1,4 +1,4 @@
--- What the entry with a list of thread records is given and leaves, as the definition has it. Assumes nothing.
+-- What the entry with a list of summaries is given and leaves, as the definition has it. Assumes nothing.
 --     exploredIntoOf      a report with both buffers and the list
 --     miscounts           the list's length is wrong, and neither the settings nor the path buffer is
 use Prim.Native.Nat.{ℕ, _*_}

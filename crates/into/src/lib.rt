@@ -1,4 +1,4 @@
-// The second entry: the five summaries go into the caller's list of thread records too.
+// The second entry: the five summaries go into the caller's list too.
 ghost use mathlib.Core.Path.{_≡_};
 ghost use mathlib.Core.Bool.{not};
 ghost use mathlib.Core.List.{List};

@@ -1,5 +1,5 @@
 -- The steps that access a cell or a plain cell, as a race speaks of them. Assumes nothing.
---     cellIn         the cell or the plain cell that a row names
+--     cellIn          the cell or the plain cell that a row names
 --     lastAccessStep  the last step in which a thread so accesses a cell
 use Prim.Native.Nat.{ℕ, zero, suc}
 use mathlib.Core.List.{List}

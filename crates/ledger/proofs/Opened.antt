@@ -9,7 +9,7 @@ use mathlib.Core.Logic.{inl, inr}
 use lib.Dec.{eqb}
 use Rattle.rules.specs.Path.{Branch, schedule, load, spurious, Schedule, choiceOf, pending, marked}
 use Rattle.ledger.specs.History.{Every}
-use Rattle.ledger.specs.Turning.{threadsFrom, running, alternatives, hereOnly, beyond, openNames, newlyPending, markedAlternatives, openedNames}
+use Rattle.ledger.specs.Turning.{threadsFrom, running, alternatives, nameHere, beyond, openNames, newlyPending, markedAlternatives, openedNames}
 use Rattle.ledger.proofs.Events.{StatesMarked, states-refl, states-trans, marked-states, not-both}
 use Rattle.ledger.proofs.Marking.{Marking, same, mark, marking-choice, AllMarking}
 use Rattle.ledger.proofs.Growth.{Grown}
@@ -110,8 +110,8 @@ opened-open [] cs g = rw append-nil (Perm·refl (openNames cs))
 opened-open (b ∷ bs) [] g = absurd g
 opened-open (b ∷ bs) (c ∷ cs) g =
     let e : choiceOf c ≡ choiceOf b = marking-choice (g .0) in
-    shuffled (map hereOnly (alternatives c)) (map (beyond (choiceOf c)) (openNames cs))
-    (map hereOnly (markedAlternatives b c)) (map hereOnly (alternatives b))
+    shuffled (map nameHere (alternatives c)) (map (beyond (choiceOf c)) (openNames cs))
+    (map nameHere (markedAlternatives b c)) (map nameHere (alternatives b))
     (map (beyond (choiceOf c)) (openedNames bs cs)) (map (beyond (choiceOf b)) (openNames bs))
-    (subst (λ l. Perm (map hereOnly (alternatives c)) l) (map-append hereOnly (markedAlternatives b c) (alternatives b)) (Perm·map hereOnly (marked-opened b c (changed (g .0)))))
+    (subst (λ l. Perm (map nameHere (alternatives c)) l) (map-append nameHere (markedAlternatives b c) (alternatives b)) (Perm·map nameHere (marked-opened b c (changed (g .0)))))
     (rw (← e) (subst (λ l. Perm (map (beyond (choiceOf c)) (openNames cs)) l) (map-append (beyond (choiceOf c)) (openedNames bs cs) (openNames bs)) (Perm·map (beyond (choiceOf c)) (opened-open bs cs (g .1)))))

@@ -15,7 +15,7 @@ use borrow.Author.Tests.{ltb-true}
 use Rattle.rules.specs.Path.{Branch, Choice, choiceOf, stepped, orTurned, turnedBranch, openAt, openIn}
 use Rattle.ledger.specs.History.{Every}
 use Rattle.ledger.specs.Tree.{noChoice}
-use Rattle.ledger.specs.Turning.{Name, alternatives, hereOnly, beyond, openNames}
+use Rattle.ledger.specs.Turning.{Name, alternatives, nameHere, beyond, openNames}
 use Rattle.ledger.proofs.Marking.{marking-choice}
 use Rattle.ledger.proofs.Growth.{Grown}
 use Rattle.ledger.proofs.Records.{Used, used-differs, used-marking, used-turned, used-left}
@@ -76,8 +76,8 @@ pub unreached : (bs : List Branch) → Every Proper bs → Every (λ n. Reached 
 unfolding openNames
 unreached [] p = tt
 unreached (b ∷ bs) p =
-    every-append (λ n. Reached (b ∷ bs) n → ⊥) (map hereOnly (alternatives b)) (map (beyond (choiceOf b)) (openNames bs))
-    (every-of-map (λ n. Reached (b ∷ bs) n → ⊥) hereOnly (alternatives b) (here (alternatives b) (unused b (p .0)) (others b (p .0))))
+    every-append (λ n. Reached (b ∷ bs) n → ⊥) (map nameHere (alternatives b)) (map (beyond (choiceOf b)) (openNames bs))
+    (every-of-map (λ n. Reached (b ∷ bs) n → ⊥) nameHere (alternatives b) (here (alternatives b) (unused b (p .0)) (others b (p .0))))
     (every-of-map (λ n. Reached (b ∷ bs) n → ⊥) (beyond (choiceOf b)) (openNames bs)
     (every-map (λ n. Reached bs n → ⊥) (λ n. Reached (b ∷ bs) (choiceOf b ∷ n) → ⊥) (openNames bs) there (unreached bs (p .1))))
   where
@@ -102,11 +102,11 @@ pub open-nodup : (bs : List Branch) → Every Proper bs → List·Nodup (openNam
 unfolding openNames first-of
 open-nodup [] p = Pairwise·nil
 open-nodup (b ∷ bs) p =
-    (nodup-append {l₁ = map hereOnly (alternatives b)} {l₂ = map (beyond (choiceOf b)) (openNames bs)}) .1 (
-      nodup-map hereOnly (λ x y e. cc) (alternatives b) (alternatives-nodup b (p .0)),
+    (nodup-append {l₁ = map nameHere (alternatives b)} {l₂ = map (beyond (choiceOf b)) (openNames bs)}) .1 (
+      nodup-map nameHere (λ x y e. cc) (alternatives b) (alternatives-nodup b (p .0)),
       nodup-map (beyond (choiceOf b)) (λ x y e. cc) (openNames bs) (open-nodup bs (p .1)),
-      disjoint-by (λ n. first-of n ≢ choiceOf b) (λ n. first-of n ≡ choiceOf b) (map hereOnly (alternatives b)) (map (beyond (choiceOf b)) (openNames bs))
-          (every-of-map (λ n. first-of n ≢ choiceOf b) hereOnly (alternatives b) (others b (p .0)))
+      disjoint-by (λ n. first-of n ≢ choiceOf b) (λ n. first-of n ≡ choiceOf b) (map nameHere (alternatives b)) (map (beyond (choiceOf b)) (openNames bs))
+          (every-of-map (λ n. first-of n ≢ choiceOf b) nameHere (alternatives b) (others b (p .0)))
           (every-of-map (λ n. first-of n ≡ choiceOf b) (beyond (choiceOf b)) (openNames bs) (same (openNames bs)))
           (λ a x y. x y),
     )
@@ -121,7 +121,7 @@ pub open-length : (bs : List Branch) → length (openNames bs) ≡ openIn bs
 unfolding openNames openIn
 open-length [] = refl
 open-length (b ∷ bs) =
-    rw (length-append, length-map (alternatives b) hereOnly, length-map (openNames bs) (beyond (choiceOf b)), alternatives-length b, open-length bs)
+    rw (length-append, length-map (alternatives b) nameHere, length-map (openNames bs) (beyond (choiceOf b)), alternatives-length b, open-length bs)
 
 none : {A : Type 0} (xs : List A) → length xs ≡ 0 → xs ≡ []
 none [] e = refl
@@ -138,15 +138,15 @@ stepped-open [] p n = absurd (n refl)
 stepped-open (b ∷ bs) p n = go (stepped bs) refl n (λ m. stepped-open bs (p .1) m)
   where
     on : (y : Bool) → ltb 0 (openAt b) ≡ y → cond y (turnedBranch b ∷ []) [] ≢ [] →
-        Perm (map hereOnly (alternatives b) ++ []) (map choiceOf (cond y (turnedBranch b ∷ []) []) ∷ openNames (cond y (turnedBranch b ∷ []) []))
-    on true e n = rw (alternatives-turned b (p .0) (ltb-true 0 (openAt b) e)) (Perm·refl (map hereOnly (choiceOf (turnedBranch b) ∷ alternatives (turnedBranch b)) ++ []))
+        Perm (map nameHere (alternatives b) ++ []) (map choiceOf (cond y (turnedBranch b ∷ []) []) ∷ openNames (cond y (turnedBranch b ∷ []) []))
+    on true e n = rw (alternatives-turned b (p .0) (ltb-true 0 (openAt b) e)) (Perm·refl (map nameHere (choiceOf (turnedBranch b) ∷ alternatives (turnedBranch b)) ++ []))
     on false e n = absurd (n refl)
 
     go : (ds : List Branch) → stepped bs ≡ ds → orTurned ds b ≢ [] → (ds ≢ [] → Perm (openNames bs) (map choiceOf ds ∷ openNames ds)) →
-        Perm (map hereOnly (alternatives b) ++ map (beyond (choiceOf b)) (openNames bs)) (map choiceOf (orTurned ds b) ∷ openNames (orTurned ds b))
+        Perm (map nameHere (alternatives b) ++ map (beyond (choiceOf b)) (openNames bs)) (map choiceOf (orTurned ds b) ∷ openNames (orTurned ds b))
     go [] e n h = rw (nothing-named bs (nothing-open bs e)) (on (ltb 0 (openAt b)) refl n)
     go (d ∷ ds) e n h =
-        Perm·trans {l₂ = map hereOnly (alternatives b) ++ (beyond (choiceOf b) (map choiceOf (d ∷ ds)) ∷ map (beyond (choiceOf b)) (openNames (d ∷ ds)))}
+        Perm·trans {l₂ = map nameHere (alternatives b) ++ (beyond (choiceOf b) (map choiceOf (d ∷ ds)) ∷ map (beyond (choiceOf b)) (openNames (d ∷ ds)))}
         (Perm·append-left {t₁ = map (beyond (choiceOf b)) (openNames bs)} {t₂ = beyond (choiceOf b) (map choiceOf (d ∷ ds)) ∷ map (beyond (choiceOf b)) (openNames (d ∷ ds))}
-        (map hereOnly (alternatives b)) (Perm·map (beyond (choiceOf b)) (h (not-nil d ds))))
-        (perm-middle (map hereOnly (alternatives b)) (map (beyond (choiceOf b)) (openNames (d ∷ ds))))
+        (map nameHere (alternatives b)) (Perm·map (beyond (choiceOf b)) (h (not-nil d ds))))
+        (perm-middle (map nameHere (alternatives b)) (map (beyond (choiceOf b)) (openNames (d ∷ ds))))

@@ -53,8 +53,8 @@ abbrev pub outcomeOf : ℕ → Bound → ℕ → CaseOutcome
 outcomeOf = outcomeUnder []
 
 -- "schedule: five states .., preemptions, initial active or 255, prev u16 or 65535", on an exploring record
-abbrev pub aSchedule : List ℕ → ℕ → ℕ → ℕ → Branch
-aSchedule states preemptions initial prev =
+abbrev pub scheduleBranch : List ℕ → ℕ → ℕ → ℕ → Branch
+scheduleBranch states preemptions initial prev =
     schedule (record { exploring = true; states = states; preemptions = preemptions; initial = initial; prev = prev })
 
 -- the worked cases, which the checker computes
@@ -79,9 +79,9 @@ pub record WorkedRuns : Type 0 where
   pub claim-true : outcomeUnder (comparing differs 1 2) 16 unbounded 100 ≡ outcome exhausted 5 (0 ∷ 1 ∷ 0 ∷ 0 ∷ 1 ∷ []) 4 0
   -- the path left by the fourth execution
   pub path : runOf 16 unbounded 4 .walk .ledger .path ≡
-      aSchedule (visited ∷ active ∷ 0 ∷ 0 ∷ 0 ∷ []) 0 0 noPrev
-      ∷ aSchedule (active ∷ visited ∷ 0 ∷ 0 ∷ 0 ∷ []) 1 1 0
-      ∷ aSchedule (disabled ∷ active ∷ 0 ∷ 0 ∷ 0 ∷ []) 2 noThread 1
+      scheduleBranch (visited ∷ active ∷ 0 ∷ 0 ∷ 0 ∷ []) 0 0 noPrev
+      ∷ scheduleBranch (active ∷ visited ∷ 0 ∷ 0 ∷ 0 ∷ []) 1 1 0
+      ∷ scheduleBranch (disabled ∷ active ∷ 0 ∷ 0 ∷ 0 ∷ []) 2 noThread 1
       ∷ load (record { exploring = true; values = 0 ∷ 1 ∷ []; pos = 0 })
-      ∷ aSchedule (disabled ∷ disabled ∷ 0 ∷ 0 ∷ 0 ∷ []) 2 noThread 2
+      ∷ scheduleBranch (disabled ∷ disabled ∷ 0 ∷ 0 ∷ 0 ∷ []) 2 noThread 2
       ∷ []

@@ -40,15 +40,15 @@ alternatives (load l) = cond (l .exploring) (map reads (drop (l .pos + 1) (l .va
 alternatives (spurious u) = cond (u .exploring) (cond (u .bit) [] (Choice.says true ∷ [])) []
 
 -- an alternative here, or one further on, after this record's choice
-abbrev pub hereOnly : Choice → Name
-hereOnly c = c ∷ []
+abbrev pub nameHere : Choice → Name
+nameHere c = c ∷ []
 
 abbrev pub beyond : Choice → Name → Name
 beyond c n = c ∷ n
 
 unfoldable pub openNames : List Branch → List Name
 openNames [] = []
-openNames (b ∷ bs) = map hereOnly (alternatives b) ++ map (beyond (choiceOf b)) (openNames bs)
+openNames (b ∷ bs) = map nameHere (alternatives b) ++ map (beyond (choiceOf b)) (openNames bs)
 
 -- What is opened
 
@@ -70,7 +70,7 @@ markedAlternatives (spurious u) c = []
 unfoldable pub openedNames : List Branch → List Branch → List Name
 openedNames [] cs = openNames cs
 openedNames (b ∷ bs) [] = []
-openedNames (b ∷ bs) (c ∷ cs) = map hereOnly (markedAlternatives b c) ++ map (beyond (choiceOf c)) (openedNames bs cs)
+openedNames (b ∷ bs) (c ∷ cs) = map nameHere (markedAlternatives b c) ++ map (beyond (choiceOf c)) (openedNames bs cs)
 
 -- The lists of a run
 

@@ -1,4 +1,4 @@
-// The caller's list of thread records.
+// The caller's list of summaries, document 01's thread records.
 ghost use mathlib.Core.Path.{_≡_};
 ghost use mathlib.Core.Bool.{cond, _&&_};
 ghost use lib.Dec.{eqb};

@@ -133,7 +133,7 @@ fn put_slots(page: &mut Page, at: usize, trace: &[u8], end: usize, i: usize) -> 
     put_offers(page, to, steps::mask(trace, i))
 }
 
-// The slot or a dash, ending six columns behind `end`.
+// The slot or a dash, ending `SLOT_TO` columns behind `end`.
 fn put_slot(page: &mut Page, at: usize, end: usize, slot: u8) -> usize
     requires { ⌜ end < 275 ⌝ }
     ensures { λ r. ⌜ pageOf (now (page .exit)) r ≡ putSlot (pageOf (now (page .entry)) at) end slot ⌝ }

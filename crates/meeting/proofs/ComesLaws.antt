@@ -33,7 +33,7 @@ use Rattle.event.specs.declared.Fault.the-variants as fault
 use Rattle.event.specs.declared.Site.{Site}
 use Rattle.event.specs.declared.Question.{Question}
 use Rattle.event.specs.declared.Question.the-variants as question
-use Rattle.meeting.specs.Stands.{Lent, Stands, ComesTo, CursorSame, GoesOn, Stopped, siteOf}
+use Rattle.meeting.specs.Stands.{Lent, Stands, ComesTo, SameCursor, GoesOn, Stopped, siteOf}
 use Rattle.meeting.specs.declared.Cursor.{Cursor}
 use Rattle.meeting.specs.declared.Here.{Here}
 use Rattle.meeting.specs.declared.Outcome.{Outcome}
@@ -48,7 +48,7 @@ pub opcode-refused : (row : Decoded) → row ≡ decode.Refused → 255 ≡ opco
 opcode-refused row e = sym (ap (λ (r : Decoded). opcodeIn (decodedOf r)) e)
 
 -- a cursor that is left as it is
-pub same-stands : {x : Lent} {c d : Cursor} {w : Walk State} → CursorSame c d → Stands x c w → Stands x d w
+pub same-stands : {x : Lent} {c d : Cursor} {w : Walk State} → SameCursor c d → Stands x c w → Stands x d w
 same-stands s h =
     record {
       is-state = h .is-state;
@@ -77,7 +77,7 @@ module _ (r : Ticked) (x : Lent) (v : Walk State) where
 pub wrote-none : (c d : Cursor) (trace : List ℕ) → d .entries ≡ c .entries → Wrote c d trace trace
 wrote-none c d trace e = record { more = omega (arith, e); long = refl; beyond = λ i h. refl }
 
-same-kept : {c d : Cursor} {trace : List ℕ} → CursorSame c d → 16 * c .entries ≤ length trace → Kept c d trace
+same-kept : {c d : Cursor} {trace : List ℕ} → SameCursor c d → 16 * c .entries ≤ length trace → Kept c d trace
 same-kept s h = record { same-len = s .same-len; same-pos = s .same-pos; same-opened = s .same-opened; noted = omega (arith, s .same-entries) }
 
 -- no entry fits wherever the entries do
@@ -104,7 +104,7 @@ module _ (c : Cursor) (r : Ticked) (trace : List ℕ) (room : 16 * c .entries �
         comes = λ p L x w fits h. comes-stops r (withTrace x trace) w f s (out p L w) (g .is) (is p L w) (same-stands (g .stays) h);
       }
 
-  pub lands-over : r .outcome ≡ code.Ends → CursorSame c (r .cursor) → ((p : Program) (L : explorer.Limits) (w : Walk State) → out p L w ≡ over w) → Lands c r trace trace out
+  pub lands-over : r .outcome ≡ code.Ends → SameCursor c (r .cursor) → ((p : Program) (L : explorer.Limits) (w : Walk State) → out p L w ≡ over w) → Lands c r trace trace out
   lands-over e g is =
       record {
         kept = same-kept g room;
@@ -245,7 +245,7 @@ module _ (h : Here) where
       pub conclude-asks : OneOf (2 ∷ []) (tagOf happened e) → Stopped fault.Impossible (h .site) c r → Lands c r trace trace (concluded e)
       conclude-asks k s = lands-stops c r trace room (concluded e) s (asked-by e k)
 
-      pub conclude-ends : e ≡ event.Ends → r .outcome ≡ code.Ends → CursorSame c (r .cursor) → Lands c r trace trace (concluded e)
+      pub conclude-ends : e ≡ event.Ends → r .outcome ≡ code.Ends → SameCursor c (r .cursor) → Lands c r trace trace (concluded e)
       conclude-ends is o s = done-lands event.Ends is (lands-over c r trace room (concluded event.Ends) o s (λ p L w. refl))
 
       pub conclude-stops : {f : Fault} → e ≡ event.Stops f → Stopped f (h .site) c r → Lands c r trace trace (concluded e)

@@ -22,7 +22,7 @@ use Rattle.path.specs.declared.Addition.the-variants as pushed
 use Rattle.event.specs.declared.Fault.{Fault}
 use Rattle.event.specs.declared.Fault.the-variants as fault
 use Rattle.event.specs.declared.Site.{Site}
-use Rattle.meeting.specs.Stands.{BranchThere, CursorSame, Stopped}
+use Rattle.meeting.specs.Stands.{BranchThere, SameCursor, Stopped}
 use Rattle.meeting.specs.Branches.{Met, OneMore, pushedFew, addedTo}
 use Rattle.meeting.specs.declared.Cursor.{Cursor}
 use Rattle.meeting.specs.declared.Outcome.{Outcome}
@@ -97,7 +97,7 @@ module _ (c : Cursor) (r : Ticked) {entry exit : List ℕ} (passed : c .pos ≤ 
   pushes-thread-met {exploring} {seed} {p} s h a = within-met c r entry exit passed within (h .keeps) 5 (omega arith) p (h .within) s a
 
 -- a branch that was there
-pub goes-met : (c : Cursor) (r : Ticked) {path : List ℕ} → c .pos ≤ c .len → (c .pos ≡ c .len → ⊥) → 16 * c .len ≤ length path → CursorSame c (r .cursor) → Met c r path
+pub goes-met : (c : Cursor) (r : Ticked) {path : List ℕ} → c .pos ≤ c .len → (c .pos ≡ c .len → ⊥) → 16 * c .len ≤ length path → SameCursor c (r .cursor) → Met c r path
 goes-met c r passed other within h =
     record {
       ahead = ahead-any (r .outcome) (r .cursor) (omega (arith, h .same-pos, h .same-len));

@@ -1,6 +1,8 @@
 -- What the lent tables, bytes and the cursor stand for in the definition. Assumes nothing.
 --     HereWithin    the thread is one of the five, and its row names only what there is
---     CursorSame, BranchThere, GoesOn, Stopped  where the cursor is left as it is
+--     SameCursor    the cursor is left as it is
+--     BranchThere   where a tick goes on, there is a branch to be passed
+--     GoesOn, Stopped  how a tick comes out that leaves it
 --     Lent          the tables and bytes that are lent
 --     Stands        they stand for a walk: its state, the path that the bytes hold, the counts, the trace at the front of its bytes
 --     ComesTo       how a tick came out, as the definition has it
@@ -31,7 +33,7 @@ pub record HereWithin (h : Here) : Type 0 where
   pub names : opWithin (h .row)
 
 -- the cursor c is left as it is
-pub record CursorSame (c d : Cursor) : Type 0 where
+pub record SameCursor (c d : Cursor) : Type 0 where
   pub same-len : d .len ≡ c .len
   pub same-pos : d .pos ≡ c .pos
   pub same-opened : d .opened ≡ c .opened
@@ -46,12 +48,12 @@ BranchThere (code.Stops f s) c = Unit
 -- it goes on
 pub record GoesOn (c : Cursor) (r : Ticked) : Type 0 where
   pub is : r .outcome ≡ code.Goes
-  pub stays : CursorSame c (r .cursor)
+  pub stays : SameCursor c (r .cursor)
 
 -- a fault, which leaves the cursor
 pub record Stopped (f : Fault) (s : Site) (c : Cursor) (r : Ticked) : Type 0 where
   pub is : r .outcome ≡ code.Stops f s
-  pub stays : CursorSame c (r .cursor)
+  pub stays : SameCursor c (r .cursor)
   pub idle : BranchThere (r .outcome) (r .cursor)
 
 pub record Lent : Type 0 where

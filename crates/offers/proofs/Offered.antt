@@ -12,7 +12,7 @@ use borrow.Author.Tests.{ltb-true}
 use Rattle.rules.specs.Event.{offers, slotsOf}
 use Rattle.rules.specs.State.{Clocks, Numbers, number, count, history}
 use Rattle.rules.specs.Cell.{Fate, kept, dropped, equalMet, fateFrom, matchedFrom, liveIn, liveStores, seenBy, loadDrops, loadFate, rmwFate, matchedLoad, matchedRmw}
-use Rattle.offers.specs.Offered.{Below, Among, OfferedRight, LoadOffered, RmwOffered, SomeToLoad, SomeOfferedRmw}
+use Rattle.offers.specs.Offered.{Below, Among, OfferedRight, LoadOffered, RmwOffered, SomeOfferedToLoad, SomeOfferedRmw}
 use Rattle.offers.proofs.Slots.{offered-among, among-offered, slots-rise, among-some}
 use Rattle.offers.proofs.Scans.{dropped-by, kept-below, Judged, judged-length, judged-at, Top, some-top}
 
@@ -99,8 +99,8 @@ pub rmw-offered : RmwOffered
 unfolding RmwOffered matchedRmw rmwFate
 rmw-offered clocks numbers c offered e = offered-right clocks numbers c (λ j. Unit {0}) (λ i j. true) (λ i j s. refl) offered e
 
-pub some-offered : SomeToLoad
-unfolding SomeToLoad LoadOffered
+pub some-offered : SomeOfferedToLoad
+unfolding SomeOfferedToLoad LoadOffered
 some-offered clocks rows numbers t c o offered h e = load-offered clocks rows numbers t c o offered e .some h
 
 pub some-offered-rmw : SomeOfferedRmw

@@ -3,7 +3,7 @@
 --     Among, Rising                a slot among a list, a list that rises strictly
 --     OfferedRight                 what holds of the slots that a scan offers
 --     LoadOffered, RmwOffered      it holds of every load's scan and of every RMW's
---     SomeToLoad, SomeOfferedRmw   in a cell that has a store one is offered
+--     SomeOfferedToLoad, SomeOfferedRmw  in a cell that has a store one is offered
 use Prim.Native.Nat.{ℕ, _≤_, _<_}
 use mathlib.Core.List.{List, [], _∷_}
 use mathlib.Core.Bool.{Bool, true}
@@ -57,8 +57,8 @@ RmwOffered =
     → OfferedRight clocks numbers c (λ j. Unit {0}) offered
 
 -- the same, by itself
-unfoldable pub SomeToLoad : Type 0
-SomeToLoad =
+unfoldable pub SomeOfferedToLoad : Type 0
+SomeOfferedToLoad =
     (clocks : Clocks) (rows : List (List ℕ)) (numbers : Numbers) (t c o : ℕ) (offered : List Bool) → 1 ≤ number numbers (count c)
     → matchedLoad clocks rows numbers t c o ≡ offers offered → 0 < length (slotsOf offered)
 

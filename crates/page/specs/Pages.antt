@@ -1,11 +1,11 @@
 -- A page of output that grows from the left, in a buffer of 16384 bytes. Assumes nothing.
---     Line        its bytes, and where it ends
---     putByte     a byte behind the end, where there is room for it
---     putText     a text, byte by byte
---     putOne      a byte, or a number in its place
---     putFilled   a text in which each '#' stands for a number
---     padded      spaces up to a column
---     rightAt     a number that ends at a column
+--     Page, pageOf  its bytes, and where it ends
+--     putByte       a byte behind the end, where there is room for it
+--     putText       a text, byte by byte
+--     putOne        a byte, or a number in its place
+--     putFilled     a text in which each '#' stands for a number
+--     padded        spaces up to a column
+--     rightAt       a number that ends at a column
 use Prim.Native.Nat.{ℕ, _+_, _-_}
 use mathlib.Core.List.{List, [], _∷_}
 use mathlib.Core.Bool.{cond}

@@ -20,7 +20,7 @@ use Rattle.record.proofs.StandsLaws.{stands-field}
 use Rattle.record.proofs.ScheduleLaws.{stands-prev}
 use Rattle.path.specs.Holds.{Holds, lastIn}
 use Rattle.path.specs.Places.{HasKind, recordsOf}
-use Rattle.path.specs.Walks.{HoldsAt, lastAs}
+use Rattle.path.specs.Walks.{HoldsAt, scheduleAtAs}
 use Rattle.path.proofs.HoldsLaws.{holds-room, holds-stands, blank-field, at-stands}
 use Rattle.path.proofs.PrevLaws.{Newest, newest-is, none-below, stands-inside}
 
@@ -83,7 +83,7 @@ module _ {bytes : List ℕ} {bs : List Branch} {k : ℕ} {s : Schedule} (h : Hol
   nothing-at e p true false f g = refl
   nothing-at e p false u f g = refl
 
-  prev-by : (l : rules.ScheduleAt) → lastIn (schedulesBelow bs k) ≡ l → prevIn bytes k ≡ lastAs l
+  prev-by : (l : rules.ScheduleAt) → lastIn (schedulesBelow bs k) ≡ l → prevIn bytes k ≡ scheduleAtAs l
   unfolding prevIn
   prev-by none e =
       let p : ℕ = positionAt bytes k in
@@ -93,7 +93,7 @@ module _ {bytes : List ℕ} {bs : List Branch} {k : ℕ} {s : Schedule} (h : Hol
       let n : Newest bs k p q = newest-is bs k p q e in
       rw (i, lt-ltb p k (n .below), is-there (h .path) p q (n .stands))
 
-  pub prev-says : (f : ScheduleAt) → PrevOf bytes k f → f ≡ lastAs (lastIn (schedulesBelow bs k))
+  pub prev-says : (f : ScheduleAt) → PrevOf bytes k f → f ≡ scheduleAtAs (lastIn (schedulesBelow bs k))
   prev-says f g = g .is ∙ prev-by (lastIn (schedulesBelow bs k)) refl
 
 -- A record that was looked for

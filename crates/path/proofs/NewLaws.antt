@@ -22,7 +22,7 @@ use Rattle.record.specs.Answers.{CountIs}
 use Rattle.record.specs.Schedules.{positionOf, initialAt}
 use Rattle.path.specs.Pushes.{PushesThread, pushedOf, grown}
 use Rattle.path.specs.Places.{recordsOf}
-use Rattle.path.specs.Walks.{lastAs, standsIn, LastOf, PreemptionsBefore}
+use Rattle.path.specs.Walks.{scheduleAtAs, standsIn, LastOf, PreemptionsBefore}
 use Rattle.path.specs.declared.Addition.the-variants.{Added, Full, Preempted}
 use Rattle.record.specs.declared.schedule.ScheduleAt.{ScheduleAt}
 use Rattle.record.proofs.FieldLaws.{put-again}
@@ -104,7 +104,7 @@ module _ (f : ℕ) where
   fields-of (a ∷ b ∷ c ∷ d ∷ e ∷ []) p i lo hi l = refl
   fields-of (a ∷ b ∷ c ∷ d ∷ e ∷ x ∷ s) p i lo hi l = absurd (omega arith)
 
-position-is : (l : rules.ScheduleAt) → positionOf (lastAs l) ≡ prevOf l
+position-is : (l : rules.ScheduleAt) → positionOf (scheduleAtAs l) ≡ prevOf l
 position-is none = refl
 position-is (at k s) = refl
 
@@ -147,7 +147,7 @@ module _ (bytes : List ℕ) (len : ℕ) (room : 16 * len + 16 ≤ length bytes) 
         ∙ put-again bytes len room (set (set (set r 8 i) 7 p) 9 lo) l3 10 hi (omega arith)
         ∙ ap (withRecord bytes len) (fields-of (flag exploring) s p i lo hi l)
 
-    initial-is : {bs : List Branch} → Holds bytes bs → (last : rules.ScheduleAt) → standsIn bs last → foundBelow len (lastAs last) → initialAt (kept s) len (lastAs last) ≡ initialAfter last (orNone (activeIn s))
+    initial-is : {bs : List Branch} → Holds bytes bs → (last : rules.ScheduleAt) → standsIn bs last → foundBelow len (scheduleAtAs last) → initialAt (kept s) len (scheduleAtAs last) ≡ initialAfter last (orNone (activeIn s))
     unfolding activeOf
     initial-is h none g b = ap (λ (x : List ℕ). orNone (activeIn x)) kept-states
     initial-is h (at k q) g b =
@@ -192,10 +192,10 @@ module _ (bytes : List ℕ) (len : ℕ) (exploring : Bool) (seed : List ℕ) (ro
         abbrev last : rules.ScheduleAt
         last = lastSchedule bs
 
-        prev-is : prev ≡ lastAs last
+        prev-is : prev ≡ scheduleAtAs last
         prev-is = found .says bs h same
 
-        last-below : foundBelow len (lastAs last)
+        last-below : foundBelow len (scheduleAtAs last)
         last-below = rw prev-is at (found .below)
 
         initial-now : initialAt b₃ len prev ≡ initialAfter last (orNone (activeIn toggledSeed))
@@ -213,7 +213,7 @@ module _ (bytes : List ℕ) (len : ℕ) (exploring : Bool) (seed : List ℕ) (ro
         position-now : positionOf prev ≡ prevOf last
         position-now = ap positionOf prev-is ∙ position-is last
 
-        prev-small : (l : rules.ScheduleAt) → foundBelow len (lastAs l) → len ≤ positions → prevOf l / 256 % 256 ≡ prevOf l / 256
+        prev-small : (l : rules.ScheduleAt) → foundBelow len (scheduleAtAs l) → len ≤ positions → prevOf l / 256 % 256 ≡ prevOf l / 256
         prev-small none b z = refl
         prev-small (at k s) b z = omega arith
 

@@ -29,7 +29,7 @@ use Rattle.record.proofs.ScheduleLaws.{stands-exploring, active-is, first-of-fi
 use Rattle.path.specs.Bounds.{boundOf}
 use Rattle.path.specs.Holds.{Holds, lastIn}
 use Rattle.path.specs.Places.{Through, recordsOf}
-use Rattle.path.specs.Walks.{HoldsAt, lastAs, standsIn, PathMarked, MarksAt, ExploringFrom, SwitchFrom, MarksBefore}
+use Rattle.path.specs.Walks.{HoldsAt, scheduleAtAs, standsIn, PathMarked, MarksAt, ExploringFrom, SwitchFrom, MarksBefore}
 use Rattle.path.specs.declared.Bound.{Bound}
 use Rattle.path.specs.declared.Bound.the-variants.{Unbounded, AtMost}
 use Rattle.path.proofs.HoldsLaws.{holds-room, inside, at-stands, at-five}
@@ -38,7 +38,7 @@ use Rattle.path.proofs.PrevLaws.{schedule-there, last-here, last-other,
 
 -- An answer
 
-pub found-none : (l : rules.ScheduleAt) → Nowhere ≡ lastAs l → l ≡ none
+pub found-none : (l : rules.ScheduleAt) → Nowhere ≡ scheduleAtAs l → l ≡ none
 found-none none e = refl
 found-none (at k s) e = let z : _≡_ {A = ℕ} 0 1 = cc in absurd (omega arith)
 
@@ -46,7 +46,7 @@ pub record Named (l : rules.ScheduleAt) (p : ℕ) : Type 0 where
   pub of : Schedule
   pub is : l ≡ at p of
 
-pub found-at : (l : rules.ScheduleAt) (p : ℕ) → At p ≡ lastAs l → Named l p
+pub found-at : (l : rules.ScheduleAt) (p : ℕ) → At p ≡ scheduleAtAs l → Named l p
 found-at none p e = let z : _≡_ {A = ℕ} 0 1 = cc in absurd (omega arith)
 found-at (at k s) p e = let q : k ≡ p = cc in record { of = s; is = ap (λ (x : ℕ). at x s) q }
 
@@ -111,11 +111,11 @@ module _ (bytes : List ℕ) (n : ℕ) (pos : 0 < n) (kind : Bool) (is : kind ≡
     pub look-quiet : x ≡ false → exploringBelow bs n ≡ exploringBelow bs (n - 1)
     look-quiet q = ap (exploringBelow bs) one-less ∙ past-quiet bs (n - 1) (here .of) (here .is) (sym exploring-is ∙ q)
 
-    pub look-here : x ≡ true → At (n - 1) ≡ lastAs (exploringBelow bs n)
+    pub look-here : x ≡ true → At (n - 1) ≡ scheduleAtAs (exploringBelow bs n)
     look-here q =
-        ap lastAs (sym (ap (exploringBelow bs) one-less ∙ stops-here bs (n - 1) (here .of) (here .is) (sym exploring-is ∙ q)))
+        ap scheduleAtAs (sym (ap (exploringBelow bs) one-less ∙ stops-here bs (n - 1) (here .of) (here .is) (sym exploring-is ∙ q)))
 
-pub look-none : (bs : List Branch) (n : ℕ) → n ≤ 0 → Nowhere ≡ lastAs (exploringBelow bs n)
+pub look-none : (bs : List Branch) (n : ℕ) → n ≤ 0 → Nowhere ≡ scheduleAtAs (exploringBelow bs n)
 unfolding exploringBelow
 look-none bs zero h = refl
 look-none bs (suc n) h = absurd (omega arith)
@@ -143,11 +143,11 @@ module _ (bytes : List ℕ) (n : ℕ) (pos : 0 < n) (kind : Bool) (is : kind ≡
   last-on e =
       ap lastSchedule one-more ∙ last-other (take (n - 1) bs) (getD bs (n - 1) noBranch) (n - 1) (not-there h (n - 1) (sym is ∙ e))
 
-  pub last-at : kind ≡ true → At (n - 1) ≡ lastAs (lastSchedule (take n bs))
+  pub last-at : kind ≡ true → At (n - 1) ≡ scheduleAtAs (lastSchedule (take n bs))
   last-at e =
       let t : There bs (n - 1) = there h (n - 1) (sym is ∙ e) in
       let f : length (take (n - 1) bs) ≡ n - 1 = length-take-le (n - 1) bs (omega arith) in
-      ap lastAs
+      ap scheduleAtAs
       (sym
       (ap lastSchedule one-more
       ∙ ap (λ (b : Branch). lastSchedule (take (n - 1) bs ++ (b ∷ []))) (t .is)
@@ -157,7 +157,7 @@ module _ (bytes : List ℕ) (n : ℕ) (pos : 0 < n) (kind : Bool) (is : kind ≡
 pub last-all : (bs : List Branch) (n : ℕ) → length bs ≡ n → lastSchedule bs ≡ lastSchedule (take n bs)
 last-all bs n e = ap lastSchedule (sym (take-all n bs (omega arith)))
 
-pub last-none : (bs : List Branch) (n : ℕ) → n ≤ 0 → Nowhere ≡ lastAs (lastSchedule (take n bs))
+pub last-none : (bs : List Branch) (n : ℕ) → n ≤ 0 → Nowhere ≡ scheduleAtAs (lastSchedule (take n bs))
 unfolding lastSchedule
 last-none bs zero h = refl
 last-none bs (suc n) h = absurd (omega arith)
@@ -177,11 +177,11 @@ last-stands (b ∷ bs) = last-on-stands b bs (lastSchedule bs) (last-stands bs)
 
 -- The preemptions before a new one
 
-pub before-none : (l : rules.ScheduleAt) → Nowhere ≡ lastAs l → 0 ≡ preemptionsAfter l
+pub before-none : (l : rules.ScheduleAt) → Nowhere ≡ scheduleAtAs l → 0 ≡ preemptionsAfter l
 before-none none e = refl
 before-none (at k s) e = let z : _≡_ {A = ℕ} 0 1 = cc in absurd (omega arith)
 
-pub before-at : {bytes : List ℕ} {bs : List Branch} (h : Holds bytes bs) (l : rules.ScheduleAt) (p r : ℕ) → standsIn bs l → At p ≡ lastAs l → PreemptionsOf bytes p r → r ≡ preemptionsAfter l
+pub before-at : {bytes : List ℕ} {bs : List Branch} (h : Holds bytes bs) (l : rules.ScheduleAt) (p r : ℕ) → standsIn bs l → At p ≡ scheduleAtAs l → PreemptionsOf bytes p r → r ≡ preemptionsAfter l
 before-at h none p r s e f = let z : _≡_ {A = ℕ} 0 1 = cc in absurd (omega arith)
 before-at {bytes} {bs} h (at k q) p r s e f =
     let n : p ≡ k = cc in
@@ -217,11 +217,11 @@ module _ (bytes : List ℕ) (from curr : ℕ) (w : Walks bytes from curr) (f : S
         let b : lastIn (schedulesBelow bs curr) ≡ none = found-none (lastIn (schedulesBelow bs curr)) (sym e ∙ prev-says held f g) in
         this .same ∙ switch-first bs curr (this .now) (this .stands) b
 
-    pub walk-first : f ≡ Nowhere → x ≡ true → At curr ≡ lastAs (switchIn (schedulesBelow bs (from + 1)))
-    walk-first e q = ap lastAs (sym (first-of e ∙ if-true curr (this .now) none (sym explores ∙ q)))
+    pub walk-first : f ≡ Nowhere → x ≡ true → At curr ≡ scheduleAtAs (switchIn (schedulesBelow bs (from + 1)))
+    walk-first e q = ap scheduleAtAs (sym (first-of e ∙ if-true curr (this .now) none (sym explores ∙ q)))
 
-    pub walk-nowhere : f ≡ Nowhere → x ≡ false → Nowhere ≡ lastAs (switchIn (schedulesBelow bs (from + 1)))
-    walk-nowhere e q = ap lastAs (sym (first-of e ∙ if-false curr (this .now) none (sym explores ∙ q)))
+    pub walk-nowhere : f ≡ Nowhere → x ≡ false → Nowhere ≡ scheduleAtAs (switchIn (schedulesBelow bs (from + 1)))
+    walk-nowhere e q = ap scheduleAtAs (sym (first-of e ∙ if-false curr (this .now) none (sym explores ∙ q)))
 
     module _ (p : ℕ) (e : f ≡ At p) where
       prior : Named (lastIn (schedulesBelow bs curr)) p
@@ -239,9 +239,9 @@ module _ (bytes : List ℕ) (from curr : ℕ) (w : Walks bytes from curr) (f : S
           ∙ ap (λ (y : ℕ). eqb (orFive (activeIn (this .now .states))) y) (active-is (at-stands back) b n)
           ∙ five-alike (activeIn (this .now .states)) (activeIn (prior .of .states)) (first-of-five active (this .now .states) (at-five held)) (first-of-five active (prior .of .states) (at-five back)))
 
-      pub walk-here : x ≡ true → (a b : ℕ) → First (statesAt bytes curr) active a → First (statesAt bytes p) active b → a ≢ b → At curr ≡ lastAs (switchIn (schedulesBelow bs (from + 1)))
+      pub walk-here : x ≡ true → (a b : ℕ) → First (statesAt bytes curr) active a → First (statesAt bytes p) active b → a ≢ b → At curr ≡ scheduleAtAs (switchIn (schedulesBelow bs (from + 1)))
       walk-here q a b m n d =
-          ap lastAs
+          ap scheduleAtAs
           (sym (this .same ∙ switch-here bs curr (this .now) (this .stands) p (prior .of) (prior .is) (sym explores ∙ q) (alike a b m n ∙ ne-eqb a b d)))
 
       pub walk-quiet : x ≡ false → Walk bs from p
@@ -288,11 +288,11 @@ module _ {entry : List ℕ} (bound : rules.Bound) (k t : ℕ) (f : ScheduleAt) (
     abbrev met : rules.ScheduleAt
     met = switchIn (schedulesBelow (m .path) k)
 
-    met-is : c ≡ lastAs met
+    met-is : c ≡ scheduleAtAs met
     met-is =
         d .says (m .path) (prior-is .of) (record { path = h .path; there = newest .stands })
-        ∙ ap (λ (x : ℕ). lastAs (switchIn (schedulesBelow (m .path) x))) (add-one p)
-        ∙ ap (λ (x : List Placed). lastAs (switchIn x)) (sym (newest .same))
+        ∙ ap (λ (x : ℕ). scheduleAtAs (switchIn (schedulesBelow (m .path) x))) (add-one p)
+        ∙ ap (λ (x : List Placed). scheduleAtAs (switchIn x)) (sym (newest .same))
 
     pub second-nowhere : c ≡ Nowhere → PathMarked entry (markedBefore bound m (at k s) t) (m .opened + 0)
     second-nowhere q = unmarked-second bound k t m s (h .path) (found-none met (sym q ∙ met-is))

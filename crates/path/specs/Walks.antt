@@ -1,5 +1,5 @@
 -- What the functions that walk through a path's schedules promise, by the definition. Assumes nothing.
---     lastAs                               the definition's schedule as the function's answer
+--     scheduleAtAs                         the definition's `ScheduleAt` as the code's
 --     HoldsAt, standsIn                     a schedule that stands in a path
 --     LastOf, ExploringFrom, SwitchFrom     which schedule is found
 --     PreemptionsBefore                     the preemptions up to it
@@ -16,9 +16,9 @@ use Rattle.record.specs.declared.schedule.ScheduleAt.the-variants.{At, Nowhere}
 use Rattle.path.specs.Holds.{Holds}
 use Rattle.path.specs.Places.{recordsOf}
 
-abbrev pub lastAs : rules.ScheduleAt → ScheduleAt
-lastAs rules.none = Nowhere
-lastAs (rules.at k s) = At k
+abbrev pub scheduleAtAs : rules.ScheduleAt → ScheduleAt
+scheduleAtAs rules.none = Nowhere
+scheduleAtAs (rules.at k s) = At k
 
 -- the bytes hold this path, and it has this schedule at a position
 pub record HoldsAt (bytes : List ℕ) (bs : List Branch) (k : ℕ) (s : Schedule) : Type 0 where
@@ -33,23 +33,23 @@ standsIn bs (rules.at k s) = getD bs k noBranch ≡ rules.schedule s
 -- the last schedule
 pub record LastOf (path : List ℕ) (len : ℕ) (r : ScheduleAt) : Type 0 where
   pub below : foundBelow len r
-  pub says : (bs : List Branch) → Holds path bs → length bs ≡ len → r ≡ lastAs (rules.lastSchedule bs)
+  pub says : (bs : List Branch) → Holds path bs → length bs ≡ len → r ≡ scheduleAtAs (rules.lastSchedule bs)
 
 -- the preemptions up to the schedule that was found, if one was
 pub record PreemptionsBefore (path : List ℕ) (prev : ScheduleAt) (r : ℕ) : Type 0 where
   pub few : r ≤ 256
-  pub says : (bs : List Branch) → Holds path bs → (l : rules.ScheduleAt) → standsIn bs l → prev ≡ lastAs l → r ≡ rules.preemptionsAfter l
+  pub says : (bs : List Branch) → Holds path bs → (l : rules.ScheduleAt) → standsIn bs l → prev ≡ scheduleAtAs l → r ≡ rules.preemptionsAfter l
 
 -- the last exploring one that does not stand after a point: one of the buffer's records
 pub record ExploringFrom (path : List ℕ) (point : ℕ) (r : ScheduleAt) : Type 0 where
   pub below : foundBelow (recordsOf path) r
-  pub says : (bs : List Branch) → Holds path bs → r ≡ lastAs (rules.exploringBelow bs (point + 1))
+  pub says : (bs : List Branch) → Holds path bs → r ≡ scheduleAtAs (rules.exploringBelow bs (point + 1))
 
 -- from a schedule downwards the last exploring one that chooses another thread than the one before
 pub record SwitchFrom (path : List ℕ) (from : ℕ) (r : ScheduleAt) : Type 0 where
   pub below : foundBelow (from + 1) r
   pub says :
-      (bs : List Branch) (s : Schedule) → HoldsAt path bs from s → r ≡ lastAs (rules.switchIn (rules.schedulesBelow bs (from + 1)))
+      (bs : List Branch) (s : Schedule) → HoldsAt path bs from s → r ≡ scheduleAtAs (rules.switchIn (rules.schedulesBelow bs (from + 1)))
 
 -- the bytes hold the path with its marks, and so many choices were opened
 pub record PathMarked (exit : List ℕ) (m : Marked) (r : ℕ) : Type 0 where

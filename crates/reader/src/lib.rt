@@ -57,7 +57,7 @@ fn lines_from(text: &[u8], table: &mut [u8], condition: &mut [u8]) -> Lines
     ensures { λ r. ⌜ TextAnswers (now (text .entry)) (now (table .exit)) (now (condition .exit)) r (rules.readText (now (text .entry))) ⌝ }
 {
     let lines = text.len() + 1;
-    let all = ahead::threads_ahead(text, 0, lines);
+    let all = ahead::threads_ahead(text, lines, 0);
     let mut reached = Reached {
         rows: 0,
         length: HEADER_BYTES,

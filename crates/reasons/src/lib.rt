@@ -41,7 +41,7 @@ pub enum Field {
 }
 
 // How many fields behind the opcode are judged before each.
-const OPERATES_ON: usize = 0;
+const OBJECT: usize = 0;
 
 const ORDER: usize = 1;
 
@@ -117,7 +117,7 @@ fn is_opcode(row: Row, room: Room) -> bool
         rows: room.rows,
         row: room.row,
     };
-    is_fit(row, one, OPERATES_ON)
+    is_fit(row, one, OBJECT)
 }
 
 // Whether the library takes a row with the first `n` fields of this one.
@@ -133,7 +133,7 @@ fn first_fields(row: Row, own: usize, n: usize) -> Row
 {
     Row {
         opcode: row.opcode,
-        object: byte_if(OPERATES_ON < n, row.object, 0),
+        object: byte_if(OBJECT < n, row.object, 0),
         order: byte_if(ORDER < n, row.order, blank_order(row.opcode)),
         failure: byte_if(FAILURE < n, row.failure, 0),
         kind: byte_if(KIND < n, row.kind, 0),

@@ -1,5 +1,5 @@
 -- Which branch the record at a position is. Assumes nothing.
---     shaped       a branch that 16 bytes can say: a schedule has five states, a load at most seven values
+--     shaped        a branch that 16 bytes can say: a schedule has five states, a load at most seven values
 --     BranchStands  the record's bytes are the encoded branch
 use Prim.Native.Nat.{ℕ, _+_, _*_, _≤_}
 use mathlib.Core.List.{List}

@@ -1,6 +1,7 @@
 -- What each answer of a run stands for: document 01's number, race kind, other thread, thread and row, for every case; and the
 -- report. Assumes nothing.
---     answerNumber, raceKindOf, otherOf, threadAtFault, rowAtFault  of an answer
+--     answerNumber, raceKindOf, otherOf              of an answer
+--     threadAtFault, rowAtFault                      and its place
 --     summaryOf, reportOf                            the definition's summary and report
 --     refusal, ranReport                             the report of a refusal, and of a run that stopped
 --     answerFits, SaysAs                             an answer that says what a verdict of the definition says

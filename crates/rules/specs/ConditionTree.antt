@@ -31,20 +31,20 @@ pub data Joint : Type 0 where
   some : Joint
 
 -- "a bracketed group of conditions": one, and others that are joined to it
-pub record Group (Member : Type 0) : Type 0 where
+pub record Group (M : Type 0) : Type 0 where
   pub joint : Joint
-  pub first : Member
-  pub others : List Member
+  pub first : M
+  pub others : List M
 
 -- "a comparison .., or a bracketed group"
-pub data Either (Member : Type 0) : Type 0 where
-  comparison : Comparison → Either Member
-  group : Group Member → Either Member
+pub data Member (M : Type 0) : Type 0 where
+  comparison : Comparison → Member M
+  group : Group M → Member M
 
 -- "and a group may hold groups": at most so deep
 abbrev pub Deep : ℕ → Type 0
 Deep zero = Comparison
-Deep (suc d) = Either (Deep d)
+Deep (suc d) = Member (Deep d)
 
 -- Bytes
 

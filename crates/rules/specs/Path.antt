@@ -139,7 +139,7 @@ unfoldable pub preemptionsWith : Schedule → ℕ
 preemptionsWith s =
     cond (eqb (s .initial) noThread || eqb (s .initial) (activeOf s)) (s .preemptions) (s .preemptions + 1)
 
--- The schedule before a new branch
+-- A schedule with its position among all branches, or none
 
 pub data ScheduleAt : Type 0 where
   none : ScheduleAt
@@ -156,7 +156,7 @@ orFirst none (schedule s) = at 0 s
 orFirst none (load l) = none
 orFirst none (spurious u) = none
 
--- the last schedule of a path, with its position among all branches (path.rs: last_schedule)
+-- the schedule before a new branch: the last of the path (path.rs: last_schedule)
 unfoldable pub lastSchedule : List Branch → ScheduleAt
 lastSchedule [] = none
 lastSchedule (b ∷ bs) = orFirst (oneFurther (lastSchedule bs)) b

@@ -22,7 +22,7 @@ use Rattle.rules.proofs.StateLaws.{number-same, number-other, number-kept}
 use Rattle.rules.proofs.NumberLaws.{five-one, five-has, five-same, after, for-threads}
 use Rattle.rules.proofs.Measure.{Is}
 use Rattle.rules.proofs.MeasureRows.{pick, both-left}
-use Rattle.standing.specs.Standing.{Thread, ThreadIn, FactsOver, FactsHold, underWay, begunBy}
+use Rattle.standing.specs.Standing.{Thread, ThreadIn, FactsLeft, FactsHold, underWay, begunBy}
 
 -- One thread's numbers
 
@@ -263,7 +263,7 @@ module _ (p : Program) (held : cellsOf (p .table) ≤ cells) (few : threadsOf (p
       for-threads (Facts p t k q r u) (freed t) threads (λ i b h g. freed-one i b h g) threads 0 a (omega arith) f
 
   -- What stands in a state, with this thread apart: the active one, or another
-  pub opened : (st : State) (n u : ℕ) → (u ≢ 0 → t ≡ current st) → FactsOver p st n →
+  pub opened : (st : State) (n u : ℕ) → (u ≢ 0 → t ≡ current st) → FactsLeft p st n →
       Facts p t (number (st .numbers) (nextRow t)) (underWay (st .numbers) - number (st .numbers) (phase t)) (number (st .numbers) rowsBegun) u
       (st .numbers)
   opened st n u same h = record {
@@ -282,7 +282,7 @@ module _ (p : Program) (held : cellsOf (p .table) ≤ cells) (few : threadsOf (p
       Facts p t k q r threads (st .numbers) → Thread p t s k ph (number (st .numbers) (awaits t)) →
       (s ≡ blocked → number (st .numbers) (State.state (number (st .numbers) (awaits t))) ≢ ended) →
       ((i : ℕ) → i < threads → number (st .numbers) (State.state i) ≡ blocked → number (st .numbers) (awaits i) ≡ t → s ≢ ended) →
-      (n + (q + ph) ≡ b) × (r ≡ b) × (b ≤ p .operations) → FactsOver p st n
+      (n + (q + ph) ≡ b) × (r ≡ b) × (b ≤ p .operations) → FactsLeft p st n
   closed {s} {k} {ph} st n within is f own mine others sums =
       let a = st .numbers in
       let stands : ThreadIn p a t = rw (is .stands, f .at, is .inPhase) own in

@@ -25,7 +25,7 @@ use Rattle.rules.proofs.MeasureRows.{pick, both-left, both-right}
 use Rattle.rules.proofs.AccessLaws.{access-kept}
 use Rattle.rules.proofs.MeasureTicks.{switched-is, can-act}
 use Rattle.kept.specs.Kept.{FittingThread, FineScheduling}
-use Rattle.standing.specs.Standing.{FactsOver, Schedules}
+use Rattle.standing.specs.Standing.{FactsLeft, Schedules}
 use Rattle.standing.proofs.Facts.{acts-so, Facts, keep, awake-facts, opened, holding}
 use Rattle.standing.proofs.Steps.{After, going, ending, stops-at}
 
@@ -187,7 +187,7 @@ module _ (p : Program) (held : cellsOf (p .table) ≤ cells) (few : threadsOf (p
       (access-kept (Facts p t _ _ _ 0) (λ a c at l f. keep p held few t below f (accessBranch c) at (omega arith))
       (λ a c at l f. keep p held few t below f (nonLoadBranch c) at (omega arith)) now t at h facts)
 
-  module _ (st : State) (n : ℕ) (over : FactsOver p st n) where
+  module _ (st : State) (n : ℕ) (over : FactsLeft p st n) where
     abbrev a : Numbers
     a = st .numbers
 

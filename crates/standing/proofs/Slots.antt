@@ -20,7 +20,7 @@ use Rattle.rules.proofs.MeasureRows.{Names}
 use Rattle.rules.proofs.Measure.{seen, otherWork}
 use Rattle.kept.specs.Kept.{FittingSlot, Offering}
 use Rattle.kept.proofs.Answers.{slot-offered}
-use Rattle.standing.specs.Standing.{Thread, FactsOver, FactsHold, MatchOfRow, ofLoad, ofRmw, SomeOffered, underWay}
+use Rattle.standing.specs.Standing.{Thread, FactsLeft, FactsHold, MatchOfRow, ofLoad, ofRmw, SomeOffered, underWay}
 use Rattle.standing.proofs.Facts.{opened}
 use Rattle.standing.proofs.Rows.{accepted-row}
 use Rattle.standing.proofs.Steps as Steps
@@ -69,7 +69,7 @@ module _ (p : Program) (held : cellsOf (p .table) ≤ cells) (few : threadsOf (p
   abbrev q : ℕ
   q = underWay a - number a (phase t)
 
-  stands : FactsOver p st n
+  stands : FactsLeft p st n
   stands = holds .over
 
   below : t < threads

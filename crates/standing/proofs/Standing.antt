@@ -20,7 +20,7 @@ use Rattle.rules.proofs.MeasureSteps.{Lower, lowered}
 use Rattle.rules.proofs.MeasureTicks.{next-lower, thread-lower, slot-lower, spurious-lower}
 use Rattle.kept.specs.Kept.{Fitting, OfNext, OfAnswer, Keeps, Possible, Answerable, Falls, Never}
 use Rattle.kept.proofs.Held.{answer-next}
-use Rattle.standing.specs.Standing.{FactsOver, FactsHold, FactsAsked, SomeOffered}
+use Rattle.standing.specs.Standing.{FactsLeft, FactsHold, FactsAsked, SomeOffered}
 use Rattle.standing.proofs.Steps.{After, going, stopping, ending, Good, moving, asking}
 use Rattle.standing.proofs.Ticks.{next-good}
 use Rattle.standing.proofs.Schedules.{is-answerable, thread-after}
@@ -29,7 +29,7 @@ use Rattle.standing.proofs.Start.{start-holds}
 
 -- What is known of a move, in the words of crate kept
 module _ (p : Program) (n : ℕ) where
-  after-keeps : {m : Move State} → After p n m → OfAnswer (machine p) (FactsHold p) (FactsOver p) n m
+  after-keeps : {m : Move State} → After p n m → OfAnswer (machine p) (FactsHold p) (FactsLeft p) n m
   after-keeps (going h) = h
   after-keeps (stopping h f) = h
   after-keeps (ending h) = h
@@ -39,8 +39,8 @@ module _ (p : Program) (n : ℕ) where
   after-possible (stopping h f) = f
   after-possible (ending h) = tt
 
-  good-keeps : {m : Move State} → Good p n m → OfNext (machine p) (FactsHold p) (FactsAsked p) (FactsOver p) n m
-  good-keeps {m} (moving h) = answer-next (machine p) (FactsHold p) (FactsAsked p) (FactsOver p) n m (after-keeps h)
+  good-keeps : {m : Move State} → Good p n m → OfNext (machine p) (FactsHold p) (FactsAsked p) (FactsLeft p) n m
+  good-keeps {m} (moving h) = answer-next (machine p) (FactsHold p) (FactsAsked p) (FactsLeft p) n m (after-keeps h)
   good-keeps (asking h) = h
 
   good-possible : {m : Move State} → Good p n m → Possible m
@@ -102,7 +102,7 @@ module _ (table condition : List ℕ) (s : Settings) (accepted : judged table �
   answers st n whichBit (runThread whom at) h fit = absurd fit
   answers st n whichBit (readSlot slot values) h fit = absurd fit
 
-  asked-over : (st : State) (n : ℕ) (q : Question) → FactsAsked p st n q → FactsOver p st n
+  asked-over : (st : State) (n : ℕ) (q : Question) → FactsAsked p st n q → FactsLeft p st n
   asked-over st n (whichThread points first standings) h = h .over
   asked-over st n (whichSlot m) h = h .holds .over
   asked-over st n whichBit h = h .holds .over
@@ -112,7 +112,7 @@ module _ (table condition : List ℕ) (s : Settings) (accepted : judged table �
   answerable some st n (whichSlot m) h = slot-answerable p (within .2) (within .1) accepted st n (h .holds) (h .toAct) some m (h .reading)
   answerable some st n whichBit h = tt
 
-  pub standing-keeps : Keeps (machine p) (FactsHold p) (FactsAsked p) (FactsOver p)
+  pub standing-keeps : Keeps (machine p) (FactsHold p) (FactsAsked p) (FactsLeft p)
   standing-keeps = record {
     at-start = start-holds p (within .0) (within .1) (within .2);
     at-next = λ st n h. good-keeps p n (nexts st n h);
@@ -122,7 +122,7 @@ module _ (table condition : List ℕ) (s : Settings) (accepted : judged table �
   }
 
   -- where every match offers some store, unless orders are equal
-  pub standing-never : SomeOffered → Never (machine p) (limitsOf s) (FactsHold p) (FactsAsked p) (FactsOver p)
+  pub standing-never : SomeOffered → Never (machine p) (limitsOf s) (FactsHold p) (FactsAsked p) (FactsLeft p)
   standing-never some = record {
     keeps = standing-keeps;
     room = λ st n h. omega (arith, h .entries, h .limited);

@@ -10,7 +10,7 @@ use Rattle.rules.specs.State.{number, threads, cells, nextRow, rowsOf, phase, a
 use Rattle.rules.specs.Machine.{Program, start, runnable}
 use Rattle.rules.proofs.NumberLaws.{five-same}
 use Rattle.rules.proofs.MeasureStart.{New, start-new, start-ready}
-use Rattle.standing.specs.Standing.{ThreadIn, FactsOver, FactsHold}
+use Rattle.standing.specs.Standing.{ThreadIn, FactsLeft, FactsHold}
 
 module _ (p : Program) (some : 1 ≤ threadsOf (p .table)) (few : threadsOf (p .table) ≤ threads) (held : cellsOf (p .table) ≤ cells) where
   is-new : New (cellsOf (p .table)) (threadsOf (p .table)) (start p .numbers)
@@ -44,7 +44,7 @@ module _ (p : Program) (some : 1 ≤ threadsOf (p .table)) (few : threadsOf (p .
         waits = λ e. absurd (omega (arith, first i h));
       })
 
-  start-over : FactsOver p (start p) 0
+  start-over : FactsLeft p (start p) 0
   start-over = record {
     whole = start-ready p some few held .whole;
     runs = omega (arith, is-new .nothing activeThread (omega arith));

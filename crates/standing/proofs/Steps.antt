@@ -30,22 +30,22 @@ use Rattle.rules.proofs.NumberLaws.{after, more-some}
 use Rattle.rules.proofs.Measure.{Is, aside, toState, toPhase}
 use Rattle.rules.proofs.MeasureRows.{pick, Names}
 use Rattle.rules.proofs.AccessLaws.{Leaves, isRaced, isRead, load-leaves, rmw-leaves, unsync-leaves, mut-leaves, plain-leaves}
-use Rattle.standing.specs.Standing.{Thread, FactsOver, FactsHold, Schedules, MatchOfRow, ofLoad, ofRmw, FactsRead, Takes, FactsAsked}
+use Rattle.standing.specs.Standing.{Thread, FactsLeft, FactsHold, Schedules, MatchOfRow, ofLoad, ofRmw, FactsRead, Takes, FactsAsked}
 use Rattle.standing.proofs.Facts.{acts-so, Facts, keep, toRow, closed, holding}
 
 -- What is to be known of a move, with n entries in the trace before it
 
 pub data After (p : Program) (n : ℕ) : Move State → Type 0 where
   going : {st : State} {es : List Entry} → FactsHold p st (n + length es) → After p n (moves st es)
-  stopping : {st : State} {f : Fault} → FactsOver p st n → (f ≡ impossible → ⊥) → After p n (stops st f)
-  ending : {st : State} → FactsOver p st n → After p n (ends st)
+  stopping : {st : State} {f : Fault} → FactsLeft p st n → (f ≡ impossible → ⊥) → After p n (stops st f)
+  ending : {st : State} → FactsLeft p st n → After p n (ends st)
 
 pub data Good (p : Program) (n : ℕ) : Move State → Type 0 where
   moving : {m : Move State} → After p n m → Good p n m
   asking : {st : State} {es : List Entry} {explores : Bool} {q : Question} → FactsAsked p st (n + length es) q → Good p n (asks st es explores q)
 
 -- a fault that document 01 has
-pub stops-at : {p : Program} {n : ℕ} (st : State) (f : Fault) → faultNumber f ≢ 20 → FactsOver p st n → After p n (stops st f)
+pub stops-at : {p : Program} {n : ℕ} (st : State) (f : Fault) → faultNumber f ≢ 20 → FactsLeft p st n → After p n (stops st f)
 stops-at st f d over = stopping over (λ e. d (ap faultNumber e))
 
 -- What a row that is to act does: thread t runs at row k; b rows have begun, and of the other threads' rows q are under way

@@ -21,7 +21,7 @@ use Rattle.rules.proofs.NumberLaws.{five-has, more-below}
 use Rattle.rules.proofs.Measure.{Is, aside, toState, toPhase, toBegun, toCell, seen, otherWork}
 use Rattle.rules.proofs.MeasureLoops.{freed-all}
 use Rattle.rules.proofs.MeasureRows.{pick, both-left, both-right, Names, OnCell, row-on-cell}
-use Rattle.standing.specs.Standing.{Thread, FactsOver, FactsHold, Schedules, underWay}
+use Rattle.standing.specs.Standing.{Thread, FactsLeft, FactsHold, Schedules, underWay}
 use Rattle.standing.proofs.Facts.{acts-so, Facts, keep, begunOne, freed-facts, freed-none, opened, closed, holding}
 use Rattle.standing.proofs.Rows.{accepted-row}
 use Rattle.standing.proofs.Steps.{going, Good, moving, asking, stops-at, acts-good}
@@ -65,7 +65,7 @@ module _ (p : Program) (held : cellsOf (p .table) ≤ cells) (few : threadsOf (p
     abbrev q : ℕ
     q = underWay a - number a (phase t)
 
-    stands : FactsOver p st n
+    stands : FactsLeft p st n
     stands = holds .over
 
     below : t < threads

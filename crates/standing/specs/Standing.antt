@@ -2,9 +2,10 @@
 -- entries of the trace; and what stands where the machine asks. It is what a machine keeps (crate kept), so it speaks of every
 -- state that a run comes to: between ticks, where it asks, where it stops and where it ends. Assumes nothing.
 --     Thread              one thread's state, row and phase, and whom it waits for
---     FactsOver           the numbers of a state, with so many entries in the trace
+--     FactsLeft           the numbers of a state, with so many entries in the trace
 --     FactsHold           and between ticks, where the active thread runs
 --     FactsAsked          and of a state that asks, its question
+--     Schedules, FactsRead, Takes  for a thread, for a slot, for a bit; MatchOfRow: what a slot is chosen from
 --     SomeOffered         where orders are not equal, some store is offered
 use Prim.Native.Nat.{ℕ, _+_, _≤_, _<_}
 use mathlib.Core.List.{List, map}
@@ -55,7 +56,7 @@ abbrev pub begunBy : Numbers → ℕ
 begunBy a = number a (rowsOf 0) + number a (rowsOf 1) + number a (rowsOf 2) + number a (rowsOf 3) + number a (rowsOf 4)
 
 -- a state, with n entries in the trace
-pub record FactsOver (p : Program) (st : State) (n : ℕ) : Type 0 where
+pub record FactsLeft (p : Program) (st : State) (n : ℕ) : Type 0 where
   -- the numbers are all there, and every pending operation is on a cell
   pub whole : Whole (st .numbers)
   -- the active thread is one of the table's
@@ -77,14 +78,14 @@ pub record FactsOver (p : Program) (st : State) (n : ℕ) : Type 0 where
 -- between ticks the active thread is one that can act: runnable, or yielded and chosen nevertheless; where a scheduling is asked for,
 -- and where an execution has stopped or ended, it may be blocked or have ended
 pub record FactsHold (p : Program) (st : State) (n : ℕ) : Type 0 where
-  pub over : FactsOver p st n
+  pub over : FactsLeft p st n
   pub ready : CanAct (number (st .numbers) (State.state (current st)))
 
 -- Where it asks
 
 -- for a scheduling
 pub record Schedules (p : Program) (st : State) (n : ℕ) (first : Whom) (standings : List Standing) : Type 0 where
-  pub over : FactsOver p st n
+  pub over : FactsLeft p st n
   pub isFirst : first ≡ Machine.initial (st .numbers)
   pub stand : standings ≡ map (Machine.standing (st .numbers)) everyThread
 

@@ -2,7 +2,7 @@
 // numbers too. The object is the cell, the plain cell or the thread.
 pub const OPCODE: usize = 0;
 
-pub const OPERATES_ON: usize = 1;
+pub const OBJECT: usize = 1;
 
 pub const ORDER: usize = 2;
 

@@ -23,7 +23,7 @@ use fields::A;
 use fields::B;
 use fields::FAILURE;
 use fields::KIND;
-use fields::OPERATES_ON;
+use fields::OBJECT;
 use fields::ORDER;
 use fields::REGISTER;
 use fields::TARGET;
@@ -69,7 +69,7 @@ pub const LAST_COUNT: usize = COUNTS + MAX_THREADS - 1;
 
 pub const LAST_FIRST: usize = FIRSTS + MAX_THREADS - 1;
 
-// What is wrong with a table, if anything is: the header or the length, or else the first bad row in byte order.
+// How a table is judged: good; or its header or length is bad; or else its first bad row, in byte order.
 pub enum Judged {
     Good,
     BadHeader,
@@ -247,7 +247,7 @@ fn row_from(table: &[u8], at: usize) -> Row
 {
     Row {
         opcode: table[at],
-        object: table[at + OPERATES_ON],
+        object: table[at + OBJECT],
         order: table[at + ORDER],
         failure: table[at + FAILURE],
         kind: table[at + KIND],

@@ -21,8 +21,8 @@ pub fn waiting(page: &mut Page, table: &[u8], trace: &[u8], threads: [Summary; M
     let held = steps::held::after(table, trace, steps::count(trace));
     let mut t = 0;
     while t < MAX_THREADS {
-        let record = threads[t];
-        let to = stop::put_waits(page, 0, table, &held, (t % 256) as u8, record.state);
+        let end = threads[t];
+        let to = stop::put_waits(page, 0, table, &held, (t % 256) as u8, end.state);
         out::write(page, to);
         t += 1;
     }

@@ -43,7 +43,7 @@ pub struct Limits {
 }
 
 // Where a tick is: the limits that it is under, the thread at its row, and how far the execution has come.
-struct At {
+struct TickAt {
     limits: Limits,
     here: Here,
     cursor: Cursor,
@@ -76,7 +76,7 @@ pub fn tick(
         row: number,
     };
     let here = Here { site, row };
-    let at = At {
+    let at = TickAt {
         limits,
         here,
         cursor,
@@ -93,7 +93,7 @@ fn tick_at(
     numbers: &mut Numbers,
     path: &mut [u8],
     trace: &mut [u8],
-    at: At,
+    at: TickAt,
 ) -> Ticked
     requires { ⌜ (getD (now shape) 1 0 ≤ 4) × HereWithin (at .here) × CursorPlaced (at .cursor) (now path) (now trace) × (at .cursor .opened + 60 < 2 ^ 64) ⌝ }
     ensures { λ r. ⌜ Goes (lent (now (clocks .entry)) (now (marks .entry)) (now (values .entry)) (now (numbers .entry)) (now (path .entry)) (now (trace .entry))) (lent (now (clocks .exit)) (now (marks .exit)) (now (values .exit)) (now (numbers .exit)) (now (path .exit)) (now (trace .exit))) (at .cursor) r 60 (at .here) (ticksAt (now (shape .entry)) (at .limits) (at .here)) (tickedAt (at .here)) ⌝ }
@@ -115,7 +115,7 @@ fn take(
     numbers: &mut Numbers,
     path: &mut [u8],
     trace: &mut [u8],
-    at: At,
+    at: TickAt,
     event: Moved,
 ) -> Ticked
     requires { ⌜ HereWithin (at .here) × CursorPlaced (at .cursor) (now path) (now trace) × (at .cursor .opened + 60 < 2 ^ 64) ⌝ }
@@ -135,7 +135,7 @@ fn take(
     };
     let before = noted.cursor;
     let cursor = mark(clocks, numbers, path, bound, question, before);
-    let at = At {
+    let at = TickAt {
         limits,
         here,
         cursor,
@@ -151,7 +151,7 @@ fn meet(
     numbers: &mut Numbers,
     path: &mut [u8],
     trace: &mut [u8],
-    at: At,
+    at: TickAt,
     question: Question,
 ) -> Ticked
     requires { ⌜ HereWithin (at .here) × CursorPlaced (at .cursor) (now path) (now trace) × (at .cursor .opened + 6 < 2 ^ 64) ⌝ }

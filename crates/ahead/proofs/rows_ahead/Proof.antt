@@ -12,11 +12,11 @@ use Rattle.ahead.proofs.rows_ahead.Statement.{statement}
 use Rattle.ahead.proofs.rows_ahead.Tie as tie
 
 abbrev Inv-loop : tie.InvT-loop
-Inv-loop text at lines rows₀ from₀ left₀ t9 t10 rows from left =
+Inv-loop text lines at rows₀ from₀ left₀ t9 t10 rows from left =
     (rows + left ≤ lines) × (rows + rowsAhead left (drop from text) ≡ rowsAhead lines (drop at text))
 
 abbrev μ-loop : tie.MeasureT-loop
-μ-loop text at lines rows₀ from₀ left₀ t9 t10 rows from left = left
+μ-loop text lines at rows₀ from₀ left₀ t9 t10 rows from left = left
 
 skipped : (c : tie.After-past-blanks Inv-loop μ-loop) → drop (c .past-blanks .result) (c .before .before .before .before .args .text .now) ≡ pastBlanks (drop (c .before .before .loop .from) (c .before .before .before .before .args .text .now))
 skipped c = left-by (c .before .before .before .before .args .text .now) (c .before .before .loop .from) (c .past-blanks .result) _ (c .past-blanks .ensures)

@@ -8,10 +8,10 @@ returns : tie.Need-returns
 returns c = entered-bound _ _ _ _ _ _ _ _ _ _ (c .if1 .taken)
 
 returns-2 : tie.Need-returns-2
-returns-2 c = entered-exploring _ _ _ _ _ _ _ _ _ _ (c .before .if1 .left) (c .if2 .taken)
+returns-2 c = entered-exploring _ _ _ _ _ _ _ _ _ _ (c .before .before .if1 .left) (c .if2 .taken)
 
 returns-3 : tie.Need-returns-3
-returns-3 c = entered-report _ _ _ _ _ _ _ _ _ _ (c .before .before .if1 .left) (c .before .if2 .left) (c .if3 .taken)
+returns-3 c = entered-report _ _ _ _ _ _ _ _ _ _ (c .before .before .before .if1 .left) (c .before .if2 .left) (c .if3 .taken)
 
 bound-of-requires : tie.Need-bound-of-requires
 bound-of-requires c κs = search needs
@@ -45,14 +45,14 @@ returns-4 c =
     let all = c .before .before .before .before .before in
     let number = all .before in
     let run = number .before .before .before .before .before in
-    let bound = run .before .before .before in
+    let bound = run .before .before .before .before in
     let three = bound .before in
     let two = three .before in
-    let one = two .before in
-    let a = one .before .before .before .before .before .before .args in
-    entered-run (a .table .now) (a .condition .now) (a .branches) (a .operations) (a .executions) (a .bound) (a .exploring) (a .path .now) (a .trace .now) (a .report .now)
+    let one = two .before .before in
+    let a = one .before .before .before .before .before .before .before .args in
+    entered-run (a .table .now) (a .condition .now) (a .given .branches) (a .given .operations) (a .given .executions) (a .given .bound) (a .given .exploring) (a .path .now) (a .trace .now) (a .report .now)
     (one .if1 .left) (two .if2 .left) (three .if3 .left) (run .explore .result) _ _
-    (explored-so (a .table .now) (a .condition .now) (a .path .now) (a .trace .now) (a .branches) (a .operations) (a .executions) (a .bound) (a .exploring) (bound .bound-of .result) (bound .bound-of .ensures) (run .explore .ensures))
+    (explored-so (a .table .now) (a .condition .now) (a .path .now) (a .trace .now) (a .given .branches) (a .given .operations) (a .given .executions) (a .given .bound) (a .given .exploring) (bound .bound-of .result) (bound .bound-of .ensures) (run .explore .ensures))
     (number .number .ensures) (c .before .before .write-numbers .ensures ∙ all .of-report .ensures)
 
 pub enter-spec : {M : Type 1} → statement M

@@ -1,6 +1,6 @@
 use borrow.Author.Needs.{needs}
 use mathlib.Core.Path.{_≡_, ap, sym, _∙_}
-use Rattle.path.specs.Walks.{lastAs}
+use Rattle.path.specs.Walks.{scheduleAtAs}
 use Rattle.path.specs.Holds.{Holds}
 use Rattle.rules.specs.Path.{Branch, exploringBelow}
 use mathlib.Core.List.{List}
@@ -37,7 +37,7 @@ returns c =
     let explores = c .before in
     let kind = explores .before .before in
     let loop = kind .before .before in
-    record { below = search needs; says = λ bs h. look-here _ _ (kind .before .loop-test .taken) _ (kind .is-kind .ensures) h (explores .before .if1 .taken) _ (explores .is-exploring .ensures) (c .if2 .taken) ∙ ap lastAs (sym (loop .loop .inv .1 bs h)) }
+    record { below = search needs; says = λ bs h. look-here _ _ (kind .before .loop-test .taken) _ (kind .is-kind .ensures) h (explores .before .if1 .taken) _ (explores .is-exploring .ensures) (c .if2 .taken) ∙ ap scheduleAtAs (sym (loop .loop .inv .1 bs h)) }
 
 loop-less : tie.Need-loop-less Inv-loop μ-loop
 loop-less c = search needs
@@ -60,7 +60,7 @@ loop-again-2 c =
 
 returns-2 : tie.Need-returns-2 Inv-loop μ-loop
 returns-2 c =
-    record { below = search needs; says = λ bs h. look-none bs _ (c .loop-test .left) ∙ ap lastAs (sym (c .before .loop .inv .1 bs h)) }
+    record { below = search needs; says = λ bs h. look-none bs _ (c .loop-test .left) ∙ ap scheduleAtAs (sym (c .before .loop .inv .1 bs h)) }
 
 pub exploring-from-spec : {M : Type 1} → statement M
 exploring-from-spec =

@@ -2,7 +2,7 @@ use borrow.Author.Needs.{needs}
 use native.Mathlib.Omega.{arith}
 use lib.ListN.{length, take}
 use mathlib.Core.Path.{_≡_, ap, sym, _∙_}
-use Rattle.path.specs.Walks.{lastAs}
+use Rattle.path.specs.Walks.{scheduleAtAs}
 use Rattle.path.specs.Holds.{Holds}
 use Rattle.rules.specs.Path.{Branch, lastSchedule}
 use mathlib.Core.List.{List}
@@ -31,7 +31,7 @@ returns : tie.Need-returns Inv-loop μ-loop
 returns c =
     let kind = c .before in
     let loop = kind .before .before in
-    record { below = search needs; says = λ bs h e. last-at _ _ (kind .before .loop-test .taken) _ (kind .is-kind .ensures) h (omega (arith, loop .loop .inv .0)) (c .if1 .taken) ∙ ap lastAs (sym (loop .loop .inv .1 bs h e)) }
+    record { below = search needs; says = λ bs h e. last-at _ _ (kind .before .loop-test .taken) _ (kind .is-kind .ensures) h (omega (arith, loop .loop .inv .0)) (c .if1 .taken) ∙ ap scheduleAtAs (sym (loop .loop .inv .1 bs h e)) }
 
 loop-less : tie.Need-loop-less Inv-loop μ-loop
 loop-less c = search needs
@@ -43,7 +43,7 @@ loop-again c =
     (search needs, λ bs h e. loop .loop .inv .1 bs h e ∙ last-on _ _ (kind .before .loop-test .taken) _ (kind .is-kind .ensures) h (omega (arith, loop .loop .inv .0)) (c .if1 .left))
 
 returns-2 : tie.Need-returns-2 Inv-loop μ-loop
-returns-2 c = record { below = search needs; says = λ bs h e. last-none bs _ (c .loop-test .left) ∙ ap lastAs (sym (c .before .loop .inv .1 bs h e)) }
+returns-2 c = record { below = search needs; says = λ bs h e. last-none bs _ (c .loop-test .left) ∙ ap scheduleAtAs (sym (c .before .loop .inv .1 bs h e)) }
 
 pub last-schedule-spec : {M : Type 1} → statement M
 last-schedule-spec =

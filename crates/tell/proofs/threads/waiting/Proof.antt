@@ -18,11 +18,11 @@ after-requires c κs = search needs
 loop-holds : tie.Need-loop-holds Inv-loop μ-loop
 loop-holds c = search needs
 
-mul-record : tie.Need-mul-record Inv-loop μ-loop
-mul-record c = search needs
+mul-end : tie.Need-mul-end Inv-loop μ-loop
+mul-end c = search needs
 
-array-copy-out-record : tie.Need-array-copy-out-record Inv-loop μ-loop
-array-copy-out-record c = search needs
+array-copy-out-end : tie.Need-array-copy-out-end Inv-loop μ-loop
+array-copy-out-end c = search needs
 
 cast-put-waits : tie.Need-cast-put-waits Inv-loop μ-loop
 cast-put-waits c = search needs
@@ -54,8 +54,8 @@ waiting-spec =
     count-requires
     after-requires
     loop-holds
-    mul-record
-    array-copy-out-record
+    mul-end
+    array-copy-out-end
     cast-put-waits
     put-waits-requires
     write-requires
