@@ -1,5 +1,4 @@
 -- What stands at a place of a condition. Assumes nothing.
---     eight-bytes        a number's bytes
 --     place-bounds, register-most     a word's place in a list, and a thread's register
 --     symbol-..          a bracket, `and` or `or`
 --     number-.., sign-..     behind a thread's register
@@ -22,12 +21,6 @@ use Rattle.token.specs.Places.{part}
 use Rattle.token.proofs.PlaceLaws.{left-by, part-token}
 use Rattle.claims.specs.Units.{UnitStands, unitOf, symbolAt, brokenOf}
 use Rattle.claims.specs.declared.Unit.{Unit}
-
--- a number's bytes, one by one
-pub eight-bytes : (bs : List ℕ) (n : ℕ) → bs ≡ little 8 n
-    → getD bs 0 0 ∷ getD bs 1 0 ∷ getD bs 2 0 ∷ getD bs 3 0 ∷ getD bs 4 0 ∷ getD bs 5 0 ∷ getD bs 6 0 ∷ getD bs 7 0 ∷ [] ≡ little 8 n
-unfolding little
-eight-bytes bs n e = rw e
 
 -- Bounds
 

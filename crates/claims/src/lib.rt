@@ -14,7 +14,7 @@ use condition::CONDITION_BYTES;
 use condition::EQUALS;
 use condition::Extent;
 use layout::REGISTERS;
-use table::little::low_bytes;
+use little::low_bytes;
 use token::Found;
 
 // The longest condition, and a comparison that broke off behind it.

@@ -12,7 +12,7 @@ use layout::Values;
 use layout::of_thread::REGISTER;
 use layout::register_at;
 use layout::wide8;
-use table::little::u64_at;
+use little::u64_at;
 
 // The first byte of each part; and what stands for none, at the end, and before a group's first joint.
 const NO_PART: u8 = 0;

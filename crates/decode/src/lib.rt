@@ -149,7 +149,7 @@ pub struct Row {
     pub b: u64,
 }
 
-// What this row does, in this room.
+// What this row does, in this room. Opcodes stand here as document 01 numbers them, and from 19 on all are refused.
 pub fn row_decoded(row: Row, room: Room) -> Decoded
     ensures { λ r. ⌜ decodedOf r ≡ rules.rowDecoded (roomMeant room) (rowMeant row) ⌝ }
 {
@@ -178,31 +178,32 @@ pub fn row_decoded(row: Row, room: Room) -> Decoded
     }
 }
 
-// Whether this row says something at all.
+// Whether this row says something at all: the decode's arms again, each without what it makes. One function for both would have two
+// callers, and every tick would take the decoded row through memory.
 pub fn is_row(row: Row, room: Room) -> bool
     ensures { λ r. ⌜ r ≡ rules.isFine (rules.rowDecoded (roomMeant room) (rowMeant row)) ⌝ }
 {
     let opcode = row.opcode;
     match opcode {
-        0 => is_decoded(load_row(row, room.cells)),
-        1 => is_decoded(store_row(row, room.cells)),
-        2 => is_decoded(store_register_row(row, room.cells)),
-        3 => is_rmw(row, room.cells),
-        4 => is_decoded(fence_row(row)),
-        5 => is_decoded(unsync_load_row(row, room.cells)),
-        6 => is_decoded(with_mut_row(row, room.cells)),
-        7 => is_decoded(bare_row(row, Op::Yield)),
-        8 => is_decoded(join_row(row, room.threads)),
-        9 => is_decoded(jump_row(row, room.rows, room.row)),
-        10 => is_decoded(jump_if_row(row, room.rows)),
-        11 => is_decoded(jump_unless_row(row, room.rows)),
-        12 => is_decoded(check_row(row)),
-        13 => is_decoded(bare_row(row, Op::Critical)),
-        14 => is_decoded(bare_row(row, Op::ExploreState)),
-        15 => is_decoded(bare_row(row, Op::SkipBranch)),
-        16 => is_decoded(spurious_row(row)),
-        17 => is_decoded(plain_read_row(row, room.plains)),
-        18 => is_decoded(plain_write_row(row, room.plains)),
+        LOAD => is_decoded(load_row(row, room.cells)),
+        STORE => is_decoded(store_row(row, room.cells)),
+        STORE_REGISTER => is_decoded(store_register_row(row, room.cells)),
+        RMW => is_rmw(row, room.cells),
+        FENCE => is_decoded(fence_row(row)),
+        UNSYNC_LOAD => is_decoded(unsync_load_row(row, room.cells)),
+        WITH_MUT => is_decoded(with_mut_row(row, room.cells)),
+        YIELD => is_decoded(bare_row(row, Op::Yield)),
+        JOIN => is_decoded(join_row(row, room.threads)),
+        JUMP => is_decoded(jump_row(row, room.rows, room.row)),
+        JUMP_IF => is_decoded(jump_if_row(row, room.rows)),
+        JUMP_UNLESS => is_decoded(jump_unless_row(row, room.rows)),
+        CHECK => is_decoded(check_row(row)),
+        CRITICAL => is_decoded(bare_row(row, Op::Critical)),
+        EXPLORE_STATE => is_decoded(bare_row(row, Op::ExploreState)),
+        SKIP_BRANCH => is_decoded(bare_row(row, Op::SkipBranch)),
+        SPURIOUS => is_decoded(spurious_row(row)),
+        PLAIN_READ => is_decoded(plain_read_row(row, room.plains)),
+        PLAIN_WRITE => is_decoded(plain_write_row(row, room.plains)),
         19..=255 => false,
     }
 }

@@ -15,6 +15,7 @@ use form::Room;
 use layout::MAX_CELLS;
 use layout::MAX_PLAINS;
 use layout::MAX_THREADS;
+use little::low_bytes;
 use table::limits::CELL_COUNT;
 use table::limits::COUNT_OF_LAST;
 use table::limits::MAX_ROWS;
@@ -22,7 +23,6 @@ use table::limits::PLAIN_COUNT;
 use table::limits::ROW_BYTES;
 use table::limits::THREAD_COUNT;
 use table::limits::VALUE_BYTES;
-use table::little::low_bytes;
 use token::Found;
 
 // How far a text is read: to a line that begins at this place, in a thread of so many rows, behind a table of so many bytes.

@@ -19,6 +19,7 @@ use decode::is_fence_order;
 use decode::is_load_order;
 use decode::is_store_order;
 use layout::order::SEQ_CST;
+use little::low_bytes;
 use table::fields::FAILURE;
 use table::fields::KIND;
 use table::fields::OBJECT;
@@ -27,7 +28,6 @@ use table::fields::ORDER;
 use table::fields::REGISTER;
 use table::fields::TARGET;
 use table::limits::ROW_BYTES;
-use table::little::low_bytes;
 use token::Found;
 
 // No form has as many words.

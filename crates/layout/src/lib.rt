@@ -6,12 +6,14 @@ ghost use mathlib.Core.Path.{_≡_};
 ghost use Prim.Native.Nat.{_+_, _*_, _<_, _≤_};
 ghost use Rattle.layout.specs.Wide.{Wide};
 
+pub mod action;
 pub mod of_cell;
 pub mod of_plain;
 pub mod of_run;
 pub mod of_store;
 pub mod of_thread;
 pub mod order;
+pub mod races;
 pub mod seed;
 pub mod slots;
 
@@ -27,6 +29,11 @@ pub const MAX_ATOMIC_HISTORY: usize = 7;
 // Registers of a thread.
 pub const REGISTERS: usize = 4;
 
+// The stores of all cells, and the registers of all threads.
+pub const STORES: usize = MAX_CELLS * MAX_ATOMIC_HISTORY;
+
+pub const ALL_REGISTERS: usize = MAX_THREADS * REGISTERS;
+
 // How many bytes a path record has, and a trace entry.
 pub const RECORD: usize = 16;
 
@@ -36,12 +43,12 @@ pub const NONE: u16 = 65535;
 // The mark of a store that a thread has not seen.
 pub const UNSEEN: u16 = 65535;
 
-// How many vectors, values and numbers the tables hold.
-pub const CLOCKS: usize = 132;
+// How many vectors, values and numbers the tables hold: up to the end of the part that stands last.
+pub const CLOCKS: usize = of_plain::WRITE_ACCESS + MAX_PLAINS;
 
-pub const VALUES: usize = 52;
+pub const VALUES: usize = of_plain::VALUE + MAX_PLAINS;
 
-pub const NUMBERS: usize = 89;
+pub const NUMBERS: usize = of_thread::AWAITS + MAX_THREADS;
 
 pub type Clocks = [[u16; MAX_THREADS]; CLOCKS];
 

@@ -1,8 +1,14 @@
 // What belongs to a plain cell, at its constant plus the cell's number.
-// clocks: closures of all reads and of all writes.
-pub const READ_ACCESS: usize = 124;
+use crate::ALL_REGISTERS;
+use crate::MAX_PLAINS;
+use crate::STORES;
+use crate::of_store::SYNC;
+use crate::of_thread::REGISTER;
 
-pub const WRITE_ACCESS: usize = 128;
+// clocks: closures of all reads and of all writes.
+pub const READ_ACCESS: usize = SYNC + STORES;
+
+pub const WRITE_ACCESS: usize = READ_ACCESS + MAX_PLAINS;
 
 // values.
-pub const VALUE: usize = 48;
+pub const VALUE: usize = REGISTER + ALL_REGISTERS;

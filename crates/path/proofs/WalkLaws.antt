@@ -24,7 +24,7 @@ use Rattle.record.specs.Fields.{recordByte, statesAt}
 use Rattle.record.specs.Places.{First, orFive}
 use Rattle.record.specs.Schedules.{PrevOf, PreemptionsOf}
 use Rattle.record.specs.declared.schedule.ScheduleAt.{ScheduleAt}
-use Rattle.record.specs.declared.schedule.ScheduleAt.the-variants.{At, Nowhere}
+use Rattle.record.specs.declared.schedule.ScheduleAt.the-variants.{At, None}
 use Rattle.record.proofs.ScheduleLaws.{stands-exploring, active-is, first-of-five, five-alike}
 use Rattle.path.specs.Bounds.{boundOf}
 use Rattle.path.specs.Holds.{Holds, lastIn}
@@ -38,7 +38,7 @@ use Rattle.path.proofs.PrevLaws.{schedule-there, last-here, last-other,
 
 -- An answer
 
-pub found-none : (l : rules.ScheduleAt) → Nowhere ≡ scheduleAtAs l → l ≡ none
+pub found-none : (l : rules.ScheduleAt) → None ≡ scheduleAtAs l → l ≡ none
 found-none none e = refl
 found-none (at k s) e = let z : _≡_ {A = ℕ} 0 1 = cc in absurd (omega arith)
 
@@ -115,7 +115,7 @@ module _ (bytes : List ℕ) (n : ℕ) (pos : 0 < n) (kind : Bool) (is : kind ≡
     look-here q =
         ap scheduleAtAs (sym (ap (exploringBelow bs) one-less ∙ stops-here bs (n - 1) (here .of) (here .is) (sym exploring-is ∙ q)))
 
-pub look-none : (bs : List Branch) (n : ℕ) → n ≤ 0 → Nowhere ≡ scheduleAtAs (exploringBelow bs n)
+pub look-none : (bs : List Branch) (n : ℕ) → n ≤ 0 → None ≡ scheduleAtAs (exploringBelow bs n)
 unfolding exploringBelow
 look-none bs zero h = refl
 look-none bs (suc n) h = absurd (omega arith)
@@ -157,7 +157,7 @@ module _ (bytes : List ℕ) (n : ℕ) (pos : 0 < n) (kind : Bool) (is : kind ≡
 pub last-all : (bs : List Branch) (n : ℕ) → length bs ≡ n → lastSchedule bs ≡ lastSchedule (take n bs)
 last-all bs n e = ap lastSchedule (sym (take-all n bs (omega arith)))
 
-pub last-none : (bs : List Branch) (n : ℕ) → n ≤ 0 → Nowhere ≡ scheduleAtAs (lastSchedule (take n bs))
+pub last-none : (bs : List Branch) (n : ℕ) → n ≤ 0 → None ≡ scheduleAtAs (lastSchedule (take n bs))
 unfolding lastSchedule
 last-none bs zero h = refl
 last-none bs (suc n) h = absurd (omega arith)
@@ -177,7 +177,7 @@ last-stands (b ∷ bs) = last-on-stands b bs (lastSchedule bs) (last-stands bs)
 
 -- The preemptions before a new one
 
-pub before-none : (l : rules.ScheduleAt) → Nowhere ≡ scheduleAtAs l → 0 ≡ preemptionsAfter l
+pub before-none : (l : rules.ScheduleAt) → None ≡ scheduleAtAs l → 0 ≡ preemptionsAfter l
 before-none none e = refl
 before-none (at k s) e = let z : _≡_ {A = ℕ} 0 1 = cc in absurd (omega arith)
 
@@ -212,15 +212,15 @@ module _ (bytes : List ℕ) (from curr : ℕ) (w : Walks bytes from curr) (f : S
     explores : x ≡ this .now .exploring
     explores = i ∙ stands-exploring (at-stands held)
 
-    first-of : f ≡ Nowhere → switchIn (schedulesBelow bs (from + 1)) ≡ ifExploring (at curr (this .now)) none
+    first-of : f ≡ None → switchIn (schedulesBelow bs (from + 1)) ≡ ifExploring (at curr (this .now)) none
     first-of e =
         let b : lastIn (schedulesBelow bs curr) ≡ none = found-none (lastIn (schedulesBelow bs curr)) (sym e ∙ prev-says held f g) in
         this .same ∙ switch-first bs curr (this .now) (this .stands) b
 
-    pub walk-first : f ≡ Nowhere → x ≡ true → At curr ≡ scheduleAtAs (switchIn (schedulesBelow bs (from + 1)))
+    pub walk-first : f ≡ None → x ≡ true → At curr ≡ scheduleAtAs (switchIn (schedulesBelow bs (from + 1)))
     walk-first e q = ap scheduleAtAs (sym (first-of e ∙ if-true curr (this .now) none (sym explores ∙ q)))
 
-    pub walk-nowhere : f ≡ Nowhere → x ≡ false → Nowhere ≡ scheduleAtAs (switchIn (schedulesBelow bs (from + 1)))
+    pub walk-nowhere : f ≡ None → x ≡ false → None ≡ scheduleAtAs (switchIn (schedulesBelow bs (from + 1)))
     walk-nowhere e q = ap scheduleAtAs (sym (first-of e ∙ if-false curr (this .now) none (sym explores ∙ q)))
 
     module _ (p : ℕ) (e : f ≡ At p) where
@@ -272,7 +272,7 @@ module _ (bound : rules.Bound) (k t : ℕ) (m : Marked) (s : Schedule) where
   unmarked-second h e = rw (second-is none e) (record { holds = h; opens = refl })
 
 module _ {entry : List ℕ} (bound : rules.Bound) (k t : ℕ) (f : ScheduleAt) (g : PrevOf entry k f) (m : Marked) (s : Schedule) (h : HoldsAt entry (m .path) k s) where
-  pub second-none : f ≡ Nowhere → PathMarked entry (markedBefore bound m (at k s) t) (m .opened + 0)
+  pub second-none : f ≡ None → PathMarked entry (markedBefore bound m (at k s) t) (m .opened + 0)
   unfolding switchIn
   second-none e =
       let b : lastIn (schedulesBelow (m .path) k) ≡ none = found-none (lastIn (schedulesBelow (m .path) k)) (sym e ∙ prev-says h f g) in
@@ -294,7 +294,7 @@ module _ {entry : List ℕ} (bound : rules.Bound) (k t : ℕ) (f : ScheduleAt) (
         ∙ ap (λ (x : ℕ). scheduleAtAs (switchIn (schedulesBelow (m .path) x))) (add-one p)
         ∙ ap (λ (x : List Placed). scheduleAtAs (switchIn x)) (sym (newest .same))
 
-    pub second-nowhere : c ≡ Nowhere → PathMarked entry (markedBefore bound m (at k s) t) (m .opened + 0)
+    pub second-nowhere : c ≡ None → PathMarked entry (markedBefore bound m (at k s) t) (m .opened + 0)
     second-nowhere q = unmarked-second bound k t m s (h .path) (found-none met (sym q ∙ met-is))
 
     pub second-at : (u : ℕ) → c ≡ At u → (exit : List ℕ) (r : ℕ) → MarksAt entry exit u bound t r → PathMarked exit (markedBefore bound m (at k s) t) (m .opened + r)
@@ -321,7 +321,7 @@ module _ {entry : List ℕ} (point t : ℕ) (f : ScheduleAt) (g : ExploringFrom 
   unmarked-by Unbounded e = rw e (record { holds = h; opens = refl })
   unmarked-by (AtMost n) e = rw e (record { holds = h; opens = refl })
 
-  pub mark-none : (bound : Bound) → f ≡ Nowhere → PathMarked entry (backtracked (boundOf bound) bs point t) 0
+  pub mark-none : (bound : Bound) → f ≡ None → PathMarked entry (backtracked (boundOf bound) bs point t) 0
   mark-none bound e = unmarked-by bound (found-none first (sym e ∙ g .says bs h))
 
   module _ (k : ℕ) (e : f ≡ At k) where

@@ -12,12 +12,12 @@ use Rattle.rules.specs.Path as rules
 use Rattle.rules.specs.Path.{Branch, Schedule, Bound, Marked, noBranch}
 use Rattle.record.specs.Places.{foundBelow}
 use Rattle.record.specs.declared.schedule.ScheduleAt.{ScheduleAt}
-use Rattle.record.specs.declared.schedule.ScheduleAt.the-variants.{At, Nowhere}
+use Rattle.record.specs.declared.schedule.ScheduleAt.the-variants.{At, None}
 use Rattle.path.specs.Holds.{Holds}
 use Rattle.path.specs.Places.{recordsOf}
 
 abbrev pub scheduleAtAs : rules.ScheduleAt → ScheduleAt
-scheduleAtAs rules.none = Nowhere
+scheduleAtAs rules.none = None
 scheduleAtAs (rules.at k s) = At k
 
 -- the bytes hold this path, and it has this schedule at a position

@@ -18,6 +18,7 @@ use layout::MAX_ATOMIC_HISTORY;
 use layout::MAX_THREADS;
 use record::Offered;
 use record::fields;
+pub use record::fields::MAX_PREEMPTIONS;
 use record::fields::RECORD;
 use record::fields::field;
 use record::load;
@@ -67,7 +68,7 @@ pub fn push_thread(
     }
     let prev = last_schedule(path, len);
     let preemptions = preemptions_before(path, len, prev);
-    if fields::MAX_PREEMPTIONS < preemptions {
+    if MAX_PREEMPTIONS < preemptions {
         return Addition::Preempted;
     }
     fields::begin(path, len, fields::KIND_SCHEDULE, exploring);
@@ -270,7 +271,7 @@ fn last_schedule(path: &[u8], len: usize) -> ScheduleAt
             return ScheduleAt::At(last);
         }
     }
-    ScheduleAt::Nowhere
+    ScheduleAt::None
 }
 
 // The preemptions before a new branch at a position, by the schedule record before it.
@@ -297,7 +298,7 @@ fn exploring_from(path: &[u8], point: usize) -> ScheduleAt
             }
         }
     }
-    ScheduleAt::Nowhere
+    ScheduleAt::None
 }
 
 // A mark in the schedule at a position: none where its preemptions have reached the bound.
@@ -351,7 +352,7 @@ fn switch_from(path: &[u8], from: usize) -> ScheduleAt
             if exploring {
                 return ScheduleAt::At(curr);
             }
-            return ScheduleAt::Nowhere;
+            return ScheduleAt::None;
         };
         if exploring {
             if schedule::active_thread_index(path, curr)

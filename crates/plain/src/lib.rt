@@ -5,7 +5,7 @@ ghost use Prim.Native.Nat.{_<_};
 ghost use Rattle.rules.specs.Plain.{plainReadRace, plainReadTracked, plainWriteRace, plainWriteTracked, plainReadDone};
 ghost use Rattle.rules.specs.State as rules;
 ghost use Rattle.layout.specs.Tables.{state};
-ghost use Rattle.track.specs.Tracked.{raceOf, Tracked};
+ghost use Rattle.track.specs.Tracked.{raceMeant, Tracked};
 ghost use Rattle.atomic.specs.Accesses.{accessOf};
 ghost use Rattle.plain.specs.Writes.{Writes};
 use atomic::AccessResult;
@@ -15,17 +15,17 @@ use layout::of_plain::READ_ACCESS;
 use layout::of_plain::VALUE;
 use layout::of_plain::WRITE_ACCESS;
 use layout::of_thread::CAUSALITY;
+use layout::races::PLAIN_READ_AGAINST_WRITE;
+use layout::races::PLAIN_WRITE_AGAINST_READ;
+use layout::races::PLAIN_WRITE_AGAINST_WRITE;
 use synchronize::join_into;
 use track::Race;
-use track::kinds::PLAIN_READ_AGAINST_WRITE;
-use track::kinds::PLAIN_WRITE_AGAINST_READ;
-use track::kinds::PLAIN_WRITE_AGAINST_WRITE;
 use track::race_with;
 
 // Track a read: no write may be ahead.
 pub fn track_read(clocks: &mut Clocks, thread: usize, plain: usize) -> Race
     requires { ⌜ (thread < 5) × (plain < 4) ⌝ }
-    ensures { λ r. ⌜ Tracked (raceOf r) (now (clocks .exit)) (plainReadRace (now (clocks .entry)) thread plain) (plainReadTracked (now (clocks .entry)) thread plain) ⌝ }
+    ensures { λ r. ⌜ Tracked (raceMeant r) (now (clocks .exit)) (plainReadRace (now (clocks .entry)) thread plain) (plainReadTracked (now (clocks .entry)) thread plain) ⌝ }
 {
     let at = WRITE_ACCESS + plain;
     if let Race::With { kind, other } = race_with(clocks, thread, at, PLAIN_READ_AGAINST_WRITE) {
@@ -38,7 +38,7 @@ pub fn track_read(clocks: &mut Clocks, thread: usize, plain: usize) -> Race
 // Track a write: no read and no write may be ahead.
 pub fn track_write(clocks: &mut Clocks, thread: usize, plain: usize) -> Race
     requires { ⌜ (thread < 5) × (plain < 4) ⌝ }
-    ensures { λ r. ⌜ Tracked (raceOf r) (now (clocks .exit)) (plainWriteRace (now (clocks .entry)) thread plain) (plainWriteTracked (now (clocks .entry)) thread plain) ⌝ }
+    ensures { λ r. ⌜ Tracked (raceMeant r) (now (clocks .exit)) (plainWriteRace (now (clocks .entry)) thread plain) (plainWriteTracked (now (clocks .entry)) thread plain) ⌝ }
 {
     let at = READ_ACCESS + plain;
     if let Race::With { kind, other } = race_with(clocks, thread, at, PLAIN_WRITE_AGAINST_READ) {
@@ -72,7 +72,7 @@ pub fn write(
     value: u64,
 ) -> Race
     requires { ⌜ (thread < 5) × (plain < 4) ⌝ }
-    ensures { λ r. ⌜ Writes (raceOf r) (now (clocks .entry)) (now (clocks .exit)) (now (values .entry)) (now (values .exit)) thread plain value ⌝ }
+    ensures { λ r. ⌜ Writes (raceMeant r) (now (clocks .entry)) (now (clocks .exit)) (now (values .entry)) (now (values .exit)) thread plain value ⌝ }
 {
     if let Race::With { kind, other } = track_write(clocks, thread, plain) {
         return Race::With { kind, other };

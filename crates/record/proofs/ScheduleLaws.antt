@@ -20,7 +20,7 @@ use Rattle.record.specs.Fields.{recordByte, statesAt}
 use Rattle.record.specs.Places.{First, orFive}
 use Rattle.record.specs.Schedules.{byteOf, positionAt, prevIn}
 use Rattle.record.specs.Stands.{BranchStands}
-use Rattle.record.specs.declared.schedule.ScheduleAt.the-variants.{At, Nowhere}
+use Rattle.record.specs.declared.schedule.ScheduleAt.the-variants.{At, None}
 use Rattle.record.proofs.StandsLaws.{stands-field, stands-states, five-states}
 
 -- The threads of five
@@ -128,7 +128,7 @@ module _ (bytes : List ℕ) (k low high : ℕ) (e : low ≡ recordByte bytes k 9
   position-is : low + 256 * high ≡ positionAt bytes k
   position-is = omega arith
 
-  pub prev-above : k ≤ low + 256 * high → Nowhere ≡ prevIn bytes k
+  pub prev-above : k ≤ low + 256 * high → None ≡ prevIn bytes k
   unfolding prevIn
   prev-above b = let z : ltb (positionAt bytes k) k ≡ false = le-ltb (positionAt bytes k) k (omega arith) in rw z
 
@@ -139,7 +139,7 @@ module _ (bytes : List ℕ) (k low high : ℕ) (e : low ≡ recordByte bytes k 9
     kind-is : kind ≡ eqb (recordByte bytes (positionAt bytes k) 0) 1
     kind-is = g ∙ ap (λ (x : ℕ). eqb (recordByte bytes x 0) 1) position-is
 
-    pub prev-other : kind ≡ false → Nowhere ≡ prevIn bytes k
+    pub prev-other : kind ≡ false → None ≡ prevIn bytes k
     unfolding prevIn
     prev-other q = rw (below-it, ← kind-is, q)
 

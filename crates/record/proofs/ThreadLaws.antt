@@ -22,7 +22,7 @@ use Rattle.record.specs.Fields.{withRecordByte, statesAt, withStatesAt, 
 use Rattle.record.specs.Places.{First, orFive}
 use Rattle.record.specs.Schedules.{byteOf, initialAt}
 use Rattle.record.specs.declared.schedule.ScheduleAt.{ScheduleAt}
-use Rattle.record.specs.declared.schedule.ScheduleAt.the-variants.{At, Nowhere}
+use Rattle.record.specs.declared.schedule.ScheduleAt.the-variants.{At, None}
 use Rattle.record.proofs.StatesLaws.{length-statesAt, state-put, states-same}
 use Rattle.record.proofs.ScheduleLaws.{fewer, first-of-five, five-byte, five-alike}
 
@@ -117,7 +117,7 @@ module _ (bytes : List ℕ) (k : ℕ) (fits : 16 * k + 16 ≤ length bytes) wher
     own-byte : byteOf a ≡ orNone (activeIn own)
     own-byte = ap byteOf (f .is) ∙ five-byte (activeIn own) (few active)
 
-    pub initial-first : (prev : ScheduleAt) (r : ℕ) → prev ≡ Nowhere → r ≡ byteOf a → r ≡ initialAt bytes k prev
+    pub initial-first : (prev : ScheduleAt) (r : ℕ) → prev ≡ None → r ≡ byteOf a → r ≡ initialAt bytes k prev
     initial-first prev r e g = rw e (g ∙ own-byte)
 
     module _ (prev : ScheduleAt) (p b : ℕ) (room : 16 * p + 16 ≤ length bytes) (e : prev ≡ At p) (g : First (statesAt bytes p) active b) where

@@ -5,13 +5,13 @@ use mathlib.Core.List.{List}
 use Rattle.rules.specs.Vector.{Whom, nobody, thread}
 use Rattle.rules.specs.Path.{firstIn}
 use Rattle.record.specs.declared.schedule.ScheduleAt.{ScheduleAt}
-use Rattle.record.specs.declared.schedule.ScheduleAt.the-variants.{At, Nowhere}
+use Rattle.record.specs.declared.schedule.ScheduleAt.the-variants.{At, None}
 pub use Rattle.layout.specs.Threads.{orFive}
 
 -- it stands below a position
 abbrev pub foundBelow : ℕ → ScheduleAt → Type 0
 foundBelow n (At p) = p < n
-foundBelow n Nowhere = Unit
+foundBelow n None = Unit
 
 -- the lowest thread of these that is in a state
 pub record First (states : List ℕ) (x r : ℕ) : Type 0 where

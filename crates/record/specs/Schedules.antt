@@ -15,7 +15,7 @@ use Rattle.record.specs.Fields.{recordByte, statesAt, withStatesAt}
 use Rattle.record.specs.Places.{foundBelow}
 use Rattle.record.specs.Stands.{BranchStands}
 use Rattle.record.specs.declared.schedule.ScheduleAt.{ScheduleAt}
-use Rattle.record.specs.declared.schedule.ScheduleAt.the-variants.{At, Nowhere}
+use Rattle.record.specs.declared.schedule.ScheduleAt.the-variants.{At, None}
 
 -- a thread's index as a record's byte
 abbrev pub byteOf : ℕ → ℕ
@@ -23,7 +23,7 @@ byteOf t = cond (ltb t 5) t noThread
 
 -- a position as a record's prev
 abbrev pub positionOf : ScheduleAt → ℕ
-positionOf Nowhere = noPrev
+positionOf None = noPrev
 positionOf (At p) = p
 
 -- the position that a record's prev names
@@ -33,7 +33,7 @@ positionAt path at = recordByte path at 9 + 256 * recordByte path at 10
 -- the schedule there, if it is one and stands below
 unfoldable pub prevIn : List ℕ → ℕ → ScheduleAt
 prevIn path at =
-    cond (ltb (positionAt path at) at && eqb (recordByte path (positionAt path at) 0) 1) (At (positionAt path at)) Nowhere
+    cond (ltb (positionAt path at) at && eqb (recordByte path (positionAt path at) 0) 1) (At (positionAt path at)) None
 
 -- the schedule before the one at a position
 pub record PrevOf (path : List ℕ) (at : ℕ) (r : ScheduleAt) : Type 0 where
@@ -69,6 +69,6 @@ pub record RecordMarked (entry exit : List ℕ) (at t r : ℕ) : Type 0 where
 
 -- the Active of the record at a position, unless the record before has another
 abbrev pub initialAt : List ℕ → ℕ → ScheduleAt → ℕ
-initialAt path at Nowhere = orNone (activeIn (statesAt path at))
+initialAt path at None = orNone (activeIn (statesAt path at))
 initialAt path at (At p) =
     cond (eqb (orNone (activeIn (statesAt path at))) (orNone (activeIn (statesAt path p)))) (orNone (activeIn (statesAt path at))) noThread

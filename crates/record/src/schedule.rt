@@ -18,7 +18,7 @@ use layout::wide8;
 // A schedule record of the path, by its position, or none.
 pub enum ScheduleAt {
     At(usize),
-    Nowhere,
+    None,
 }
 
 // The lowest thread in a state, or MAX_THREADS where there is none.
@@ -82,10 +82,10 @@ pub fn prev(path: &[u8], at: usize) -> ScheduleAt
     let high = wide8(field(path, at, fields::PREV_HIGH));
     let prev = low + 256 * high;
     if at <= prev {
-        return ScheduleAt::Nowhere;
+        return ScheduleAt::None;
     }
     if !fields::is_kind(path, prev, fields::KIND_SCHEDULE) {
-        return ScheduleAt::Nowhere;
+        return ScheduleAt::None;
     }
     ScheduleAt::At(prev)
 }

@@ -118,7 +118,7 @@ fn bad_count(table: &[u8], threads: usize) -> usize
     let mut thread = 0;
     while thread < MAX_THREADS {
         let count = wide8(table[ROW_COUNTS + thread]);
-        if !table::count_fine(threads, thread, count) {
+        if !table::count_fine(thread, count, threads) {
             return thread;
         }
         thread += 1;

@@ -25,6 +25,7 @@ use layout::Marks;
 use layout::Numbers;
 use layout::Operation;
 use layout::Values;
+use layout::action;
 use layout::of_run::EXPLORING;
 use layout::of_run::ROWS_BEGUN;
 use layout::of_run::SKIPPING;
@@ -37,7 +38,6 @@ use layout::of_thread::ROWS;
 use layout::of_thread::SCHEDULE;
 use layout::register_at;
 use synchronize::join_into;
-use track::access;
 
 // Begins a row, if fewer than the limit have begun. Opcodes 0 to 3 set their operation and call the scheduling first; where the
 // event is that it moves, the row is to act at once.
@@ -68,10 +68,10 @@ fn pending_of(op: Op) -> Pending
     ensures { λ r. ⌜ Pends r (machine.pendingOf (opOf op)) ⌝ }
 {
     match op {
-        Op::Load { cell, .. } => on(access::A_LOAD, cell),
-        Op::Store { cell, .. } => on(access::A_STORE, cell),
-        Op::StoreRegister { cell, .. } => on(access::A_STORE, cell),
-        Op::Rmw { cell, .. } => on(access::A_RMW, cell),
+        Op::Load { cell, .. } => on(action::A_LOAD, cell),
+        Op::Store { cell, .. } => on(action::A_STORE, cell),
+        Op::StoreRegister { cell, .. } => on(action::A_STORE, cell),
+        Op::Rmw { cell, .. } => on(action::A_RMW, cell),
         _ => Pending::Nothing,
     }
 }

@@ -6,6 +6,7 @@ ghost use Rattle.rules.specs.Explored as rules;
 ghost use Rattle.settings.specs.Given.{settingsOf};
 pub use layout::RECORD;
 use path::Bound;
+use path::MAX_PREEMPTIONS;
 
 pub struct Settings {
     pub branches: u64,
@@ -15,14 +16,14 @@ pub struct Settings {
     pub exploring: bool,
 }
 
-// The largest settings, by document 01, and that of branches by document 02, §4.
+// The largest settings, by document 01, and that of branches by document 02, §4. A bound is one of the preemptions that a record counts.
 pub const MAX_BRANCHES: u64 = 4096;
 
 pub const MAX_OPERATIONS: u64 = 4096;
 
 pub const MAX_EXECUTIONS: u64 = 65535;
 
-pub const MAX_BOUND: u64 = 255;
+pub const MAX_BOUND: u64 = MAX_PREEMPTIONS as u64;
 
 // The bytes of the largest buffers.
 pub const PATH_BYTES: usize = RECORD * MAX_BRANCHES as usize;

@@ -12,11 +12,13 @@ use change::Change;
 use change::Changed;
 use decode::Decoded;
 use decode::Op;
+use layout::ALL_REGISTERS;
 use layout::MAX_ATOMIC_HISTORY;
 use layout::MAX_CELLS;
 use layout::MAX_PLAINS;
 use layout::MAX_THREADS;
 use layout::REGISTERS;
+use layout::STORES;
 use layout::register_at;
 use layout::store_at;
 use layout::wide8;
@@ -26,13 +28,13 @@ use vv::LARGEST;
 // next rows, the writers of plain cells.
 pub type Held = [u64; HELD];
 
-const COUNT: usize = MAX_CELLS * MAX_ATOMIC_HISTORY;
+const COUNT: usize = STORES;
 
 const NEWEST: usize = COUNT + MAX_CELLS;
 
 const REGISTER: usize = NEWEST + MAX_CELLS;
 
-const NEXT: usize = REGISTER + MAX_THREADS * REGISTERS;
+const NEXT: usize = REGISTER + ALL_REGISTERS;
 
 const PLAIN_WRITER: usize = NEXT + MAX_THREADS;
 

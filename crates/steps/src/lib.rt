@@ -12,7 +12,6 @@ use layout::RECORD;
 use layout::short8;
 use layout::wide8;
 use table::COUNTS;
-use table::little;
 use trace::of_entry;
 
 pub mod held;

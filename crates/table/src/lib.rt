@@ -10,7 +10,6 @@ ghost use Rattle.table.specs.Answers.{judgedOf, roomIn, OpAt, PlaceOf};
 
 pub mod fields;
 pub mod limits;
-pub mod little;
 
 use decode::Decoded;
 use decode::Room;
@@ -52,17 +51,17 @@ use limits::VALUE_BYTES;
 // first seven numbers are the header's, in their places.
 pub type Shape = [u16; SHAPE];
 
-pub const SHAPE: usize = 13;
-
 pub const THREADS: usize = THREAD_COUNT;
 
 pub const CELLS: usize = CELL_COUNT;
 
 pub const COUNTS: usize = ROW_COUNTS;
 
-pub const FIRSTS: usize = 7;
+pub const FIRSTS: usize = COUNTS + MAX_THREADS;
 
-pub const PLAINS: usize = 12;
+pub const PLAINS: usize = FIRSTS + MAX_THREADS;
+
+pub const SHAPE: usize = PLAINS + 1;
 
 // Where a shape has the last thread's row count and first row, whose sum is the number of all rows.
 pub const LAST_COUNT: usize = COUNTS + MAX_THREADS - 1;
@@ -151,25 +150,25 @@ pub fn start_value(table: &[u8], i: usize) -> u64
     0
 }
 
-// What row `number` of this thread does, in a table of this shape.
-pub fn row_of(table: &[u8], shape: &Shape, thread: usize, number: u16) -> Decoded
+// What this thread's row with this number does, in a table of this shape.
+pub fn row_of(table: &[u8], shape: &Shape, thread: usize, row: u16) -> Decoded
     requires { ⌜ thread < 5 ⌝ }
-    ensures { λ r. ⌜ OpAt (now (table .entry)) (roomIn (now (shape .entry)) thread number) (getD (now (shape .entry)) (7 + thread) 0 + number) r ⌝ }
+    ensures { λ r. ⌜ OpAt (now (table .entry)) (roomIn (now (shape .entry)) thread row) (getD (now (shape .entry)) (7 + thread) 0 + row) r ⌝ }
 {
     let threads = wide16(shape[THREADS]);
     let cells = wide16(shape[CELLS]);
     let plains = wide16(shape[PLAINS]);
     let rows = wide16(shape[COUNTS + thread]);
-    let row = wide16(number);
+    let own = wide16(row);
     let room = Room {
         threads,
         cells,
         plains,
         rows,
-        row,
+        row: own,
     };
     let first = wide16(shape[FIRSTS + thread]);
-    op_at(table, room, first + row)
+    op_at(table, room, first + own)
 }
 
 // What the row of this number among all rows does, in this room. Refused where the table does not hold it, and where there are
@@ -286,7 +285,7 @@ fn counts_fine(table: &[u8], threads: usize) -> bool
     let mut thread = 0;
     while thread < MAX_THREADS {
         let count = wide8(table[ROW_COUNTS + thread]);
-        if !count_fine(threads, thread, count) {
+        if !count_fine(thread, count, threads) {
             return false;
         }
         thread += 1;
@@ -295,7 +294,7 @@ fn counts_fine(table: &[u8], threads: usize) -> bool
 }
 
 // Whether one thread has not too many rows, and none where it is past the threads.
-pub fn count_fine(threads: usize, thread: usize, count: usize) -> bool
+pub fn count_fine(thread: usize, count: usize, threads: usize) -> bool
     ensures { λ r. ⌜ r ≡ countFine threads thread count ⌝ }
 {
     if thread < threads {

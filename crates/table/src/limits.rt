@@ -14,9 +14,9 @@ pub const ALL_ROWS: usize = MAX_THREADS * MAX_ROWS;
 // Where the header counts the threads, the cells, the rows of each thread, and the plain cells.
 pub const THREAD_COUNT: usize = 0;
 
-pub const CELL_COUNT: usize = 1;
+pub const CELL_COUNT: usize = THREAD_COUNT + 1;
 
-pub const ROW_COUNTS: usize = 2;
+pub const ROW_COUNTS: usize = CELL_COUNT + 1;
 
 // Those of the threads behind the first.
 pub const COUNT_OF_1: usize = ROW_COUNTS + 1;
@@ -30,7 +30,7 @@ pub const COUNT_OF_4: usize = ROW_COUNTS + 4;
 // With the number of threads added: where it counts the rows of the last.
 pub const COUNT_OF_LAST: usize = ROW_COUNTS - 1;
 
-pub const PLAIN_COUNT: usize = 7;
+pub const PLAIN_COUNT: usize = ROW_COUNTS + MAX_THREADS;
 
 // In bytes: the header, a cell's start value, a row.
 pub const HEADER_BYTES: usize = 8;

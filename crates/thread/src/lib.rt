@@ -8,6 +8,7 @@ ghost use Rattle.layout.specs.Tables.{state};
 use layout::Clocks;
 use layout::MAX_THREADS;
 use layout::Numbers;
+use layout::action::NO_OPERATION;
 use layout::of_thread::AWAITS;
 use layout::of_thread::CAUSALITY;
 use layout::of_thread::LAST_YIELD;
@@ -34,9 +35,6 @@ pub const ENDED: u16 = 4;
 pub const TO_BEGIN: u16 = 0;
 
 pub const TO_ACT: u16 = 1;
-
-// A thread that has no pending operation.
-pub const NO_OPERATION: u16 = 0;
 
 // Whether the thread's row is still to begin.
 pub fn is_to_begin(numbers: &Numbers, thread: usize) -> bool

@@ -1,5 +1,5 @@
 -- The laws of the code that writes entries: an entry's bytes, zeros. Assumes nothing.
---     entry-bytes               an entry's bytes, its value's from two halves
+--     entry-bytes               an entry's bytes, its value's one by one
 --     note-none, note-one       no room, and an entry written
 --     clear-none, clear-on, clear-all      zeros put one after the other, up to the end or to that of the bytes
 use Prim.Native.Nat.{ℕ, _+_, _*_, _/_, _%_, _≤_, _<_}
@@ -12,14 +12,17 @@ use native.Mathlib.Decide.{decLt}
 use lib.ListN.{length, getD, set, length-set, List·getD-eq-default}
 use lib.Seq.{paste, getD-set-same, getD-set-other}
 use Rattle.rules.specs.Event.{Entry, little, entryBytes}
-use Rattle.rules.proofs.LittleLaws.{halves, low-eight}
+use Rattle.rules.proofs.LittleLaws.{eight-bytes}
 use Rattle.trace.specs.Entries.{Notes, Cleared}
 
 -- An entry's bytes
 
-pub entry-bytes : (e : Entry) → e .thread % 256 ∷ e .row % 256 ∷ e .opcode ∷ e .slot ∷ e .mask ∷ 0 ∷ 0 ∷ 0 ∷ halves (e .value) ≡ entryBytes e
+pub entry-bytes : (e : Entry) (value : List ℕ) → value ≡ little 8 (e .value)
+    → e .thread % 256 ∷ e .row % 256 ∷ e .opcode ∷ e .slot ∷ e .mask ∷ 0 ∷ 0 ∷ 0
+    ∷ getD value 0 0 ∷ getD value 1 0 ∷ getD value 2 0 ∷ getD value 3 0 ∷ getD value 4 0 ∷ getD value 5 0 ∷ getD value 6 0 ∷ getD value 7 0 ∷ []
+    ≡ entryBytes e
 unfolding entryBytes
-entry-bytes e = rw (low-eight (e .value))
+entry-bytes e value h = rw (eight-bytes value (e .value) h)
 
 pub length-entryBytes : (e : Entry) → length (entryBytes e) ≡ 16
 unfolding entryBytes little

@@ -8,6 +8,7 @@ ghost use Rattle.rules.specs.Event.{entryBytes};
 ghost use lib.Seq.{paste};
 ghost use Rattle.trace.specs.Entries.{entryOf, Notes, Cleared, Zeros};
 use layout::RECORD;
+use little::low_bytes;
 
 pub mod of_entry;
 
@@ -36,8 +37,7 @@ pub fn note(trace: &mut [u8], entries: usize, entry: Entry) -> bool
 fn bytes_of(entry: Entry) -> [u8; RECORD]
     ensures { λ r. ⌜ r ≡ entryBytes (entryOf entry) ⌝ }
 {
-    let low = entry.value % 0x1_0000_0000;
-    let high = entry.value / 0x1_0000_0000;
+    let value = low_bytes(entry.value);
     [
         (entry.thread % 256) as u8,
         (entry.row % 256) as u8,
@@ -47,14 +47,14 @@ fn bytes_of(entry: Entry) -> [u8; RECORD]
         0,
         0,
         0,
-        (low % 256) as u8,
-        (low / 256 % 256) as u8,
-        (low / 65536 % 256) as u8,
-        (low / 16777216 % 256) as u8,
-        (high % 256) as u8,
-        (high / 256 % 256) as u8,
-        (high / 65536 % 256) as u8,
-        (high / 16777216 % 256) as u8,
+        value[0],
+        value[1],
+        value[2],
+        value[3],
+        value[4],
+        value[5],
+        value[6],
+        value[7],
     ]
 }
 

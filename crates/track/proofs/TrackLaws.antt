@@ -9,10 +9,10 @@ use Rattle.rules.specs.Cell as rules
 use Rattle.rules.specs.Cell.{noRace, orElse, recorded, joinInto}
 use Rattle.rules.specs.State.{Clocks, Vector, causality}
 use Rattle.track.specs.declared.Race.{Race}
-use Rattle.track.specs.Tracked.{raceOf, Tracked}
+use Rattle.track.specs.Tracked.{raceMeant, Tracked}
 
-pub answered : (r s : Race) (x : rules.Race) → r ≡ s → raceOf r ≡ x → raceOf s ≡ x
-answered r s x e f = sym (ap raceOf e) ∙ f
+pub answered : (r s : Race) (x : rules.Race) → r ≡ s → raceMeant r ≡ x → raceMeant s ≡ x
+answered r s x e f = sym (ap raceMeant e) ∙ f
 
 pub here : (a b : rules.Race) (kind other : ℕ) → rules.raceOf kind other ≡ a → rules.raceOf kind other ≡ orElse a b
 here a b kind other e = rw (← e)

@@ -6,9 +6,9 @@ use Rattle.track.specs.declared.Race.{Race}
 use Rattle.track.specs.declared.Race.the-variants.{Nothing, With}
 
 -- the race that each answer stands for
-abbrev pub raceOf : Race → rules.Race
-raceOf Nothing = rules.noRace
-raceOf (With kind other) = rules.raceOf kind other
+abbrev pub raceMeant : Race → rules.Race
+raceMeant Nothing = rules.noRace
+raceMeant (With kind other) = rules.raceOf kind other
 
 -- the race that is answered and the clocks that are left, as they are to be
 pub record Tracked (race : rules.Race) (clocks : Clocks) (toAnswer : rules.Race) (toLeave : Clocks) : Type 0 where

@@ -13,19 +13,13 @@ use layout::MAX_THREADS;
 use layout::NONE;
 use layout::Numbers;
 use layout::Operation;
+use layout::action::A_LOAD;
 use layout::of_cell::ACCESS_BRANCH;
 use layout::of_cell::LAST_ACCESS;
 use layout::of_cell::LAST_NON_LOAD_ACCESS;
 use layout::of_cell::NON_LOAD_BRANCH;
 use layout::of_thread::SCHEDULE;
 use vv::VersionVec;
-
-// The operation that a thread is about to take, as a number; 0 is none (crate thread).
-pub const A_LOAD: u16 = 1;
-
-pub const A_STORE: u16 = 2;
-
-pub const A_RMW: u16 = 3;
 
 // The branch of the access that this operation depends on, or NONE: a load does not depend on loads.
 pub fn last_dependent_branch(numbers: &Numbers, operation: Operation) -> u16

@@ -6,28 +6,27 @@ ghost use lib.ListN.{getD};
 ghost use Rattle.rules.specs.Cell.{ofKind, loadRace, loadTracked, unsyncLoadRace, unsyncLoadTracked, storeRace, storeTracked, mutRace, mutTracked};
 ghost use Rattle.rules.specs.State.{vector, causality};
 ghost use Rattle.rules.specs.Vector as rules;
-ghost use Rattle.track.specs.Tracked.{raceOf, Tracked};
-use crate::kinds::LOAD_AGAINST_MUT;
-use crate::kinds::MUT_AGAINST_LOAD;
-use crate::kinds::MUT_AGAINST_MUT;
-use crate::kinds::MUT_AGAINST_STORE;
-use crate::kinds::MUT_AGAINST_UNSYNC_LOAD;
-use crate::kinds::STORE_AGAINST_MUT;
-use crate::kinds::STORE_AGAINST_UNSYNC_LOAD;
-use crate::kinds::UNSYNC_LOAD_AGAINST_MUT;
-use crate::kinds::UNSYNC_LOAD_AGAINST_STORE;
+ghost use Rattle.track.specs.Tracked.{raceMeant, Tracked};
 use layout::Clocks;
 use layout::of_cell::LOADED_AT;
 use layout::of_cell::STORED_AT;
 use layout::of_cell::UNSYNC_LOADED_AT;
 use layout::of_cell::UNSYNC_MUT_AT;
 use layout::of_thread::CAUSALITY;
+use layout::races::LOAD_AGAINST_MUT;
+use layout::races::MUT_AGAINST_LOAD;
+use layout::races::MUT_AGAINST_MUT;
+use layout::races::MUT_AGAINST_STORE;
+use layout::races::MUT_AGAINST_UNSYNC_LOAD;
+use layout::races::STORE_AGAINST_MUT;
+use layout::races::STORE_AGAINST_UNSYNC_LOAD;
+use layout::races::UNSYNC_LOAD_AGAINST_MUT;
+use layout::races::UNSYNC_LOAD_AGAINST_STORE;
 use synchronize::join_into;
 use vv::Ahead;
 use vv::VersionVec;
 
 pub mod access;
-pub mod kinds;
 
 // No race, or the kind of race by document 01's number and the lowest thread that is ahead.
 pub enum Race {
@@ -38,7 +37,7 @@ pub enum Race {
 // A race of this kind where the accesses recorded at `at` have a thread ahead of the current one.
 pub fn race_with(clocks: &Clocks, thread: usize, at: usize, kind: u8) -> Race
     requires { ⌜ (thread < 5) × (at < 132) ⌝ }
-    ensures { λ r. ⌜ raceOf r ≡ ofKind kind (rules.ahead (vector (now (clocks .entry)) (causality thread)) (getD (now (clocks .entry)) at [])) ⌝ }
+    ensures { λ r. ⌜ raceMeant r ≡ ofKind kind (rules.ahead (vector (now (clocks .entry)) (causality thread)) (getD (now (clocks .entry)) at [])) ⌝ }
 {
     let current = clocks[CAUSALITY + thread];
     let recorded = clocks[at];
@@ -52,7 +51,7 @@ pub fn race_with(clocks: &Clocks, thread: usize, at: usize, kind: u8) -> Race
 // Track an atomic load.
 pub fn track_load(clocks: &mut Clocks, thread: usize, cell: usize) -> Race
     requires { ⌜ (thread < 5) × (cell < 4) ⌝ }
-    ensures { λ r. ⌜ Tracked (raceOf r) (now (clocks .exit)) (loadRace (now (clocks .entry)) thread cell) (loadTracked (now (clocks .entry)) thread cell) ⌝ }
+    ensures { λ r. ⌜ Tracked (raceMeant r) (now (clocks .exit)) (loadRace (now (clocks .entry)) thread cell) (loadTracked (now (clocks .entry)) thread cell) ⌝ }
 {
     let at = UNSYNC_MUT_AT + cell;
     if let Race::With { kind, other } = race_with(clocks, thread, at, LOAD_AGAINST_MUT) {
@@ -65,7 +64,7 @@ pub fn track_load(clocks: &mut Clocks, thread: usize, cell: usize) -> Race
 // Track an unsynchronised load.
 pub fn track_unsync_load(clocks: &mut Clocks, thread: usize, cell: usize) -> Race
     requires { ⌜ (thread < 5) × (cell < 4) ⌝ }
-    ensures { λ r. ⌜ Tracked (raceOf r) (now (clocks .exit)) (unsyncLoadRace (now (clocks .entry)) thread cell) (unsyncLoadTracked (now (clocks .entry)) thread cell) ⌝ }
+    ensures { λ r. ⌜ Tracked (raceMeant r) (now (clocks .exit)) (unsyncLoadRace (now (clocks .entry)) thread cell) (unsyncLoadTracked (now (clocks .entry)) thread cell) ⌝ }
 {
     let at = UNSYNC_MUT_AT + cell;
     if let Race::With { kind, other } = race_with(clocks, thread, at, UNSYNC_LOAD_AGAINST_MUT) {
@@ -82,7 +81,7 @@ pub fn track_unsync_load(clocks: &mut Clocks, thread: usize, cell: usize) -> Rac
 // Track an atomic store.
 pub fn track_store(clocks: &mut Clocks, thread: usize, cell: usize) -> Race
     requires { ⌜ (thread < 5) × (cell < 4) ⌝ }
-    ensures { λ r. ⌜ Tracked (raceOf r) (now (clocks .exit)) (storeRace (now (clocks .entry)) thread cell) (storeTracked (now (clocks .entry)) thread cell) ⌝ }
+    ensures { λ r. ⌜ Tracked (raceMeant r) (now (clocks .exit)) (storeRace (now (clocks .entry)) thread cell) (storeTracked (now (clocks .entry)) thread cell) ⌝ }
 {
     let at = UNSYNC_MUT_AT + cell;
     if let Race::With { kind, other } = race_with(clocks, thread, at, STORE_AGAINST_MUT) {
@@ -99,7 +98,7 @@ pub fn track_store(clocks: &mut Clocks, thread: usize, cell: usize) -> Race
 // Track an exclusive change.
 pub fn track_unsync_mut(clocks: &mut Clocks, thread: usize, cell: usize) -> Race
     requires { ⌜ (thread < 5) × (cell < 4) ⌝ }
-    ensures { λ r. ⌜ Tracked (raceOf r) (now (clocks .exit)) (mutRace (now (clocks .entry)) thread cell) (mutTracked (now (clocks .entry)) thread cell) ⌝ }
+    ensures { λ r. ⌜ Tracked (raceMeant r) (now (clocks .exit)) (mutRace (now (clocks .entry)) thread cell) (mutTracked (now (clocks .entry)) thread cell) ⌝ }
 {
     let at = LOADED_AT + cell;
     if let Race::With { kind, other } = race_with(clocks, thread, at, MUT_AGAINST_LOAD) {

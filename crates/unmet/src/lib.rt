@@ -9,9 +9,9 @@ use condition::THREAD_AT;
 use condition::compared;
 use condition::is_sign;
 use layout::wide8;
+use little::u64_at;
 use steps::held;
 use steps::held::Held;
-use table::little::u64_at;
 
 // The most threads whose numbers have one digit.
 const ONE_DIGIT: usize = 10;

@@ -1,6 +1,6 @@
 use mathlib.Core.Path.{ap}
 use borrow.Author.Needs.{needs}
-use Rattle.track.specs.Tracked.{raceOf}
+use Rattle.track.specs.Tracked.{raceMeant}
 use Rattle.accesses.proofs.AccessLaws.{write-raced, write-done}
 use Rattle.accesses.proofs.plain_write_row.Statement.{statement}
 use Rattle.accesses.proofs.plain_write_row.Tie as tie
@@ -16,7 +16,7 @@ returns c =
     let call = c .before .before .before in
     let args = call .before .before .before .args in
     λ marks opcode m.
-    write-raced _ _ opcode (args .value) _ _ (call .write .ensures .answer) _ _ _ (call .write .ensures .left marks (args .numbers .now)) _ _ (ap raceOf (c .before .kind .given .1))
+    write-raced _ _ opcode (args .value) _ _ (call .write .ensures .answer) _ _ _ (call .write .ensures .left marks (args .numbers .now)) _ _ (ap raceMeant (c .before .kind .given .1))
 
 enum-told : tie.Need-enum-told
 enum-told c = search needs
@@ -33,7 +33,7 @@ returns-2 c =
     let call = told .before .before in
     let args = call .before .before .before .args in
     λ marks opcode m.
-    write-done _ _ opcode (args .value) _ _ (call .write .ensures .answer) _ _ _ (call .write .ensures .left marks (args .numbers .now)) (ap raceOf (told .enum-told .given .1)) _ _
+    write-done _ _ opcode (args .value) _ _ (call .write .ensures .answer) _ _ _ (call .write .ensures .left marks (args .numbers .now)) (ap raceMeant (told .enum-told .given .1)) _ _
     (c .before .one-more .ensures) (c .complete .ensures _ _ _)
 
 pub plain-write-row-spec : {M : Type 1} → statement M

@@ -1,7 +1,7 @@
 use Rattle.rules.proofs.LittleLaws.{low-eight}
 use borrow.Author.Needs.{needs}
-use Rattle.table.proofs.little.low_bytes.Statement.{statement}
-use Rattle.table.proofs.little.low_bytes.Tie as tie
+use Rattle.little.proofs.low_bytes.Statement.{statement}
+use Rattle.little.proofs.low_bytes.Tie as tie
 
 cast-t5 : tie.Need-cast-t5
 cast-t5 c = search needs

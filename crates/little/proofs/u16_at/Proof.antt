@@ -1,8 +1,8 @@
 use native.Mathlib.Omega.{arith}
 use Rattle.rules.specs.Table.{u16At}
 use borrow.Author.Needs.{needs}
-use Rattle.table.proofs.little.u16_at.Statement.{statement}
-use Rattle.table.proofs.little.u16_at.Tie as tie
+use Rattle.little.proofs.u16_at.Statement.{statement}
+use Rattle.little.proofs.u16_at.Tie as tie
 
 shared-slice-read-short8 : tie.Need-shared-slice-read-short8
 shared-slice-read-short8 c = search needs

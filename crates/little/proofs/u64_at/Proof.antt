@@ -1,8 +1,8 @@
 use native.Mathlib.Omega.{arith}
 use Rattle.rules.specs.Table.{u64At}
 use borrow.Author.Needs.{needs}
-use Rattle.table.proofs.little.u64_at.Statement.{statement}
-use Rattle.table.proofs.little.u64_at.Tie as tie
+use Rattle.little.proofs.u64_at.Statement.{statement}
+use Rattle.little.proofs.u64_at.Tie as tie
 
 u32-at-requires : tie.Need-u32-at-requires
 u32-at-requires c κs = search needs

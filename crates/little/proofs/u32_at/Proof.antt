@@ -1,8 +1,8 @@
 use native.Mathlib.Omega.{arith}
 use Rattle.rules.specs.Table.{u32At}
 use borrow.Author.Needs.{needs}
-use Rattle.table.proofs.little.u32_at.Statement.{statement}
-use Rattle.table.proofs.little.u32_at.Tie as tie
+use Rattle.little.proofs.u32_at.Statement.{statement}
+use Rattle.little.proofs.u32_at.Tie as tie
 
 u16-at-requires : tie.Need-u16-at-requires
 u16-at-requires c κs = search needs
