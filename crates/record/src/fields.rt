@@ -6,43 +6,45 @@ ghost use lib.ListN.{length};
 ghost use lib.Dec.{eqb};
 ghost use Rattle.rules.specs.Path.{flag};
 ghost use Rattle.record.specs.Fields.{recordByte, withRecordByte, recordBegun, cleared};
+use layout::MAX_ATOMIC_HISTORY;
+use layout::MAX_THREADS;
 pub use layout::RECORD;
 
 // Every record: its kind.
 pub const KIND: usize = 0;
 
 // Every record: 1 where its choices are explored, else 0.
-pub const EXPLORING: usize = 1;
+pub const EXPLORING: usize = KIND + 1;
 
 // A schedule: the first of five thread states.
-pub const THREADS: usize = 2;
+pub const THREADS: usize = EXPLORING + 1;
 
 // A schedule: the preemptions before it.
-pub const PREEMPTIONS: usize = 7;
+pub const PREEMPTIONS: usize = THREADS + MAX_THREADS;
 
 // The most preemptions that the field holds.
 pub const MAX_PREEMPTIONS: usize = 255;
 
 // A schedule: the thread that was active first, or NOBODY.
-pub const INITIAL_ACTIVE: usize = 8;
+pub const INITIAL_ACTIVE: usize = PREEMPTIONS + 1;
 
 // A schedule: the low byte of the previous schedule's position, or of NO_PREV.
-pub const PREV_LOW: usize = 9;
+pub const PREV_LOW: usize = INITIAL_ACTIVE + 1;
 
 // A schedule: the high byte of the same.
-pub const PREV_HIGH: usize = 10;
+pub const PREV_HIGH: usize = PREV_LOW + 1;
 
 // A load: the first of seven values.
-pub const VALUES: usize = 2;
+pub const VALUES: usize = EXPLORING + 1;
 
 // A load: which of the values it reads now.
-pub const POS: usize = 9;
+pub const POS: usize = VALUES + MAX_ATOMIC_HISTORY;
 
 // A load: how many values it has.
-pub const LEN: usize = 10;
+pub const LEN: usize = POS + 1;
 
 // A spurious branch: its bit.
-pub const SPUR: usize = 2;
+pub const SPUR: usize = EXPLORING + 1;
 
 // The kind of a schedule.
 pub const KIND_SCHEDULE: u8 = 1;
