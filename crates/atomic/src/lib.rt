@@ -37,7 +37,7 @@ use track::Race;
 
 // The value read, or the race that stopped the access.
 pub enum AccessResult {
-    Value(u64),
+    Read(u64),
     Raced { kind: u8, other: u8 },
 }
 
@@ -68,7 +68,7 @@ pub fn load(
     touch(clocks, marks, access, slot);
     let at = store_at(cell, slot);
     sync_load(clocks, thread, access.order, at);
-    AccessResult::Value(values[VALUE + at])
+    AccessResult::Read(values[VALUE + at])
 }
 
 // Stores a value in the place of the oldest that is kept. The sync vector is that of a fresh store, or of the store that a
@@ -128,7 +128,7 @@ pub fn rmw(
     let prev = values[VALUE + at];
     let Changed::Success(next) = change::apply(change, prev) else {
         sync_load(clocks, thread, failure, at);
-        return AccessResult::Value(prev);
+        return AccessResult::Read(prev);
     };
     rmw_store(clocks, marks, values, numbers, access, at, prev, next)
 }
@@ -155,7 +155,7 @@ fn rmw_store(
     // The new store starts from the sync of the one read, which makes a release sequence of the two.
     let sync = clocks[SYNC + at];
     store(clocks, marks, values, numbers, access, sync, next);
-    AccessResult::Value(prev)
+    AccessResult::Read(prev)
 }
 
 // Reads the newest store without synchronisation.
@@ -173,7 +173,7 @@ pub fn unsync_load(
         return AccessResult::Raced { kind, other };
     }
     let slot = newest(numbers[COUNT + cell]);
-    AccessResult::Value(values[VALUE + store_at(cell, slot)])
+    AccessResult::Read(values[VALUE + store_at(cell, slot)])
 }
 
 // Changes the newest store's value in place. A change that fails still counts as a mutation.
