@@ -29,7 +29,7 @@ module _ (t k opcode r : ℕ) where
     put-raced kind other e st = rw e
 
     -- the register's place, and the row after this one
-    pub put-done : (v : ℕ) → loaded ≡ loads.Value v → (clocks : Clocks) (marks : Marks) (values : Values) (numbers : Numbers) (at next : ℕ) →
+    pub put-done : (v : ℕ) → loaded ≡ loads.Read v → (clocks : Clocks) (marks : Marks) (values : Values) (numbers : Numbers) (at next : ℕ) →
         at ≡ registerAt t r → next ≡ oneMore k → (st : State) →
         st ≡ completed (state clocks marks (withValue values (ofRegister at) v) numbers) t next →
         moves st (entry t k opcode slot mask v) ≡ reads (accessOf loaded (state clocks marks values numbers)) t k opcode r slot mask

@@ -275,7 +275,7 @@ fn read(
             };
             atomic::rmw(clocks, marks, values, numbers, act, change, failure, slot)
         }
-        _ => AccessResult::Value(0),
+        _ => AccessResult::Read(0),
     }
 }
 
@@ -303,7 +303,7 @@ fn put_value(
     let thread = site.thread;
     match loaded {
         AccessResult::Raced { kind, other } => Moved::Stops(Fault::Race { kind, other }),
-        AccessResult::Value(value) => {
+        AccessResult::Read(value) => {
             values[REGISTER + register_at(thread, register)] = value;
             thread::complete(numbers, thread, vv::one_more(site.row));
             Moved::Done { slot, mask, value }

@@ -71,22 +71,22 @@ module _ (clocks : Clocks) (marks : Marks) (values : Values) (numbers : Numbers)
       unfolding sighted
       in-sight = rw (touch, coherence, left)
 
-      pub load-done : (o : ℕ) (synced : Clocks) → synced ≡ loadSynced ordered t store o →
+      pub load-done : (o : ℕ) (synced : Clocks) → synced ≡ loadSynced ordered t (storeAt c slot) o →
           read (value values (ofStore store)) (state synced marked values numbers) ≡ loadDone (state clocks marks values numbers) t c slot o
       unfolding loadDone
-      load-done o synced e = rw (← answer, ← at, ← in-sight, e)
+      load-done o synced e = rw (← answer, ← in-sight, e, at)
 
       module _ (change : Change) (o f : ℕ) where
-        pub rmw-failed : failure ≡ applied change (value values (ofStore store)) → (synced : Clocks) → synced ≡ loadSynced ordered t store f →
+        pub rmw-failed : failure ≡ applied change (value values (ofStore store)) → (synced : Clocks) → synced ≡ loadSynced ordered t (storeAt c slot) f →
             read (value values (ofStore store)) (state synced marked values numbers) ≡ rmwDone (state clocks marks values numbers) t c slot change o f
         unfolding rmwDone
-        rmw-failed e synced g = rw (← answer, ← at, ← in-sight, ← e, g)
+        rmw-failed e synced g = rw (← answer, ← at, ← in-sight, ← e, g, ← at)
 
         pub rmw-succeeded : (next : ℕ) → success next ≡ applied change (value values (ofStore store)) → (done : AccessResult) →
-            done ≡ succeeded (state ordered marked values numbers) t c store (value values (ofStore store)) next o →
+            done ≡ succeeded (state ordered marked values numbers) t c (storeAt c slot) (value values (ofStore store)) next o →
             done ≡ rmwDone (state clocks marks values numbers) t c slot change o f
         unfolding rmwDone
-        rmw-succeeded next e done g = rw (← answer, ← at, ← in-sight, ← e) g
+        rmw-succeeded next e done g = rw (← answer, ← at, ← in-sight, ← e) (rw (← at) at g)
 
   -- the rest of a read-modify-write, after the tracking of a store
   module _ (store v next o : ℕ) (tracked : Clocks) (left : tracked ≡ storeTracked clocks t c) where
@@ -95,8 +95,8 @@ module _ (clocks : Clocks) (marks : Marks) (values : Values) (numbers : Numbers)
     unfolding succeeded storeTracked
     then-raced kind other answer = rw (left, ← answer)
 
-    pub then-stored : noRace ≡ storeRace clocks t c → (synced : Clocks) → synced ≡ loadSynced tracked t store o → (st : State) →
-        st ≡ storeDone (state synced marks values numbers) t c (vector synced (sync store)) next o →
+    pub then-stored : noRace ≡ storeRace clocks t c → (synced : Clocks) → synced ≡ loadSynced tracked t store o → (at : ℕ) → at ≡ store → (st : State) →
+        st ≡ storeDone (state synced marks values numbers) t c (vector synced (sync at)) next o →
         read v st ≡ succeeded (state clocks marks values numbers) t c store v next o
     unfolding succeeded
-    then-stored answer synced e st f = rw (← answer, f, e, left)
+    then-stored answer synced e at g st f = rw (← answer, f, g, e, left)

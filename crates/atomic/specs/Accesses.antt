@@ -2,9 +2,9 @@
 use Rattle.rules.specs.Cell as rules
 use Rattle.rules.specs.State.{State}
 use Rattle.atomic.specs.declared.AccessResult.{AccessResult}
-use Rattle.atomic.specs.declared.AccessResult.the-variants.{Value, Raced}
+use Rattle.atomic.specs.declared.AccessResult.the-variants.{Read, Raced}
 
 -- the value read or the race, with the state that is left
 abbrev pub accessOf : AccessResult → State → rules.AccessResult
-accessOf (Value v) st = rules.read v st
+accessOf (Read v) st = rules.read v st
 accessOf (Raced kind other) st = rules.raced kind other st

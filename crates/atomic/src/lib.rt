@@ -37,7 +37,7 @@ use track::Race;
 
 // The value read, or the race that stopped the access.
 pub enum AccessResult {
-    Value(u64),
+    Read(u64),
     Raced { kind: u8, other: u8 },
 }
 
@@ -66,9 +66,8 @@ pub fn load(
     }
     apply_load_coherence(clocks, marks, numbers, access, slot);
     touch(clocks, marks, access, slot);
-    let at = store_at(cell, slot);
-    sync_load(clocks, thread, access.order, at);
-    AccessResult::Value(values[VALUE + at])
+    sync_load(clocks, access, slot);
+    AccessResult::Read(values[VALUE + store_at(cell, slot)])
 }
 
 // Stores a value in the place of the oldest that is kept. The sync vector is that of a fresh store, or of the store that a
@@ -94,7 +93,7 @@ pub fn store(
     let causality = clocks[CAUSALITY + thread];
     // The slot that is replaced still counts here: its order is joined by the marks that it had.
     let modification_order = store_order(clocks, marks, access, count);
-    let sync = sync_store(clocks, thread, access.order, sync);
+    let sync = sync_store(clocks, access, sync);
     clocks[HAPPENS_BEFORE + at] = causality;
     clocks[MODIFICATION_ORDER + at] = modification_order;
     clocks[SYNC + at] = sync;
@@ -124,38 +123,42 @@ pub fn rmw(
     }
     apply_load_coherence(clocks, marks, numbers, access, slot);
     touch(clocks, marks, access, slot);
-    let at = store_at(cell, slot);
-    let prev = values[VALUE + at];
+    let prev = values[VALUE + store_at(cell, slot)];
     let Changed::Success(next) = change::apply(change, prev) else {
-        sync_load(clocks, thread, failure, at);
-        return AccessResult::Value(prev);
+        let failed = Access {
+            thread,
+            cell,
+            order: failure,
+        };
+        sync_load(clocks, failed, slot);
+        return AccessResult::Read(prev);
     };
-    rmw_store(clocks, marks, values, numbers, access, at, prev, next)
+    rmw_store(clocks, marks, values, numbers, access, slot, prev, next)
 }
 
-// The rest of a read-modify-write whose change has succeeded: `next` is stored in the place of `prev`, read from store `at`.
+// The rest of a read-modify-write whose change has succeeded: `next` is stored in the place of `prev`, read from the slot.
 fn rmw_store(
     clocks: &mut Clocks,
     marks: &mut Marks,
     values: &mut Values,
     numbers: &mut Numbers,
     access: Access,
-    at: usize,
+    slot: usize,
     prev: u64,
     next: u64,
 ) -> AccessResult
-    requires { ⌜ (access .thread < 5) × (access .cell < 4) × (at < 28) ⌝ }
-    ensures { λ r. ⌜ accessOf r (state (now (clocks .exit)) (now (marks .exit)) (now (values .exit)) (now (numbers .exit))) ≡ succeeded (state (now (clocks .entry)) (now (marks .entry)) (now (values .entry)) (now (numbers .entry))) (access .thread) (access .cell) at prev next (access .order) ⌝ }
+    requires { ⌜ (access .thread < 5) × (access .cell < 4) × (slot < 7) ⌝ }
+    ensures { λ r. ⌜ accessOf r (state (now (clocks .exit)) (now (marks .exit)) (now (values .exit)) (now (numbers .exit))) ≡ succeeded (state (now (clocks .entry)) (now (marks .entry)) (now (values .entry)) (now (numbers .entry))) (access .thread) (access .cell) (rules.storeAt (access .cell) slot) prev next (access .order) ⌝ }
 {
-    let thread = access.thread;
-    if let Race::With { kind, other } = track::track_store(clocks, thread, access.cell) {
+    let cell = access.cell;
+    if let Race::With { kind, other } = track::track_store(clocks, access.thread, cell) {
         return AccessResult::Raced { kind, other };
     }
-    sync_load(clocks, thread, access.order, at);
+    sync_load(clocks, access, slot);
     // The new store starts from the sync of the one read, which makes a release sequence of the two.
-    let sync = clocks[SYNC + at];
+    let sync = clocks[SYNC + store_at(cell, slot)];
     store(clocks, marks, values, numbers, access, sync, next);
-    AccessResult::Value(prev)
+    AccessResult::Read(prev)
 }
 
 // Reads the newest store without synchronisation.
@@ -173,7 +176,7 @@ pub fn unsync_load(
         return AccessResult::Raced { kind, other };
     }
     let slot = newest(numbers[COUNT + cell]);
-    AccessResult::Value(values[VALUE + store_at(cell, slot)])
+    AccessResult::Read(values[VALUE + store_at(cell, slot)])
 }
 
 // Changes the newest store's value in place. A change that fails still counts as a mutation.

@@ -113,8 +113,9 @@ fn beside(table: &[u8], options: Options) {
 // Does what is asked with the program.
 fn perform(table: &[u8], condition: &[u8], options: Options) {
     let task = options.task;
+    let settings = options.settings;
     match task {
-        Task::Explore => run::run(table, condition, options.settings(), options.whole),
-        _ => writing::write(table, condition, options.settings(), task),
+        Task::Explore => run::run(table, condition, settings, options.whole),
+        _ => writing::write(table, condition, settings, task),
     }
 }

@@ -7,6 +7,7 @@ use settings::MAX_BRANCHES;
 use settings::MAX_EXECUTIONS;
 use settings::MAX_OPERATIONS;
 use settings::Settings;
+use settings::bound_of;
 
 // An option that takes a number or a name, which is the next word.
 pub enum Awaited {
@@ -34,11 +35,7 @@ pub struct Options {
     pub behind: usize,
     pub task: Task,
     pub awaited: Awaited,
-    pub branches: u64,
-    pub operations: u64,
-    pub executions: u64,
-    pub bound: Bound,
-    pub exploring: bool,
+    pub settings: Settings,
     pub whole: bool,
 }
 
@@ -52,30 +49,21 @@ pub enum Asked {
 impl Options {
     // Nothing is asked: the largest limits, no bound, exploring, long executions shortened.
     pub fn new() -> Self {
+        let settings = Settings {
+            branches: MAX_BRANCHES,
+            operations: MAX_OPERATIONS,
+            executions: MAX_EXECUTIONS,
+            bound: Bound::Unbounded,
+            exploring: true,
+        };
         Options {
             file: 0,
             condition: 0,
             behind: 0,
             task: Task::Explore,
             awaited: Awaited::Nothing,
-            branches: MAX_BRANCHES,
-            operations: MAX_OPERATIONS,
-            executions: MAX_EXECUTIONS,
-            bound: Bound::Unbounded,
-            exploring: true,
+            settings,
             whole: false,
-        }
-    }
-
-    // What a run is given.
-    pub fn settings(self) -> Settings {
-        let bound = self.bound;
-        Settings {
-            branches: self.branches,
-            operations: self.operations,
-            executions: self.executions,
-            bound,
-            exploring: self.exploring,
         }
     }
 }
@@ -191,8 +179,9 @@ fn named(word: &[u8], mut options: Options) -> Asked {
         return Asked::Usage;
     }
     if same(word, b"--not-exploring") {
-        options.exploring = false;
-        return Asked::For(options);
+        let mut settings = options.settings;
+        settings.exploring = false;
+        return Asked::For(setting(options, settings));
     }
     if same(word, b"--all-rows") {
         options.whole = true;
@@ -232,30 +221,32 @@ fn named_with(word: &[u8], options: Options) -> Asked {
 
 // The options as they are, with this awaited next.
 fn awaiting(options: Options, awaited: Awaited) -> Options {
-    let bound = options.bound;
+    let settings = options.settings;
     let task = options.task;
-    with(options, bound, task, awaited)
+    with(options, settings, task, awaited)
 }
 
 // The options as they are, with this asked.
 fn asking(options: Options, task: Task) -> Options {
-    let bound = options.bound;
-    with(options, bound, task, Awaited::Nothing)
+    let settings = options.settings;
+    with(options, settings, task, Awaited::Nothing)
 }
 
-// The same with another bound, task and awaited word.
-fn with(options: Options, bound: Bound, task: Task, awaited: Awaited) -> Options {
+// The options as they are, with these settings, and nothing awaited.
+fn setting(options: Options, settings: Settings) -> Options {
+    let task = options.task;
+    with(options, settings, task, Awaited::Nothing)
+}
+
+// The same with other settings, another task and awaited word.
+fn with(options: Options, settings: Settings, task: Task, awaited: Awaited) -> Options {
     Options {
         file: options.file,
         condition: options.condition,
         behind: options.behind,
         task,
         awaited,
-        branches: options.branches,
-        operations: options.operations,
-        executions: options.executions,
-        bound,
-        exploring: options.exploring,
+        settings,
         whole: options.whole,
     }
 }
@@ -265,9 +256,9 @@ fn take_branches(word: &[u8], options: Options) -> Asked {
     let Parsed::Number(n) = decimal::number_between(word, 1, MAX_BRANCHES) else {
         return no_number(Awaited::Branches);
     };
-    let mut next = awaiting(options, Awaited::Nothing);
-    next.branches = n;
-    Asked::For(next)
+    let mut settings = options.settings;
+    settings.branches = n;
+    Asked::For(setting(options, settings))
 }
 
 // The number of `--operations`.
@@ -275,9 +266,9 @@ fn take_operations(word: &[u8], options: Options) -> Asked {
     let Parsed::Number(n) = decimal::number_between(word, 1, MAX_OPERATIONS) else {
         return no_number(Awaited::Operations);
     };
-    let mut next = awaiting(options, Awaited::Nothing);
-    next.operations = n;
-    Asked::For(next)
+    let mut settings = options.settings;
+    settings.operations = n;
+    Asked::For(setting(options, settings))
 }
 
 // The number of `--executions`.
@@ -285,9 +276,9 @@ fn take_executions(word: &[u8], options: Options) -> Asked {
     let Parsed::Number(n) = decimal::number_between(word, 1, MAX_EXECUTIONS) else {
         return no_number(Awaited::Executions);
     };
-    let mut next = awaiting(options, Awaited::Nothing);
-    next.executions = n;
-    Asked::For(next)
+    let mut settings = options.settings;
+    settings.executions = n;
+    Asked::For(setting(options, settings))
 }
 
 // The number of `--bound`.
@@ -295,9 +286,20 @@ fn take_bound(word: &[u8], options: Options) -> Asked {
     let Parsed::Number(n) = decimal::number_between(word, 0, MAX_BOUND) else {
         return no_number(Awaited::Bound);
     };
-    let task = options.task;
-    let bound = Bound::AtMost((n % 256) as u8);
-    Asked::For(with(options, bound, task, Awaited::Nothing))
+    let settings = options.settings;
+    let settings = with_bound(settings, bound_of(n));
+    Asked::For(setting(options, settings))
+}
+
+// The settings with another bound, which is an enum, so the struct is made anew.
+fn with_bound(settings: Settings, bound: Bound) -> Settings {
+    Settings {
+        branches: settings.branches,
+        operations: settings.operations,
+        executions: settings.executions,
+        bound,
+        exploring: settings.exploring,
+    }
 }
 
 // Whether a word begins with a dash.

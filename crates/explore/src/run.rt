@@ -89,13 +89,7 @@ fn say_spent(budget: u64) {
 }
 
 // The settings with another budget.
-fn with_budget(settings: Settings, executions: u64) -> Settings {
-    let bound = settings.bound;
-    Settings {
-        branches: settings.branches,
-        operations: settings.operations,
-        executions,
-        bound,
-        exploring: settings.exploring,
-    }
+fn with_budget(mut settings: Settings, executions: u64) -> Settings {
+    settings.executions = executions;
+    settings
 }

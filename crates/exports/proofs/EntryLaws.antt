@@ -1,5 +1,4 @@
 -- The entry in numbers. Assumes nothing.
---     bound-none, bound-some            the bound that a number stands for
 --     copied-more, copied-all           numbers written one after another
 --     entered-bound, entered-exploring, entered-report      an argument that is out of range
 --     explored-so, entered-run          all are in range
@@ -12,7 +11,6 @@ use lib.Dec.{ltb, eqb}
 use lib.ListN.{length, getD, set}
 use lib.Seq.{ext-getD, getD-set-same, getD-set-other}
 use borrow.Author.Tests.{lt-ltb, le-ltb, eq-eqb, ne-eqb, eqb-true, eqb-false}
-use Rattle.rules.specs.Path.{unbounded, atMost}
 use Rattle.rules.specs.Explored as rules
 use Rattle.rules.specs.Explored.{Explored}
 use Rattle.path.specs.Bounds.{boundOf}
@@ -21,14 +19,8 @@ use Rattle.report.specs.Answers.{reportOf, answerNumber}
 use Rattle.report.specs.declared.Report.{Report}
 use Rattle.explorer.specs.Explores.{exploredOf}
 use Rattle.numbers.specs.Numbers.{numbersOf}
-use Rattle.exports.specs.Entry.{boundFor, settingsFor, Entered, leftBehind, entered, enteredBy}
-
-module _ (n : ℕ) where
-  pub bound-none : 255 < n → unbounded ≡ boundFor n
-  bound-none h = rw (lt-ltb 255 n h) refl
-
-  pub bound-some : n ≤ 255 → {k : ℕ} → k ≡ n → atMost k ≡ boundFor n
-  bound-some h e = rw (le-ltb 255 n h) (ap atMost e)
+use Rattle.settings.specs.Given.{boundFor}
+use Rattle.exports.specs.Entry.{settingsFor, Entered, leftBehind, entered, enteredBy}
 
 -- the first n of a list are those of another
 abbrev pub Begins : List ℕ → List ℕ → ℕ → Type 0

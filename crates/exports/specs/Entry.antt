@@ -8,13 +8,9 @@ use mathlib.Core.List.{List, []}
 use mathlib.Core.Bool.{Bool, true, false, cond, not, _||_}
 use lib.Dec.{ltb, eqb}
 use lib.ListN.{length}
-use Rattle.rules.specs.Path.{Bound, unbounded, atMost}
 use Rattle.rules.specs.Explored.{Settings, Explored, explored}
+use Rattle.settings.specs.Given.{boundFor}
 use Rattle.numbers.specs.Numbers.{numbersOf}
-
--- 0 to 255, or 256 for none
-abbrev pub boundFor : ℕ → Bound
-boundFor n = cond (ltb 255 n) unbounded (atMost n)
 
 abbrev pub settingsFor : ℕ → ℕ → ℕ → ℕ → ℕ → Settings
 settingsFor branches operations executions bound exploring = record {

@@ -1,13 +1,11 @@
 // The entries for Rust and C: numbers and slices only, so that no struct's layout crosses.
 ghost use mathlib.Core.Path.{_≡_};
-ghost use Prim.Native.Nat.{_≤_};
 ghost use lib.ListN.{length};
-ghost use Rattle.path.specs.Bounds.{boundOf};
-ghost use Rattle.exports.specs.Entry.{boundFor, noCondition, entered, leftBehind};
+ghost use Rattle.exports.specs.Entry.{noCondition, entered, leftBehind};
 use numbers::REPORT_NUMBERS;
-use path::Bound;
 use settings::MAX_BOUND;
 use settings::Settings;
+use settings::bound_of;
 
 pub mod text;
 
@@ -113,17 +111,6 @@ fn enter(
     let all = numbers::of_report(done);
     write_numbers(report, &all);
     number
-}
-
-// The bound that a number stands for: 256 is none.
-fn bound_of(given: u64) -> Bound
-    requires { ⌜ given ≤ 256 ⌝ }
-    ensures { λ r. ⌜ boundOf r ≡ boundFor given ⌝ }
-{
-    if MAX_BOUND < given {
-        return Bound::Unbounded;
-    }
-    Bound::AtMost((given % 256) as u8)
 }
 
 // Puts the numbers into a caller's buffer that takes as many.

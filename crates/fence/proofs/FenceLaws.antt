@@ -40,10 +40,10 @@ module _ (clocks : Clocks) (rows : List (List ℕ)) (cnt t c : ℕ) where
     here : seenBy clocks rows t (kthOldest cnt k) ≡ b
     here = ap (seenBy clocks rows t) (sym at) ∙ sym asked
 
-    pub stores-seen : b ≡ true → (store : ℕ) → store ≡ storeAt c slot → (left : Clocks) → left ≡ loadSynced clocks t store 2 →
+    pub stores-seen : b ≡ true → (left : Clocks) → left ≡ loadSynced clocks t (storeAt c slot) 2 →
         acquiredFrom left rows cnt t c (live - (k + 1)) (k + 1) ≡ acquiredFrom clocks rows cnt t c (live - k) k
     unfolding loadSynced
-    stores-seen f store s left e = rw (one-left live k more, acquired-on, here, f, ← at, ← s, e)
+    stores-seen f left e = rw (one-left live k more, acquired-on, here, f, ← at, e)
 
     pub stores-unseen : b ≡ false → acquiredFrom clocks rows cnt t c (live - (k + 1)) (k + 1) ≡ acquiredFrom clocks rows cnt t c (live - k) k
     stores-unseen f = rw (one-left live k more, acquired-on, here, f)

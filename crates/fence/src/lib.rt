@@ -3,6 +3,7 @@ ghost use mathlib.Core.Path.{_≡_};
 ghost use Prim.Native.Nat.{_<_, _≤_};
 ghost use Rattle.rules.specs.Cell.{cellAcquired, fenceAcquired, fenceReleased, fenceSeqCst, fenced};
 ghost use Rattle.rules.specs.State.{marksOf, vector, withVector, released, causality};
+use layout::Access;
 use layout::Clocks;
 use layout::Marks;
 use layout::Numbers;
@@ -16,7 +17,6 @@ use layout::order::RELEASE;
 use layout::order::SEQ_CST;
 use layout::slots::kth_oldest;
 use layout::slots::live_stores;
-use layout::store_at;
 use synchronize::first_seen::is_seen;
 use synchronize::join_into;
 use synchronize::sync_load;
@@ -60,13 +60,18 @@ fn fence_acq_cell(clocks: &mut Clocks, marks: &Marks, thread: usize, cell: usize
     requires { ⌜ (thread < 5) × (cell < 4) ⌝ }
     ensures { λ _. ⌜ now (clocks .exit) ≡ cellAcquired (now (clocks .entry)) (marksOf (now (marks .entry)) cell) count thread cell ⌝ }
 {
+    let access = Access {
+        thread,
+        cell,
+        order: ACQUIRE,
+    };
     let live = live_stores(count);
     let mut k = 0;
     while k < live {
         let slot = kth_oldest(count, k);
         let causality = clocks[CAUSALITY + thread];
         if is_seen(marks, cell, slot, causality) {
-            sync_load(clocks, thread, ACQUIRE, store_at(cell, slot));
+            sync_load(clocks, access, slot);
         }
         k += 1;
     }

@@ -60,7 +60,7 @@ pub fn read(clocks: &mut Clocks, values: &Values, thread: usize, plain: usize) -
     if let Race::With { kind, other } = track_read(clocks, thread, plain) {
         return AccessResult::Raced { kind, other };
     }
-    AccessResult::Value(values[VALUE + plain])
+    AccessResult::Read(values[VALUE + plain])
 }
 
 // Writes a value; with a race nothing changes.

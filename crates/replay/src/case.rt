@@ -5,9 +5,9 @@ use crate::fields::NOT_GIVEN;
 use crate::fields::Starts;
 use decimal::Parsed;
 use numbers::REPORT_NUMBERS;
-use path::Bound;
 use settings::MAX_BOUND;
 use settings::Settings;
+use settings::bound_of;
 
 // The fields' places. From ANSWER on stand the report's numbers.
 pub const BRANCHES: usize = 1;
@@ -123,14 +123,6 @@ pub fn settings(numbers: &FieldNumbers) -> Settings {
         bound,
         exploring: numbers[EXPLORING] == 1,
     }
-}
-
-// No bound is a number above every bound.
-fn bound_of(given: u64) -> Bound {
-    if MAX_BOUND < given {
-        return Bound::Unbounded;
-    }
-    Bound::AtMost((given % 256) as u8)
 }
 
 // Writes a table's or a condition's bytes; answers how many there are, or more than fit.

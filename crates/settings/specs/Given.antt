@@ -1,5 +1,11 @@
 -- The settings, as the definition has them. Assumes nothing.
+--     settingsOf     those of the code
+--     boundFor       the bound that a number stands for
+use Prim.Native.Nat.{ℕ}
+use mathlib.Core.Bool.{cond}
+use lib.Dec.{ltb}
 use Rattle.rules.specs.Explored as rules
+use Rattle.rules.specs.Path.{Bound, unbounded, atMost}
 use Rattle.path.specs.Bounds.{boundOf}
 use Rattle.settings.specs.declared.Settings.{Settings}
 
@@ -11,3 +17,7 @@ settingsOf s = record {
   bound = boundOf (s .bound);
   exploring = s .exploring;
 }
+
+-- 0 to 255; above them none
+abbrev pub boundFor : ℕ → Bound
+boundFor n = cond (ltb 255 n) unbounded (atMost n)

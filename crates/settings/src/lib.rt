@@ -3,7 +3,8 @@ ghost use mathlib.Core.Path.{_≡_};
 ghost use Prim.Native.Nat.{_*_};
 ghost use lib.Dec.{eqb};
 ghost use Rattle.rules.specs.Explored as rules;
-ghost use Rattle.settings.specs.Given.{settingsOf};
+ghost use Rattle.path.specs.Bounds.{boundOf};
+ghost use Rattle.settings.specs.Given.{boundFor, settingsOf};
 pub use layout::RECORD;
 use path::Bound;
 use path::MAX_PREEMPTIONS;
@@ -29,6 +30,16 @@ pub const MAX_BOUND: u64 = MAX_PREEMPTIONS as u64;
 pub const PATH_BYTES: usize = RECORD * MAX_BRANCHES as usize;
 
 pub const TRACE_BYTES: usize = RECORD * MAX_OPERATIONS as usize;
+
+// The bound that a number stands for: one that is above every bound is none.
+pub fn bound_of(given: u64) -> Bound
+    ensures { λ r. ⌜ boundOf r ≡ boundFor given ⌝ }
+{
+    if MAX_BOUND < given {
+        return Bound::Unbounded;
+    }
+    Bound::AtMost((given % 256) as u8)
+}
 
 // Whether B, L and N are in range.
 pub fn settings_fine(settings: Settings) -> bool

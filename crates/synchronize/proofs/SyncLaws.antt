@@ -34,10 +34,10 @@ module _ (o : ℕ) where
   neither b m n k = rw (ne-eqb o b m, ne-eqb o 3 n, ne-eqb o 4 k)
 
 module _ (clocks : Clocks) (t store o : ℕ) where
-  pub load-joins : 2 ≤ o → o < 5 → (left : Clocks) → left ≡ joinInto clocks (causality t) (sync store) →
+  pub load-joins : 2 ≤ o → o < 5 → (at : ℕ) → at ≡ store → (left : Clocks) → left ≡ joinInto clocks (causality t) (sync at) →
       left ≡ loadSynced clocks t store o
   unfolding loadSynced
-  load-joins h k left e = rw (acquiring o h k) e
+  load-joins h k at f left e = rw (acquiring o h k, ← f) e
 
   pub load-alone : (o < 2) ⊎ (5 ≤ o) → clocks ≡ loadSynced clocks t store o
   unfolding loadSynced

@@ -5,6 +5,8 @@ ghost use mathlib.Core.List.{[]};
 ghost use lib.ListN.{getD, set};
 ghost use Rattle.rules.specs.Vector.{joined};
 ghost use Rattle.rules.specs.Cell.{loadSynced, storeSynced};
+ghost use Rattle.rules.specs.State.{storeAt};
+use layout::Access;
 use layout::Clocks;
 use layout::MAX_THREADS;
 use layout::of_store::SYNC;
@@ -14,6 +16,7 @@ use layout::order::ACQ_REL;
 use layout::order::ACQUIRE;
 use layout::order::RELEASE;
 use layout::order::SEQ_CST;
+use layout::store_at;
 use vv::VersionVec;
 
 pub mod first_seen;
@@ -38,26 +41,27 @@ pub fn join_into(clocks: &mut Clocks, at: usize, from: usize)
 }
 
 // A load by an order that acquires takes the store's sync vector into the thread.
-pub fn sync_load(clocks: &mut Clocks, thread: usize, order: u8, store: usize)
-    requires { ⌜ (thread < 5) × (store < 28) ⌝ }
-    ensures { λ _. ⌜ now (clocks .exit) ≡ loadSynced (now (clocks .entry)) thread store order ⌝ }
+pub fn sync_load(clocks: &mut Clocks, access: Access, slot: usize)
+    requires { ⌜ (access .thread < 5) × (access .cell < 4) × (slot < 7) ⌝ }
+    ensures { λ _. ⌜ now (clocks .exit) ≡ loadSynced (now (clocks .entry)) (access .thread) (storeAt (access .cell) slot) (access .order) ⌝ }
 {
+    let order = access.order;
     match order {
-        ACQUIRE | ACQ_REL | SEQ_CST => join_into(clocks, CAUSALITY + thread, SYNC + store),
+        ACQUIRE | ACQ_REL | SEQ_CST => {
+            let from = SYNC + store_at(access.cell, slot);
+            join_into(clocks, CAUSALITY + access.thread, from)
+        }
         _ => {}
     }
 }
 
 // What a store leaves for loads that acquire: the released vector too, and by an order that releases the thread's own.
-pub fn sync_store(
-    clocks: &Clocks,
-    thread: usize,
-    order: u8,
-    sync: [u16; MAX_THREADS],
-) -> [u16; MAX_THREADS]
-    requires { ⌜ thread < 5 ⌝ }
-    ensures { λ r. ⌜ r ≡ storeSynced (now (clocks .entry)) thread sync order ⌝ }
+pub fn sync_store(clocks: &Clocks, access: Access, sync: [u16; MAX_THREADS]) -> [u16; MAX_THREADS]
+    requires { ⌜ access .thread < 5 ⌝ }
+    ensures { λ r. ⌜ r ≡ storeSynced (now (clocks .entry)) (access .thread) sync (access .order) ⌝ }
 {
+    let thread = access.thread;
+    let order = access.order;
     let released = clocks[RELEASED + thread];
     let sync = join(sync, released);
     match order {

@@ -7,6 +7,7 @@ ghost use Rattle.report.specs.Answers.{reportOf};
 ghost use Rattle.verdict.specs.Verdicts.{putVerdict, putPassed, putRefused, putCheck, putWanted, putFailed};
 use decode::Decoded;
 use decode::Op;
+use layout::long8;
 use page::Page;
 use report::Report;
 use report::answers;
@@ -37,7 +38,7 @@ pub fn put(
     match number {
         answers::EXHAUSTED => put_passed(page, at, table, condition, settings, report.begun),
         answers::RACE => {
-            let kind = report::race_kind(answer);
+            let kind = long8(report::race_kind(answer));
             let other = report::other_thread(answer);
             race::put(page, at, table, trace, thread, row, kind, other)
         }

@@ -38,11 +38,11 @@ apply-load-coherence-requires c κs = search needs
 touch-requires : tie.Need-touch-requires
 touch-requires c κs = search needs
 
-store-at-requires : tie.Need-store-at-requires
-store-at-requires c κs = search needs
-
 sync-load-requires : tie.Need-sync-load-requires
 sync-load-requires c κs = search needs
+
+store-at-requires : tie.Need-store-at-requires
+store-at-requires c κs = search needs
 
 add-t20 : tie.Need-add-t20
 add-t20 c = search needs
@@ -55,8 +55,9 @@ element-copy-out-t24 c = search needs
 
 returns-2 : tie.Need-returns-2
 returns-2 c =
-    let store = c .before .before .before in
-    let ordered = store .before .before .before .before in
+    let synced = c .before .before in
+    let touched = synced .before .before in
+    let ordered = touched .before .before .before in
     let told = ordered .before .before .before in
     let call = told .before .before in
     let args = call .before .before .args in
@@ -72,14 +73,14 @@ returns-2 c =
     (call .track-load .ensures .left)
     (answered _ _ _ (told .enum-told .given .1) (call .track-load .ensures .answer))
     _
-    (store .store-at .ensures)
+    (c .before .store-at .ensures)
     _
     (ordered .apply-load-coherence .ensures)
     _
-    (store .before .touch .ensures)
+    (touched .touch .ensures)
     (args .access .order)
     _
-    (c .before .sync-load .ensures)
+    (synced .sync-load .ensures)
 
 pub load-spec : {M : Type 1} → statement M
 load-spec =
@@ -91,8 +92,8 @@ load-spec =
     enum-told
     apply-load-coherence-requires
     touch-requires
-    store-at-requires
     sync-load-requires
+    store-at-requires
     add-t20
     mul-t21
     element-copy-out-t24

@@ -1,5 +1,6 @@
 use borrow.Author.Needs.{needs}
 use Rattle.atomic.proofs.AccessLaws.{then-raced, then-stored}
+use Rattle.rules.specs.State.{storeAt}
 use Rattle.track.proofs.TrackLaws.{answered}
 use Rattle.atomic.proofs.rmw_store.Statement.{statement}
 use Rattle.atomic.proofs.rmw_store.Tie as tie
@@ -21,7 +22,7 @@ returns c =
     (args .numbers .now)
     (args .access .thread)
     (args .access .cell)
-    (args .at)
+    (storeAt (args .access .cell) (args .slot))
     (args .prev)
     (args .next)
     (args .access .order)
@@ -37,6 +38,9 @@ enum-told c = search needs
 sync-load-requires : tie.Need-sync-load-requires
 sync-load-requires c κs = search needs
 
+store-at-requires : tie.Need-store-at-requires
+store-at-requires c κs = search needs
+
 add-sync : tie.Need-add-sync
 add-sync c = search needs
 
@@ -51,7 +55,8 @@ store-requires c κs = search needs
 
 returns-2 : tie.Need-returns-2
 returns-2 c =
-    let synced = c .before .before .before .before .before .before in
+    let store = c .before .before .before .before .before .before in
+    let synced = store .before in
     let told = synced .before .before in
     let call = told .before .before in
     let args = call .before .before .args in
@@ -62,7 +67,7 @@ returns-2 c =
     (args .numbers .now)
     (args .access .thread)
     (args .access .cell)
-    (args .at)
+    (storeAt (args .access .cell) (args .slot))
     (args .prev)
     (args .next)
     (args .access .order)
@@ -71,6 +76,8 @@ returns-2 c =
     (answered _ _ _ (told .enum-told .given .1) (call .track-store .ensures .answer))
     _
     (synced .sync-load .ensures)
+    _
+    (store .store-at .ensures)
     _
     (c .store .ensures)
 
@@ -83,6 +90,7 @@ rmw-store-spec =
     returns
     enum-told
     sync-load-requires
+    store-at-requires
     add-sync
     mul-sync
     element-copy-out-sync

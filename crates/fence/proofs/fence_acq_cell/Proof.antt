@@ -9,12 +9,12 @@ use Rattle.fence.proofs.fence_acq_cell.Statement.{statement}
 use Rattle.fence.proofs.fence_acq_cell.Tie as tie
 
 abbrev Inv-loop : tie.InvT-loop
-Inv-loop clocks₀ marks thread cell count live k₀ clocks k =
+Inv-loop clocks₀ marks thread cell count access live k₀ clocks k =
     (k ≤ live)
     × (acquiredFrom clocks (marksOf marks cell) count thread cell (live - k) k ≡ cellAcquired clocks₀ (marksOf marks cell) count thread cell)
 
 abbrev μ-loop : tie.MeasureT-loop
-μ-loop clocks₀ marks thread cell count live k₀ clocks k = live - k
+μ-loop clocks₀ marks thread cell count access live k₀ clocks k = live - k
 
 live-stores-requires : tie.Need-live-stores-requires Inv-loop μ-loop
 live-stores-requires c κs = search needs
@@ -37,9 +37,6 @@ element-copy-out-causality c = search needs
 is-seen-requires : tie.Need-is-seen-requires Inv-loop μ-loop
 is-seen-requires c κs = search needs
 
-store-at-requires : tie.Need-store-at-requires Inv-loop μ-loop
-store-at-requires c κs = search needs
-
 sync-load-requires : tie.Need-sync-load-requires Inv-loop μ-loop
 sync-load-requires c κs = search needs
 
@@ -57,7 +54,7 @@ loop-again c =
     let args = at .before .before .args in
     let inv = at .loop .inv .1 in
     ⊎-elim
-    (λ w. rw (w .4) (search needs, stores-seen _ _ (args .count) (args .thread) (args .cell) _ _ _ (kth .before .loop-test .taken) (kth .kth-oldest .ensures .is) _ (asked .is-seen .ensures) (w .0 .taken) _ (w .2 .ensures) _ (w .3 .ensures) ∙ inv))
+    (λ w. rw (w .3) (search needs, stores-seen _ _ (args .count) (args .thread) (args .cell) _ _ _ (kth .before .loop-test .taken) (kth .kth-oldest .ensures .is) _ (asked .is-seen .ensures) (w .0 .taken) _ (w .2 .ensures) ∙ inv))
     (λ w. rw (w .1) (search needs, stores-unseen _ _ (args .count) (args .thread) (args .cell) _ _ _ (kth .before .loop-test .taken) (kth .kth-oldest .ensures .is) _ (asked .is-seen .ensures) (w .0 .left) ∙ inv))
     (c .if1 .came)
 
@@ -80,7 +77,6 @@ fence-acq-cell-spec =
     mul-causality
     element-copy-out-causality
     is-seen-requires
-    store-at-requires
     sync-load-requires
     add-k
     loop-less

@@ -41,6 +41,9 @@ put-passed-requires c κs = search needs
 race-kind-requires : tie.Need-race-kind-requires
 race-kind-requires c κs = search needs
 
+long8-requires : tie.Need-long8-requires
+long8-requires c κs = search needs
+
 other-thread-requires : tie.Need-other-thread-requires
 other-thread-requires c κs = search needs
 
@@ -64,9 +67,9 @@ returns-3 c =
 
 returns-4 : tie.Need-returns-4
 returns-4 c =
-    let refusal = c .before .before .before .before .before .before in
+    let refusal = c .before .before .before .before .before .before .before in
     let limit = refusal .before .before in
-    verdict-race _ _ _ _ _ _ (limit .before .before .before .number .ensures) (limit .before .before .thread-at-fault .ensures) (limit .before .row-at-fault .ensures) (rw (refusal .before .if1 .left) at (limit .is-limit .ensures)) (rw (c .before .before .before .before .before .if2 .left) at (refusal .is-refusal .ensures)) (c .before .before .before .before .match .keys2) (rw (c .before .before .before .race-kind .ensures, c .before .before .other-thread .ensures) at (c .put2 .ensures))
+    verdict-race _ _ _ _ _ _ (limit .before .before .before .number .ensures) (limit .before .before .thread-at-fault .ensures) (limit .before .row-at-fault .ensures) (rw (refusal .before .if1 .left) at (limit .is-limit .ensures)) (rw (c .before .before .before .before .before .before .if2 .left) at (refusal .is-refusal .ensures)) (c .before .before .before .before .before .match .keys2) (rw (c .before .before .before .long8 .ensures, c .before .before .before .before .race-kind .ensures, c .before .before .other-thread .ensures) at (c .put2 .ensures))
 
 returns-5 : tie.Need-returns-5
 returns-5 c =
@@ -102,6 +105,7 @@ put-spec =
     returns-2
     put-passed-requires
     race-kind-requires
+    long8-requires
     other-thread-requires
     put-requires-2
     put-check-requires
