@@ -1,7 +1,7 @@
 -- What words stand for. Assumes nothing.
 --     number-..            a leading zero; any other word is a number where decimal finds one
 --     digit-..             a digit that is too small, too great, and one that is neither
---     fourth-..            the bytes of a register or a plain cell
+--     behind-..            the bytes of a register or a plain cell
 --     thread-register-..   those of a thread's register
 use Prim.Native.Nat.{ℕ, _+_, _-_, _*_, _^_, _≤_, _<_}
 use mathlib.Core.List.{List, [], _∷_}
@@ -11,8 +11,9 @@ use native.Mathlib.Omega.{arith}
 use borrow.Author.Tests.{eq-eqb, ne-eqb, le-leb, lt-leb, leb-true}
 use lib.Dec.{ltb, leb, eqb}
 use lib.ListN.{length, getD}
-use Rattle.rules.specs.Token.{Found, nothing, found, foundIf, isBetween, isDigit, digitsBehind, numberIn, fourth}
+use Rattle.rules.specs.Token.{Found, nothing, found, foundIf, isBetween, isDigit, digitsBehind, numberIn}
 use Rattle.rules.specs.Text.{threadRegisterIn}
+use Rattle.token.specs.Finds.{digitBehind}
 use Rattle.decimal.specs.Decimal.{numberSpelled, withDigits, withDigit, extended}
 use Rattle.decimal.specs.declared.Parsed.{Parsed}
 use Rattle.decimal.specs.declared.Parsed.the-variants.{Number, Bad}
@@ -96,15 +97,15 @@ and-false : (t : Bool) → t && false ≡ false
 and-false true = refl
 and-false false = refl
 
-module _ (letter : ℕ) (word : List ℕ) where
-  pub fourth-long : (length word ≡ 2 → ⊥) → nothing ≡ fourth letter word
-  fourth-long n = simp (ne-eqb _ _ n)
+module _ (last letter : ℕ) (word : List ℕ) where
+  pub behind-long : (length word ≡ 2 → ⊥) → nothing ≡ digitBehind last letter word
+  behind-long n = simp (ne-eqb _ _ n)
 
-  pub fourth-letter : (getD word 0 0 ≡ letter → ⊥) → nothing ≡ fourth letter word
-  fourth-letter n = simp (ne-eqb _ _ n, and-false)
+  pub behind-letter : (getD word 0 0 ≡ letter → ⊥) → nothing ≡ digitBehind last letter word
+  behind-letter n = simp (ne-eqb _ _ n, and-false)
 
-  pub fourth-digit : length word ≡ 2 → getD word 0 0 ≡ letter → foundIf (isBetween 48 51 (getD word 1 0)) (getD word 1 0 - 48) ≡ fourth letter word
-  fourth-digit h e = simp (eq-eqb _ _ h, eq-eqb _ _ e)
+  pub behind-digit : length word ≡ 2 → getD word 0 0 ≡ letter → foundIf (isBetween 48 last (getD word 1 0)) (getD word 1 0 - 48) ≡ digitBehind last letter word
+  behind-digit h e = simp (eq-eqb _ _ h, eq-eqb _ _ e)
 
 module _ (word : List ℕ) where
   -- a test that fails

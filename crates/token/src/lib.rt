@@ -5,12 +5,13 @@ ghost use mathlib.Core.Path.{_≡_};
 ghost use Prim.Native.Nat.{_+_, _-_, _<_};
 ghost use lib.ListN.{length, getD, drop};
 ghost use Rattle.rules.specs.Vector.{equal};
-ghost use Rattle.rules.specs.Token.{runLength, isBlank, isLetter, isBetween, endsLine, tokenLength, lineLength, foundIf, numberIn, fourth, registerIn, plainIn, placeIn};
+ghost use Rattle.rules.specs.Token.{runLength, isBlank, isLetter, isBetween, endsLine, tokenLength, lineLength, foundIf, numberIn, registerIn, plainIn, placeIn};
 ghost use Rattle.rules.specs.Form.{orderIn};
 ghost use Rattle.rules.specs.Text.{symbolIn, threadRegisterIn};
 ghost use Rattle.token.specs.Places.{isOf, part, Content};
-ghost use Rattle.token.specs.Finds.{foundOf, wordsIn};
+ghost use Rattle.token.specs.Finds.{foundOf, digitBehind, wordsIn};
 use decimal::Parsed;
+use layout::MAX_PLAINS;
 use layout::MAX_THREADS;
 use layout::REGISTERS;
 
@@ -29,10 +30,12 @@ pub const SYMBOLS: [u8; 25] = *b"= != < <= > >= ( ) and or";
 
 pub const FIRST_SYMBOL: u64 = 1;
 
-// The digits of the last thread, and of the last register; there are as many plain cells as registers.
+// The digits of the last thread, of the last register, and of the last plain cell.
 const LAST_THREAD: u8 = b'0' + (MAX_THREADS - 1) as u8;
 
 const LAST_REGISTER: u8 = b'0' + (REGISTERS - 1) as u8;
+
+const LAST_PLAIN: u8 = b'0' + (MAX_PLAINS - 1) as u8;
 
 // What a word stands for, if anything.
 pub enum Found {
@@ -164,14 +167,14 @@ pub fn number(text: &[u8], from: usize, to: usize) -> Found
 pub fn register(text: &[u8], from: usize, to: usize) -> Found
     ensures { λ r. ⌜ foundOf r ≡ registerIn (part from to (now (text .entry))) ⌝ }
 {
-    fourth(part(text, from, to), b'r')
+    digit_behind(part(text, from, to), LAST_REGISTER, b'r')
 }
 
 // A plain cell, `p0` to `p3`.
 pub fn plain(text: &[u8], from: usize, to: usize) -> Found
     ensures { λ r. ⌜ foundOf r ≡ plainIn (part from to (now (text .entry))) ⌝ }
 {
-    fourth(part(text, from, to), b'p')
+    digit_behind(part(text, from, to), LAST_PLAIN, b'p')
 }
 
 // A thread's register, `0.r0` to `4.r3`: 4 times the thread, and the register.
@@ -256,9 +259,9 @@ pub fn word_at(words: &[u8], place: u64) -> &[u8]
     &words[0..0]
 }
 
-// A letter, and a number from 0 to 3 behind it.
-fn fourth(word: &[u8], letter: u8) -> Found
-    ensures { λ r. ⌜ foundOf r ≡ fourth letter (now (word .entry)) ⌝ }
+// A letter, and a digit behind it that is not above the last.
+fn digit_behind(word: &[u8], last: u8, letter: u8) -> Found
+    ensures { λ r. ⌜ foundOf r ≡ digitBehind last letter (now (word .entry)) ⌝ }
 {
     if word.len() != 2 {
         return Found::Nothing;
@@ -266,7 +269,7 @@ fn fourth(word: &[u8], letter: u8) -> Found
     if word[0] != letter {
         return Found::Nothing;
     }
-    digit(LAST_REGISTER, word[1])
+    digit(last, word[1])
 }
 
 // The number of a digit that is not above the last.
