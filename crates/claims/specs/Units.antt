@@ -1,5 +1,6 @@
 -- What the answers of this crate stand for in the definition. Assumes nothing.
 --     mostClaimed    the longest condition, and a comparison that broke off behind it
+--     IsOwned        a register of a thread that there is
 --     UnitStands     what stands at a place
 --     symbolAt       a bracket, `and` or `or`
 --     Claims         what was read of a condition
@@ -15,12 +16,16 @@ use Rattle.rules.specs.Token.{Found, nothing, found, only}
 use Rattle.rules.specs.Text as rules
 use Rattle.rules.specs.Text.{symbolIn, comparisonOf}
 use Rattle.token.specs.Places.{part}
+use Rattle.token.specs.declared.Owned.{Owned}
 use Rattle.claims.specs.declared.Unit.{Unit}
 use Rattle.claims.specs.declared.Claim.{Claim}
 use Rattle.claims.specs.declared.Conclusion.{Conclusion}
 
 abbrev pub mostClaimed : ℕ
 mostClaimed = conditionBytes + comparisonBytes
+
+abbrev pub IsOwned : Owned → Type 0
+IsOwned o = (o .thread < 5) × (o .register < 4)
 
 -- with no byte it is nothing that a condition has
 abbrev pub unitOf : List ℕ → Unit → rules.Unit

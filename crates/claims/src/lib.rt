@@ -7,15 +7,17 @@ ghost use Prim.Native.Nat.{_+_, _≤_, _<_};
 ghost use lib.ListN.{drop, replicate};
 ghost use lib.Seq.{paste};
 ghost use Rattle.rules.specs.Text as rules;
-ghost use Rattle.claims.specs.Units.{mostClaimed, UnitStands, Claims, Concludes, symbolAt, brokenOf};
+ghost use Rattle.token.specs.Finds.{ownedAt};
+ghost use Rattle.claims.specs.Units.{mostClaimed, IsOwned, UnitStands, Claims, Concludes, symbolAt, brokenOf};
 use condition::AT_LEAST;
 use condition::COMPARISON;
 use condition::CONDITION_BYTES;
 use condition::EQUALS;
 use condition::Extent;
-use layout::REGISTERS;
 use little::low_bytes;
 use token::Found;
+use token::FoundOwned;
+use token::Owned;
 
 // The longest condition, and a comparison that broke off behind it.
 pub const MOST_CLAIMED: usize = CONDITION_BYTES + COMPARISON;
@@ -162,10 +164,10 @@ fn unit_at(text: &[u8], lines: usize, at: usize) -> Unit
     ensures { λ r. ⌜ UnitStands (now (text .entry)) (rules.unitAt lines (drop at (now (text .entry)))) r ⌝ }
 {
     let to = token::token_end(text, at);
-    let Found::Value(register) = token::thread_register(text, at, to) else {
+    let FoundOwned::Register(owned) = token::thread_register(text, at, to) else {
         return symbol_at(text, at, to);
     };
-    sign_behind(text, lines, register, to)
+    sign_behind(text, lines, owned, to)
 }
 
 // A bracket, `and` or `or`.
@@ -198,62 +200,62 @@ fn none(at: usize) -> Unit
 }
 
 // Behind `THREAD.rREGISTER`.
-fn sign_behind(text: &[u8], lines: usize, register: u64, from: usize) -> Unit
-    requires { ⌜ register < 20 ⌝ }
-    ensures { λ r. ⌜ UnitStands (now (text .entry)) (rules.signBehind lines register (drop from (now (text .entry)))) r ⌝ }
+fn sign_behind(text: &[u8], lines: usize, owned: Owned, from: usize) -> Unit
+    requires { ⌜ IsOwned owned ⌝ }
+    ensures { λ r. ⌜ UnitStands (now (text .entry)) (rules.signBehind lines (ownedAt owned) (drop from (now (text .entry)))) r ⌝ }
 {
     let at = token::content(text, lines, from);
     let to = token::token_end(text, at);
     let Found::Value(sign) = token::symbol(text, at, to) else {
-        return broken(register, at);
+        return broken(owned, at);
     };
     if (AT_LEAST as u64) < sign {
-        return broken(register, at);
+        return broken(owned, at);
     }
-    number_behind(text, lines, register, sign, to)
+    number_behind(text, lines, owned, sign, to)
 }
 
 // Behind `THREAD.rREGISTER SIGN`.
-fn number_behind(text: &[u8], lines: usize, register: u64, sign: u64, from: usize) -> Unit
-    requires { ⌜ (register < 20) × (sign ≤ 6) ⌝ }
-    ensures { λ r. ⌜ UnitStands (now (text .entry)) (rules.numberBehind lines register sign (drop from (now (text .entry)))) r ⌝ }
+fn number_behind(text: &[u8], lines: usize, owned: Owned, sign: u64, from: usize) -> Unit
+    requires { ⌜ IsOwned owned × (sign ≤ 6) ⌝ }
+    ensures { λ r. ⌜ UnitStands (now (text .entry)) (rules.numberBehind lines (ownedAt owned) sign (drop from (now (text .entry)))) r ⌝ }
 {
     let at = token::content(text, lines, from);
     let to = token::token_end(text, at);
     let Found::Value(n) = token::number(text, at, to) else {
-        return broken(register, at);
+        return broken(owned, at);
     };
     Unit {
         whole: true,
         size: COMPARISON,
-        bytes: comparison(register, sign, n),
+        bytes: comparison(owned, sign, n),
         at: to,
     }
 }
 
 // A comparison that breaks off here.
-fn broken(register: u64, at: usize) -> Unit
-    requires { ⌜ register < 20 ⌝ }
-    ensures { λ r. ⌜ r ≡ brokenOf register at ⌝ }
+fn broken(owned: Owned, at: usize) -> Unit
+    requires { ⌜ IsOwned owned ⌝ }
+    ensures { λ r. ⌜ r ≡ brokenOf (ownedAt owned) at ⌝ }
 {
     Unit {
         whole: false,
         size: COMPARISON,
-        bytes: comparison(register, EQUALS as u64, 0),
+        bytes: comparison(owned, EQUALS as u64, 0),
         at,
     }
 }
 
 // A comparison's bytes: its sign, the thread, the register, the number's eight, the lowest first.
-fn comparison(register: u64, sign: u64, n: u64) -> [u8; COMPARISON]
-    requires { ⌜ (register < 20) × (sign ≤ 6) ⌝ }
-    ensures { λ r. ⌜ r ≡ rules.comparisonOf sign register n ⌝ }
+fn comparison(owned: Owned, sign: u64, n: u64) -> [u8; COMPARISON]
+    requires { ⌜ IsOwned owned × (sign ≤ 6) ⌝ }
+    ensures { λ r. ⌜ r ≡ rules.comparisonOf sign (ownedAt owned) n ⌝ }
 {
     let number = low_bytes(n);
     [
         sign as u8,
-        (register / REGISTERS as u64) as u8,
-        (register % REGISTERS as u64) as u8,
+        owned.thread as u8,
+        owned.register as u8,
         number[0],
         number[1],
         number[2],

@@ -3,6 +3,7 @@
 --     digit-..             a digit that is too small, too great, and one that is neither
 --     behind-..            the bytes of a register or a plain cell
 --     thread-register-..   those of a thread's register
+--     owned-..             the register that is found, and that it is one
 use Prim.Native.Nat.{ℕ, _+_, _-_, _*_, _^_, _≤_, _<_}
 use mathlib.Core.List.{List, [], _∷_}
 use mathlib.Core.Bool.{Bool, true, false, cond, _&&_, and-eq-true-iff}
@@ -13,7 +14,9 @@ use lib.Dec.{ltb, leb, eqb}
 use lib.ListN.{length, getD}
 use Rattle.rules.specs.Token.{Found, nothing, found, foundIf, isBetween, isDigit, digitsBehind, numberIn}
 use Rattle.rules.specs.Text.{threadRegisterIn}
-use Rattle.token.specs.Finds.{digitBehind}
+use Rattle.token.specs.Finds.{digitBehind, FindsOwned}
+use Rattle.token.specs.declared.Owned.{Owned}
+use Rattle.token.specs.declared.FoundOwned.the-variants.{Nothing, Register}
 use Rattle.decimal.specs.Decimal.{numberSpelled, withDigits, withDigit, extended}
 use Rattle.decimal.specs.declared.Parsed.{Parsed}
 use Rattle.decimal.specs.declared.Parsed.the-variants.{Number, Bad}
@@ -140,3 +143,15 @@ module _ (word : List ℕ) where
       let v : getD word 0 0 - 48 ≡ t = only-value (isBetween 48 52 (getD word 0 0)) _ _ e in
       let w : getD word 3 0 - 48 ≡ r = only-value (isBetween 48 51 (getD word 3 0)) _ _ f in
       rw (eq-eqb (length word) 4 h, eq-eqb (getD word 1 0) 46 p, eq-eqb (getD word 2 0) 114 l, a, b, v, w)
+
+module _ (word named : List ℕ) (same : word ≡ named) where
+  pub owned-none : nothing ≡ threadRegisterIn word → FindsOwned named Nothing
+  owned-none e = record { is = e ∙ ap threadRegisterIn same; within = λ o h. let z : _≡_ {A = ℕ} 0 1 = cc in absurd (omega arith) }
+
+  pub owned-found : (t r : ℕ) → found (4 * t + r) ≡ threadRegisterIn word → t ≤ 4 → r ≤ 3 → FindsOwned named (Register (record { thread = t; register = r }))
+  owned-found t r e h l = record {
+    is = e ∙ ap threadRegisterIn same;
+    within = λ o f.
+        let s : record { thread = t; register = r } ≡ o = cc in
+        (omega (arith, ap (λ (x : Owned). x .thread) s), omega (arith, ap (λ (x : Owned). x .register) s));
+  }

@@ -7,9 +7,10 @@ ghost use lib.ListN.{length, getD, drop};
 ghost use Rattle.rules.specs.Vector.{equal};
 ghost use Rattle.rules.specs.Token.{runLength, isBlank, isLetter, isBetween, endsLine, tokenLength, lineLength, foundIf, numberIn, registerIn, plainIn, placeIn};
 ghost use Rattle.rules.specs.Form.{orderIn};
-ghost use Rattle.rules.specs.Text.{symbolIn, threadRegisterIn};
+ghost use Rattle.rules.specs.Text.{symbolIn};
 ghost use Rattle.token.specs.Places.{isOf, part, Content};
-ghost use Rattle.token.specs.Finds.{foundOf, digitBehind, wordsIn};
+ghost use Rattle.token.specs.Finds.{foundOf, FindsOwned, digitBehind, wordsIn};
+use condition::EQUALS;
 use decimal::Parsed;
 use layout::MAX_PLAINS;
 use layout::MAX_THREADS;
@@ -22,13 +23,11 @@ enum Kind {
     Symbol,
 }
 
-// The words of the orders, each at its number's place; the signs and words of a condition, whose bytes count from FIRST_SYMBOL on. Texts
-// are read and written by these lists.
+// The words of the orders, each at its number's place; the signs and words of a condition, whose bytes count from EQUALS on. Texts are read
+// and written by these lists.
 pub const ORDERS: [u8; 37] = *b"relaxed release acquire acqrel seqcst";
 
 pub const SYMBOLS: [u8; 25] = *b"= != < <= > >= ( ) and or";
-
-pub const FIRST_SYMBOL: u64 = 1;
 
 // The digits of the last thread, of the last register, and of the last plain cell.
 const LAST_THREAD: u8 = b'0' + (MAX_THREADS - 1) as u8;
@@ -41,6 +40,18 @@ const LAST_PLAIN: u8 = b'0' + (MAX_PLAINS - 1) as u8;
 pub enum Found {
     Nothing,
     Value(u64),
+}
+
+// A register, and whose it is.
+pub struct Owned {
+    pub thread: u64,
+    pub register: u64,
+}
+
+// The thread's register that a word stands for, if any.
+pub enum FoundOwned {
+    Nothing,
+    Register(Owned),
 }
 
 // Past blanks.
@@ -177,27 +188,27 @@ pub fn plain(text: &[u8], from: usize, to: usize) -> Found
     digit_behind(part(text, from, to), LAST_PLAIN, b'p')
 }
 
-// A thread's register, `0.r0` to `4.r3`: 4 times the thread, and the register.
-pub fn thread_register(text: &[u8], from: usize, to: usize) -> Found
-    ensures { λ r. ⌜ foundOf r ≡ threadRegisterIn (part from to (now (text .entry))) ⌝ }
+// A thread's register, `0.r0` to `4.r3`.
+pub fn thread_register(text: &[u8], from: usize, to: usize) -> FoundOwned
+    ensures { λ r. ⌜ FindsOwned (part from to (now (text .entry))) r ⌝ }
 {
     let word = part(text, from, to);
     if word.len() != 4 {
-        return Found::Nothing;
+        return FoundOwned::Nothing;
     }
     if word[1] != b'.' {
-        return Found::Nothing;
+        return FoundOwned::Nothing;
     }
     if word[2] != b'r' {
-        return Found::Nothing;
+        return FoundOwned::Nothing;
     }
     let Found::Value(thread) = digit(LAST_THREAD, word[0]) else {
-        return Found::Nothing;
+        return FoundOwned::Nothing;
     };
     let Found::Value(register) = digit(LAST_REGISTER, word[3]) else {
-        return Found::Nothing;
+        return FoundOwned::Nothing;
     };
-    Found::Value(REGISTERS as u64 * thread + register)
+    FoundOwned::Register(Owned { thread, register })
 }
 
 // The number of an order.
@@ -211,7 +222,7 @@ pub fn order(text: &[u8], from: usize, to: usize) -> Found
 pub fn symbol(text: &[u8], from: usize, to: usize) -> Found
     ensures { λ r. ⌜ foundOf r ≡ symbolIn (part from to (now (text .entry))) ⌝ }
 {
-    place_in(part(text, from, to), &SYMBOLS, FIRST_SYMBOL)
+    place_in(part(text, from, to), &SYMBOLS, EQUALS as u64)
 }
 
 // The place of a word in a list of words, which begins with place `first`.
