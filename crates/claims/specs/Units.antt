@@ -3,6 +3,7 @@
 --     IsOwned        a register of a thread that there is
 --     UnitStands     what stands at a place
 --     symbolAt       a bracket, `and` or `or`
+--     endedAt, withUnit    what was read of a condition where it ends, and with a unit more
 --     Claims         what was read of a condition
 --     Concludes      a text's condition, taken or refused
 use Prim.Native.Nat.{ℕ, _+_, _≤_, _<_}
@@ -11,6 +12,7 @@ use mathlib.Core.Bool.{Bool, true, false, cond, not}
 use mathlib.Core.Path.{_≡_}
 use lib.Dec.{eqb}
 use lib.ListN.{length, take, drop}
+use lib.Seq.{paste}
 use Rattle.rules.specs.Condition.{isSign, conditionBytes, comparisonBytes}
 use Rattle.rules.specs.Token.{Found, nothing, found, only}
 use Rattle.rules.specs.Text as rules
@@ -48,6 +50,12 @@ symbolAt at to text =
 
 abbrev pub brokenOf : ℕ → ℕ → Unit
 brokenOf register at = record { whole = false; size = 11; bytes = comparisonOf 1 register 0; at = at }
+
+abbrev pub endedAt : Claim → ℕ → Bool → Claim
+endedAt c at whole = record { whole = whole; length = c .length; bytes = c .bytes; at = at }
+
+abbrev pub withUnit : Claim → Unit → Claim
+withUnit c u = record { whole = false; length = c .length + u .size; bytes = paste (c .bytes) (c .length) (u .bytes) (u .size); at = u .at }
 
 abbrev pub claimedOf : (lines : ℕ) → List ℕ → Claim → rules.Claimed lines
 claimedOf lines text c = rules.claimedTo lines (take (c .length) (c .bytes)) (drop (c .at) text) (c .whole)

@@ -5,10 +5,9 @@ ghost use mathlib.Core.Bool.{false};
 ghost use mathlib.Core.List.{[]};
 ghost use Prim.Native.Nat.{_+_, _≤_, _<_};
 ghost use lib.ListN.{drop, replicate};
-ghost use lib.Seq.{paste};
 ghost use Rattle.rules.specs.Text as rules;
 ghost use Rattle.token.specs.Finds.{ownedAt};
-ghost use Rattle.claims.specs.Units.{mostClaimed, IsOwned, UnitStands, Claims, Concludes, symbolAt, brokenOf};
+ghost use Rattle.claims.specs.Units.{mostClaimed, IsOwned, UnitStands, endedAt, withUnit, Claims, Concludes, symbolAt, brokenOf};
 use condition::AT_LEAST;
 use condition::COMPARISON;
 use condition::CONDITION_BYTES;
@@ -91,72 +90,71 @@ fn refused(text: &[u8], lines: usize, stop: usize, at: usize) -> Conclusion
 fn claimed(text: &[u8], lines: usize, stop: usize, at: usize) -> Claim
     ensures { λ r. ⌜ Claims (now (text .entry)) lines (rules.claimed lines lines stop [] (drop at (now (text .entry)))) r ⌝ }
 {
-    let mut bytes = [0u8; MOST_CLAIMED];
-    let mut length = 0;
-    let mut from = at;
+    let mut claim = Claim {
+        whole: false,
+        length: 0,
+        bytes: [0; MOST_CLAIMED],
+        at,
+    };
     let mut left = lines;
     while 0 < left {
-        let here = token::content(text, lines, from);
+        let here = token::content(text, lines, claim.at);
         if text.len() <= here {
-            return claimed_to(bytes, length, here, true);
+            return ended(claim, here, true);
         }
-        if stop <= length {
-            return claimed_to(bytes, length, here, false);
+        if stop <= claim.length {
+            return ended(claim, here, false);
         }
         let unit = unit_at(text, lines, here);
-        let size = unit.size;
-        let piece = unit.bytes;
-        if size == 0 {
-            return claimed_to(bytes, length, here, false);
+        if unit.size == 0 {
+            return ended(claim, here, false);
         }
         if !unit.whole {
-            return claimed_to(
-                appended(bytes, length, piece, size),
-                length + size,
-                unit.at,
-                false,
-            );
+            return appended(claim, unit);
         }
-        if CONDITION_BYTES < length + size {
-            return claimed_to(bytes, length, here, false);
+        if CONDITION_BYTES < claim.length + unit.size {
+            return ended(claim, here, false);
         }
-        let more = appended(bytes, length, piece, size);
-        bytes = more;
-        length += size;
-        from = unit.at;
+        let more = appended(claim, unit);
+        claim = more;
         left -= 1;
     }
-    claimed_to(bytes, length, token::content(text, lines, from), false)
+    ended(claim, token::content(text, lines, claim.at), false)
 }
 
-fn claimed_to(bytes: [u8; MOST_CLAIMED], length: usize, at: usize, whole: bool) -> Claim
-    ensures { λ r. ⌜ (r .bytes ≡ bytes) × (r .length ≡ length) × (r .at ≡ at) × (r .whole ≡ whole) ⌝ }
+// The claim where it ends.
+fn ended(claim: Claim, at: usize, whole: bool) -> Claim
+    ensures { λ r. ⌜ r ≡ endedAt claim at whole ⌝ }
 {
+    let bytes = claim.bytes;
     Claim {
         whole,
-        length,
+        length: claim.length,
         bytes,
         at,
     }
 }
 
-// Puts the unit's first bytes behind those that are there.
-fn appended(
-    bytes: [u8; MOST_CLAIMED],
-    length: usize,
-    unit: [u8; COMPARISON],
-    size: usize,
-) -> [u8; MOST_CLAIMED]
-    requires { ⌜ (length + size ≤ mostClaimed) × (size ≤ 11) ⌝ }
-    ensures { λ r. ⌜ r ≡ paste bytes length unit size ⌝ }
+// The claim with a unit's bytes behind its own, up to where the unit ends.
+fn appended(claim: Claim, unit: Unit) -> Claim
+    requires { ⌜ (claim .length + unit .size ≤ mostClaimed) × (unit .size ≤ 11) ⌝ }
+    ensures { λ r. ⌜ r ≡ withUnit claim unit ⌝ }
 {
-    let mut made = bytes;
+    let piece = unit.bytes;
+    let size = unit.size;
+    let length = claim.length;
+    let mut bytes = claim.bytes;
     let mut i = 0;
     while i < size {
-        made[length + i] = unit[i];
+        bytes[length + i] = piece[i];
         i += 1;
     }
-    made
+    Claim {
+        whole: false,
+        length: length + size,
+        bytes,
+        at: unit.at,
+    }
 }
 
 // The unit that stands here.
