@@ -124,8 +124,8 @@ Going text lines stop left claim c =
 
 -- an answer, and the next turn, by the claim before
 module _ (text : List ℕ) (lines : ℕ) (claim : Claimed lines) (c : Claim) (most : c .length ≤ conditionBytes) (long : length (c .bytes) ≡ mostClaimed) where
-  pub claims-ended : (r : Claim) (at : ℕ) (w : Bool) → r ≡ endedAt c at w → claimedTo lines (take (c .length) (c .bytes)) (drop at text) w ≡ claim → Claims text lines claim r
-  claims-ended r at w e is = rw e (record { is = is; most = omega arith; whole = λ h. most; long = long })
+  pub claims-ended : (r : Claim) (w : Bool) (at : ℕ) → r ≡ endedAt c w at → claimedTo lines (take (c .length) (c .bytes)) (drop at text) w ≡ claim → Claims text lines claim r
+  claims-ended r w at e is = rw e (record { is = is; most = omega arith; whole = λ h. most; long = long })
 
   module _ (u : Unit) (small : u .size ≤ 11) (has : length (u .bytes) ≡ 11) where
     taken-on : take (c .length + u .size) (withUnit c u .bytes) ≡ take (c .length) (c .bytes) ++ take (u .size) (u .bytes)

@@ -3,8 +3,8 @@
 --     IsOwned        a register of a thread that there is
 --     UnitStands     what stands at a place
 --     symbolAt       a bracket, `and` or `or`
---     endedAt, withUnit    what was read of a condition where it ends, and with a unit more
 --     Claims         what was read of a condition
+--     endedAt, withUnit     the same ended at a place, and with a unit more
 --     Concludes      a text's condition, taken or refused
 use Prim.Native.Nat.{ℕ, _+_, _≤_, _<_}
 use mathlib.Core.List.{List, [], _∷_}
@@ -51,8 +51,8 @@ symbolAt at to text =
 abbrev pub brokenOf : ℕ → ℕ → Unit
 brokenOf register at = record { whole = false; size = 11; bytes = comparisonOf 1 register 0; at = at }
 
-abbrev pub endedAt : Claim → ℕ → Bool → Claim
-endedAt c at whole = record { whole = whole; length = c .length; bytes = c .bytes; at = at }
+abbrev pub endedAt : Claim → Bool → ℕ → Claim
+endedAt c whole at = record { whole = whole; length = c .length; bytes = c .bytes; at = at }
 
 abbrev pub withUnit : Claim → Unit → Claim
 withUnit c u = record { whole = false; length = c .length + u .size; bytes = paste (c .bytes) (c .length) (u .bytes) (u .size); at = u .at }

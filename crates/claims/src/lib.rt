@@ -100,31 +100,31 @@ fn claimed(text: &[u8], lines: usize, stop: usize, at: usize) -> Claim
     while 0 < left {
         let here = token::content(text, lines, claim.at);
         if text.len() <= here {
-            return ended(claim, here, true);
+            return ended(claim, true, here);
         }
         if stop <= claim.length {
-            return ended(claim, here, false);
+            return ended(claim, false, here);
         }
         let unit = unit_at(text, lines, here);
         if unit.size == 0 {
-            return ended(claim, here, false);
+            return ended(claim, false, here);
         }
         if !unit.whole {
             return appended(claim, unit);
         }
         if CONDITION_BYTES < claim.length + unit.size {
-            return ended(claim, here, false);
+            return ended(claim, false, here);
         }
         let more = appended(claim, unit);
         claim = more;
         left -= 1;
     }
-    ended(claim, token::content(text, lines, claim.at), false)
+    ended(claim, false, token::content(text, lines, claim.at))
 }
 
-// The claim where it ends.
-fn ended(claim: Claim, at: usize, whole: bool) -> Claim
-    ensures { λ r. ⌜ r ≡ endedAt claim at whole ⌝ }
+// The claim, ended at a place.
+fn ended(claim: Claim, whole: bool, at: usize) -> Claim
+    ensures { λ r. ⌜ r ≡ endedAt claim whole at ⌝ }
 {
     let bytes = claim.bytes;
     Claim {

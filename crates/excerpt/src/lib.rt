@@ -17,7 +17,7 @@ const BEFORE: usize = 100;
 // ASCII's delete: it steers a terminal as those below the blank do.
 const DELETE: u8 = 127;
 
-// A line with a place in it that is shown: where the line begins, the place, and where the line ends.
+// A line that is shown, with a place in it: where the line begins, the place, and where the line ends.
 pub struct Excerpt {
     pub begin: usize,
     pub place: usize,

@@ -40,7 +40,7 @@ returns c =
     let at = got .before .before in
     let a = at .before .before .args in
     let n = long at in
-    claims-ended (a .text .now) (a .lines) _ (at .loop .claim) (at .loop .inv .0) (at .loop .inv .1) _ _ true (c .ended .ensures)
+    claims-ended (a .text .now) (a .lines) _ (at .loop .claim) (at .loop .inv .0) (at .loop .inv .1) _ true _ (c .ended .ensures)
     (claim-end (a .text .now) (a .lines) (at .loop .left) (a .stop) (made at) (at .loop .claim .at) (got .content .result) (got .content .ensures .left) (got .before .loop-test .taken) (c .before .if1 .taken) ∙ at .loop .inv .2)
 
 ended-requires-2 : tie.Need-ended-requires-2 Inv-loop μ-loop
@@ -52,7 +52,7 @@ returns-2 c =
     let at = got .before .before in
     let a = at .before .before .args in
     let n = long at in
-    claims-ended (a .text .now) (a .lines) _ (at .loop .claim) (at .loop .inv .0) (at .loop .inv .1) _ _ false (c .ended2 .ensures)
+    claims-ended (a .text .now) (a .lines) _ (at .loop .claim) (at .loop .inv .0) (at .loop .inv .1) _ false _ (c .ended2 .ensures)
     (claim-stop (a .text .now) (a .lines) (at .loop .left) (a .stop) (made at) (at .loop .claim .at) (got .content .result) (got .content .ensures .left) (got .before .loop-test .taken) (c .before .before .before .if1 .left) (omega (arith, c .before .if2 .taken)) ∙ at .loop .inv .2)
 
 unit-at-requires : tie.Need-unit-at-requires Inv-loop μ-loop
@@ -68,7 +68,7 @@ returns-3 c =
     let at = got .before .before in
     let a = at .before .before .args in
     let n = long at in
-    claims-ended (a .text .now) (a .lines) _ (at .loop .claim) (at .loop .inv .0) (at .loop .inv .1) _ _ false (c .ended3 .ensures)
+    claims-ended (a .text .now) (a .lines) _ (at .loop .claim) (at .loop .inv .0) (at .loop .inv .1) _ false _ (c .ended3 .ensures)
     (claim-none (a .text .now) (a .lines) (at .loop .left) (a .stop) (made at) (at .loop .claim .at) (got .content .result) (got .content .ensures .left) (got .before .loop-test .taken) (one .before .before .before .if1 .left) (omega (arith, one .before .if2 .left)) (one .unit-at .result) (one .unit-at .ensures) (c .before .if3 .taken) ∙ at .loop .inv .2)
 
 appended-requires : tie.Need-appended-requires Inv-loop μ-loop
@@ -103,7 +103,7 @@ returns-5 c =
     let n = long at in
     let u = one .unit-at .result in
     let has : length (u .bytes) ≡ 11 = one .unit-at .ensures .long in
-    claims-ended (a .text .now) (a .lines) _ (at .loop .claim) (at .loop .inv .0) (at .loop .inv .1) _ _ false (c .ended4 .ensures)
+    claims-ended (a .text .now) (a .lines) _ (at .loop .claim) (at .loop .inv .0) (at .loop .inv .1) _ false _ (c .ended4 .ensures)
     (claim-long (a .text .now) (a .lines) (at .loop .left) (a .stop) (made at) (at .loop .claim .at) (got .content .result) (got .content .ensures .left) (got .before .loop-test .taken) (one .before .before .before .if1 .left) (omega (arith, one .before .if2 .left)) u (one .unit-at .ensures) (some .if3 .left) (not-false _ (all .if4 .left)) (omega (arith, one .unit-at .ensures .small)) (omega (arith, c .before .if5 .taken)) ∙ at .loop .inv .2)
 
 appended-requires-2 : tie.Need-appended-requires-2 Inv-loop μ-loop
@@ -141,7 +141,7 @@ returns-6 c =
     let got = c .before in
     let at = got .before .before in
     let a = at .before .before .args in
-    claims-ended (a .text .now) (a .lines) _ (at .loop .claim) (at .loop .inv .0) (at .loop .inv .1) _ _ false (c .ended5 .ensures)
+    claims-ended (a .text .now) (a .lines) _ (at .loop .claim) (at .loop .inv .0) (at .loop .inv .1) _ false _ (c .ended5 .ensures)
     (claim-out (a .text .now) (a .lines) (at .loop .left) (a .stop) (made at) (at .loop .claim .at) (got .content2 .result) (got .content2 .ensures .left) (got .before .loop-test .left) ∙ at .loop .inv .2)
 
 pub claimed-spec : {M : Type 1} → statement M
