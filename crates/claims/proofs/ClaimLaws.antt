@@ -1,20 +1,21 @@
 -- The bytes of a condition, unit by unit. Assumes nothing.
 --     claim-out, claim-end, claim-stop      no unit is left, the text ends, or enough was read
 --     claim-none, claim-broken, claim-long, claim-on      what comes of a unit
+--     claims-ended, claims-with, going-with      an answer, and the next turn, by the claim before
 use Prim.Native.Nat.{ℕ, zero, suc, _+_, _-_, _≤_, _<_}
 use mathlib.Core.List.{List, [], _∷_, _++_}
-use mathlib.Core.Bool.{Bool, true, false, cond, _&&_, _||_}
+use mathlib.Core.Bool.{Bool, true, false, true≢false, _||_}
 use mathlib.Core.Path.{_≡_, refl, ap, sym, _∙_}
 use native.Mathlib.Omega.{arith}
 use borrow.Author.Tests.{eq-eqb, ne-eqb, le-leb, lt-leb}
 use lib.Dec.{leb, eqb}
 use lib.ListN.{length, take, drop, length-take, length-drop}
-use lib.Seq.{paste, take-paste}
+use lib.Seq.{take-paste, length-paste}
 use Rattle.rules.specs.Condition.{conditionBytes, Read, bad, read, conditionAt, groupsDeep, comparisonAt}
 use Rattle.rules.specs.Token.{isEmpty, content}
 use Rattle.rules.specs.Text.{unitAt, claimed, claimedTo, Claimed}
 use Rattle.rules.specs.Text as rules
-use Rattle.claims.specs.Units.{mostClaimed, UnitStands, Claims, unitOf}
+use Rattle.claims.specs.Units.{mostClaimed, UnitStands, endedAt, withUnit, Claims, unitOf}
 use Rattle.claims.specs.declared.Claim.{Claim}
 use Rattle.claims.specs.declared.Unit.{Unit}
 
@@ -116,17 +117,32 @@ module _ (text : List ℕ) (lines left stop : ℕ) (made : List ℕ) (from here 
                 → claimed lines (left - 1) stop (made ++ take (u .size) (u .bytes)) (drop (u .at) text) ≡ claimed lines left stop made (drop from text)
             claim-on h = one-room true (le-leb (length made + u .size) conditionBytes h)
 
--- bytes put behind those that are there
-pub taken-on : (bytes piece : List ℕ) (at size : ℕ) → at ≤ length bytes → size ≤ length piece → take (at + size) (paste bytes at piece size) ≡ take at bytes ++ take size piece
-taken-on bytes piece at size h l = take-paste bytes at piece size h l
+-- before a turn of so many: from what was made, what is left gives the whole
+abbrev pub Going : List ℕ → (lines stop left : ℕ) → Claimed lines → Claim → Type 0
+Going text lines stop left claim c =
+    (c .length ≤ conditionBytes) × (length (c .bytes) ≡ mostClaimed) × (claimed lines left stop (take (c .length) (c .bytes)) (drop (c .at) text) ≡ claim)
 
--- an answer by its parts
-pub claims-to : (text : List ℕ) (lines : ℕ) (claim : Claimed lines) (r : Claim) (bytes : List ℕ) (n at : ℕ) (w : Bool)
-    → (r .bytes ≡ bytes) × (r .length ≡ n) × (r .at ≡ at) × (r .whole ≡ w)
-    → claimedTo lines (take n bytes) (drop at text) w ≡ claim → n ≤ mostClaimed → (w ≡ true → n ≤ conditionBytes) → length bytes ≡ mostClaimed → Claims text lines claim r
-claims-to text lines claim r bytes n at w e is most whole long = record {
-  is = rw (e .0, e .1, e .2, e .3) is;
-  most = rw (e .1) most;
-  whole = λ h. rw (e .1) (whole (sym (e .3) ∙ h));
-  long = ap length (e .0) ∙ long;
-}
+-- an answer, and the next turn, by the claim before
+module _ (text : List ℕ) (lines : ℕ) (claim : Claimed lines) (c : Claim) (most : c .length ≤ conditionBytes) (long : length (c .bytes) ≡ mostClaimed) where
+  pub claims-ended : (r : Claim) (w : Bool) (at : ℕ) → r ≡ endedAt c w at → claimedTo lines (take (c .length) (c .bytes)) (drop at text) w ≡ claim → Claims text lines claim r
+  claims-ended r w at e is = rw e (record { is = is; most = omega arith; whole = λ h. most; long = long })
+
+  module _ (u : Unit) (small : u .size ≤ 11) (has : length (u .bytes) ≡ 11) where
+    taken-on : take (c .length + u .size) (withUnit c u .bytes) ≡ take (c .length) (c .bytes) ++ take (u .size) (u .bytes)
+    taken-on = take-paste (c .bytes) (c .length) (u .bytes) (u .size) (omega arith) (omega arith)
+
+    long-on : length (withUnit c u .bytes) ≡ mostClaimed
+    long-on = length-paste (c .bytes) (c .length) (u .bytes) (u .size) (omega arith) (omega arith) ∙ long
+
+    pub claims-with : (r : Claim) → r ≡ withUnit c u → claimedTo lines (take (c .length) (c .bytes) ++ take (u .size) (u .bytes)) (drop (u .at) text) false ≡ claim → Claims text lines claim r
+    claims-with r e is =
+        rw e (record {
+          is = ap (λ (m : List ℕ). claimedTo lines m (drop (u .at) text) false) taken-on ∙ is;
+          most = omega arith;
+          whole = λ h. absurd (true≢false (sym h));
+          long = long-on;
+        })
+
+    pub going-with : (stop left : ℕ) (r : Claim) → r ≡ withUnit c u → c .length + u .size ≤ conditionBytes
+        → claimed lines left stop (take (c .length) (c .bytes) ++ take (u .size) (u .bytes)) (drop (u .at) text) ≡ claim → Going text lines stop left claim r
+    going-with stop left r e fits is = rw e (fits, long-on, ap (λ (m : List ℕ). claimed lines left stop m (drop (u .at) text)) taken-on ∙ is)

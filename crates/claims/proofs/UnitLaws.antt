@@ -1,20 +1,20 @@
 -- What stands at a place of a condition. Assumes nothing.
---     place-bounds, register-most     a word's place in a list, and a thread's register
+--     place-bounds       a word's place in a list
+--     owned-..           a thread's register
 --     symbol-..          a bracket, `and` or `or`
 --     number-.., sign-..     behind a thread's register
 --     unit-..          the whole unit
-use Prim.Native.Nat.{ℕ, suc, _+_, _-_, _*_, _≤_, _<_}
+use Prim.Native.Nat.{ℕ, suc, _+_, _*_, _/_, _%_, _≤_, _<_}
 use mathlib.Core.List.{List, [], _∷_}
-use mathlib.Core.Bool.{Bool, true, false, cond, not, _&&_, and-eq-true-iff}
+use mathlib.Core.Bool.{Bool, true, false, not}
 use mathlib.Core.Path.{_≡_, refl, ap, sym, _∙_}
 use native.Mathlib.Omega.{arith}
-use borrow.Author.Tests.{le-leb, lt-leb, leb-true}
-use lib.Dec.{leb, eqb}
-use lib.ListN.{length, getD, take, drop, replicate}
+use borrow.Author.Tests.{le-leb, lt-leb}
+use lib.ListN.{length, take, drop, replicate}
 use Rattle.rules.specs.Vector.{equal}
 use Rattle.rules.specs.Event.{little}
 use Rattle.rules.specs.Condition.{isSign}
-use Rattle.rules.specs.Token.{Found, nothing, found, only, foundIf, isBetween, content, token, pastToken, tokenLength, numberIn, placeIn}
+use Rattle.rules.specs.Token.{Found, nothing, found, only, foundIf, content, token, pastToken, tokenLength, numberIn, placeIn}
 use Rattle.rules.specs.Text.{symbols, symbolIn, threadRegisterIn, comparisonOf, numberBehind, signBehind, unitAt}
 use Rattle.rules.specs.Text as rules
 use Rattle.token.specs.Places.{part}
@@ -40,36 +40,15 @@ symbol-least word v e = place-bounds 1 word symbols v e .0
 pub symbol-most : (word : List ℕ) (v : ℕ) → symbolIn word ≡ found v → v ≤ 10
 symbol-most word v e = omega (arith, place-bounds 1 word symbols v e .1)
 
-only-is : (t : Bool) (v w : ℕ) → foundIf t v ≡ found w → t ≡ true
-only-is true v w e = refl
-only-is false v w e = cc
+-- a thread's register, which the definition takes out of one number
+owned-thread : (t r : ℕ) → r < 4 → (4 * t + r) / 4 ≡ t
+owned-thread t r h = omega arith
 
-only-value : (t : Bool) (v w : ℕ) → foundIf t v ≡ found w → v ≡ w
-only-value true v w e = cc
-only-value false v w e = cc
+owned-register : (t r : ℕ) → r < 4 → (4 * t + r) % 4 ≡ r
+owned-register t r h = omega arith
 
-and-first : (a b : Bool) → a && b ≡ true → a ≡ true
-and-first a b e = and-eq-true-iff a b .0 e .0
-
-and-second : (a b : Bool) → a && b ≡ true → b ≡ true
-and-second a b e = and-eq-true-iff a b .0 e .1
-
-between-most : (least most b : ℕ) → isBetween least most b ≡ true → b ≤ most
-between-most least most b e = leb-true b most (and-second (leb least b) (leb b most) e)
-
-pub register-most : (word : List ℕ) (v : ℕ) → threadRegisterIn word ≡ found v → v < 20
-unfolding threadRegisterIn
-register-most word v e =
-    let a : Bool = eqb (length word) 4 in
-    let b : Bool = isBetween 48 52 (getD word 0 0) in
-    let c : Bool = eqb (getD word 1 0) 46 in
-    let d : Bool = eqb (getD word 2 0) 114 in
-    let f : Bool = isBetween 48 51 (getD word 3 0) in
-    let t : a && b && c && d && f ≡ true = only-is (a && b && c && d && f) _ _ e in
-    let w : 4 * (getD word 0 0 - 48) + (getD word 3 0 - 48) ≡ v = only-value (a && b && c && d && f) _ _ e in
-    let first : getD word 0 0 ≤ 52 = between-most 48 52 _ (and-second a b (and-first (a && b) c (and-first (a && b && c) d (and-first (a && b && c && d) f t)))) in
-    let last : getD word 3 0 ≤ 51 = between-most 48 51 _ (and-second (a && b && c && d) f t) in
-    omega arith
+pub owned-compared : (sign t r n : ℕ) (bs : List ℕ) → r < 4 → bs ≡ little 8 n → sign ∷ t ∷ r ∷ bs ≡ comparisonOf sign (4 * t + r) n
+owned-compared sign t r n bs h e = rw (owned-thread t r h, owned-register t r h) (ap (λ (x : List ℕ). sign ∷ t ∷ r ∷ x) e)
 
 -- A bracket, `and` or `or`
 

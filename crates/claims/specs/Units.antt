@@ -1,8 +1,10 @@
 -- What the answers of this crate stand for in the definition. Assumes nothing.
 --     mostClaimed    the longest condition, and a comparison that broke off behind it
+--     IsOwned        a register of a thread that there is
 --     UnitStands     what stands at a place
 --     symbolAt       a bracket, `and` or `or`
 --     Claims         what was read of a condition
+--     endedAt, withUnit     the same ended at a place, and with a unit more
 --     Concludes      a text's condition, taken or refused
 use Prim.Native.Nat.{ℕ, _+_, _≤_, _<_}
 use mathlib.Core.List.{List, [], _∷_}
@@ -10,17 +12,22 @@ use mathlib.Core.Bool.{Bool, true, false, cond, not}
 use mathlib.Core.Path.{_≡_}
 use lib.Dec.{eqb}
 use lib.ListN.{length, take, drop}
+use lib.Seq.{paste}
 use Rattle.rules.specs.Condition.{isSign, conditionBytes, comparisonBytes}
 use Rattle.rules.specs.Token.{Found, nothing, found, only}
 use Rattle.rules.specs.Text as rules
 use Rattle.rules.specs.Text.{symbolIn, comparisonOf}
 use Rattle.token.specs.Places.{part}
+use Rattle.token.specs.declared.Owned.{Owned}
 use Rattle.claims.specs.declared.Unit.{Unit}
 use Rattle.claims.specs.declared.Claim.{Claim}
 use Rattle.claims.specs.declared.Conclusion.{Conclusion}
 
 abbrev pub mostClaimed : ℕ
 mostClaimed = conditionBytes + comparisonBytes
+
+abbrev pub IsOwned : Owned → Type 0
+IsOwned o = (o .thread < 5) × (o .register < 4)
 
 -- with no byte it is nothing that a condition has
 abbrev pub unitOf : List ℕ → Unit → rules.Unit
@@ -43,6 +50,12 @@ symbolAt at to text =
 
 abbrev pub brokenOf : ℕ → ℕ → Unit
 brokenOf register at = record { whole = false; size = 11; bytes = comparisonOf 1 register 0; at = at }
+
+abbrev pub endedAt : Claim → Bool → ℕ → Claim
+endedAt c whole at = record { whole = whole; length = c .length; bytes = c .bytes; at = at }
+
+abbrev pub withUnit : Claim → Unit → Claim
+withUnit c u = record { whole = false; length = c .length + u .size; bytes = paste (c .bytes) (c .length) (u .bytes) (u .size); at = u .at }
 
 abbrev pub claimedOf : (lines : ℕ) → List ℕ → Claim → rules.Claimed lines
 claimedOf lines text c = rules.claimedTo lines (take (c .length) (c .bytes)) (drop (c .at) text) (c .whole)

@@ -5,17 +5,18 @@ ghost use mathlib.Core.Bool.{false};
 ghost use mathlib.Core.List.{[]};
 ghost use Prim.Native.Nat.{_+_, _≤_, _<_};
 ghost use lib.ListN.{drop, replicate};
-ghost use lib.Seq.{paste};
 ghost use Rattle.rules.specs.Text as rules;
-ghost use Rattle.claims.specs.Units.{mostClaimed, UnitStands, Claims, Concludes, symbolAt, brokenOf};
+ghost use Rattle.token.specs.Finds.{ownedAt};
+ghost use Rattle.claims.specs.Units.{mostClaimed, IsOwned, UnitStands, endedAt, withUnit, Claims, Concludes, symbolAt, brokenOf};
 use condition::AT_LEAST;
 use condition::COMPARISON;
 use condition::CONDITION_BYTES;
 use condition::EQUALS;
 use condition::Extent;
-use layout::REGISTERS;
 use little::low_bytes;
 use token::Found;
+use token::FoundOwned;
+use token::Owned;
 
 // The longest condition, and a comparison that broke off behind it.
 pub const MOST_CLAIMED: usize = CONDITION_BYTES + COMPARISON;
@@ -89,72 +90,71 @@ fn refused(text: &[u8], lines: usize, stop: usize, at: usize) -> Conclusion
 fn claimed(text: &[u8], lines: usize, stop: usize, at: usize) -> Claim
     ensures { λ r. ⌜ Claims (now (text .entry)) lines (rules.claimed lines lines stop [] (drop at (now (text .entry)))) r ⌝ }
 {
-    let mut bytes = [0u8; MOST_CLAIMED];
-    let mut length = 0;
-    let mut from = at;
+    let mut claim = Claim {
+        whole: false,
+        length: 0,
+        bytes: [0; MOST_CLAIMED],
+        at,
+    };
     let mut left = lines;
     while 0 < left {
-        let here = token::content(text, lines, from);
+        let here = token::content(text, lines, claim.at);
         if text.len() <= here {
-            return claimed_to(bytes, length, here, true);
+            return ended(claim, true, here);
         }
-        if stop <= length {
-            return claimed_to(bytes, length, here, false);
+        if stop <= claim.length {
+            return ended(claim, false, here);
         }
         let unit = unit_at(text, lines, here);
-        let size = unit.size;
-        let piece = unit.bytes;
-        if size == 0 {
-            return claimed_to(bytes, length, here, false);
+        if unit.size == 0 {
+            return ended(claim, false, here);
         }
         if !unit.whole {
-            return claimed_to(
-                appended(bytes, length, piece, size),
-                length + size,
-                unit.at,
-                false,
-            );
+            return appended(claim, unit);
         }
-        if CONDITION_BYTES < length + size {
-            return claimed_to(bytes, length, here, false);
+        if CONDITION_BYTES < claim.length + unit.size {
+            return ended(claim, false, here);
         }
-        let more = appended(bytes, length, piece, size);
-        bytes = more;
-        length += size;
-        from = unit.at;
+        let more = appended(claim, unit);
+        claim = more;
         left -= 1;
     }
-    claimed_to(bytes, length, token::content(text, lines, from), false)
+    ended(claim, false, token::content(text, lines, claim.at))
 }
 
-fn claimed_to(bytes: [u8; MOST_CLAIMED], length: usize, at: usize, whole: bool) -> Claim
-    ensures { λ r. ⌜ (r .bytes ≡ bytes) × (r .length ≡ length) × (r .at ≡ at) × (r .whole ≡ whole) ⌝ }
+// The claim, ended at a place.
+fn ended(claim: Claim, whole: bool, at: usize) -> Claim
+    ensures { λ r. ⌜ r ≡ endedAt claim whole at ⌝ }
 {
+    let bytes = claim.bytes;
     Claim {
         whole,
-        length,
+        length: claim.length,
         bytes,
         at,
     }
 }
 
-// Puts the unit's first bytes behind those that are there.
-fn appended(
-    bytes: [u8; MOST_CLAIMED],
-    length: usize,
-    unit: [u8; COMPARISON],
-    size: usize,
-) -> [u8; MOST_CLAIMED]
-    requires { ⌜ (length + size ≤ mostClaimed) × (size ≤ 11) ⌝ }
-    ensures { λ r. ⌜ r ≡ paste bytes length unit size ⌝ }
+// The claim with a unit's bytes behind its own, up to where the unit ends.
+fn appended(claim: Claim, unit: Unit) -> Claim
+    requires { ⌜ (claim .length + unit .size ≤ mostClaimed) × (unit .size ≤ 11) ⌝ }
+    ensures { λ r. ⌜ r ≡ withUnit claim unit ⌝ }
 {
-    let mut made = bytes;
+    let piece = unit.bytes;
+    let size = unit.size;
+    let length = claim.length;
+    let mut bytes = claim.bytes;
     let mut i = 0;
     while i < size {
-        made[length + i] = unit[i];
+        bytes[length + i] = piece[i];
         i += 1;
     }
-    made
+    Claim {
+        whole: false,
+        length: length + size,
+        bytes,
+        at: unit.at,
+    }
 }
 
 // The unit that stands here.
@@ -162,10 +162,10 @@ fn unit_at(text: &[u8], lines: usize, at: usize) -> Unit
     ensures { λ r. ⌜ UnitStands (now (text .entry)) (rules.unitAt lines (drop at (now (text .entry)))) r ⌝ }
 {
     let to = token::token_end(text, at);
-    let Found::Value(register) = token::thread_register(text, at, to) else {
+    let FoundOwned::Register(owned) = token::thread_register(text, at, to) else {
         return symbol_at(text, at, to);
     };
-    sign_behind(text, lines, register, to)
+    sign_behind(text, lines, owned, to)
 }
 
 // A bracket, `and` or `or`.
@@ -198,62 +198,62 @@ fn none(at: usize) -> Unit
 }
 
 // Behind `THREAD.rREGISTER`.
-fn sign_behind(text: &[u8], lines: usize, register: u64, from: usize) -> Unit
-    requires { ⌜ register < 20 ⌝ }
-    ensures { λ r. ⌜ UnitStands (now (text .entry)) (rules.signBehind lines register (drop from (now (text .entry)))) r ⌝ }
+fn sign_behind(text: &[u8], lines: usize, owned: Owned, from: usize) -> Unit
+    requires { ⌜ IsOwned owned ⌝ }
+    ensures { λ r. ⌜ UnitStands (now (text .entry)) (rules.signBehind lines (ownedAt owned) (drop from (now (text .entry)))) r ⌝ }
 {
     let at = token::content(text, lines, from);
     let to = token::token_end(text, at);
     let Found::Value(sign) = token::symbol(text, at, to) else {
-        return broken(register, at);
+        return broken(owned, at);
     };
     if (AT_LEAST as u64) < sign {
-        return broken(register, at);
+        return broken(owned, at);
     }
-    number_behind(text, lines, register, sign, to)
+    number_behind(text, lines, owned, sign, to)
 }
 
 // Behind `THREAD.rREGISTER SIGN`.
-fn number_behind(text: &[u8], lines: usize, register: u64, sign: u64, from: usize) -> Unit
-    requires { ⌜ (register < 20) × (sign ≤ 6) ⌝ }
-    ensures { λ r. ⌜ UnitStands (now (text .entry)) (rules.numberBehind lines register sign (drop from (now (text .entry)))) r ⌝ }
+fn number_behind(text: &[u8], lines: usize, owned: Owned, sign: u64, from: usize) -> Unit
+    requires { ⌜ IsOwned owned × (sign ≤ 6) ⌝ }
+    ensures { λ r. ⌜ UnitStands (now (text .entry)) (rules.numberBehind lines (ownedAt owned) sign (drop from (now (text .entry)))) r ⌝ }
 {
     let at = token::content(text, lines, from);
     let to = token::token_end(text, at);
     let Found::Value(n) = token::number(text, at, to) else {
-        return broken(register, at);
+        return broken(owned, at);
     };
     Unit {
         whole: true,
         size: COMPARISON,
-        bytes: comparison(register, sign, n),
+        bytes: comparison(owned, sign, n),
         at: to,
     }
 }
 
 // A comparison that breaks off here.
-fn broken(register: u64, at: usize) -> Unit
-    requires { ⌜ register < 20 ⌝ }
-    ensures { λ r. ⌜ r ≡ brokenOf register at ⌝ }
+fn broken(owned: Owned, at: usize) -> Unit
+    requires { ⌜ IsOwned owned ⌝ }
+    ensures { λ r. ⌜ r ≡ brokenOf (ownedAt owned) at ⌝ }
 {
     Unit {
         whole: false,
         size: COMPARISON,
-        bytes: comparison(register, EQUALS as u64, 0),
+        bytes: comparison(owned, EQUALS as u64, 0),
         at,
     }
 }
 
 // A comparison's bytes: its sign, the thread, the register, the number's eight, the lowest first.
-fn comparison(register: u64, sign: u64, n: u64) -> [u8; COMPARISON]
-    requires { ⌜ (register < 20) × (sign ≤ 6) ⌝ }
-    ensures { λ r. ⌜ r ≡ rules.comparisonOf sign register n ⌝ }
+fn comparison(owned: Owned, sign: u64, n: u64) -> [u8; COMPARISON]
+    requires { ⌜ IsOwned owned × (sign ≤ 6) ⌝ }
+    ensures { λ r. ⌜ r ≡ rules.comparisonOf sign (ownedAt owned) n ⌝ }
 {
     let number = low_bytes(n);
     [
         sign as u8,
-        (register / REGISTERS as u64) as u8,
-        (register % REGISTERS as u64) as u8,
+        owned.thread as u8,
+        owned.register as u8,
         number[0],
         number[1],
         number[2],

@@ -8,6 +8,7 @@ ghost use Rattle.put.specs.Puts.{Puts};
 ghost use Rattle.condition_line.specs.Units.{Units, symbolShown, comparisonShown, unitShown, unitBytes};
 use condition::CLOSES;
 use condition::COMPARISON;
+use condition::EQUALS;
 use condition::NUMBER_AT;
 use condition::OPENS;
 use condition::REGISTER_AT;
@@ -17,7 +18,6 @@ use little::u64_at;
 use put::put_byte;
 use put::put_bytes;
 use put::put_number;
-use token::FIRST_SYMBOL;
 use token::SYMBOLS;
 use token::word_at;
 
@@ -102,11 +102,10 @@ fn put_symbol(text: &mut [u8], at: usize, byte: u8) -> usize
 fn symbol_place(byte: u8) -> u64
     ensures { λ r. ⌜ r ≡ byte - 1 ⌝ }
 {
-    let symbol = byte as u64;
-    if symbol < FIRST_SYMBOL {
+    if byte < EQUALS {
         return 0;
     }
-    symbol - FIRST_SYMBOL
+    (byte - EQUALS) as u64
 }
 
 fn unit_bytes(byte: u8) -> usize

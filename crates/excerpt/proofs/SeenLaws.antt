@@ -1,5 +1,6 @@
 -- A byte as it is seen, and bytes one after the other. Assumes nothing.
 --     seen-.., mapped-..           each test on a byte; bytes as they are seen, one by one
+--     excerpt-is                   a line and a place in it
 --     dots-.., line-whole, caret-whole, refused-whole     what is put, piece by piece
 use Prim.Native.Nat.{ℕ, _+_, _≤_, _<_}
 use mathlib.Core.List.{List, [], _∷_, _++_, map}
@@ -12,7 +13,8 @@ use Rattle.token.specs.Places.{part}
 use Rattle.put.specs.Puts.{last, Puts}
 use Rattle.put.proofs.PutLaws.{byte-next, puts-none, puts-are}
 use Rattle.saying.specs.Sayings.{placeShown, whatShown}
-use Rattle.excerpt.specs.Excerpts.{beginOf, rowsBefore, shownLength, placeFrom, tokenBefore, firstShown, lastShown, seenAs, dots, lineShown, caretShown, refusedShown}
+use Rattle.excerpt.specs.Excerpts.{excerptAt, beginOf, rowsBefore, shownLength, placeFrom, tokenBefore, firstShown, lastShown, seenAs, dots, lineShown, caretShown, refusedShown}
+use Rattle.excerpt.specs.declared.Excerpt.{Excerpt}
 
 module _ (below : Bool) (b : ℕ) where
   pub seen-tab : b ≡ 9 → b ≡ seenAs below b
@@ -60,8 +62,13 @@ module _ (text : List ℕ) (begin at from : ℕ) (first : from ≡ firstShown be
   unfolding bytesOf
   caret-whole seen f = rw (f, first)
 
-module _ (name text : List ℕ) (line column begin end at row before : ℕ) where
-  pub refused-whole : begin ≡ beginOf line text → end ≡ begin + shownLength (drop begin text) → at ≡ placeFrom begin end column →
-      row ≡ rowsBefore line text → before ≡ tokenBefore text at (length text) begin begin
-      → refusedShown name text line column ≡ placeShown name line column ++ (whatShown text row begin before at ++ (lineShown text begin at end ++ caretShown text begin at))
-  refused-whole b e a r f = rw (f, r, a, e, b)
+pub excerpt-is : (text : List ℕ) (line column begin place end : ℕ) → begin ≡ beginOf line text → end ≡ begin + shownLength (drop begin text) → place ≡ placeFrom begin end column
+    → record { begin = begin; place = place; end = end } ≡ excerptAt text line column
+excerpt-is text line column begin place end b e a = rw (a, e, b)
+
+module _ (name text : List ℕ) (line column : ℕ) (shown : Excerpt) (row before : ℕ) where
+  pub refused-whole : shown ≡ excerptAt text line column → row ≡ rowsBefore line text → before ≡ tokenBefore text (shown .place) (length text) (shown .begin) (shown .begin)
+      → refusedShown name text line column
+      ≡ placeShown name line column
+      ++ (whatShown text row (shown .begin) before (shown .place) ++ (lineShown text (shown .begin) (shown .place) (shown .end) ++ caretShown text (shown .begin) (shown .place)))
+  refused-whole e r f = rw (f, r, e)

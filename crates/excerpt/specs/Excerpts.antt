@@ -6,6 +6,7 @@
 --     tokenBefore         the last token before a place
 --     lineShown           the line, or what is shown of a long one
 --     caretShown          the caret below it
+--     excerptAt           a line and the place of a column in it
 --     refusedShown        that a text is refused, where, and why
 use Prim.Native.Nat.{ℕ, zero, suc, _+_, _-_}
 use mathlib.Core.List.{List, [], _∷_, _++_, map}
@@ -16,6 +17,7 @@ use Rattle.rules.specs.Vector.{equal}
 use Rattle.rules.specs.Token.{lineFeed, isBlank, runLength, pastBlanks, token, tokenLength, endsLine, lineLength, nextLine, bytesOf}
 use Rattle.token.specs.Places.{part}
 use Rattle.saying.specs.Sayings.{placeShown, whatShown}
+use Rattle.excerpt.specs.declared.Excerpt.{Excerpt}
 
 -- behind so many lines
 unfoldable pub behindLines : ℕ → List ℕ → ℕ
@@ -104,6 +106,10 @@ refusedIn name text line column begin end place =
 
 abbrev pub endOf : ℕ → List ℕ → ℕ
 endOf line text = beginOf line text + shownLength (drop (beginOf line text) text)
+
+abbrev pub excerptAt : List ℕ → ℕ → ℕ → Excerpt
+excerptAt text line column =
+    record { begin = beginOf line text; place = placeFrom (beginOf line text) (endOf line text) column; end = endOf line text }
 
 -- at a line and column, with the file's name
 abbrev pub refusedShown : List ℕ → List ℕ → ℕ → ℕ → List ℕ

@@ -4,7 +4,7 @@ ghost use mathlib.Core.List.{map};
 ghost use Prim.Native.Nat.{_+_, _<_, _^_};
 ghost use lib.ListN.{length, drop};
 ghost use Rattle.put.specs.Puts.{Puts};
-ghost use Rattle.excerpt.specs.Excerpts.{beginOf, withLine, rowsBefore, shownLength, feeds, placeFrom, tokenBefore, firstShown, lastShown, seenAs, dots, lineShown, caretShown, refusedShown};
+ghost use Rattle.excerpt.specs.Excerpts.{excerptAt, beginOf, withLine, rowsBefore, shownLength, feeds, placeFrom, tokenBefore, firstShown, lastShown, seenAs, dots, lineShown, caretShown, refusedShown};
 use put::put_byte;
 use put::put_bytes;
 use saying::Spot;
@@ -16,6 +16,13 @@ const BEFORE: usize = 100;
 
 // ASCII's delete: it steers a terminal as those below the blank do.
 const DELETE: u8 = 127;
+
+// A line that is shown, with a place in it: where the line begins, the place, and where the line ends.
+pub struct Excerpt {
+    pub begin: usize,
+    pub place: usize,
+    pub end: usize,
+}
 
 // Puts that a text is refused at a line and column: what stands there, the line, and a caret. The name of the text's file comes first,
 // where there is one.
@@ -29,21 +36,32 @@ pub fn put(
 ) -> usize
     ensures { λ r. ⌜ Puts (now (page .entry)) (now (page .exit)) at (refusedShown (now (name .entry)) (now (text .entry)) line column) r ⌝ }
 {
-    let begin = line_begin(text, line);
-    let end = line_end(text, begin);
-    let place = place_in(begin, end, column);
+    let shown = excerpt_at(text, line, column);
     let row = rows_before(text, line);
-    let before = token_before(text, begin, place);
+    let before = token_before(text, shown.begin, shown.place);
     let spot = Spot {
         row,
-        begin,
+        begin: shown.begin,
         before,
-        place,
+        place: shown.place,
     };
     let named = saying::put_place(page, at, name, line, column);
     let what = saying::put_what(page, named, text, spot);
-    let behind = put_line(page, what, text, begin, place, end);
-    put_caret(page, behind, text, begin, place)
+    let behind = put_line(page, what, text, shown);
+    put_caret(page, behind, text, shown)
+}
+
+// A line of the text, and the place of a column in it.
+pub fn excerpt_at(text: &[u8], line: usize, column: usize) -> Excerpt
+    ensures { λ r. ⌜ r ≡ excerptAt (now (text .entry)) line column ⌝ }
+{
+    let begin = line_begin(text, line);
+    let end = line_end(text, begin);
+    Excerpt {
+        begin,
+        place: place_in(column, begin, end),
+        end,
+    }
 }
 
 // Where a line begins, the first being 1; the text's end where it has fewer.
@@ -124,7 +142,7 @@ fn is_feed(text: &[u8], at: usize) -> bool
 }
 
 // The place of a column in the line between two places; its end where the line is shorter.
-pub fn place_in(begin: usize, end: usize, column: usize) -> usize
+pub fn place_in(column: usize, begin: usize, end: usize) -> usize
     ensures { λ r. ⌜ r ≡ placeFrom begin end column ⌝ }
 {
     if column == 0 {
@@ -158,41 +176,36 @@ pub fn token_before(text: &[u8], begin: usize, place: usize) -> usize
     found
 }
 
-// Puts the line between two places, set in by two; of a long one what is around a place.
-pub fn put_line(
-    page: &mut [u8],
-    at: usize,
-    text: &[u8],
-    begin: usize,
-    place: usize,
-    end: usize,
-) -> usize
-    ensures { λ r. ⌜ Puts (now (page .entry)) (now (page .exit)) at (lineShown (now (text .entry)) begin place end) r ⌝ }
+// Puts the line, set in by two; of a long one what is around the place.
+pub fn put_line(page: &mut [u8], at: usize, text: &[u8], shown: Excerpt) -> usize
+    ensures { λ r. ⌜ Puts (now (page .entry)) (now (page .exit)) at (lineShown (now (text .entry)) (shown .begin) (shown .place) (shown .end)) r ⌝ }
 {
-    let from = first_shown(begin, place);
-    let last = last_shown(from, end);
+    let from = first_shown(shown);
+    let last = last_shown(from, shown.end);
     let indent = put_bytes(page, at, b"  ");
-    let cut = put_dots(page, indent, begin, from, b'.');
+    let cut = put_dots(page, indent, b'.', shown.begin, from);
     let seen = put_seen(page, cut, token::part(text, from, last), false);
-    let rest = put_dots(page, seen, last, end, b'.');
+    let rest = put_dots(page, seen, b'.', last, shown.end);
     put_byte(page, rest, b'\n')
 }
 
-// Puts a caret below that line, under the byte at this place.
-pub fn put_caret(page: &mut [u8], at: usize, text: &[u8], begin: usize, place: usize) -> usize
-    ensures { λ r. ⌜ Puts (now (page .entry)) (now (page .exit)) at (caretShown (now (text .entry)) begin place) r ⌝ }
+// Puts a caret below that line, under the byte at the place.
+pub fn put_caret(page: &mut [u8], at: usize, text: &[u8], shown: Excerpt) -> usize
+    ensures { λ r. ⌜ Puts (now (page .entry)) (now (page .exit)) at (caretShown (now (text .entry)) (shown .begin) (shown .place)) r ⌝ }
 {
-    let from = first_shown(begin, place);
+    let from = first_shown(shown);
     let indent = put_bytes(page, at, b"  ");
-    let cut = put_dots(page, indent, begin, from, b' ');
-    let under = put_seen(page, cut, token::part(text, from, place), true);
+    let cut = put_dots(page, indent, b' ', shown.begin, from);
+    let under = put_seen(page, cut, token::part(text, from, shown.place), true);
     put_bytes(page, under, b"^\n")
 }
 
-// The first byte that is shown of a line that begins here, around a place.
-fn first_shown(begin: usize, place: usize) -> usize
-    ensures { λ r. ⌜ r ≡ firstShown begin place ⌝ }
+// The first byte that is shown of the line, around the place.
+fn first_shown(shown: Excerpt) -> usize
+    ensures { λ r. ⌜ r ≡ firstShown (shown .begin) (shown .place) ⌝ }
 {
+    let begin = shown.begin;
+    let place = shown.place;
     if place < BEFORE {
         return begin;
     }
@@ -215,11 +228,11 @@ fn last_shown(from: usize, end: usize) -> usize
     from + WIDEST
 }
 
-// Three dots, or blanks below them, where one place is before the other.
-fn put_dots(page: &mut [u8], at: usize, a: usize, b: usize, byte: u8) -> usize
-    ensures { λ r. ⌜ Puts (now (page .entry)) (now (page .exit)) at (dots a b byte) r ⌝ }
+// Three dots, or blanks below them, where bytes between two places are left out.
+fn put_dots(page: &mut [u8], at: usize, byte: u8, from: usize, to: usize) -> usize
+    ensures { λ r. ⌜ Puts (now (page .entry)) (now (page .exit)) at (dots from to byte) r ⌝ }
 {
-    if b <= a {
+    if to <= from {
         return at;
     }
     put_bytes(page, at, &[byte, byte, byte])

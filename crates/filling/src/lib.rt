@@ -40,6 +40,28 @@ pub enum Line {
     Concludes(usize),
 }
 
+// The first token of a line: where it begins, and where it ends.
+struct First {
+    here: usize,
+    to: usize,
+}
+
+// Start values, of cells or of plain cells: how many at most, and the place at which the header counts them.
+struct StartValues {
+    most: usize,
+    place: usize,
+}
+
+const CELL_VALUES: StartValues = StartValues {
+    most: MAX_CELLS,
+    place: CELL_COUNT,
+};
+
+const PLAIN_VALUES: StartValues = StartValues {
+    most: MAX_PLAINS,
+    place: PLAIN_COUNT,
+};
+
 // One line, in a text of so many lines at most and so many threads.
 pub fn line_of(text: &[u8], table: &mut [u8], lines: usize, all: usize, reached: Reached) -> Line
     requires { ⌜ HoldsTable (now table) (reached .length) ⌝ }
@@ -61,59 +83,53 @@ pub fn line_of(text: &[u8], table: &mut [u8], lines: usize, all: usize, reached:
         });
     }
     let to = token::token_end(text, here);
+    let first = First { here, to };
     if table[CELL_COUNT] == 0 {
         if token::is_word(text, b"cells", here, to) {
-            return values_line(text, table, MAX_CELLS, CELL_COUNT, length, to);
+            return values_line(text, table, CELL_VALUES, length, to);
         }
         return Line::Refused(here);
     }
-    if is_plain_line(text, table, here, to) {
-        return values_line(text, table, MAX_PLAINS, PLAIN_COUNT, length, to);
+    if is_plain_line(text, table, first) {
+        return values_line(text, table, PLAIN_VALUES, length, to);
     }
     if token::is_word(text, b"thread", here, to) {
-        return a_thread(text, table, lines, length, here, to);
+        return a_thread(text, table, lines, length, first);
     }
     if token::is_word(text, b"finally", here, to) {
-        return the_condition(table, here, to);
+        return the_condition(table, first);
     }
     a_row(text, table, all, reached, here)
 }
 
 // `finally`, once there is a thread.
-fn the_condition(header: &[u8], here: usize, to: usize) -> Line
+fn the_condition(header: &[u8], first: First) -> Line
     requires { ⌜ 1 ≤ length (now header) ⌝ }
-    ensures { λ r. ⌜ r ≡ cond (ltb 0 (getD (now (header .entry)) 0 0)) (Line.Concludes to) (Line.Refused here) ⌝ }
+    ensures { λ r. ⌜ r ≡ cond (ltb 0 (getD (now (header .entry)) 0 0)) (Line.Concludes (first .to)) (Line.Refused (first .here)) ⌝ }
 {
     if 0 < header[THREAD_COUNT] {
-        return Line::Concludes(to);
+        return Line::Concludes(first.to);
     }
-    Line::Refused(here)
+    Line::Refused(first.here)
 }
 
 // `thread`, and its rows.
-fn a_thread(
-    text: &[u8],
-    table: &mut [u8],
-    lines: usize,
-    length: usize,
-    here: usize,
-    to: usize,
-) -> Line
+fn a_thread(text: &[u8], table: &mut [u8], lines: usize, length: usize, first: First) -> Line
     requires { ⌜ HoldsTable (now table) length ⌝ }
-    ensures { λ r. ⌜ LineSteps (now (text .entry)) (now (table .entry)) (now (table .exit)) length r (λ m. aThreadAt lines m (drop here (now (text .entry))) (drop to (now (text .entry)))) ⌝ }
+    ensures { λ r. ⌜ LineSteps (now (text .entry)) (now (table .entry)) (now (table .exit)) length r (λ m. aThreadAt lines m (drop (first .here) (now (text .entry))) (drop (first .to) (now (text .entry)))) ⌝ }
 {
     let threads = table[THREAD_COUNT] as usize;
     if MAX_THREADS <= threads {
-        return Line::Refused(here);
+        return Line::Refused(first.here);
     }
-    let rows = ahead::rows_ahead(text, lines, token::next_line(text, here));
+    let rows = ahead::rows_ahead(text, lines, token::next_line(text, first.here));
     add_thread(table, length);
     bare_then(
         text,
         Reached {
             rows,
             length,
-            at: to,
+            at: first.to,
         },
     )
 }
@@ -152,9 +168,9 @@ fn a_row(text: &[u8], table: &mut [u8], all: usize, reached: Reached, here: usiz
 }
 
 // Whether it is the line of the plain cells: behind the cells, ahead of the threads, once.
-fn is_plain_line(text: &[u8], table: &[u8], here: usize, to: usize) -> bool
+fn is_plain_line(text: &[u8], table: &[u8], first: First) -> bool
     requires { ⌜ headerBytes ≤ length (now table) ⌝ }
-    ensures { λ r. ⌜ r ≡ isPlains (now (table .entry)) (part here to (now (text .entry))) ⌝ }
+    ensures { λ r. ⌜ r ≡ isPlains (now (table .entry)) (part (first .here) (first .to) (now (text .entry))) ⌝ }
 {
     if 0 < table[THREAD_COUNT] {
         return false;
@@ -162,24 +178,18 @@ fn is_plain_line(text: &[u8], table: &[u8], here: usize, to: usize) -> bool
     if 0 < table[PLAIN_COUNT] {
         return false;
     }
-    token::is_word(text, b"plain", here, to)
+    token::is_word(text, b"plain", first.here, first.to)
 }
 
-// Start values, of cells or of plain cells: one at least, and so many at most. The header counts them at this place.
-fn values_line(
-    text: &[u8],
-    table: &mut [u8],
-    most: usize,
-    place: usize,
-    length: usize,
-    at: usize,
-) -> Line
-    requires { ⌜ HoldsTable (now table) length × CountsAt place × (getD (now table) place 0 ≡ 0) × (most ≤ 4) ⌝ }
-    ensures { λ r. ⌜ LineSteps (now (text .entry)) (now (table .entry)) (now (table .exit)) length r (λ m. rules.valuesLine (withCellOrPlain place) (howMany place) most m (drop at (now (text .entry)))) ⌝ }
+// A line of start values: one at least.
+fn values_line(text: &[u8], table: &mut [u8], values: StartValues, length: usize, at: usize) -> Line
+    requires { ⌜ HoldsTable (now table) length × CountsAt (values .place) × (getD (now table) (values .place) 0 ≡ 0) × (values .most ≤ 4) ⌝ }
+    ensures { λ r. ⌜ LineSteps (now (text .entry)) (now (table .entry)) (now (table .exit)) length r (λ m. rules.valuesLine (withCellOrPlain (values .place)) (howMany (values .place)) (values .most) m (drop at (now (text .entry)))) ⌝ }
 {
+    let place = values.place;
     let mut from = at;
     let mut long = length;
-    let mut left = most;
+    let mut left = values.most;
     while 0 < left {
         let here = token::past_blanks(text, from);
         let to = token::token_end(text, here);
@@ -189,7 +199,7 @@ fn values_line(
             }
             return behind_values(text, long, from);
         };
-        add_value(table, place, long, value);
+        add_value(table, long, place, value);
         long += VALUE_BYTES;
         from = to;
         left -= 1;
@@ -227,7 +237,7 @@ fn bare_then(text: &[u8], reached: Reached) -> Line
 }
 
 // One start value more, which the header counts at this place.
-fn add_value(table: &mut [u8], place: usize, length: usize, value: u64)
+fn add_value(table: &mut [u8], length: usize, place: usize, value: u64)
     requires { ⌜ HoldsTable (now table) length × CountsAt place × (getD (now table) place 0 < 4) ⌝ }
     ensures { λ _. ⌜ Grows (now (table .entry)) (now (table .exit)) length (length + 8) (λ m. withCellOrPlain place m value) ⌝ }
 {

@@ -60,7 +60,8 @@ pub const FORM_KIND: usize = 1;
 
 pub const FORM_WORDS: usize = 2;
 
-// The forms, a line for each: its opcode, its change kind and its words. A capital letter stands for a field.
+// The forms, a line for each: its opcode, its change kind and its words. A capital letter stands for a field. Opcodes and kinds stand here
+// as document 01 numbers them: no name can stand in a string.
 pub const FORMS: [u8; 904] = *b"\
 \x00\x00R = load C L
 \x01\x00store A to C S

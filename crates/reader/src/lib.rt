@@ -70,7 +70,12 @@ fn lines_from(text: &[u8], table: &mut [u8], condition: &mut [u8]) -> Lines
             Line::Refused(at) => return Lines::Refused(at),
             Line::Ended => return Lines::Taken(reached.length, 0),
             Line::Concludes(at) => {
-                return concluded(text, table, condition, lines, reached.length, at);
+                let end = Reached {
+                    rows: reached.rows,
+                    length: reached.length,
+                    at,
+                };
+                return concluded(text, table, condition, lines, end);
             }
         }
         left -= 1;
@@ -84,19 +89,18 @@ fn concluded(
     table: &[u8],
     condition: &mut [u8],
     lines: usize,
-    length: usize,
-    at: usize,
+    reached: Reached,
 ) -> Lines
-    requires { ⌜ HoldsTable (now table) length × Blank conditionBytes (now condition) ⌝ }
-    ensures { λ r. ⌜ Closes (now (text .entry)) (now (table .entry)) (now (condition .exit)) length r (λ m. rules.concluded lines m (drop at (now (text .entry)))) ⌝ }
+    requires { ⌜ HoldsTable (now table) (reached .length) × Blank conditionBytes (now condition) ⌝ }
+    ensures { λ r. ⌜ Closes (now (text .entry)) (now (table .entry)) (now (condition .exit)) (reached .length) r (λ m. rules.concluded lines m (drop (reached .at) (now (text .entry)))) ⌝ }
 {
     let threads = table[THREAD_COUNT] as usize;
-    let end = claims::concluded(text, lines, threads, at);
+    let end = claims::concluded(text, lines, threads, reached.at);
     if !end.taken {
         return Lines::Refused(end.at);
     }
     let bytes = end.bytes;
     let size = end.length;
     filling::append(condition, 0, token::part(&bytes, 0, size));
-    Lines::Taken(length, size)
+    Lines::Taken(reached.length, size)
 }

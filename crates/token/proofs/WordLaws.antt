@@ -1,8 +1,9 @@
 -- What words stand for. Assumes nothing.
 --     number-..            a leading zero; any other word is a number where decimal finds one
 --     digit-..             a digit that is too small, too great, and one that is neither
---     fourth-..            the bytes of a register or a plain cell
+--     behind-..            the bytes of a register or a plain cell
 --     thread-register-..   those of a thread's register
+--     owned-..             the register that is found, and that it is one
 use Prim.Native.Nat.{ℕ, _+_, _-_, _*_, _^_, _≤_, _<_}
 use mathlib.Core.List.{List, [], _∷_}
 use mathlib.Core.Bool.{Bool, true, false, cond, _&&_, and-eq-true-iff}
@@ -11,8 +12,11 @@ use native.Mathlib.Omega.{arith}
 use borrow.Author.Tests.{eq-eqb, ne-eqb, le-leb, lt-leb, leb-true}
 use lib.Dec.{ltb, leb, eqb}
 use lib.ListN.{length, getD}
-use Rattle.rules.specs.Token.{Found, nothing, found, foundIf, isBetween, isDigit, digitsBehind, numberIn, fourth}
+use Rattle.rules.specs.Token.{Found, nothing, found, foundIf, isBetween, isDigit, digitsBehind, numberIn}
 use Rattle.rules.specs.Text.{threadRegisterIn}
+use Rattle.token.specs.Finds.{digitBehind, FindsOwned}
+use Rattle.token.specs.declared.Owned.{Owned}
+use Rattle.token.specs.declared.FoundOwned.the-variants.{Nothing, Register}
 use Rattle.decimal.specs.Decimal.{numberSpelled, withDigits, withDigit, extended}
 use Rattle.decimal.specs.declared.Parsed.{Parsed}
 use Rattle.decimal.specs.declared.Parsed.the-variants.{Number, Bad}
@@ -96,15 +100,15 @@ and-false : (t : Bool) → t && false ≡ false
 and-false true = refl
 and-false false = refl
 
-module _ (letter : ℕ) (word : List ℕ) where
-  pub fourth-long : (length word ≡ 2 → ⊥) → nothing ≡ fourth letter word
-  fourth-long n = simp (ne-eqb _ _ n)
+module _ (last letter : ℕ) (word : List ℕ) where
+  pub behind-long : (length word ≡ 2 → ⊥) → nothing ≡ digitBehind last letter word
+  behind-long n = simp (ne-eqb _ _ n)
 
-  pub fourth-letter : (getD word 0 0 ≡ letter → ⊥) → nothing ≡ fourth letter word
-  fourth-letter n = simp (ne-eqb _ _ n, and-false)
+  pub behind-letter : (getD word 0 0 ≡ letter → ⊥) → nothing ≡ digitBehind last letter word
+  behind-letter n = simp (ne-eqb _ _ n, and-false)
 
-  pub fourth-digit : length word ≡ 2 → getD word 0 0 ≡ letter → foundIf (isBetween 48 51 (getD word 1 0)) (getD word 1 0 - 48) ≡ fourth letter word
-  fourth-digit h e = simp (eq-eqb _ _ h, eq-eqb _ _ e)
+  pub behind-digit : length word ≡ 2 → getD word 0 0 ≡ letter → foundIf (isBetween 48 last (getD word 1 0)) (getD word 1 0 - 48) ≡ digitBehind last letter word
+  behind-digit h e = simp (eq-eqb _ _ h, eq-eqb _ _ e)
 
 module _ (word : List ℕ) where
   -- a test that fails
@@ -139,3 +143,15 @@ module _ (word : List ℕ) where
       let v : getD word 0 0 - 48 ≡ t = only-value (isBetween 48 52 (getD word 0 0)) _ _ e in
       let w : getD word 3 0 - 48 ≡ r = only-value (isBetween 48 51 (getD word 3 0)) _ _ f in
       rw (eq-eqb (length word) 4 h, eq-eqb (getD word 1 0) 46 p, eq-eqb (getD word 2 0) 114 l, a, b, v, w)
+
+module _ (word named : List ℕ) (same : word ≡ named) where
+  pub owned-none : nothing ≡ threadRegisterIn word → FindsOwned named Nothing
+  owned-none e = record { is = e ∙ ap threadRegisterIn same; within = λ o h. let z : _≡_ {A = ℕ} 0 1 = cc in absurd (omega arith) }
+
+  pub owned-found : (t r : ℕ) → found (4 * t + r) ≡ threadRegisterIn word → t ≤ 4 → r ≤ 3 → FindsOwned named (Register (record { thread = t; register = r }))
+  owned-found t r e h l = record {
+    is = e ∙ ap threadRegisterIn same;
+    within = λ o f.
+        let s : record { thread = t; register = r } ≡ o = cc in
+        (omega (arith, ap (λ (x : Owned). x .thread) s), omega (arith, ap (λ (x : Owned). x .register) s));
+  }

@@ -5,12 +5,14 @@ ghost use mathlib.Core.Path.{_≡_};
 ghost use Prim.Native.Nat.{_+_, _-_, _<_};
 ghost use lib.ListN.{length, getD, drop};
 ghost use Rattle.rules.specs.Vector.{equal};
-ghost use Rattle.rules.specs.Token.{runLength, isBlank, isLetter, isBetween, endsLine, tokenLength, lineLength, foundIf, numberIn, fourth, registerIn, plainIn, placeIn};
+ghost use Rattle.rules.specs.Token.{runLength, isBlank, isLetter, isBetween, endsLine, tokenLength, lineLength, foundIf, numberIn, registerIn, plainIn, placeIn};
 ghost use Rattle.rules.specs.Form.{orderIn};
-ghost use Rattle.rules.specs.Text.{symbolIn, threadRegisterIn};
+ghost use Rattle.rules.specs.Text.{symbolIn};
 ghost use Rattle.token.specs.Places.{isOf, part, Content};
-ghost use Rattle.token.specs.Finds.{foundOf, wordsIn};
+ghost use Rattle.token.specs.Finds.{foundOf, FindsOwned, digitBehind, wordsIn};
+use condition::EQUALS;
 use decimal::Parsed;
+use layout::MAX_PLAINS;
 use layout::MAX_THREADS;
 use layout::REGISTERS;
 
@@ -21,23 +23,35 @@ enum Kind {
     Symbol,
 }
 
-// The words of the orders, each at its number's place; the signs and words of a condition, whose bytes count from FIRST_SYMBOL on. Texts
-// are read and written by these lists.
+// The words of the orders, each at its number's place; the signs and words of a condition, whose bytes count from EQUALS on. Texts are read
+// and written by these lists.
 pub const ORDERS: [u8; 37] = *b"relaxed release acquire acqrel seqcst";
 
 pub const SYMBOLS: [u8; 25] = *b"= != < <= > >= ( ) and or";
 
-pub const FIRST_SYMBOL: u64 = 1;
-
-// The digits of the last thread, and of the last register; there are as many plain cells as registers.
+// The digits of the last thread, of the last register, and of the last plain cell.
 const LAST_THREAD: u8 = b'0' + (MAX_THREADS - 1) as u8;
 
 const LAST_REGISTER: u8 = b'0' + (REGISTERS - 1) as u8;
+
+const LAST_PLAIN: u8 = b'0' + (MAX_PLAINS - 1) as u8;
 
 // What a word stands for, if anything.
 pub enum Found {
     Nothing,
     Value(u64),
+}
+
+// A register, and whose it is.
+pub struct Owned {
+    pub thread: u64,
+    pub register: u64,
+}
+
+// The thread's register that a word stands for, if any.
+pub enum FoundOwned {
+    Nothing,
+    Register(Owned),
 }
 
 // Past blanks.
@@ -164,37 +178,37 @@ pub fn number(text: &[u8], from: usize, to: usize) -> Found
 pub fn register(text: &[u8], from: usize, to: usize) -> Found
     ensures { λ r. ⌜ foundOf r ≡ registerIn (part from to (now (text .entry))) ⌝ }
 {
-    fourth(part(text, from, to), b'r')
+    digit_behind(part(text, from, to), LAST_REGISTER, b'r')
 }
 
 // A plain cell, `p0` to `p3`.
 pub fn plain(text: &[u8], from: usize, to: usize) -> Found
     ensures { λ r. ⌜ foundOf r ≡ plainIn (part from to (now (text .entry))) ⌝ }
 {
-    fourth(part(text, from, to), b'p')
+    digit_behind(part(text, from, to), LAST_PLAIN, b'p')
 }
 
-// A thread's register, `0.r0` to `4.r3`: 4 times the thread, and the register.
-pub fn thread_register(text: &[u8], from: usize, to: usize) -> Found
-    ensures { λ r. ⌜ foundOf r ≡ threadRegisterIn (part from to (now (text .entry))) ⌝ }
+// A thread's register, `0.r0` to `4.r3`.
+pub fn thread_register(text: &[u8], from: usize, to: usize) -> FoundOwned
+    ensures { λ r. ⌜ FindsOwned (part from to (now (text .entry))) r ⌝ }
 {
     let word = part(text, from, to);
     if word.len() != 4 {
-        return Found::Nothing;
+        return FoundOwned::Nothing;
     }
     if word[1] != b'.' {
-        return Found::Nothing;
+        return FoundOwned::Nothing;
     }
     if word[2] != b'r' {
-        return Found::Nothing;
+        return FoundOwned::Nothing;
     }
     let Found::Value(thread) = digit(LAST_THREAD, word[0]) else {
-        return Found::Nothing;
+        return FoundOwned::Nothing;
     };
     let Found::Value(register) = digit(LAST_REGISTER, word[3]) else {
-        return Found::Nothing;
+        return FoundOwned::Nothing;
     };
-    Found::Value(REGISTERS as u64 * thread + register)
+    FoundOwned::Register(Owned { thread, register })
 }
 
 // The number of an order.
@@ -208,7 +222,7 @@ pub fn order(text: &[u8], from: usize, to: usize) -> Found
 pub fn symbol(text: &[u8], from: usize, to: usize) -> Found
     ensures { λ r. ⌜ foundOf r ≡ symbolIn (part from to (now (text .entry))) ⌝ }
 {
-    place_in(part(text, from, to), &SYMBOLS, FIRST_SYMBOL)
+    place_in(part(text, from, to), &SYMBOLS, EQUALS as u64)
 }
 
 // The place of a word in a list of words, which begins with place `first`.
@@ -256,9 +270,9 @@ pub fn word_at(words: &[u8], place: u64) -> &[u8]
     &words[0..0]
 }
 
-// A letter, and a number from 0 to 3 behind it.
-fn fourth(word: &[u8], letter: u8) -> Found
-    ensures { λ r. ⌜ foundOf r ≡ fourth letter (now (word .entry)) ⌝ }
+// A letter, and a digit behind it that is not above the last.
+fn digit_behind(word: &[u8], last: u8, letter: u8) -> Found
+    ensures { λ r. ⌜ foundOf r ≡ digitBehind last letter (now (word .entry)) ⌝ }
 {
     if word.len() != 2 {
         return Found::Nothing;
@@ -266,7 +280,7 @@ fn fourth(word: &[u8], letter: u8) -> Found
     if word[0] != letter {
         return Found::Nothing;
     }
-    digit(LAST_REGISTER, word[1])
+    digit(last, word[1])
 }
 
 // The number of a digit that is not above the last.

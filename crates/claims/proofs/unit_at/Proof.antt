@@ -1,6 +1,6 @@
 use mathlib.Core.Path.{_≡_, sym, ap, _∙_}
-use Rattle.token.specs.Finds.{foundOf}
-use Rattle.claims.proofs.UnitLaws.{register-most, unit-symbol, unit-compared}
+use Rattle.token.specs.Finds.{ownedOf}
+use Rattle.claims.proofs.UnitLaws.{unit-symbol, unit-compared}
 use borrow.Author.Needs.{needs}
 use Rattle.claims.proofs.unit_at.Statement.{statement}
 use Rattle.claims.proofs.unit_at.Tie as tie
@@ -11,8 +11,8 @@ token-end-requires c κs = search needs
 thread-register-requires : tie.Need-thread-register-requires
 thread-register-requires c κs = search needs
 
-enum-known-register : tie.Need-enum-known-register
-enum-known-register c = search needs
+enum-known-owned : tie.Need-enum-known-owned
+enum-known-owned c = search needs
 
 enum-told : tie.Need-enum-told
 enum-told c = search needs
@@ -23,19 +23,19 @@ symbol-at-requires c κs = search needs
 returns : tie.Need-returns
 returns c =
     let got = c .before .before .before in
-    unit-symbol _ _ _ _ (got .before .token-end .ensures) _ (sym (got .thread-register .ensures) ∙ ap foundOf (c .before .enum-told .given .1)) (c .symbol-at .ensures)
+    unit-symbol _ _ _ _ (got .before .token-end .ensures) _ (sym (got .thread-register .ensures .is) ∙ ap ownedOf (c .before .enum-told .given .1)) (c .symbol-at .ensures)
 
 sign-behind-requires : tie.Need-sign-behind-requires
 sign-behind-requires c κs =
     let told = c .before in
     let got = told .before .before in
-    register-most _ _ (sym (got .thread-register .ensures) ∙ ap foundOf (told .register .given .1))
+    got .thread-register .ensures .within (told .owned .given .0 .0) (told .owned .given .1)
 
 returns-2 : tie.Need-returns-2
 returns-2 c =
     let told = c .before .before in
     let got = told .before .before in
-    unit-compared _ _ _ _ (got .before .token-end .ensures) _ _ (sym (got .thread-register .ensures) ∙ ap foundOf (told .register .given .1)) (c .sign-behind .ensures)
+    unit-compared _ _ _ _ (got .before .token-end .ensures) _ _ (sym (got .thread-register .ensures .is) ∙ ap ownedOf (told .owned .given .1)) (c .sign-behind .ensures)
 
 pub unit-at-spec : {M : Type 1} → statement M
 unit-at-spec =
@@ -43,7 +43,7 @@ unit-at-spec =
     (tie.spec
     token-end-requires
     thread-register-requires
-    enum-known-register
+    enum-known-owned
     enum-told
     symbol-at-requires
     returns

@@ -18,14 +18,8 @@ low c = omega arith
 long : (c : tie.After-slice-known) → length (c .before .args .page .now) ≤ last
 long c = omega arith
 
-line-begin-requires : tie.Need-line-begin-requires
-line-begin-requires c κs = search needs
-
-line-end-requires : tie.Need-line-end-requires
-line-end-requires c κs = search needs
-
-place-in-requires : tie.Need-place-in-requires
-place-in-requires c κs = search needs
+excerpt-at-requires : tie.Need-excerpt-at-requires
+excerpt-at-requires c κs = search needs
 
 rows-before-requires : tie.Need-rows-before-requires
 rows-before-requires c κs = search needs
@@ -56,24 +50,21 @@ returns c =
     let place = what .before .before .before .before in
     let token = place .before .before in
     let row = token .before in
-    let at = row .before in
-    let end = at .before in
-    let begin = end .before in
-    let known = begin .before .before .before in
+    let of = row .before in
+    let shown = of .excerpt-at .result in
+    let known = of .before .before .before in
     let a = known .before .args in
-    let whole = refused-whole (a .name .now) (a .text .now) (a .line) (a .column) _ _ _ _ _ (begin .line-begin .ensures) (end .line-end .ensures) (at .place-in .ensures) (row .rows-before .ensures) (token .token-before .ensures) in
+    let whole = refused-whole (a .name .now) (a .text .now) (a .line) (a .column) shown _ _ (of .excerpt-at .ensures) (row .rows-before .ensures) (token .token-before .ensures) in
     let all = coming-all _ (a .at) (refusedShown (a .name .now) (a .text .now) (a .line) (a .column)) (low known) (long known) in
     let one = coming-on _ _ _ _ _ _ _ _ _ _ whole all (place .put-place .ensures) in
-    let two = coming-on _ _ _ _ _ _ _ _ (whatShown (a .text .now) (row .rows-before .result) (begin .line-begin .result) (token .token-before .result) (at .place-in .result)) _ refl one (what .put-what .ensures) in
+    let two = coming-on _ _ _ _ _ _ _ _ (whatShown (a .text .now) (row .rows-before .result) (shown .begin) (token .token-before .result) (shown .place)) _ refl one (what .put-what .ensures) in
     coming-on _ _ _ _ _ _ _ _ _ _ refl two (line .put-line .ensures) .whole _ _ (caret .put-caret .ensures)
 
 pub put-spec : {M : Type 1} → statement M
 put-spec =
     tie.close
     (tie.spec
-    line-begin-requires
-    line-end-requires
-    place-in-requires
+    excerpt-at-requires
     rows-before-requires
     token-before-requires
     put-place-requires

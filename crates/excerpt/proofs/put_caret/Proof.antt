@@ -53,8 +53,8 @@ returns c =
     let indent = cut .before .before .before .before in
     let first = indent .before .before .before in
     let a = first .before .before .before .args in
-    let whole = caret-whole (a .text .now) (a .begin) (a .place) _ (first .first-shown .ensures) _ (taken .part .ensures) in
-    let all = coming-all _ (a .at) (caretShown (a .text .now) (a .begin) (a .place)) (low (first .before .before)) (long (first .before .before)) in
+    let whole = caret-whole (a .text .now) (a .shown .begin) (a .shown .place) _ (first .first-shown .ensures) _ (taken .part .ensures) in
+    let all = coming-all _ (a .at) (caretShown (a .text .now) (a .shown .begin) (a .shown .place)) (low (first .before .before)) (long (first .before .before)) in
     let one = coming-on _ _ _ _ _ _ _ _ _ _ whole all (indent .put-bytes .ensures) in
     let two = coming-on _ _ _ _ _ _ _ _ _ _ refl one (cut .put-dots .ensures) in
     coming-on _ _ _ _ _ _ _ _ _ _ refl two (seen .put-seen .ensures) .whole _ _ (caret .put-bytes2 .ensures)

@@ -5,7 +5,7 @@ use Rattle.excerpt.proofs.put_dots.Statement.{statement}
 use Rattle.excerpt.proofs.put_dots.Tie as tie
 
 returns : tie.Need-returns
-returns c = let a = c .before .before .args in dots-none (a .page .now) (a .at) (a .a) (a .b) (a .byte) (search needs) (omega arith)
+returns c = let a = c .before .before .args in dots-none (a .page .now) (a .at) (a .from) (a .to) (a .byte) (search needs) (omega arith)
 
 slice-aggregate-put-bytes : tie.Need-slice-aggregate-put-bytes
 slice-aggregate-put-bytes c = search needs
@@ -17,7 +17,7 @@ same-length : tie.Need-same-length
 same-length c = search needs
 
 returns-2 : tie.Need-returns-2
-returns-2 c = let a = c .before .before .before .before .before .before .before .args in dots-some _ _ (a .at) _ (a .a) (a .b) (a .byte) (omega arith) (c .before .before .put-bytes .ensures)
+returns-2 c = let a = c .before .before .before .before .before .before .before .args in dots-some _ _ (a .at) _ (a .from) (a .to) (a .byte) (omega arith) (c .before .before .put-bytes .ensures)
 
 pub put-dots-spec : {M : Type 1} → statement M
 put-dots-spec =

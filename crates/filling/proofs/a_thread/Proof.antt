@@ -27,7 +27,7 @@ returns c = record {
   is = λ m held.
       let start = c .before .before .before .before in
       let a = start .args in
-      thread-refused (a .lines) m (drop (a .here) (a .text .now)) (drop (a .to) (a .text .now)) (omega (arith, c .if1 .taken, held-threads (a .table .now) (a .length) m held));
+      thread-refused (a .lines) m (drop (a .first .here) (a .text .now)) (drop (a .first .to) (a .text .now)) (omega (arith, c .if1 .taken, held-threads (a .table .now) (a .length) m held));
 }
 
 next-line-requires : tie.Need-next-line-requires
@@ -54,10 +54,10 @@ returns-2 c = record {
       let counted = put .before .before in
       let els = counted .before .before in
       let a = els .before .before .before .before .args in
-      let next = left-by (a .text .now) (a .here) (counted .before .next-line .result) _ (counted .before .next-line .ensures) in
-      lined-bare (a .text .now) (a .to) (counted .rows-ahead .result) (a .length) (c .bare-then .result) (c .bare-then .ensures) _ (a .length) (withThread m) (put .add-thread .ensures m held) _
-      (ap (λ (k : ℕ). bareThen k (withThread m) (drop (a .to) (a .text .now))) (counted .rows-ahead .ensures .is ∙ ap (rowsAhead (a .lines)) next)
-      ∙ thread-begun (a .lines) m (drop (a .here) (a .text .now)) (drop (a .to) (a .text .now)) (omega (arith, els .if1 .left, held-threads (a .table .now) (a .length) m held)));
+      let next = left-by (a .text .now) (a .first .here) (counted .before .next-line .result) _ (counted .before .next-line .ensures) in
+      lined-bare (a .text .now) (a .first .to) (counted .rows-ahead .result) (a .length) (c .bare-then .result) (c .bare-then .ensures) _ (a .length) (withThread m) (put .add-thread .ensures m held) _
+      (ap (λ (k : ℕ). bareThen k (withThread m) (drop (a .first .to) (a .text .now))) (counted .rows-ahead .ensures .is ∙ ap (rowsAhead (a .lines)) next)
+      ∙ thread-begun (a .lines) m (drop (a .first .here) (a .text .now)) (drop (a .first .to) (a .text .now)) (omega (arith, els .if1 .left, held-threads (a .table .now) (a .length) m held)));
 }
 
 pub a-thread-spec : {M : Type 1} → statement M

@@ -13,12 +13,12 @@ shared-slice-read-if1 c = search needs
 returns : tie.Need-returns
 returns c =
     let a = c .before .before .args in
-    sym (ap (λ (b : Bool). cond b (Concludes (a .to)) (Refused (a .here))) (lt-ltb 0 _ (c .if1 .taken)))
+    sym (ap (λ (b : Bool). cond b (Concludes (a .first .to)) (Refused (a .first .here))) (lt-ltb 0 _ (c .if1 .taken)))
 
 returns-2 : tie.Need-returns-2
 returns-2 c =
     let a = c .before .before .args in
-    sym (ap (λ (b : Bool). cond b (Concludes (a .to)) (Refused (a .here))) (le-ltb 0 _ (c .if1 .left)))
+    sym (ap (λ (b : Bool). cond b (Concludes (a .first .to)) (Refused (a .first .here))) (le-ltb 0 _ (c .if1 .left)))
 
 pub the-condition-spec : {M : Type 1} → statement M
 the-condition-spec = tie.close (tie.spec shared-slice-read-if1 returns returns-2)

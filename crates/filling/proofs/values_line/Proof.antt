@@ -13,26 +13,26 @@ use Rattle.filling.proofs.values_line.Statement.{statement}
 use Rattle.filling.proofs.values_line.Tie as tie
 
 abbrev Inv-loop : tie.InvT-loop
-Inv-loop text table₀ most place n at from₀ long₀ left₀ table from long left =
+Inv-loop text table₀ n at place from₀ long₀ left₀ table from long left =
     (length table ≡ length table₀)
-    × ((m : Draft) → HeldTable table₀ n m → Underway text table place long left from (valuesLine (withCellOrPlain place) (howMany place) most m (drop at text)))
+    × ((m : Draft) → HeldTable table₀ n m → Underway text table place long left from (valuesLine (withCellOrPlain place) (howMany place) left₀ m (drop at text)))
 
 abbrev μ-loop : tie.MeasureT-loop
-μ-loop text table₀ most place n at from₀ long₀ left₀ table from long left = left
+μ-loop text table₀ n at place from₀ long₀ left₀ table from long left = left
 
 -- what the line comes to, from a table that the buffer holds
 abbrev whole : (at : tie.At-loop Inv-loop μ-loop) → Draft → Line
 whole at m =
     let a = at .before .before .before .args in
-    valuesLine (withCellOrPlain (a .place)) (howMany (a .place)) (a .most) m (drop (a .at) (a .text .now))
+    valuesLine (withCellOrPlain (a .values .place)) (howMany (a .values .place)) (a .values .most) m (drop (a .at) (a .text .now))
 
 -- a table that the buffer holds on the way
-way : (at : tie.At-loop Inv-loop μ-loop) → Underway (at .before .before .before .args .text .now) (at .loop .table) (at .before .before .before .args .place) (at .loop .long) (at .loop .left) (at .loop .from) (whole at (at .before .before .before .pre .0 .made))
+way : (at : tie.At-loop Inv-loop μ-loop) → Underway (at .before .before .before .args .text .now) (at .loop .table) (at .before .before .before .args .values .place) (at .loop .long) (at .loop .left) (at .loop .from) (whole at (at .before .before .before .pre .0 .made))
 way at = at .loop .inv .1 (at .before .before .before .pre .0 .made) (at .before .before .before .pre .0 .held)
 
 -- how many start values it has
-many : (at : tie.At-loop Inv-loop μ-loop) (m : Draft) → HeldTable (at .loop .table) (at .loop .long) m → getD (at .loop .table) (at .before .before .before .args .place) 0 ≡ howMany (at .before .before .before .args .place) m
-many at m held = held-many (at .loop .table) (at .loop .long) m held (at .before .before .before .args .place) (at .before .before .before .pre .1)
+many : (at : tie.At-loop Inv-loop μ-loop) (m : Draft) → HeldTable (at .loop .table) (at .loop .long) m → getD (at .loop .table) (at .before .before .before .args .values .place) 0 ≡ howMany (at .before .before .before .args .values .place) m
+many at m held = held-many (at .loop .table) (at .loop .long) m held (at .before .before .before .args .values .place) (at .before .before .before .pre .1)
 
 skipped : (c : tie.After-past-blanks Inv-loop μ-loop) → drop (c .past-blanks .result) (c .before .before .before .before .before .args .text .now) ≡ pastBlanks (drop (c .before .before .loop .from) (c .before .before .before .before .before .args .text .now))
 skipped c = left-by (c .before .before .before .before .before .args .text .now) (c .before .before .loop .from) (c .past-blanks .result) _ (c .past-blanks .ensures)
@@ -45,7 +45,7 @@ loop-holds c = (
     held = held;
     count =
         let p = c .before .before .pre in
-        omega (arith, p .2, p .3, held-many (c .before .before .args .table .now) (c .before .before .args .length) m held (c .before .before .args .place) (p .1));
+        omega (arith, p .2, p .3, held-many (c .before .before .args .table .now) (c .before .before .args .length) m held (c .before .before .args .values .place) (p .1));
     same = refl;
   },
 )
@@ -68,7 +68,7 @@ enum-told c = search needs
 slice-read-if1 : tie.Need-slice-read-if1 Inv-loop μ-loop
 slice-read-if1 c =
     let at = c .before .before .before .before .before .before .before in
-    omega (arith, way at .held .room, counts-low (at .before .before .before .args .place) (at .before .before .before .pre .1))
+    omega (arith, way at .held .room, counts-low (at .before .before .before .args .values .place) (at .before .before .before .pre .1))
 
 same-length : tie.Need-same-length Inv-loop μ-loop
 same-length c = search needs
@@ -83,7 +83,7 @@ returns c = record {
       let at = got .before .before in
       let a = at .before .before .before .args in
       let w = at .loop .inv .1 m held in
-      sym (w .same) ∙ values-none (withCellOrPlain (a .place)) (howMany (a .place)) (a .text .now) (at .loop .from) (at .loop .left) (w .made) (got .past-blanks .result) (long .token-end .result) (skipped got) (long .token-end .ensures) (got .before .loop-test .taken) (sym (num .number .ensures) ∙ ap foundOf (told .enum-told .given .1)) (omega (arith, c .if1 .taken, many at (w .made) (w .held)));
+      sym (w .same) ∙ values-none (withCellOrPlain (a .values .place)) (howMany (a .values .place)) (a .text .now) (at .loop .from) (at .loop .left) (w .made) (got .past-blanks .result) (long .token-end .result) (skipped got) (long .token-end .ensures) (got .before .loop-test .taken) (sym (num .number .ensures) ∙ ap foundOf (told .enum-told .given .1)) (omega (arith, c .if1 .taken, many at (w .made) (w .held)));
 }
 
 behind-values-requires : tie.Need-behind-values-requires Inv-loop μ-loop
@@ -102,7 +102,7 @@ returns-2 c = record {
       let at = got .before .before in
       let a = at .before .before .before .args in
       let w = at .loop .inv .1 m held in
-      lined-bare (a .text .now) (at .loop .from) 0 (at .loop .long) (c .behind-values .result) (c .behind-values .ensures) (at .loop .table) (a .length) (w .made) (w .held) _ (values-bare (withCellOrPlain (a .place)) (howMany (a .place)) (a .text .now) (at .loop .from) (at .loop .left) (w .made) (got .past-blanks .result) (long .token-end .result) (skipped got) (long .token-end .ensures) (got .before .loop-test .taken) (sym (num .number .ensures) ∙ ap foundOf (told .enum-told .given .1)) (omega (arith, c .before .if1 .left, many at (w .made) (w .held))) ∙ w .same);
+      lined-bare (a .text .now) (at .loop .from) 0 (at .loop .long) (c .behind-values .result) (c .behind-values .ensures) (at .loop .table) (a .length) (w .made) (w .held) _ (values-bare (withCellOrPlain (a .values .place)) (howMany (a .values .place)) (a .text .now) (at .loop .from) (at .loop .left) (w .made) (got .past-blanks .result) (long .token-end .result) (skipped got) (long .token-end .ensures) (got .before .loop-test .taken) (sym (num .number .ensures) ∙ ap foundOf (told .enum-told .given .1)) (omega (arith, c .before .if1 .left, many at (w .made) (w .held))) ∙ w .same);
 }
 
 add-value-requires : tie.Need-add-value-requires Inv-loop μ-loop
@@ -135,10 +135,10 @@ loop-again c =
       λ m held.
           let w = at .loop .inv .1 m held in
           record {
-            made = withCellOrPlain (a .place) (w .made) (val .value .given .0 .0);
+            made = withCellOrPlain (a .values .place) (w .made) (val .value .given .0 .0);
             held = put .add-value .ensures (w .made) (w .held);
-            count = omega (arith, w .count, got .before .loop-test .taken, more-many (a .place) (w .made) (val .value .given .0 .0));
-            same = values-found (withCellOrPlain (a .place)) (howMany (a .place)) (a .text .now) (at .loop .from) (at .loop .left) (w .made) (got .past-blanks .result) (long .token-end .result) (skipped got) (long .token-end .ensures) (got .before .loop-test .taken) _ (sym (num .number .ensures) ∙ ap foundOf (val .value .given .1)) ∙ w .same;
+            count = omega (arith, w .count, got .before .loop-test .taken, more-many (a .values .place) (w .made) (val .value .given .0 .0));
+            same = values-found (withCellOrPlain (a .values .place)) (howMany (a .values .place)) (a .text .now) (at .loop .from) (at .loop .left) (w .made) (got .past-blanks .result) (long .token-end .result) (skipped got) (long .token-end .ensures) (got .before .loop-test .taken) _ (sym (num .number .ensures) ∙ ap foundOf (val .value .given .1)) ∙ w .same;
           },
     )
 
@@ -154,7 +154,7 @@ returns-3 c = record {
       let at = c .before .before in
       let a = at .before .before .before .args in
       let w = at .loop .inv .1 m held in
-      lined-bare (a .text .now) (at .loop .from) 0 (at .loop .long) (c .behind-values2 .result) (c .behind-values2 .ensures) (at .loop .table) (a .length) (w .made) (w .held) _ (values-out (withCellOrPlain (a .place)) (howMany (a .place)) (a .text .now) (at .loop .from) (at .loop .left) (w .made) (c .before .loop-test .left) ∙ w .same);
+      lined-bare (a .text .now) (at .loop .from) 0 (at .loop .long) (c .behind-values2 .result) (c .behind-values2 .ensures) (at .loop .table) (a .length) (w .made) (w .held) _ (values-out (withCellOrPlain (a .values .place)) (howMany (a .values .place)) (a .text .now) (at .loop .from) (at .loop .left) (w .made) (c .before .loop-test .left) ∙ w .same);
 }
 
 pub values-line-spec : {M : Type 1} → statement M

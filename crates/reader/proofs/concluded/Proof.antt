@@ -14,7 +14,7 @@ cast-threads : tie.Need-cast-threads
 cast-threads c =
     let start = c .before .before .before .before in
     let h = start .pre .0 .held in
-    omega (arith, held-threads (start .args .table .now) (start .args .length) (start .pre .0 .made) h, h .threads)
+    omega (arith, held-threads (start .args .table .now) (start .args .reached .length) (start .pre .0 .made) h, h .threads)
 
 concluded-requires : tie.Need-concluded-requires
 concluded-requires c κs = search needs
@@ -25,7 +25,7 @@ returns c = record {
       let end = c .before .before in
       let start = end .before .before .before .before .before in
       let a = start .args in
-      closes-refused (a .text .now) (a .table .now) (a .at) (a .lines) _ (a .length) (end .concluded .result) (end .concluded .ensures) m held (sym (held-threads (a .table .now) (a .length) m held)) (not-true _ (c .if1 .taken));
+      closes-refused (a .text .now) (a .table .now) (a .reached .at) (a .lines) _ (a .reached .length) (end .concluded .result) (end .concluded .ensures) m held (sym (held-threads (a .table .now) (a .reached .length) m held)) (not-true _ (c .if1 .taken));
 }
 
 slice-aggregate-part : tie.Need-slice-aggregate-part
@@ -53,7 +53,7 @@ returns-2 c = record {
       let end = piece .before .before .before .before .before .before in
       let start = end .before .before .before .before .before in
       let a = start .args in
-      closes-taken (a .text .now) (a .table .now) (a .at) (a .lines) _ (a .length) (end .concluded .result) (end .concluded .ensures) m held (sym (held-threads (a .table .now) (a .length) m held)) (not-false _ (piece .before .before .before .before .if1 .left)) (a .condition .now) _ (piece .part .result .now) (start .pre .1) (piece .part .ensures) (put .append .ensures);
+      closes-taken (a .text .now) (a .table .now) (a .reached .at) (a .lines) _ (a .reached .length) (end .concluded .result) (end .concluded .ensures) m held (sym (held-threads (a .table .now) (a .reached .length) m held)) (not-false _ (piece .before .before .before .before .if1 .left)) (a .condition .now) _ (piece .part .result .now) (start .pre .1) (piece .part .ensures) (put .append .ensures);
 }
 
 pub concluded-spec : {M : Type 1} → statement M

@@ -12,6 +12,9 @@ part-requires c κs = search needs
 slice-aggregate-place-in : tie.Need-slice-aggregate-place-in
 slice-aggregate-place-in c = search needs
 
+cast-place-in : tie.Need-cast-place-in
+cast-place-in c = search needs
+
 place-in-requires : tie.Need-place-in-requires
 place-in-requires c κs = search needs
 
@@ -22,4 +25,4 @@ returns c =
     c .place-in .ensures ∙ ap (placeIn 1 (got .result .now)) symbols-line ∙ ap symbolIn (got .ensures)
 
 pub symbol-spec : {M : Type 1} → statement M
-symbol-spec = tie.close (tie.spec part-requires slice-aggregate-place-in place-in-requires returns)
+symbol-spec = tie.close (tie.spec part-requires slice-aggregate-place-in cast-place-in place-in-requires returns)

@@ -1,12 +1,10 @@
 use Prim.Native.Nat.{ℕ, _-_}
 use mathlib.Core.List.{List}
 use mathlib.Core.Path.{_≡_, ap, sym, _∙_}
-use native.Mathlib.Omega.{arith}
 use lib.ListN.{getD}
 use Rattle.rules.specs.Token.{found, foundIf, isBetween}
-use Rattle.rules.specs.Text.{threadRegisterIn}
 use Rattle.token.specs.Finds.{foundOf}
-use Rattle.token.proofs.WordLaws.{only-not, digit-most, thread-register-long, thread-register-point, thread-register-letter, thread-register-thread, thread-register-register, thread-register-all}
+use Rattle.token.proofs.WordLaws.{only-not, digit-most, thread-register-long, thread-register-point, thread-register-letter, thread-register-thread, thread-register-register, thread-register-all, owned-none, owned-found}
 use borrow.Author.Needs.{needs}
 use Rattle.token.proofs.thread_register.Statement.{statement}
 use Rattle.token.proofs.thread_register.Tie as tie
@@ -30,7 +28,7 @@ part-requires c κs = search needs
 returns : tie.Need-returns
 returns c =
     let got = c .before .part in
-    thread-register-long (got .result .now) (c .if1 .taken) ∙ ap threadRegisterIn (got .ensures)
+    owned-none _ _ (got .ensures) (thread-register-long (got .result .now) (c .if1 .taken))
 
 shared-slice-read-if2 : tie.Need-shared-slice-read-if2
 shared-slice-read-if2 c = search needs
@@ -38,7 +36,7 @@ shared-slice-read-if2 c = search needs
 returns-2 : tie.Need-returns-2
 returns-2 c =
     let got = c .before .before .before .part in
-    thread-register-point (got .result .now) (c .if2 .taken) ∙ ap threadRegisterIn (got .ensures)
+    owned-none _ _ (got .ensures) (thread-register-point (got .result .now) (c .if2 .taken))
 
 shared-slice-read-if3 : tie.Need-shared-slice-read-if3
 shared-slice-read-if3 c = search needs
@@ -46,7 +44,7 @@ shared-slice-read-if3 c = search needs
 returns-3 : tie.Need-returns-3
 returns-3 c =
     let got = c .before .before .before .before .before .part in
-    thread-register-letter (got .result .now) (c .if3 .taken) ∙ ap threadRegisterIn (got .ensures)
+    owned-none _ _ (got .ensures) (thread-register-letter (got .result .now) (c .if3 .taken))
 
 shared-slice-read-digit : tie.Need-shared-slice-read-digit
 shared-slice-read-digit c = search needs
@@ -64,8 +62,8 @@ returns-4 : tie.Need-returns-4
 returns-4 c =
     let digit = c .before .before in
     let got = digit .before .before .before .before .before .before .before .part in
-    thread-register-thread (got .result .now) (only-not _ (getD (got .result .now) 0 0 - 48) (sym (digit .digit .ensures) ∙ ap foundOf (c .enum-told .given .1)))
-    ∙ ap threadRegisterIn (got .ensures)
+    owned-none _ _ (got .ensures)
+    (thread-register-thread (got .result .now) (only-not _ (getD (got .result .now) 0 0 - 48) (sym (digit .digit .ensures) ∙ ap foundOf (c .enum-told .given .1))))
 
 shared-slice-read-digit-2 : tie.Need-shared-slice-read-digit-2
 shared-slice-read-digit-2 c = search needs
@@ -83,18 +81,8 @@ returns-5 : tie.Need-returns-5
 returns-5 c =
     let digit = c .before .before in
     let got = digit .before .before .before .before .before .before .before .before .before .before .before .before .part in
-    thread-register-register (got .result .now) (only-not _ (getD (got .result .now) 3 0 - 48) (sym (digit .digit2 .ensures) ∙ ap foundOf (c .enum-told2 .given .1)))
-    ∙ ap threadRegisterIn (got .ensures)
-
-mul-t17 : tie.Need-mul-t17
-mul-t17 c =
-    let one = first (c .before) in
-    omega (arith, digit-most 52 (getD (word (one .before .before)) 0 0) _ (thread one))
-
-add-t18 : tie.Need-add-t18
-add-t18 c =
-    let one = first (c .before) in
-    omega (arith, digit-most 52 (getD (word (one .before .before)) 0 0) _ (thread one), digit-most 51 (getD (word (one .before .before)) 3 0) _ (register (c .before)))
+    owned-none _ _ (got .ensures)
+    (thread-register-register (got .result .now) (only-not _ (getD (got .result .now) 3 0 - 48) (sym (digit .digit2 .ensures) ∙ ap foundOf (c .enum-told2 .given .1))))
 
 returns-6 : tie.Need-returns-6
 returns-6 c =
@@ -102,8 +90,10 @@ returns-6 c =
     let three = one .before .before .before .before in
     let two = three .before .before in
     let long = two .before .before in
-    thread-register-all (word (one .before .before)) _ _ (long .if1 .left) (two .if2 .left) (three .if3 .left) (thread one) (register (c .before))
-    ∙ ap threadRegisterIn (long .before .part .ensures)
+    owned-found _ _ (long .before .part .ensures) _ _
+    (thread-register-all (word (one .before .before)) _ _ (long .if1 .left) (two .if2 .left) (three .if3 .left) (thread one) (register (c .before)))
+    (digit-most 52 (getD (word (one .before .before)) 0 0) _ (thread one))
+    (digit-most 51 (getD (word (one .before .before)) 3 0) _ (register (c .before)))
 
 pub thread-register-spec : {M : Type 1} → statement M
 thread-register-spec =
@@ -125,6 +115,4 @@ thread-register-spec =
     enum-known-register
     enum-told-2
     returns-5
-    mul-t17
-    add-t18
     returns-6)
