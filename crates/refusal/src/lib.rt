@@ -17,12 +17,12 @@ pub fn put(
     table: &[u8],
     condition: &[u8],
     thread: u64,
-    number: u64,
+    row: u64,
 ) -> usize
-    ensures { λ r. ⌜ pageOf (now (page .exit)) r ≡ putRefusal (pageOf (now (page .entry)) at) (now (table .entry)) (now (condition .entry)) thread number ⌝ }
+    ensures { λ r. ⌜ pageOf (now (page .exit)) r ≡ putRefusal (pageOf (now (page .entry)) at) (now (table .entry)) (now (condition .entry)) thread row ⌝ }
 {
     if thread != NO_PLACE {
-        return bad_row::put(page, at, table, (thread % 256) as u8, (number % 256) as u8);
+        return bad_row::put(page, at, table, (thread % 256) as u8, (row % 256) as u8);
     }
     if let Judged::Good = table::judge(table) {
         return bad_condition::put(page, at, table, condition);
