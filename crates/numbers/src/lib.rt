@@ -21,6 +21,7 @@ pub fn of_report(done: Report) -> [u64; REPORT_NUMBERS]
     ensures { λ r. ⌜ r ≡ numbersOf (reportOf done) ⌝ }
 {
     let answer = done.answer;
+    let fault = report::at_fault(answer);
     let threads = done.threads;
     let t = summaries(threads);
     [
@@ -29,8 +30,8 @@ pub fn of_report(done: Report) -> [u64; REPORT_NUMBERS]
         done.opened,
         done.still_open,
         done.rows,
-        report::thread_at_fault(answer),
-        report::row_at_fault(answer),
+        fault.thread,
+        fault.row,
         report::race_kind(answer),
         report::other_thread(answer),
         t[0],

@@ -7,6 +7,7 @@ use decode::Decoded;
 use last_access::AccessKind;
 use last_access::NO_CELL;
 use page::Page;
+use report::AtFault;
 
 // Names both accesses, the other one by its step.
 pub fn put(
@@ -14,25 +15,31 @@ pub fn put(
     at: usize,
     table: &[u8],
     trace: &[u8],
-    thread: u64,
-    row: u64,
+    fault: AtFault,
     kind: u64,
     other: u64,
 ) -> usize
-    ensures { λ r. ⌜ pageOf (now (page .exit)) r ≡ putRace (pageOf (now (page .entry)) at) (now (table .entry)) (now (trace .entry)) thread row kind other ⌝ }
+    ensures { λ r. ⌜ pageOf (now (page .exit)) r ≡ putRace (pageOf (now (page .entry)) at) (now (table .entry)) (now (trace .entry)) (fault .thread) (fault .row) kind other ⌝ }
 {
-    let cell = cell_at(table, thread, row);
-    let to = put_met(page, at, thread, row, cell, met(kind));
+    let cell = cell_at(table, fault);
+    let to = put_met(page, at, fault, cell, met(kind));
     put_before(page, to, table, trace, other, cell, against(kind))
 }
 
 // The access that met the race, of the row at fault.
-fn put_met(page: &mut Page, at: usize, thread: u64, row: u64, cell: u64, kind: AccessKind) -> usize
-    ensures { λ r. ⌜ pageOf (now (page .exit)) r ≡ putMet (pageOf (now (page .entry)) at) cell kind thread row ⌝ }
+fn put_met(page: &mut Page, at: usize, fault: AtFault, cell: u64, kind: AccessKind) -> usize
+    ensures { λ r. ⌜ pageOf (now (page .exit)) r ≡ putMet (pageOf (now (page .entry)) at) cell kind (fault .thread) (fault .row) ⌝ }
 {
     let to = put_where(page, at, cell, kind);
     let to = put_kind(page, to, kind);
-    page::fill(page, to, b" of thread #, row #, against ", thread, row, 0)
+    page::fill(
+        page,
+        to,
+        b" of thread #, row #, against ",
+        fault.thread,
+        fault.row,
+        0,
+    )
 }
 
 // The access before it: the other thread's last of this kind.
@@ -88,10 +95,11 @@ fn put_step(page: &mut Page, at: usize, trace: &[u8], other: u64, step: u64) -> 
 }
 
 // The cell, or the plain cell, of the row at fault.
-fn cell_at(table: &[u8], thread: u64, row: u64) -> u64
-    ensures { λ r. ⌜ r ≡ cellAt (now (table .entry)) thread row ⌝ }
+fn cell_at(table: &[u8], fault: AtFault) -> u64
+    ensures { λ r. ⌜ r ≡ cellAt (now (table .entry)) (fault .thread) (fault .row) ⌝ }
 {
-    let Decoded::Row(op) = steps::row_of(table, (thread % 256) as u8, (row % 256) as u8) else {
+    let Decoded::Row(op) = steps::row_of(table, (fault.thread % 256) as u8, (fault.row % 256) as u8)
+    else {
         return NO_CELL;
     };
     last_access::cell_of(op)
