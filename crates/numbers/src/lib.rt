@@ -4,6 +4,7 @@ ghost use lib.ListN.{length};
 ghost use Rattle.report.specs.Answers.{reportOf, summaryOf, summariesOf};
 ghost use Rattle.numbers.specs.Numbers.{numbersOf, fourOf, summaryNumbers};
 use layout::MAX_THREADS;
+use layout::long8;
 use report::Report;
 use report::Summary;
 
@@ -32,7 +33,7 @@ pub fn of_report(done: Report) -> [u64; REPORT_NUMBERS]
         done.rows,
         fault.thread,
         fault.row,
-        report::race_kind(answer),
+        long8(report::race_kind(answer)),
         report::other_thread(answer),
         t[0],
         t[1],

@@ -137,7 +137,7 @@ pub fn is_refusal(number: u64) -> bool
 }
 
 // The race kind, or 0.
-pub fn race_kind(answer: Answer) -> u64
+pub fn race_kind(answer: Answer) -> u8
     ensures { λ r. ⌜ r ≡ raceKindOf answer ⌝ }
 {
     let Answer::Stopped { fault, .. } = answer else {
@@ -146,7 +146,7 @@ pub fn race_kind(answer: Answer) -> u64
     let Fault::Race { kind, .. } = fault else {
         return 0;
     };
-    kind as u64
+    kind
 }
 
 // The race's other thread, or 255.

@@ -15,12 +15,9 @@ enum-known-fault c = search needs
 returns-2 : tie.Need-returns-2
 returns-2 c = raceless _ _ _ (c .before .before .answer .given .1) (c .match2 .keys2) .0
 
-cast-result : tie.Need-cast-result
-cast-result c = search needs
-
 returns-3 : tie.Need-returns-3
 returns-3 c = raced _ _ _ (c .before .before .before .before .answer .given .1) (c .before .fault .given .1) .0
 
 pub race-kind-spec : {M : Type 1} → statement M
 race-kind-spec =
-    tie.close (tie.spec enum-known-answer returns enum-known-fault returns-2 cast-result returns-3)
+    tie.close (tie.spec enum-known-answer returns enum-known-fault returns-2 returns-3)
