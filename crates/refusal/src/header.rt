@@ -76,7 +76,7 @@ fn put_behind(page: &mut Page, at: usize, table: &[u8], threads: usize) -> usize
     let thread = bad_count(table, threads);
     if thread < MAX_THREADS {
         let count = wide8(table[ROW_COUNTS + thread]);
-        return put_rows(page, at, threads, thread, count);
+        return put_rows(page, at, thread, count, threads);
     }
     let plains = wide8(table[PLAIN_COUNT]);
     if MAX_PLAINS < plains {
@@ -127,7 +127,7 @@ fn bad_count(table: &[u8], threads: usize) -> usize
 }
 
 // A thread has more rows than there may be.
-fn put_rows(page: &mut Page, at: usize, threads: usize, thread: usize, count: usize) -> usize
+fn put_rows(page: &mut Page, at: usize, thread: usize, count: usize, threads: usize) -> usize
     requires { ⌜ thread < 5 ⌝ }
     ensures { λ r. ⌜ pageOf (now (page .exit)) r ≡ putRows (pageOf (now (page .entry)) at) threads thread count ⌝ }
 {
