@@ -4,8 +4,10 @@ ghost use Rattle.page.specs.Pages.{pageOf};
 ghost use Rattle.settings.specs.Given.{settingsOf};
 ghost use Rattle.limit.specs.Limits.{isLimit, putBudget, putReached, putRaise, putSpent, putToDo, putSpin, putLimit};
 use page::Page;
+use path::MAX_PREEMPTIONS;
 use report::AtFault;
 use report::answers;
+use settings::MAX_BOUND;
 use settings::MAX_BRANCHES;
 use settings::MAX_EXECUTIONS;
 use settings::MAX_OPERATIONS;
@@ -62,10 +64,10 @@ fn put_reached(page: &mut Page, at: usize, settings: Settings, number: u64, faul
         _ => page::fill(
             page,
             at,
-            b"answer 17: no verdict: an order of the threads has more than 255 preemptions, at thread #, row #\n",
+            b"answer 17: no verdict: an order of the threads has more than # preemptions, at thread #, row #\n",
+            MAX_PREEMPTIONS as u64,
             fault.thread,
             fault.row,
-            0,
         ),
     }
 }
@@ -98,10 +100,13 @@ fn put_to_do(page: &mut Page, at: usize, settings: Settings, number: u64) -> usi
             settings.operations,
             MAX_OPERATIONS,
         ),
-        _ => page::put(
+        _ => page::fill(
             page,
             at,
-            b"to do: make the program smaller, or leave such orders out, and others with them, by --bound 255\n",
+            b"to do: make the program smaller, or leave such orders out, and others with them, by --bound #\n",
+            MAX_BOUND,
+            0,
+            0,
         ),
     }
 }
