@@ -14,16 +14,16 @@ use Rattle.reasons.specs.Wrong.{wrongIn}
 use Rattle.bad_row.specs.Words.{putWrong}
 
 abbrev pub threadRow : List ℕ → List ℕ → ℕ → ℕ → Row
-threadRow t shape thread number = rowAt t (getD shape 1 0 + getD shape 12 0) (getD shape (7 + thread) 0 + number)
+threadRow t shape thread row = rowAt t (getD shape 1 0 + getD shape 12 0) (getD shape (7 + thread) 0 + row)
 
 -- in one line, with the field that is wrong first
 abbrev pub putRefusedRow : Page → ℕ → ℕ → Row → Room → Page
-putRefusedRow l thread number r room =
-    putText (putWrong (putFilled l (bytesOf "answer 5: refused: thread #, row #: ") thread number 0) (wrongIn room r) r room) (bytesOf "\n")
+putRefusedRow l thread row r room =
+    putText (putWrong (putFilled l (bytesOf "answer 5: refused: thread #, row #: ") thread row 0) (wrongIn room r) r room) (bytesOf "\n")
 
 -- nothing where there can be no such thread
 unfoldable pub putBadRow : Page → List ℕ → ℕ → ℕ → Page
-putBadRow l t thread number =
+putBadRow l t thread row =
     cond (ltb thread maxThreads)
-    (putRefusedRow l thread number (threadRow t (shapeOf t) thread number) (roomIn (shapeOf t) thread number))
+    (putRefusedRow l thread row (threadRow t (shapeOf t) thread row) (roomIn (shapeOf t) thread row))
     l

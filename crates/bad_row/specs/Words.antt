@@ -64,18 +64,22 @@ opcodeName opcode =
 abbrev pub putPresent : Page → ℕ → Page
 putPresent l n = putFilled l (bytesOf ": they count from 0, and the table has #") n 0 0
 
+-- they count from 0, to the last
+abbrev pub putLast : Page → ℕ → Page
+putLast l last = putFilled l (bytesOf ": there are 0 to #") last 0 0
+
 -- what it may be, where it is used
 unfoldable pub putMay : Page → Room → May → Page
-putMay l room may.AnyOpcode = putText l (bytesOf ": there are 0 to 18")
+putMay l room may.AnyOpcode = putLast l 18
 putMay l room may.AnyCell = putPresent l (room .cells)
 putMay l room may.AnyPlain = putPresent l (room .plains)
 putMay l room may.AnyThread = putPresent l (room .threads)
-putMay l room may.AnyOrder = putText l (bytesOf ": there are 0 to 4")
+putMay l room may.AnyOrder = putLast l 4
 putMay l room may.LoadOrder = putText l (bytesOf " that a load may have (0, 2 or 4)")
 putMay l room may.StoreOrder = putText l (bytesOf " that a store may have (0, 1 or 4)")
 putMay l room may.FenceOrder = putText l (bytesOf " that a fence may have (1 to 4)")
-putMay l room may.AnyKind = putText l (bytesOf ": there are 0 to 12")
-putMay l room may.AnyRegister = putText l (bytesOf ": there are 0 to 3")
+putMay l room may.AnyKind = putLast l 12
+putMay l room may.AnyRegister = putLast l 3
 putMay l room may.AnyTarget = putFilled l (bytesOf ": it may be up to #, the thread's end") (room .rows) 0 0
 putMay l room may.OtherTarget =
     putFilled l (bytesOf ": it may be up to #, the thread's end, but not #: a jump to its own row never ends") (room .rows) (room .row) 0

@@ -21,48 +21,48 @@ use table::THREADS;
 mod words;
 
 // Puts what is wrong with this row of this thread, in one line; nothing where there can be no such thread.
-pub fn put(page: &mut Page, at: usize, table: &[u8], thread: u8, number: u8) -> usize
-    ensures { λ r. ⌜ pageOf (now (page .exit)) r ≡ putBadRow (pageOf (now (page .entry)) at) (now (table .entry)) thread number ⌝ }
+pub fn put(page: &mut Page, at: usize, table: &[u8], thread: u8, row: u8) -> usize
+    ensures { λ r. ⌜ pageOf (now (page .exit)) r ≡ putBadRow (pageOf (now (page .entry)) at) (now (table .entry)) thread row ⌝ }
 {
     let t = wide8(thread);
     if MAX_THREADS <= t {
         return at;
     }
     let shape = table::shape(table);
-    let room = room_in(&shape, t, number);
-    let row = thread_row(table, &shape, t, number);
+    let room = room_in(&shape, t, row);
+    let fields = thread_row(table, &shape, t, row);
     let to = page::fill(
         page,
         at,
         b"answer 5: refused: thread #, row #: ",
         thread as u64,
-        number as u64,
+        row as u64,
         0,
     );
-    let to = words::put(page, to, row, room, reasons::wrong(row, room));
+    let to = words::put(page, to, fields, room, reasons::wrong(fields, room));
     page::put(page, to, b"\n")
 }
 
 // What this row of this thread may name, in a table of this shape.
-fn room_in(shape: &Shape, thread: usize, number: u8) -> Room
+fn room_in(shape: &Shape, thread: usize, row: u8) -> Room
     requires { ⌜ thread < 5 ⌝ }
-    ensures { λ r. ⌜ roomMeant r ≡ roomIn (now (shape .entry)) thread number ⌝ }
+    ensures { λ r. ⌜ roomMeant r ≡ roomIn (now (shape .entry)) thread row ⌝ }
 {
     Room {
         threads: wide16(shape[THREADS]),
         cells: wide16(shape[CELLS]),
         plains: wide16(shape[PLAINS]),
         rows: wide16(shape[COUNTS + thread]),
-        row: wide8(number),
+        row: wide8(row),
     }
 }
 
-// The row itself.
-fn thread_row(table: &[u8], shape: &Shape, thread: usize, number: u8) -> Row
+// The fields of the row itself.
+fn thread_row(table: &[u8], shape: &Shape, thread: usize, row: u8) -> Row
     requires { ⌜ thread < 5 ⌝ }
-    ensures { λ r. ⌜ rowMeant r ≡ threadRow (now (table .entry)) (now (shape .entry)) thread number ⌝ }
+    ensures { λ r. ⌜ rowMeant r ≡ threadRow (now (table .entry)) (now (shape .entry)) thread row ⌝ }
 {
     let values = wide16(shape[CELLS]) + wide16(shape[PLAINS]);
-    let index = wide16(shape[FIRSTS + thread]) + wide8(number);
+    let index = wide16(shape[FIRSTS + thread]) + wide8(row);
     table::row_at(table, values, index)
 }

@@ -3,12 +3,18 @@ ghost use mathlib.Core.Path.{_≡_};
 ghost use Rattle.rules.specs.Token.{bytesOf};
 ghost use Rattle.page.specs.Pages.{pageOf, putText};
 ghost use Rattle.decode.specs.Ops.{rowMeant, roomMeant};
-ghost use Rattle.bad_row.specs.Words.{fieldValue, objectName, fieldName, partPast, putPresent, putMay, putUnused, putWrong};
+ghost use Rattle.bad_row.specs.Words.{fieldValue, objectName, fieldName, partPast, putPresent, putLast, putMay, putUnused, putWrong};
 use decode::Row;
+use decode::kinds::DECREMENT;
+use decode::opcodes::PLAIN_WRITE;
+use layout::REGISTERS;
+use layout::order::SEQ_CST;
 use page::Page;
 use reasons::Field;
 use reasons::May;
 use reasons::Room;
+
+const LAST_REGISTER: u8 = (REGISTERS - 1) as u8;
 
 // Puts the field, what it is and what it may be.
 pub fn put(page: &mut Page, at: usize, row: Row, room: Room, field: Field) -> usize
@@ -81,21 +87,21 @@ fn put_object(page: &mut Page, at: usize, opcode: u8) -> usize
     }
 }
 
-// What it may be, where it is used.
+// What it may be, where it is used. Orders that are picked out stand in the sentence, as document 01 numbers them.
 fn put_may(page: &mut Page, at: usize, room: Room, may: May) -> usize
     ensures { λ r. ⌜ pageOf (now (page .exit)) r ≡ putMay (pageOf (now (page .entry)) at) (roomMeant room) may ⌝ }
 {
     match may {
-        May::AnyOpcode => page::put(page, at, b": there are 0 to 18"),
+        May::AnyOpcode => put_last(page, at, PLAIN_WRITE),
         May::AnyCell => put_present(page, at, room.cells),
         May::AnyPlain => put_present(page, at, room.plains),
         May::AnyThread => put_present(page, at, room.threads),
-        May::AnyOrder => page::put(page, at, b": there are 0 to 4"),
+        May::AnyOrder => put_last(page, at, SEQ_CST),
         May::LoadOrder => page::put(page, at, b" that a load may have (0, 2 or 4)"),
         May::StoreOrder => page::put(page, at, b" that a store may have (0, 1 or 4)"),
         May::FenceOrder => page::put(page, at, b" that a fence may have (1 to 4)"),
-        May::AnyKind => page::put(page, at, b": there are 0 to 12"),
-        May::AnyRegister => page::put(page, at, b": there are 0 to 3"),
+        May::AnyKind => put_last(page, at, DECREMENT),
+        May::AnyRegister => put_last(page, at, LAST_REGISTER),
         May::AnyTarget => page::fill(
             page,
             at,
@@ -114,6 +120,13 @@ fn put_may(page: &mut Page, at: usize, room: Room, may: May) -> usize
         ),
         _ => at,
     }
+}
+
+// They count from 0, to this one.
+fn put_last(page: &mut Page, at: usize, last: u8) -> usize
+    ensures { λ r. ⌜ pageOf (now (page .exit)) r ≡ putLast (pageOf (now (page .entry)) at) last ⌝ }
+{
+    page::fill(page, at, b": there are 0 to #", last as u64, 0, 0)
 }
 
 // How many of them the table has.

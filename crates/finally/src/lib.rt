@@ -63,7 +63,7 @@ fn put_parts(page: &mut Page, at: usize, condition: &[u8], held: &Held, threads:
             return to;
         }
         let part = unmet::part_at(condition, held, from);
-        to = put_compared(page, to, &condition[from..from + COMPARISON], threads, part);
+        to = put_compared(page, to, &condition[from..from + COMPARISON], part, threads);
         from = unmet::next_comparison(condition, from + COMPARISON);
         left -= 1;
     }
@@ -71,7 +71,7 @@ fn put_parts(page: &mut Page, at: usize, condition: &[u8], held: &Held, threads:
 }
 
 // One: whether it is true, its words, and what its register holds.
-fn put_compared(page: &mut Page, at: usize, bytes: &[u8], threads: usize, part: Part) -> usize
+fn put_compared(page: &mut Page, at: usize, bytes: &[u8], part: Part, threads: usize) -> usize
     ensures { λ r. ⌜ pageOf (now (page .exit)) r ≡ putCompared (pageOf (now (page .entry)) at) (now (bytes .entry)) threads part ⌝ }
 {
     let to = put_truth(page, at, part.holds);

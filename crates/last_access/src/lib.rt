@@ -23,13 +23,19 @@ pub enum AccessKind {
     PlainWrite,
 }
 
+// An access to a cell, or to a plain cell: its kind says to which.
+pub struct CellAccess {
+    pub cell: u64,
+    pub kind: AccessKind,
+}
+
 // The last of the first `n` steps in which a thread so accesses a cell, counted from 1; 0 for none.
-pub fn last(table: &[u8], trace: &[u8], thread: u64, cell: u64, kind: AccessKind, n: usize) -> u64
-    ensures { λ r. ⌜ r ≡ lastAccessStep (now (table .entry)) (now (trace .entry)) thread cell kind n ⌝ }
+pub fn last(table: &[u8], trace: &[u8], thread: u64, access: CellAccess, n: usize) -> u64
+    ensures { λ r. ⌜ r ≡ lastAccessStep (now (table .entry)) (now (trace .entry)) thread (access .cell) (access .kind) n ⌝ }
 {
     let mut i = n;
     while 0 < i {
-        if is_access(table, trace, thread, cell, kind, i - 1) {
+        if is_access(table, trace, thread, access, i - 1) {
             return i as u64;
         }
         i -= 1;
@@ -38,14 +44,15 @@ pub fn last(table: &[u8], trace: &[u8], thread: u64, cell: u64, kind: AccessKind
 }
 
 // Whether step `i` is such an access.
-fn is_access(table: &[u8], trace: &[u8], thread: u64, cell: u64, kind: AccessKind, i: usize) -> bool
-    ensures { λ r. ⌜ r ≡ isAccess (now (table .entry)) (now (trace .entry)) thread cell kind i ⌝ }
+fn is_access(table: &[u8], trace: &[u8], thread: u64, access: CellAccess, i: usize) -> bool
+    ensures { λ r. ⌜ r ≡ isAccess (now (table .entry)) (now (trace .entry)) thread (access .cell) (access .kind) i ⌝ }
 {
     let Decoded::Row(op) = steps::operation(table, trace, i) else {
         return false;
     };
+    let kind = access.kind;
     (steps::thread(trace, i) as u64 == thread)
-        & (cell_of(op) == cell)
+        & (cell_of(op) == access.cell)
         & is_of(op, kind, steps::value(trace, i))
 }
 

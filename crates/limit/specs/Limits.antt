@@ -31,7 +31,7 @@ putReached l s number thread row =
     (putFilled l (bytesOf "answer 11: no verdict: an execution needs more branches than the limit, #, at thread #, row #\n") (s .branches) thread row)
     (cond (eqb number 12)
     (putFilled l (bytesOf "answer 12: no verdict: an execution needs more rows than the limit, #, at thread #, row #\n") (s .operations) thread row)
-    (putFilled l (bytesOf "answer 17: no verdict: an order of the threads has more than 255 preemptions, at thread #, row #\n") thread row 0)))
+    (putFilled l (bytesOf "answer 17: no verdict: an order of the threads has more than # preemptions, at thread #, row #\n") 255 thread row)))
 
 -- a setting can be raised, by its name, where it is below the most that it may be
 unfoldable pub putRaise : Page → List ℕ → ℕ → ℕ → Page
@@ -51,7 +51,7 @@ putToDo l s number =
     cond (eqb number 1) (putSpent l (s .executions))
     (cond (eqb number 11) (putRaise l (bytesOf "--branches") (s .branches) maxBranches)
     (cond (eqb number 12) (putRaise l (bytesOf "--operations") (s .operations) maxOperations)
-    (putText l (bytesOf "to do: make the program smaller, or leave such orders out, and others with them, by --bound 255\n"))))
+    (putFilled l (bytesOf "to do: make the program smaller, or leave such orders out, and others with them, by --bound #\n") 255 0 0)))
 
 -- the last of n steps repeat the same p rows; nothing is said where p is 0
 abbrev pub putRepeat : Page → List ℕ → ℕ → ℕ → Page

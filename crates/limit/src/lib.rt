@@ -4,7 +4,10 @@ ghost use Rattle.page.specs.Pages.{pageOf};
 ghost use Rattle.settings.specs.Given.{settingsOf};
 ghost use Rattle.limit.specs.Limits.{isLimit, putBudget, putReached, putRaise, putSpent, putToDo, putSpin, putLimit};
 use page::Page;
+use path::MAX_PREEMPTIONS;
+use report::AtFault;
 use report::answers;
+use settings::MAX_BOUND;
 use settings::MAX_BRANCHES;
 use settings::MAX_EXECUTIONS;
 use settings::MAX_OPERATIONS;
@@ -27,26 +30,18 @@ pub fn put(
     trace: &[u8],
     settings: Settings,
     number: u64,
-    thread: u64,
-    row: u64,
+    fault: AtFault,
 ) -> usize
-    ensures { λ r. ⌜ pageOf (now (page .exit)) r ≡ putLimit (pageOf (now (page .entry)) at) (now (trace .entry)) (settingsOf settings) number thread row ⌝ }
+    ensures { λ r. ⌜ pageOf (now (page .exit)) r ≡ putLimit (pageOf (now (page .entry)) at) (now (trace .entry)) (settingsOf settings) number (fault .thread) (fault .row) ⌝ }
 {
-    let to = put_reached(page, at, settings, number, thread, row);
+    let to = put_reached(page, at, settings, number, fault);
     let to = put_to_do(page, to, settings, number);
     put_spin(page, to, trace)
 }
 
 // Which limit was reached.
-fn put_reached(
-    page: &mut Page,
-    at: usize,
-    settings: Settings,
-    number: u64,
-    thread: u64,
-    row: u64,
-) -> usize
-    ensures { λ r. ⌜ pageOf (now (page .exit)) r ≡ putReached (pageOf (now (page .entry)) at) (settingsOf settings) number thread row ⌝ }
+fn put_reached(page: &mut Page, at: usize, settings: Settings, number: u64, fault: AtFault) -> usize
+    ensures { λ r. ⌜ pageOf (now (page .exit)) r ≡ putReached (pageOf (now (page .entry)) at) (settingsOf settings) number (fault .thread) (fault .row) ⌝ }
 {
     match number {
         answers::SPENT => put_budget(page, at, settings.executions),
@@ -55,24 +50,24 @@ fn put_reached(
             at,
             b"answer 11: no verdict: an execution needs more branches than the limit, #, at thread #, row #\n",
             settings.branches,
-            thread,
-            row,
+            fault.thread,
+            fault.row,
         ),
         answers::ROWS => page::fill(
             page,
             at,
             b"answer 12: no verdict: an execution needs more rows than the limit, #, at thread #, row #\n",
             settings.operations,
-            thread,
-            row,
+            fault.thread,
+            fault.row,
         ),
         _ => page::fill(
             page,
             at,
-            b"answer 17: no verdict: an order of the threads has more than 255 preemptions, at thread #, row #\n",
-            thread,
-            row,
-            0,
+            b"answer 17: no verdict: an order of the threads has more than # preemptions, at thread #, row #\n",
+            MAX_PREEMPTIONS as u64,
+            fault.thread,
+            fault.row,
         ),
     }
 }
@@ -105,10 +100,13 @@ fn put_to_do(page: &mut Page, at: usize, settings: Settings, number: u64) -> usi
             settings.operations,
             MAX_OPERATIONS,
         ),
-        _ => page::put(
+        _ => page::fill(
             page,
             at,
-            b"to do: make the program smaller, or leave such orders out, and others with them, by --bound 255\n",
+            b"to do: make the program smaller, or leave such orders out, and others with them, by --bound #\n",
+            MAX_BOUND,
+            0,
+            0,
         ),
     }
 }

@@ -108,7 +108,7 @@ pub fn put_step(
     let to = put_numbers(page, at, trace, i);
     let to = page::pad(page, to, ROWS);
     let to = put_row(page, to, table, trace, i);
-    let to = put_slots(page, to, trace, end, i);
+    let to = put_slots(page, to, trace, i, end);
     let to = page::pad(page, to, end + CAME);
     let to = came::put(page, to, outcome::of_step(table, trace, held, i));
     page::put(page, to, b"\n")
@@ -124,17 +124,17 @@ fn put_numbers(page: &mut Page, at: usize, trace: &[u8], i: usize) -> usize
 }
 
 // Its slot and the slots that it was offered, behind a row that ends at this column.
-fn put_slots(page: &mut Page, at: usize, trace: &[u8], end: usize, i: usize) -> usize
+fn put_slots(page: &mut Page, at: usize, trace: &[u8], i: usize, end: usize) -> usize
     requires { ⌜ end < 275 ⌝ }
     ensures { λ r. ⌜ pageOf (now (page .exit)) r ≡ putSlots (pageOf (now (page .entry)) at) end (entryRead (now (trace .entry)) i) ⌝ }
 {
-    let to = put_slot(page, at, end, steps::slot(trace, i));
+    let to = put_slot(page, at, steps::slot(trace, i), end);
     let to = page::pad(page, to, end + OFFERED);
     put_offers(page, to, steps::mask(trace, i))
 }
 
 // The slot or a dash, ending `SLOT_TO` columns behind `end`.
-fn put_slot(page: &mut Page, at: usize, end: usize, slot: u8) -> usize
+fn put_slot(page: &mut Page, at: usize, slot: u8, end: usize) -> usize
     requires { ⌜ end < 275 ⌝ }
     ensures { λ r. ⌜ pageOf (now (page .exit)) r ≡ putSlot (pageOf (now (page .entry)) at) end slot ⌝ }
 {
@@ -155,7 +155,7 @@ fn put_offers(page: &mut Page, at: usize, mask: u8) -> usize
     let mut slot = 0;
     while slot < MAX_ATOMIC_HISTORY as u64 {
         if rest % 2 == 1 {
-            to = put_offer(page, to, first, slot);
+            to = put_offer(page, to, slot, first);
             first = false;
         }
         rest = rest / 2;
@@ -168,7 +168,7 @@ fn put_offers(page: &mut Page, at: usize, mask: u8) -> usize
 }
 
 // One slot more, behind a space unless it is the first.
-fn put_offer(page: &mut Page, at: usize, first: bool, slot: u64) -> usize
+fn put_offer(page: &mut Page, at: usize, slot: u64, first: bool) -> usize
     ensures { λ r. ⌜ pageOf (now (page .exit)) r ≡ putOffer (pageOf (now (page .entry)) at) first slot ⌝ }
 {
     if first {

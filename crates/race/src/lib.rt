@@ -5,8 +5,11 @@ ghost use Rattle.page.specs.Pages.{pageOf, putText};
 ghost use Rattle.race.specs.Races.{cellAt, raceSaid, accessName, putWhere, putMet, putStep, putBefore, putRace};
 use decode::Decoded;
 use last_access::AccessKind;
+use last_access::CellAccess;
 use last_access::NO_CELL;
+use layout::races;
 use page::Page;
+use report::AtFault;
 
 // Names both accesses, the other one by its step.
 pub fn put(
@@ -14,25 +17,40 @@ pub fn put(
     at: usize,
     table: &[u8],
     trace: &[u8],
-    thread: u64,
-    row: u64,
-    kind: u64,
+    fault: AtFault,
+    kind: u8,
     other: u64,
 ) -> usize
-    ensures { λ r. ⌜ pageOf (now (page .exit)) r ≡ putRace (pageOf (now (page .entry)) at) (now (table .entry)) (now (trace .entry)) thread row kind other ⌝ }
+    ensures { λ r. ⌜ pageOf (now (page .exit)) r ≡ putRace (pageOf (now (page .entry)) at) (now (table .entry)) (now (trace .entry)) (fault .thread) (fault .row) kind other ⌝ }
 {
-    let cell = cell_at(table, thread, row);
-    let to = put_met(page, at, thread, row, cell, met(kind));
-    put_before(page, to, table, trace, other, cell, against(kind))
+    let cell = cell_at(table, fault);
+    let met = CellAccess {
+        cell,
+        kind: met(kind),
+    };
+    let before = CellAccess {
+        cell,
+        kind: against(kind),
+    };
+    let to = put_met(page, at, fault, met);
+    put_before(page, to, table, trace, other, before)
 }
 
 // The access that met the race, of the row at fault.
-fn put_met(page: &mut Page, at: usize, thread: u64, row: u64, cell: u64, kind: AccessKind) -> usize
-    ensures { λ r. ⌜ pageOf (now (page .exit)) r ≡ putMet (pageOf (now (page .entry)) at) cell kind thread row ⌝ }
+fn put_met(page: &mut Page, at: usize, fault: AtFault, access: CellAccess) -> usize
+    ensures { λ r. ⌜ pageOf (now (page .exit)) r ≡ putMet (pageOf (now (page .entry)) at) (access .cell) (access .kind) (fault .thread) (fault .row) ⌝ }
 {
-    let to = put_where(page, at, cell, kind);
+    let kind = access.kind;
+    let to = put_where(page, at, access);
     let to = put_kind(page, to, kind);
-    page::fill(page, to, b" of thread #, row #, against ", thread, row, 0)
+    page::fill(
+        page,
+        to,
+        b" of thread #, row #, against ",
+        fault.thread,
+        fault.row,
+        0,
+    )
 }
 
 // The access before it: the other thread's last of this kind.
@@ -42,30 +60,38 @@ fn put_before(
     table: &[u8],
     trace: &[u8],
     other: u64,
-    cell: u64,
-    kind: AccessKind,
+    access: CellAccess,
 ) -> usize
-    ensures { λ r. ⌜ pageOf (now (page .exit)) r ≡ putBefore (pageOf (now (page .entry)) at) (now (table .entry)) (now (trace .entry)) cell kind other ⌝ }
+    ensures { λ r. ⌜ pageOf (now (page .exit)) r ≡ putBefore (pageOf (now (page .entry)) at) (now (table .entry)) (now (trace .entry)) (access .cell) (access .kind) other ⌝ }
 {
+    let kind = access.kind;
     let to = put_kind(page, at, kind);
-    let step = last_access::last(table, trace, other, cell, kind, steps::count(trace));
+    let step = last_access::last(table, trace, other, access, steps::count(trace));
     put_step(page, to, trace, other, step)
 }
 
 // That it is a race on a cell, or on a plain cell.
-fn put_where(page: &mut Page, at: usize, cell: u64, met: AccessKind) -> usize
-    ensures { λ r. ⌜ pageOf (now (page .exit)) r ≡ putWhere (pageOf (now (page .entry)) at) met cell ⌝ }
+fn put_where(page: &mut Page, at: usize, access: CellAccess) -> usize
+    ensures { λ r. ⌜ pageOf (now (page .exit)) r ≡ putWhere (pageOf (now (page .entry)) at) (access .kind) (access .cell) ⌝ }
 {
-    match met {
+    let kind = access.kind;
+    match kind {
         AccessKind::PlainRead | AccessKind::PlainWrite => page::fill(
             page,
             at,
             b"answer 14: failed: race on plain cell #: ",
-            cell,
+            access.cell,
             0,
             0,
         ),
-        _ => page::fill(page, at, b"answer 14: failed: race on cell #: ", cell, 0, 0),
+        _ => page::fill(
+            page,
+            at,
+            b"answer 14: failed: race on cell #: ",
+            access.cell,
+            0,
+            0,
+        ),
     }
 }
 
@@ -88,40 +114,44 @@ fn put_step(page: &mut Page, at: usize, trace: &[u8], other: u64, step: u64) -> 
 }
 
 // The cell, or the plain cell, of the row at fault.
-fn cell_at(table: &[u8], thread: u64, row: u64) -> u64
-    ensures { λ r. ⌜ r ≡ cellAt (now (table .entry)) thread row ⌝ }
+fn cell_at(table: &[u8], fault: AtFault) -> u64
+    ensures { λ r. ⌜ r ≡ cellAt (now (table .entry)) (fault .thread) (fault .row) ⌝ }
 {
-    let Decoded::Row(op) = steps::row_of(table, (thread % 256) as u8, (row % 256) as u8) else {
+    let Decoded::Row(op) = steps::row_of(table, (fault.thread % 256) as u8, (fault.row % 256) as u8)
+    else {
         return NO_CELL;
     };
     last_access::cell_of(op)
 }
 
-// The access that met the race. Kinds stand here as document 01 numbers them: those that are named are bytes (crate track), and a pattern
-// has the type of what it is matched with, a report's number.
-fn met(kind: u64) -> AccessKind
+// The access that met the race. The exclusive change has the rest, and what is no race kind with it.
+fn met(kind: u8) -> AccessKind
     ensures { λ r. ⌜ r ≡ raceSaid kind .met ⌝ }
 {
     match kind {
-        1 => AccessKind::Load,
-        2 | 3 => AccessKind::UnsyncLoad,
-        4 | 5 => AccessKind::Store,
-        10 => AccessKind::PlainRead,
-        11 | 12 => AccessKind::PlainWrite,
+        races::LOAD_AGAINST_MUT => AccessKind::Load,
+        races::UNSYNC_LOAD_AGAINST_MUT | races::UNSYNC_LOAD_AGAINST_STORE => AccessKind::UnsyncLoad,
+        races::STORE_AGAINST_MUT | races::STORE_AGAINST_UNSYNC_LOAD => AccessKind::Store,
+        races::PLAIN_READ_AGAINST_WRITE => AccessKind::PlainRead,
+        races::PLAIN_WRITE_AGAINST_READ | races::PLAIN_WRITE_AGAINST_WRITE => {
+            AccessKind::PlainWrite
+        }
         _ => AccessKind::Exclusive,
     }
 }
 
 // The access before it that it races with.
-fn against(kind: u64) -> AccessKind
+fn against(kind: u8) -> AccessKind
     ensures { λ r. ⌜ r ≡ raceSaid kind .before ⌝ }
 {
     match kind {
-        6 => AccessKind::Load,
-        5 | 7 => AccessKind::UnsyncLoad,
-        3 | 8 => AccessKind::Store,
-        11 => AccessKind::PlainRead,
-        10 | 12 => AccessKind::PlainWrite,
+        races::MUT_AGAINST_LOAD => AccessKind::Load,
+        races::STORE_AGAINST_UNSYNC_LOAD | races::MUT_AGAINST_UNSYNC_LOAD => AccessKind::UnsyncLoad,
+        races::UNSYNC_LOAD_AGAINST_STORE | races::MUT_AGAINST_STORE => AccessKind::Store,
+        races::PLAIN_WRITE_AGAINST_READ => AccessKind::PlainRead,
+        races::PLAIN_READ_AGAINST_WRITE | races::PLAIN_WRITE_AGAINST_WRITE => {
+            AccessKind::PlainWrite
+        }
         _ => AccessKind::Exclusive,
     }
 }

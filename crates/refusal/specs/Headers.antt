@@ -32,7 +32,7 @@ putBehind l t threads =
     cond (ltb (badCount t threads) maxThreads)
     (putRows l threads (badCount t threads) (getD t (2 + badCount t threads) 0))
     (cond (ltb maxPlains (plainsOf t))
-    (putFilled l (bytesOf "answer 5: refused: byte 7 says # plain cells: there may be 0 to #\n") (plainsOf t) maxPlains 0)
+    (putFilled l (bytesOf "answer 5: refused: byte # says # plain cells: there may be 0 to #\n") 7 (plainsOf t) maxPlains)
     (putFilled l (bytesOf "answer 5: refused: the table should have # bytes and has #\n")
     (sizeOf (valuesOf t) (total (countsOf t))) (length t) 0))
 
@@ -41,7 +41,7 @@ putHeader l t =
     cond (ltb (length t) headerBytes)
     (putFilled l (bytesOf "answer 5: refused: the table has # bytes, and its header alone has #\n") (length t) headerBytes 0)
     (cond (not (isCount (threadsOf t) maxThreads))
-    (putFilled l (bytesOf "answer 5: refused: byte 0 says # threads: there may be 1 to #\n") (threadsOf t) maxThreads 0)
+    (putFilled l (bytesOf "answer 5: refused: byte # says # threads: there may be 1 to #\n") 0 (threadsOf t) maxThreads)
     (cond (not (isCount (cellsOf t) maxCells))
-    (putFilled l (bytesOf "answer 5: refused: byte 1 says # cells: there may be 1 to #\n") (cellsOf t) maxCells 0)
+    (putFilled l (bytesOf "answer 5: refused: byte # says # cells: there may be 1 to #\n") 1 (cellsOf t) maxCells)
     (putBehind l t (threadsOf t))))

@@ -18,5 +18,5 @@ putUnnamed l t condition (badRow thread row) = putHeader l t
 
 -- "for 5 the first bad row, or 255, 255 if header or length is bad": both are bytes
 unfoldable pub putRefusal : Page → List ℕ → List ℕ → ℕ → ℕ → Page
-putRefusal l t condition thread number =
-    cond (eqb thread 255) (putUnnamed l t condition (judged t)) (putBadRow l t (thread % 256) (number % 256))
+putRefusal l t condition thread row =
+    cond (eqb thread 255) (putUnnamed l t condition (judged t)) (putBadRow l t (thread % 256) (row % 256))

@@ -41,10 +41,10 @@ pub fn put(page: &mut Page, at: usize, table: &[u8]) -> usize
         return page::fill(
             page,
             at,
-            b"answer 5: refused: byte 0 says # threads: there may be 1 to #\n",
+            b"answer 5: refused: byte # says # threads: there may be 1 to #\n",
+            THREAD_COUNT as u64,
             threads as u64,
             MAX_THREADS as u64,
-            0,
         );
     }
     let cells = wide8(table[CELL_COUNT]);
@@ -52,10 +52,10 @@ pub fn put(page: &mut Page, at: usize, table: &[u8]) -> usize
         return page::fill(
             page,
             at,
-            b"answer 5: refused: byte 1 says # cells: there may be 1 to #\n",
+            b"answer 5: refused: byte # says # cells: there may be 1 to #\n",
+            CELL_COUNT as u64,
             cells as u64,
             MAX_CELLS as u64,
-            0,
         );
     }
     put_behind(page, at, table, threads)
@@ -76,17 +76,17 @@ fn put_behind(page: &mut Page, at: usize, table: &[u8], threads: usize) -> usize
     let thread = bad_count(table, threads);
     if thread < MAX_THREADS {
         let count = wide8(table[ROW_COUNTS + thread]);
-        return put_rows(page, at, threads, thread, count);
+        return put_rows(page, at, thread, count, threads);
     }
     let plains = wide8(table[PLAIN_COUNT]);
     if MAX_PLAINS < plains {
         return page::fill(
             page,
             at,
-            b"answer 5: refused: byte 7 says # plain cells: there may be 0 to #\n",
+            b"answer 5: refused: byte # says # plain cells: there may be 0 to #\n",
+            PLAIN_COUNT as u64,
             plains as u64,
             MAX_PLAINS as u64,
-            0,
         );
     }
     page::fill(
@@ -127,7 +127,7 @@ fn bad_count(table: &[u8], threads: usize) -> usize
 }
 
 // A thread has more rows than there may be.
-fn put_rows(page: &mut Page, at: usize, threads: usize, thread: usize, count: usize) -> usize
+fn put_rows(page: &mut Page, at: usize, thread: usize, count: usize, threads: usize) -> usize
     requires { ⌜ thread < 5 ⌝ }
     ensures { λ r. ⌜ pageOf (now (page .exit)) r ≡ putRows (pageOf (now (page .entry)) at) threads thread count ⌝ }
 {

@@ -5,24 +5,24 @@ ghost use Rattle.page.specs.Pages.{pageOf};
 ghost use Rattle.refusal.specs.Refusals.{putRefusal};
 use event::NO_PLACE;
 use page::Page;
+use report::AtFault;
 use table::Judged;
 
 mod header;
 
 // Puts it, in one line: what is wrong with this row; or, where no row is named, with the header or the length; or else with the
 // condition, which is judged behind the table.
-pub fn put(
-    page: &mut Page,
-    at: usize,
-    table: &[u8],
-    condition: &[u8],
-    thread: u64,
-    number: u64,
-) -> usize
-    ensures { λ r. ⌜ pageOf (now (page .exit)) r ≡ putRefusal (pageOf (now (page .entry)) at) (now (table .entry)) (now (condition .entry)) thread number ⌝ }
+pub fn put(page: &mut Page, at: usize, table: &[u8], condition: &[u8], fault: AtFault) -> usize
+    ensures { λ r. ⌜ pageOf (now (page .exit)) r ≡ putRefusal (pageOf (now (page .entry)) at) (now (table .entry)) (now (condition .entry)) (fault .thread) (fault .row) ⌝ }
 {
-    if thread != NO_PLACE {
-        return bad_row::put(page, at, table, (thread % 256) as u8, (number % 256) as u8);
+    if fault.thread != NO_PLACE {
+        return bad_row::put(
+            page,
+            at,
+            table,
+            (fault.thread % 256) as u8,
+            (fault.row % 256) as u8,
+        );
     }
     if let Judged::Good = table::judge(table) {
         return bad_condition::put(page, at, table, condition);

@@ -34,6 +34,12 @@ pub enum Answer {
     Unmet,
 }
 
+// Where a run was stopped, or a table is refused: a thread and its row, as a report has them.
+pub struct AtFault {
+    pub thread: u64,
+    pub row: u64,
+}
+
 // One thread at the end of the last execution; all zero if it is absent.
 pub struct Summary {
     pub state: u16,
@@ -42,7 +48,7 @@ pub struct Summary {
     pub version: u16,
 }
 
-// The answer says thread and row at fault too, and the race (`thread_at_fault`, `row_at_fault`, `race_kind`, `other_thread`).
+// The answer says thread and row at fault too, and the race (`at_fault`, `race_kind`, `other_thread`).
 pub struct Report {
     pub answer: Answer,
     // Executions begun, choices opened in the whole history, choices open in the path left, rows begun.
@@ -156,37 +162,36 @@ pub fn other_thread(answer: Answer) -> u64
     other as u64
 }
 
-// The thread at fault or of the first bad row, or 255.
-pub fn thread_at_fault(answer: Answer) -> u64
-    ensures { λ r. ⌜ r ≡ threadAtFault answer ⌝ }
+// The thread and row at fault, or those of the first bad row; both 255 where there is none.
+pub fn at_fault(answer: Answer) -> AtFault
+    ensures { λ r. ⌜ (r .thread ≡ threadAtFault answer) × (r .row ≡ rowAtFault answer) ⌝ }
 {
     match answer {
-        Answer::BadTable { thread, .. } => thread as u64,
+        Answer::BadTable { thread, row } => AtFault {
+            thread: thread as u64,
+            row: row as u64,
+        },
         Answer::Stopped { fault, site } => {
             if names_place(fault) {
-                site.thread as u64
+                AtFault {
+                    thread: site.thread as u64,
+                    row: site.row as u64,
+                }
             } else {
-                NO_PLACE
+                nowhere()
             }
         }
-        _ => NO_PLACE,
+        _ => nowhere(),
     }
 }
 
-// The row at fault or the first bad row, or 255.
-pub fn row_at_fault(answer: Answer) -> u64
-    ensures { λ r. ⌜ r ≡ rowAtFault answer ⌝ }
+// No thread and no row.
+fn nowhere() -> AtFault
+    ensures { λ r. ⌜ (r .thread ≡ 255) × (r .row ≡ 255) ⌝ }
 {
-    match answer {
-        Answer::BadTable { row, .. } => row as u64,
-        Answer::Stopped { fault, site } => {
-            if names_place(fault) {
-                site.row as u64
-            } else {
-                NO_PLACE
-            }
-        }
-        _ => NO_PLACE,
+    AtFault {
+        thread: NO_PLACE,
+        row: NO_PLACE,
     }
 }
 

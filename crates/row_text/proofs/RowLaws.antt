@@ -77,12 +77,12 @@ module _ (r : Row) (entry exit : List ℕ) (to : ℕ) (puts : Puts entry exit 0 
       cut : (rest : List ℕ) → length (words r) ≡ to - 1 - 2 → take (to - 1 - 2) ((words r ++ (10 ∷ [])) ++ rest) ≡ words r
       cut rest e = rw append-assoc (take-at (words r) ((10 ∷ []) ++ rest) (to - 1 - 2) e)
 
-pub said-none : (table : List ℕ) (thread number : ℕ) → 5 ≤ thread → rowSaid table thread number ≡ []
+pub said-none : (table : List ℕ) (thread row : ℕ) → 5 ≤ thread → rowSaid table thread row ≡ []
 unfolding rowSaid
-said-none table thread number h = rw (le-ltb thread 5 h)
+said-none table thread row h = rw (le-ltb thread 5 h)
 
-module _ (table : List ℕ) (thread number : ℕ) (shape : List ℕ) (t n cells plains first : ℕ) where
-  pub said-some : t ≡ thread → t < 5 → shape ≡ shapeOf table → cells ≡ getD shape 1 0 → plains ≡ getD shape 12 0 → first ≡ getD shape (7 + t) 0 → n ≡ number →
-      rowWords (rowAt table (cells + plains) (first + n)) ≡ rowSaid table thread number
+module _ (table : List ℕ) (thread row : ℕ) (shape : List ℕ) (t n cells plains first : ℕ) where
+  pub said-some : t ≡ thread → t < 5 → shape ≡ shapeOf table → cells ≡ getD shape 1 0 → plains ≡ getD shape 12 0 → first ≡ getD shape (7 + t) 0 → n ≡ row →
+      rowWords (rowAt table (cells + plains) (first + n)) ≡ rowSaid table thread row
   unfolding rowSaid
   said-some e h s c p f m = let k : thread < 5 = omega arith in rw (lt-ltb thread 5 k, c, p, f, m, s, e)

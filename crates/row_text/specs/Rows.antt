@@ -14,9 +14,9 @@ use Rattle.rules.specs.Writer.{formIn, formShown, fieldsOf, rowShown}
 unfoldable pub rowWords : Row → List ℕ
 rowWords r = cond (leb (length (rowShown r)) 256) (formShown (formIn (r .opcode) (r .kind) forms .words) (fieldsOf r)) []
 
--- the row of this number of a thread, by the header's counts; nothing for a thread that no table has
+-- this row of a thread, by the header's counts; nothing for a thread that no table has
 unfoldable pub rowSaid : List ℕ → ℕ → ℕ → List ℕ
-rowSaid table thread number =
+rowSaid table thread row =
     cond (ltb thread maxThreads)
-    (rowWords (rowAt table (getD (shapeOf table) 1 0 + getD (shapeOf table) 12 0) (getD (shapeOf table) (7 + thread) 0 + number)))
+    (rowWords (rowAt table (getD (shapeOf table) 1 0 + getD (shapeOf table) 12 0) (getD (shapeOf table) (7 + thread) 0 + row)))
     []

@@ -17,9 +17,9 @@ const ROW_LINE: usize = 256;
 // How many blanks a text has before a row.
 const BLANKS: usize = 2;
 
-// Puts the row of this number of a thread; nothing for a thread that no table has.
-pub fn put(page: &mut Page, at: usize, table: &[u8], thread: u8, number: u8) -> usize
-    ensures { λ r. ⌜ pageOf (now (page .exit)) r ≡ putText (pageOf (now (page .entry)) at) (rowSaid (now (table .entry)) thread number) ⌝ }
+// Puts this row of a thread; nothing for a thread that no table has.
+pub fn put(page: &mut Page, at: usize, table: &[u8], thread: u8, row: u8) -> usize
+    ensures { λ r. ⌜ pageOf (now (page .exit)) r ≡ putText (pageOf (now (page .entry)) at) (rowSaid (now (table .entry)) thread row) ⌝ }
 {
     let t = wide8(thread);
     if MAX_THREADS <= t {
@@ -28,7 +28,7 @@ pub fn put(page: &mut Page, at: usize, table: &[u8], thread: u8, number: u8) -> 
     let shape = table::shape(table);
     let values = wide16(shape[CELLS]) + wide16(shape[PLAINS]);
     let first = wide16(shape[FIRSTS + t]);
-    put_at(page, at, table, values, first + wide8(number))
+    put_at(page, at, table, values, first + wide8(row))
 }
 
 // The row of this number among all rows of a table with so many start values.

@@ -102,7 +102,7 @@ fn names_plain(text: &[u8], begin: usize, before: usize) -> bool
     read | (write & to)
 }
 
-// Why a token cannot stand where a plain cell must.
+// Why a token cannot stand where a plain cell must. `p0` to `p3` are the names of plain cells, and so stand in the sentence as they are.
 fn put_why_no_plain(page: &mut [u8], at: usize, text: &[u8], place: usize, end: usize) -> usize
     ensures { λ r. ⌜ Puts (now (page .entry)) (now (page .exit)) at (bytesOf (whyNoPlain (plainIn (part place end (now (text .entry)))))) r ⌝ }
 {

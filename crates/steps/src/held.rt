@@ -245,7 +245,9 @@ fn store(held: &mut Held, cell: usize, value: u64, step: u64)
     held[NEWEST + cell] = value;
 }
 
-// The slot that the next store takes, and that of the newest, by how many there were: `layout::slots` for a count of any size.
+// The slot that the next store takes, and that of the newest, by how many there were. What is promised here holds for any table of
+// numbers, so of a count past 16 bits too, which none that is read back from a trace is: the functions of `layout::slots` and
+// `vv::one_more` take 16 bits, and a larger count that is cut to them has another slot and another successor.
 fn next_slot(count: u64) -> usize
     ensures { λ r. ⌜ Next count r ⌝ }
 {

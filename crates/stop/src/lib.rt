@@ -4,30 +4,30 @@ ghost use Rattle.page.specs.Pages.{pageOf};
 ghost use Rattle.stop.specs.Stops.{putHow, putRow, putPlace, putWaits};
 use layout::MAX_THREADS;
 use page::Page;
+use report::AtFault;
 use steps::held::Held;
 use table::limits::MAX_ROWS;
 use thread::BLOCKED;
 
 // The row that failed, or at which a limit stopped the run, if there is one.
-pub fn put_place(
-    page: &mut Page,
-    at: usize,
-    table: &[u8],
-    limited: bool,
-    thread: u64,
-    row: u64,
-) -> usize
-    ensures { λ r. ⌜ pageOf (now (page .exit)) r ≡ putPlace (pageOf (now (page .entry)) at) (now (table .entry)) limited thread row ⌝ }
+pub fn put_place(page: &mut Page, at: usize, table: &[u8], fault: AtFault, limited: bool) -> usize
+    ensures { λ r. ⌜ pageOf (now (page .exit)) r ≡ putPlace (pageOf (now (page .entry)) at) (now (table .entry)) limited (fault .thread) (fault .row) ⌝ }
 {
-    if MAX_THREADS as u64 <= thread {
+    if MAX_THREADS as u64 <= fault.thread {
         return at;
     }
-    if (MAX_ROWS as u64) < row {
+    if (MAX_ROWS as u64) < fault.row {
         return at;
     }
     let to = put_how(page, at, limited);
-    let to = page::fill(page, to, b": thread #, row #: ", thread, row, 0);
-    let to = put_row(page, to, table, (thread % 256) as u8, (row % 256) as u8);
+    let to = page::fill(page, to, b": thread #, row #: ", fault.thread, fault.row, 0);
+    let to = put_row(
+        page,
+        to,
+        table,
+        (fault.thread % 256) as u8,
+        (fault.row % 256) as u8,
+    );
     page::put(page, to, b"\n")
 }
 

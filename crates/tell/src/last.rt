@@ -5,6 +5,13 @@ use page::Page;
 use steps::held;
 use steps::held::Held;
 
+// How wide the rows of the listing are, how many steps the execution has, and whether all are shown.
+struct Extent {
+    width: usize,
+    n: usize,
+    whole: bool,
+}
+
 // Writes it, whole or shortened. A page takes one line, for there may be thousands.
 pub fn execution(page: &mut Page, table: &[u8], trace: &[u8], whole: bool) {
     let n = steps::count(trace);
@@ -16,33 +23,25 @@ pub fn execution(page: &mut Page, table: &[u8], trace: &[u8], whole: bool) {
     let width = listing::width(table, trace);
     let to = listing::put_head(page, 0, width);
     out::write(page, to);
+    let extent = Extent { width, n, whole };
     let mut held = held::start(table);
     let mut i = 0;
     while i < n {
-        step(page, table, trace, &held, width, whole, n, i);
+        step(page, table, trace, &held, extent, i);
         held::take(table, trace, &mut held, i);
         i += 1;
     }
 }
 
 // Writes a step, if it is among those that are shown, and in the place of the others one line.
-fn step(
-    page: &mut Page,
-    table: &[u8],
-    trace: &[u8],
-    held: &Held,
-    width: usize,
-    whole: bool,
-    n: usize,
-    i: usize,
-) {
-    if whole || listing::is_shown(n, i) {
-        let to = listing::put_step(page, 0, table, trace, held, width, i);
+fn step(page: &mut Page, table: &[u8], trace: &[u8], held: &Held, extent: Extent, i: usize) {
+    if extent.whole || listing::is_shown(extent.n, i) {
+        let to = listing::put_step(page, 0, table, trace, held, extent.width, i);
         out::write(page, to);
         return;
     }
     if i == SHOWN {
-        let to = listing::put_between(page, 0, n);
+        let to = listing::put_between(page, 0, extent.n);
         out::write(page, to);
     }
 }

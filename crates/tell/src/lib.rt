@@ -46,9 +46,7 @@ fn ran(page: &mut Page, table: &[u8], trace: &[u8], whole: bool, report: Report)
     let threads = report.threads;
     let is_limit = limit::is_limit(number);
     last::execution(page, table, trace, whole || !is_limit);
-    let thread = report::thread_at_fault(answer);
-    let row = report::row_at_fault(answer);
-    let to = stop::put_place(page, 0, table, is_limit, thread, row);
+    let to = stop::put_place(page, 0, table, report::at_fault(answer), is_limit);
     out::write(page, to);
     if number == answers::DEADLOCK {
         threads::waiting(page, table, trace, threads);

@@ -7,8 +7,8 @@ ghost use Rattle.report.specs.Answers.{reportOf};
 ghost use Rattle.verdict.specs.Verdicts.{putVerdict, putPassed, putRefused, putCheck, putWanted, putFailed};
 use decode::Decoded;
 use decode::Op;
-use layout::long8;
 use page::Page;
+use report::AtFault;
 use report::Report;
 use report::answers;
 use settings::Settings;
@@ -27,24 +27,23 @@ pub fn put(
 {
     let answer = report.answer;
     let number = report::number(answer);
-    let thread = report::thread_at_fault(answer);
-    let row = report::row_at_fault(answer);
+    let fault = report::at_fault(answer);
     if limit::is_limit(number) {
-        return limit::put(page, at, trace, settings, number, thread, row);
+        return limit::put(page, at, trace, settings, number, fault);
     }
     if report::is_refusal(number) {
-        return put_refused(page, at, table, condition, number, thread, row);
+        return put_refused(page, at, table, condition, number, fault);
     }
     match number {
         answers::EXHAUSTED => put_passed(page, at, table, condition, settings, report.begun),
         answers::RACE => {
-            let kind = long8(report::race_kind(answer));
+            let kind = report::race_kind(answer);
             let other = report::other_thread(answer);
-            race::put(page, at, table, trace, thread, row, kind, other)
+            race::put(page, at, table, trace, fault, kind, other)
         }
-        answers::CHECK => put_check(page, at, table, trace, thread, row),
+        answers::CHECK => put_check(page, at, table, trace, fault),
         answers::UNMET => finally::put(page, at, table, condition, trace),
-        _ => put_failed(page, at, number, thread, row),
+        _ => put_failed(page, at, number, fault),
     }
 }
 
@@ -77,10 +76,9 @@ fn put_refused(
     table: &[u8],
     condition: &[u8],
     number: u64,
-    thread: u64,
-    row: u64,
+    fault: AtFault,
 ) -> usize
-    ensures { λ r. ⌜ pageOf (now (page .exit)) r ≡ putRefused (pageOf (now (page .entry)) at) (now (table .entry)) (now (condition .entry)) number thread row ⌝ }
+    ensures { λ r. ⌜ pageOf (now (page .exit)) r ≡ putRefused (pageOf (now (page .entry)) at) (now (table .entry)) (now (condition .entry)) number (fault .thread) (fault .row) ⌝ }
 {
     match number {
         answers::BAD_SETTINGS => page::put(
@@ -98,20 +96,20 @@ fn put_refused(
             at,
             b"answer 4: refused: the trace buffer has the wrong length\n",
         ),
-        _ => refusal::put(page, at, table, condition, thread, row),
+        _ => refusal::put(page, at, table, condition, fault),
     }
 }
 
 // A check that failed, with what its register holds.
-fn put_check(page: &mut Page, at: usize, table: &[u8], trace: &[u8], thread: u64, row: u64) -> usize
-    ensures { λ r. ⌜ pageOf (now (page .exit)) r ≡ putCheck (pageOf (now (page .entry)) at) (now (table .entry)) (now (trace .entry)) thread row ⌝ }
+fn put_check(page: &mut Page, at: usize, table: &[u8], trace: &[u8], fault: AtFault) -> usize
+    ensures { λ r. ⌜ pageOf (now (page .exit)) r ≡ putCheck (pageOf (now (page .entry)) at) (now (table .entry)) (now (trace .entry)) (fault .thread) (fault .row) ⌝ }
 {
     let to = page::fill(
         page,
         at,
         b"answer 15: failed: the check at thread #, row #",
-        thread,
-        row,
+        fault.thread,
+        fault.row,
         0,
     );
     let to = put_wanted(
@@ -119,8 +117,8 @@ fn put_check(page: &mut Page, at: usize, table: &[u8], trace: &[u8], thread: u64
         to,
         table,
         trace,
-        (thread % 256) as u8,
-        (row % 256) as u8,
+        (fault.thread % 256) as u8,
+        (fault.row % 256) as u8,
     );
     page::put(page, to, b"\n")
 }
@@ -148,8 +146,8 @@ fn put_wanted(page: &mut Page, at: usize, table: &[u8], trace: &[u8], thread: u8
 }
 
 // What else stops a run where it goes wrong.
-fn put_failed(page: &mut Page, at: usize, number: u64, thread: u64, row: u64) -> usize
-    ensures { λ r. ⌜ pageOf (now (page .exit)) r ≡ putFailed (pageOf (now (page .entry)) at) number thread row ⌝ }
+fn put_failed(page: &mut Page, at: usize, number: u64, fault: AtFault) -> usize
+    ensures { λ r. ⌜ pageOf (now (page .exit)) r ≡ putFailed (pageOf (now (page .entry)) at) number (fault .thread) (fault .row) ⌝ }
 {
     match number {
         answers::DEADLOCK => page::put(
@@ -161,16 +159,16 @@ fn put_failed(page: &mut Page, at: usize, number: u64, thread: u64, row: u64) ->
             page,
             at,
             b"answer 13: failed: two stores that a load may read have no order between them, at thread #, row #\n",
-            thread,
-            row,
+            fault.thread,
+            fault.row,
             0,
         ),
         answers::FLAGS => page::fill(
             page,
             at,
             b"answer 16: failed: `critical` while exploring is off, or `explore_state` while it is on, at thread #, row #\n",
-            thread,
-            row,
+            fault.thread,
+            fault.row,
             0,
         ),
         _ => page::fill(
@@ -178,8 +176,8 @@ fn put_failed(page: &mut Page, at: usize, number: u64, thread: u64, row: u64) ->
             at,
             b"answer #: stopped by a mistake of the explorer itself, at thread #, row #: please report it\n",
             number,
-            thread,
-            row,
+            fault.thread,
+            fault.row,
         ),
     }
 }

@@ -37,7 +37,7 @@ returns-2 : tie.Need-returns-2
 unfolding isAccess
 returns-2 c =
     let read = c .before in
-    let named = read .before in
+    let named = read .before .before in
     let whose = named .before in
     let op = whose .before .before in
     access-made _ _ _ _ (says (op .before .before .operation .ensures) (op .op .given .1)) (whose .thread .ensures) (named .cell-of .ensures) (read .value .ensures) (c .is-of .ensures)

@@ -7,11 +7,11 @@ use Rattle.last_access.proofs.last.Statement.{statement}
 use Rattle.last_access.proofs.last.Tie as tie
 
 abbrev Inv-loop : tie.InvT-loop
-Inv-loop table trace thread cell kind n i₀ i =
-    (i ≤ n) × (lastOf (isAccess table trace thread cell kind) i ≡ lastAccessStep table trace thread cell kind n)
+Inv-loop table trace thread access n i₀ i =
+    (i ≤ n) × (lastOf (isAccess table trace thread (access .cell) (access .kind)) i ≡ lastAccessStep table trace thread (access .cell) (access .kind) n)
 
 abbrev μ-loop : tie.MeasureT-loop
-μ-loop table trace thread cell kind n i₀ i = i
+μ-loop table trace thread access n i₀ i = i
 
 loop-holds : tie.Need-loop-holds Inv-loop μ-loop
 unfolding lastAccessStep

@@ -20,11 +20,11 @@ slice-aggregate-put-raise-2 c = search needs
 put-raise-requires-2 : tie.Need-put-raise-requires-2
 put-raise-requires-2 c κs = search needs
 
-slice-aggregate-put : tie.Need-slice-aggregate-put
-slice-aggregate-put c = search needs
+slice-aggregate-fill : tie.Need-slice-aggregate-fill
+slice-aggregate-fill c = search needs
 
-put-requires : tie.Need-put-requires
-put-requires c κs = search needs
+fill-requires : tie.Need-fill-requires
+fill-requires c κs = search needs
 
 returns : tie.Need-returns
 unfolding putToDo
@@ -42,7 +42,7 @@ returns-4 : tie.Need-returns-4
 unfolding putToDo bytesOf
 returns-4 c =
     let none = c .before .before .before .match .rest in
-    rw (ne-eqb _ 1 (none .0 .0 .1), ne-eqb _ 11 (none .0 .1), ne-eqb _ 12 (none .1)) (c .put .ensures)
+    rw (ne-eqb _ 1 (none .0 .0 .1), ne-eqb _ 11 (none .0 .1), ne-eqb _ 12 (none .1)) (c .fill .ensures)
 
 pub put-to-do-spec : {M : Type 1} → statement M
 put-to-do-spec =
@@ -53,8 +53,8 @@ put-to-do-spec =
     put-raise-requires
     slice-aggregate-put-raise-2
     put-raise-requires-2
-    slice-aggregate-put
-    put-requires
+    slice-aggregate-fill
+    fill-requires
     returns
     returns-2
     returns-3

@@ -9,11 +9,11 @@ cell-at-requires c κs = search needs
 met-requires : tie.Need-met-requires
 met-requires c κs = search needs
 
-put-met-requires : tie.Need-put-met-requires
-put-met-requires c κs = search needs
-
 against-requires : tie.Need-against-requires
 against-requires c κs = search needs
+
+put-met-requires : tie.Need-put-met-requires
+put-met-requires c κs = search needs
 
 put-before-requires : tie.Need-put-before-requires
 put-before-requires c κs = search needs
@@ -21,10 +21,10 @@ put-before-requires c κs = search needs
 returns : tie.Need-returns
 unfolding putRace
 returns c =
-    let before = c .before in
-    let first = before .before .before in
-    let met = first .before in
-    rw (before .against .ensures, first .put-met .ensures, met .met .ensures, met .before .before .cell-at .ensures) at (c .put-before .ensures)
+    let first = c .before .before in
+    let before = first .before .before in
+    let met = before .before in
+    rw (before .against .ensures, first .put-met .ensures, met .met .ensures, met .before .cell-at .ensures) at (c .put-before .ensures)
 
 pub put-spec : {M : Type 1} → statement M
 put-spec =
@@ -32,7 +32,7 @@ put-spec =
     (tie.spec
     cell-at-requires
     met-requires
-    put-met-requires
     against-requires
+    put-met-requires
     put-before-requires
     returns)

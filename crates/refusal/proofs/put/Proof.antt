@@ -16,7 +16,7 @@ put-requires c κs = search needs
 
 returns : tie.Need-returns
 unfolding putRefusal
-returns c = rw (ne-eqb _ 255 (c .before .before .if1 .taken)) (c .put .ensures)
+returns c = rw (ne-eqb _ 255 (c .before .before .before .before .if1 .taken)) (c .put .ensures)
 
 judge-requires : tie.Need-judge-requires
 judge-requires c κs = search needs

@@ -53,13 +53,13 @@ put-at-requires c κs = search needs
 
 returns-2 : tie.Need-returns-2
 returns-2 c =
-    let number = c .before in
-    let first = number .before .before in
+    let row = c .before in
+    let first = row .before .before in
     let plains = first .before in
     let cells = plains .before in
     let shape = cells .before in
     let thread = shape .before in
-    c .put-at .ensures ∙ ap (putText _) (said-some _ _ _ _ _ _ _ _ _ (thread .before .wide8 .ensures .same) (omega arith) (shape .shape .ensures) (cells .wide16 .ensures .same) (plains .wide162 .ensures .same) (first .wide163 .ensures .same) (number .wide82 .ensures .same))
+    c .put-at .ensures ∙ ap (putText _) (said-some _ _ _ _ _ _ _ _ _ (thread .before .wide8 .ensures .same) (omega arith) (shape .shape .ensures) (cells .wide16 .ensures .same) (plains .wide162 .ensures .same) (first .wide163 .ensures .same) (row .wide82 .ensures .same))
 
 pub put-spec : {M : Type 1} → statement M
 put-spec =

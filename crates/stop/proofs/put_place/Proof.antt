@@ -11,7 +11,7 @@ returns c = rw (le-leb 5 _ (c .if1 .taken))
 
 returns-2 : tie.Need-returns-2
 unfolding putPlace
-returns-2 c = rw (lt-leb 5 _ (c .before .if1 .left), lt-ltb 64 _ (c .if2 .taken))
+returns-2 c = rw (lt-leb 5 _ (c .before .before .if1 .left), lt-ltb 64 _ (c .if2 .taken))
 
 put-how-requires : tie.Need-put-how-requires
 put-how-requires c κs = search needs
@@ -41,10 +41,10 @@ returns-3 : tie.Need-returns-3
 unfolding putPlace bytesOf
 returns-3 c =
     let row = c .before .before .before in
-    let filled = row .before .before in
+    let filled = row .before .before .before .before in
     let how = filled .before .before .before in
     let rows = how .before .before in
-    rw (lt-leb 5 _ (rows .before .if1 .left), le-ltb 64 _ (rows .if2 .left), ← how .put-how .ensures, ← filled .fill .ensures, ← row .put-row .ensures) (c .put .ensures)
+    rw (lt-leb 5 _ (rows .before .before .if1 .left), le-ltb 64 _ (rows .if2 .left), ← how .put-how .ensures, ← filled .fill .ensures, ← row .put-row .ensures) (c .put .ensures)
 
 pub put-place-spec : {M : Type 1} → statement M
 put-place-spec =

@@ -29,7 +29,7 @@ returns : tie.Need-returns
 unfolding bytesOf
 returns c =
     let wanted = c .before .before .before in
-    rw (wanted .put-wanted .ensures, wanted .before .before .fill .ensures) at (c .put .ensures)
+    rw (wanted .put-wanted .ensures, wanted .before .before .before .before .fill .ensures) at (c .put .ensures)
 
 pub put-check-spec : {M : Type 1} → statement M
 put-check-spec =

@@ -8,11 +8,8 @@ use Rattle.bad_row.proofs.words.put_may.Tie as tie
 enum-told : tie.Need-enum-told
 enum-told c = search needs
 
-slice-aggregate-put : tie.Need-slice-aggregate-put
-slice-aggregate-put c = search needs
-
-put-requires : tie.Need-put-requires
-put-requires c κs = search needs
+put-last-requires : tie.Need-put-last-requires
+put-last-requires c κs = search needs
 
 enum-told-2 : tie.Need-enum-told-2
 enum-told-2 c = search needs
@@ -35,14 +32,29 @@ put-present-requires-3 c κs = search needs
 enum-told-5 : tie.Need-enum-told-5
 enum-told-5 c = search needs
 
+put-last-requires-2 : tie.Need-put-last-requires-2
+put-last-requires-2 c κs = search needs
+
+enum-told-6 : tie.Need-enum-told-6
+enum-told-6 c = search needs
+
+slice-aggregate-put : tie.Need-slice-aggregate-put
+slice-aggregate-put c = search needs
+
+put-requires : tie.Need-put-requires
+put-requires c κs = search needs
+
+enum-told-7 : tie.Need-enum-told-7
+enum-told-7 c = search needs
+
 slice-aggregate-put-2 : tie.Need-slice-aggregate-put-2
 slice-aggregate-put-2 c = search needs
 
 put-requires-2 : tie.Need-put-requires-2
 put-requires-2 c κs = search needs
 
-enum-told-6 : tie.Need-enum-told-6
-enum-told-6 c = search needs
+enum-told-8 : tie.Need-enum-told-8
+enum-told-8 c = search needs
 
 slice-aggregate-put-3 : tie.Need-slice-aggregate-put-3
 slice-aggregate-put-3 c = search needs
@@ -50,41 +62,17 @@ slice-aggregate-put-3 c = search needs
 put-requires-3 : tie.Need-put-requires-3
 put-requires-3 c κs = search needs
 
-enum-told-7 : tie.Need-enum-told-7
-enum-told-7 c = search needs
-
-slice-aggregate-put-4 : tie.Need-slice-aggregate-put-4
-slice-aggregate-put-4 c = search needs
-
-put-requires-4 : tie.Need-put-requires-4
-put-requires-4 c κs = search needs
-
-enum-told-8 : tie.Need-enum-told-8
-enum-told-8 c = search needs
-
-slice-aggregate-put-5 : tie.Need-slice-aggregate-put-5
-slice-aggregate-put-5 c = search needs
-
-put-requires-5 : tie.Need-put-requires-5
-put-requires-5 c κs = search needs
-
 enum-told-9 : tie.Need-enum-told-9
 enum-told-9 c = search needs
 
-slice-aggregate-put-6 : tie.Need-slice-aggregate-put-6
-slice-aggregate-put-6 c = search needs
-
-put-requires-6 : tie.Need-put-requires-6
-put-requires-6 c κs = search needs
+put-last-requires-3 : tie.Need-put-last-requires-3
+put-last-requires-3 c κs = search needs
 
 enum-told-10 : tie.Need-enum-told-10
 enum-told-10 c = search needs
 
-slice-aggregate-put-7 : tie.Need-slice-aggregate-put-7
-slice-aggregate-put-7 c = search needs
-
-put-requires-7 : tie.Need-put-requires-7
-put-requires-7 c κs = search needs
+put-last-requires-4 : tie.Need-put-last-requires-4
+put-last-requires-4 c κs = search needs
 
 enum-told-11 : tie.Need-enum-told-11
 enum-told-11 c = search needs
@@ -105,8 +93,8 @@ fill-requires-2 : tie.Need-fill-requires-2
 fill-requires-2 c κs = search needs
 
 returns : tie.Need-returns
-unfolding putMay bytesOf
-returns c = rw (c .before .before .before .enum-told .given .1) (c .put .ensures)
+unfolding putMay
+returns c = rw (c .before .before .enum-told .given .1) (c .put-last .ensures)
 
 returns-2 : tie.Need-returns-2
 unfolding putMay
@@ -121,28 +109,28 @@ unfolding putMay
 returns-4 c = rw (c .before .before .enum-told4 .given .1) (c .put-present3 .ensures)
 
 returns-5 : tie.Need-returns-5
-unfolding putMay bytesOf
-returns-5 c = rw (c .before .before .before .enum-told5 .given .1) (c .put2 .ensures)
+unfolding putMay
+returns-5 c = rw (c .before .before .enum-told5 .given .1) (c .put-last2 .ensures)
 
 returns-6 : tie.Need-returns-6
 unfolding putMay bytesOf
-returns-6 c = rw (c .before .before .before .enum-told6 .given .1) (c .put3 .ensures)
+returns-6 c = rw (c .before .before .before .enum-told6 .given .1) (c .put .ensures)
 
 returns-7 : tie.Need-returns-7
 unfolding putMay bytesOf
-returns-7 c = rw (c .before .before .before .enum-told7 .given .1) (c .put4 .ensures)
+returns-7 c = rw (c .before .before .before .enum-told7 .given .1) (c .put2 .ensures)
 
 returns-8 : tie.Need-returns-8
 unfolding putMay bytesOf
-returns-8 c = rw (c .before .before .before .enum-told8 .given .1) (c .put5 .ensures)
+returns-8 c = rw (c .before .before .before .enum-told8 .given .1) (c .put3 .ensures)
 
 returns-9 : tie.Need-returns-9
-unfolding putMay bytesOf
-returns-9 c = rw (c .before .before .before .enum-told9 .given .1) (c .put6 .ensures)
+unfolding putMay
+returns-9 c = rw (c .before .before .enum-told9 .given .1) (c .put-last3 .ensures)
 
 returns-10 : tie.Need-returns-10
-unfolding putMay bytesOf
-returns-10 c = rw (c .before .before .before .enum-told10 .given .1) (c .put7 .ensures)
+unfolding putMay
+returns-10 c = rw (c .before .before .enum-told10 .given .1) (c .put-last4 .ensures)
 
 returns-11 : tie.Need-returns-11
 unfolding putMay bytesOf
@@ -160,8 +148,7 @@ put-may-spec =
     tie.close
     (tie.spec
     enum-told
-    slice-aggregate-put
-    put-requires
+    put-last-requires
     enum-told-2
     put-present-requires
     enum-told-3
@@ -169,23 +156,20 @@ put-may-spec =
     enum-told-4
     put-present-requires-3
     enum-told-5
+    put-last-requires-2
+    enum-told-6
+    slice-aggregate-put
+    put-requires
+    enum-told-7
     slice-aggregate-put-2
     put-requires-2
-    enum-told-6
+    enum-told-8
     slice-aggregate-put-3
     put-requires-3
-    enum-told-7
-    slice-aggregate-put-4
-    put-requires-4
-    enum-told-8
-    slice-aggregate-put-5
-    put-requires-5
     enum-told-9
-    slice-aggregate-put-6
-    put-requires-6
+    put-last-requires-3
     enum-told-10
-    slice-aggregate-put-7
-    put-requires-7
+    put-last-requires-4
     enum-told-11
     slice-aggregate-fill
     fill-requires
