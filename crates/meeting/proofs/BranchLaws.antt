@@ -38,7 +38,7 @@ use Rattle.event.specs.declared.Question.the-variants as question
 use Rattle.meeting.specs.Stands.{lent, Stands, ComesTo, GoesOn, Stopped, siteOf}
 use Rattle.meeting.specs.Branches.{Met, OneMore, addedTo, branched, askedAt, Holding, Reaches, addedAt, reachedAt}
 use Rattle.meeting.specs.declared.Cursor.{Cursor}
-use Rattle.meeting.specs.declared.Here.{Here}
+use Rattle.event.specs.declared.Here.{Here}
 use Rattle.meeting.specs.declared.Ticked.{Ticked}
 use Rattle.meeting.proofs.ComesLaws.{same-stands, comes-goes, comes-stops}
 

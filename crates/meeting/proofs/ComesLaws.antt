@@ -35,7 +35,7 @@ use Rattle.event.specs.declared.Question.{Question}
 use Rattle.event.specs.declared.Question.the-variants as question
 use Rattle.meeting.specs.Stands.{Lent, Stands, ComesTo, SameCursor, GoesOn, Stopped, siteOf}
 use Rattle.meeting.specs.declared.Cursor.{Cursor}
-use Rattle.meeting.specs.declared.Here.{Here}
+use Rattle.event.specs.declared.Here.{Here}
 use Rattle.meeting.specs.declared.Outcome.{Outcome}
 use Rattle.meeting.specs.declared.Outcome.the-variants as code
 use Rattle.meeting.specs.declared.Ticked.{Ticked}

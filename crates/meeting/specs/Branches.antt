@@ -36,7 +36,7 @@ use Rattle.event.specs.declared.Site.{Site}
 use Rattle.execution.specs.Answers.{choiceWithin}
 use Rattle.meeting.specs.Stands.{lent, Stands, ComesTo, BranchThere, Stopped, siteOf}
 use Rattle.meeting.specs.declared.Cursor.{Cursor}
-use Rattle.meeting.specs.declared.Here.{Here}
+use Rattle.event.specs.declared.Here.{Here}
 use Rattle.meeting.specs.declared.Outcome.the-variants as outcome
 use Rattle.meeting.specs.declared.Reply.{Reply}
 use Rattle.meeting.specs.declared.Reply.the-variants as reply

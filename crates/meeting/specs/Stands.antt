@@ -1,5 +1,4 @@
 -- What the lent tables, bytes and the cursor stand for in the definition. Assumes nothing.
---     HereWithin    the thread is one of the five, and its row names only what there is
 --     SameCursor    the cursor is left as it is
 --     BranchThere   where a tick goes on, there is a branch to be passed
 --     GoesOn, Stopped  how a tick comes out that leaves it
@@ -16,21 +15,15 @@ use Rattle.rules.specs.Explorer as explorer
 use Rattle.rules.specs.Explorer.{Walk, goes, over, faulted}
 use Rattle.rules.specs.Explored.{entriesBytes}
 use Rattle.layout.specs.Tables.{state}
-use Rattle.decode.specs.Ops.{opWithin}
 use Rattle.path.specs.Holds.{Holds}
 use Rattle.event.specs.Moves.{faultOf}
 pub use Rattle.event.specs.Moves.{siteOf}
 use Rattle.event.specs.declared.Fault.{Fault}
 use Rattle.event.specs.declared.Site.{Site}
 use Rattle.meeting.specs.declared.Cursor.{Cursor}
-use Rattle.meeting.specs.declared.Here.{Here}
 use Rattle.meeting.specs.declared.Outcome.{Outcome}
 use Rattle.meeting.specs.declared.Outcome.the-variants as code
 use Rattle.meeting.specs.declared.Ticked.{Ticked}
-
-pub record HereWithin (h : Here) : Type 0 where
-  pub who : h .site .thread < 5
-  pub names : opWithin (h .row)
 
 -- the cursor c is left as it is
 pub record SameCursor (c d : Cursor) : Type 0 where

@@ -6,12 +6,14 @@ ghost use lib.ListN.{length};
 ghost use Rattle.rules.specs.Table.{opcodeIn};
 ghost use Rattle.rules.specs.Machine.{exploringNow};
 ghost use Rattle.decode.specs.Ops.{decodedOf};
-ghost use Rattle.meeting.specs.Stands.{HereWithin, GoesOn, Stopped};
+ghost use Rattle.event.specs.Moves.{HereWithin};
+ghost use Rattle.meeting.specs.Stands.{GoesOn, Stopped};
 ghost use Rattle.meeting.specs.Branches.{CursorMarks, MarksThreads, Reaches, addedAt, reachedAt, pushedFew, addedTo, RepliesBy};
 ghost use Rattle.meeting.specs.Entries.{Lands, notedAt, completedAt, concludedAt};
 use decode::Decoded;
 use decode::opcodes::NO_OPCODE;
 use event::Fault;
+use event::Here;
 use event::Moved;
 use event::NO_SLOT;
 use event::Picked;
@@ -40,12 +42,6 @@ pub struct Cursor {
     pub pos: usize,
     pub opened: u64,
     pub entries: usize,
-}
-
-// A thread at its row, and what that row does.
-pub struct Here {
-    pub site: Site,
-    pub row: Decoded,
 }
 
 // How a tick comes out: the execution goes on, has ended, or has met a fault.
@@ -164,10 +160,8 @@ fn add_load(
     ensures { λ r. ⌜ Reaches cursor r (now (clocks .entry)) (now (marks .entry)) (now (numbers .entry)) (now (path .entry)) (now (path .exit)) (addedAt Question.Slot here) ⌝ }
 {
     let site = here.site;
-    let row = here.row;
     let mut seed = [0u8; MAX_ATOMIC_HISTORY];
-    let Matched::Offers(n) = accesses::offers(clocks, marks, numbers, &mut seed, site.thread, row)
-    else {
+    let Matched::Offers(n) = accesses::offers(clocks, marks, numbers, &mut seed, here) else {
         return stops(Fault::EqualOrders, site, cursor);
     };
     let pushed = path::push_load(path, cursor.len, exploring, seed, n);

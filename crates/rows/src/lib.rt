@@ -8,13 +8,14 @@ ghost use Rattle.rules.specs.State as rules;
 ghost use Rattle.rules.specs.Table.{cellsOf, opcodeIn};
 ghost use Rattle.rules.specs.Vector.{oneMore};
 ghost use Rattle.layout.specs.Tables.{state};
-ghost use Rattle.event.specs.Moves.{moveOf};
-ghost use Rattle.decode.specs.Ops.{opOf, decodedOf, inRange, opWithin};
+ghost use Rattle.event.specs.Moves.{HereWithin, moveOf};
+ghost use Rattle.decode.specs.Ops.{opOf, decodedOf, inRange};
 ghost use Rattle.rows.specs.Begins.{begunTo};
 ghost use Rattle.rows.specs.Pendings.{Pends};
 use decode::Decoded;
 use decode::Op;
 use event::Fault;
+use event::Here;
 use event::Moved;
 use event::NO_SLOT;
 use event::Pending;
@@ -199,16 +200,12 @@ pub fn skip_branch(numbers: &mut Numbers, site: Site) -> Moved
 }
 
 // Goes on with the bit that was answered for `branch_spurious`. No other row is given one.
-pub fn take_bit(
-    values: &mut Values,
-    numbers: &mut Numbers,
-    site: Site,
-    row: Decoded,
-    bit: bool,
-) -> Moved
-    requires { ⌜ (site .thread < 5) × opWithin row ⌝ }
-    ensures { λ r. ⌜ ((clocks : rules.Clocks) (marks : rules.Marks) (m : Matched) → moveOf r (site .thread) (site .row) (opcodeIn (decodedOf row)) m (state clocks marks (now (values .exit)) (now (numbers .exit))) ≡ machine.bitTaken (state clocks marks (now (values .entry)) (now (numbers .entry))) (site .thread) (site .row) (cond bit 1 0) (machine.roleIn (decodedOf row))) ⌝ }
+pub fn take_bit(values: &mut Values, numbers: &mut Numbers, here: Here, bit: bool) -> Moved
+    requires { ⌜ HereWithin here ⌝ }
+    ensures { λ r. ⌜ ((clocks : rules.Clocks) (marks : rules.Marks) (m : Matched) → moveOf r (here .site .thread) (here .site .row) (opcodeIn (decodedOf (here .row))) m (state clocks marks (now (values .exit)) (now (numbers .exit))) ≡ machine.bitTaken (state clocks marks (now (values .entry)) (now (numbers .entry))) (here .site .thread) (here .site .row) (cond bit 1 0) (machine.roleIn (decodedOf (here .row)))) ⌝ }
 {
+    let site = here.site;
+    let row = here.row;
     let thread = site.thread;
     let Decoded::Row(op) = row else {
         return Moved::Stops(Fault::Impossible);

@@ -37,7 +37,7 @@ use Rattle.meeting.specs.Stands.{Lent, lent, Stands, ComesTo, Stopped, siteOf}
 use Rattle.meeting.specs.Branches.{questionOf, askedAt, branched, reached, reachedAt, PickFits, AnswersBy, RepliesBy, Reaches, Holding}
 use Rattle.meeting.specs.Entries.{moveAt, concludedAt, Lands}
 use Rattle.meeting.specs.declared.Cursor.{Cursor}
-use Rattle.meeting.specs.declared.Here.{Here}
+use Rattle.event.specs.declared.Here.{Here}
 use Rattle.meeting.specs.declared.Outcome.{Outcome}
 use Rattle.meeting.specs.declared.Outcome.the-variants as code
 use Rattle.meeting.specs.declared.Reply.{Reply}

@@ -23,7 +23,7 @@ use Rattle.event.specs.declared.Fault.the-variants as fault
 use Rattle.event.specs.declared.Site.{Site}
 use Rattle.meeting.specs.Stands.{Lent, lent, Stands, ComesTo, Stopped, siteOf}
 use Rattle.meeting.specs.declared.Cursor.{Cursor}
-use Rattle.meeting.specs.declared.Here.{Here}
+use Rattle.event.specs.declared.Here.{Here}
 use Rattle.meeting.specs.declared.Ticked.{Ticked}
 use Rattle.meeting.proofs.ComesLaws.{comes-stops, same-stands}
 use Rattle.walk.specs.Walks.{CursorPlaced, Runs, Ticks}

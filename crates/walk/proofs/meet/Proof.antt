@@ -45,7 +45,7 @@ returns-2 c =
 answered-requires : tie.Need-answered-requires
 answered-requires c κs =
     let told = c .before .before .before .before .before in
-    (told .before .before .before .before .before .before .before .before .before .before .before .before .before .before .before .before .before .before .before .pre .0 .who, told .before .before .before .before .before .before .before .before .before .before .before .before .before .before .before .before .before .before .before .pre .0 .names, says-within (told .before .before .answer .result) (told .choice .given .1) (told .before .before .answer .ensures .within))
+    (told .before .before .before .before .before .before .before .before .before .before .before .before .before .before .before .before .before .before .before .pre .0, says-within (told .before .before .answer .result) (told .choice .given .1) (told .before .before .answer .ensures .within))
 
 passed-requires : tie.Need-passed-requires
 passed-requires c κs =

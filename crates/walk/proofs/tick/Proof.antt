@@ -24,14 +24,14 @@ returns c =
     tick-nobody (start .args .table .now) (start .args .shape .now) (start .args .limits) (start .args .cursor) (c .stops .result) (start .args .clocks .now) (start .args .marks .now) (start .args .values .now) (start .args .numbers .now) (start .args .path .now) (start .args .trace .now)
     (c .before .no-site .result) (start .pre .1) (subst (λ (n : ℕ). 5 ≤ n) (wide .wide16 .ensures .same) (c .before .before .if1 .taken)) (c .before .no-site .ensures) (c .stops .ensures)
 
-add-number : tie.Need-add-number
-add-number c = search needs
+add-row : tie.Need-add-row
+add-row c = search needs
 
-mul-number : tie.Need-mul-number
-mul-number c = search needs
+mul-row : tie.Need-mul-row
+mul-row c = search needs
 
-element-copy-out-number : tie.Need-element-copy-out-number
-element-copy-out-number c = search needs
+element-copy-out-row : tie.Need-element-copy-out-row
+element-copy-out-row c = search needs
 
 row-of-requires : tie.Need-row-of-requires
 row-of-requires c κs = search needs
@@ -63,9 +63,9 @@ tick-spec =
     no-site-requires
     stops-requires
     returns
-    add-number
-    mul-number
-    element-copy-out-number
+    add-row
+    mul-row
+    element-copy-out-row
     row-of-requires
     tick-at-requires
     same-length
