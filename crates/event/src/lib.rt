@@ -64,8 +64,15 @@ pub enum Moved {
     Stops(Fault),
 }
 
-// A row without slot or value in its trace entry.
+// A row without a slot in its trace entry.
 pub const NO_SLOT: u8 = 255;
+
+// A row is complete that has neither slot nor value in its trace entry.
+pub const BARE_DONE: Moved = Moved::Done {
+    slot: NO_SLOT,
+    mask: 0,
+    value: 0,
+};
 
 // In the report: no thread, no row, and no other thread where there is no race.
 pub const NO_PLACE: u64 = 255;

@@ -14,6 +14,7 @@ ghost use Rattle.rows.specs.Begins.{begunTo};
 ghost use Rattle.rows.specs.Pendings.{Pends};
 use decode::Decoded;
 use decode::Op;
+use event::BARE_DONE;
 use event::Fault;
 use event::Here;
 use event::Moved;
@@ -89,11 +90,7 @@ pub fn done(numbers: &mut Numbers, site: Site) -> Moved
     ensures { λ r. ⌜ ((clocks : rules.Clocks) (marks : rules.Marks) (values : rules.Values) (opcode : ℕ) (m : Matched) → moveOf r (site .thread) (site .row) opcode m (state clocks marks values (now (numbers .exit))) ≡ machine.done (state clocks marks values (now (numbers .entry))) (site .thread) (site .row) opcode) ⌝ }
 {
     thread::complete(numbers, site.thread, vv::one_more(site.row));
-    Moved::Done {
-        slot: NO_SLOT,
-        mask: 0,
-        value: 0,
-    }
+    BARE_DONE
 }
 
 pub fn fence_row(
@@ -155,11 +152,7 @@ pub fn jump_row(numbers: &mut Numbers, site: Site, taken: bool, target: u16) -> 
         return done(numbers, site);
     }
     thread::complete(numbers, site.thread, target);
-    Moved::Done {
-        slot: NO_SLOT,
-        mask: 0,
-        value: 0,
-    }
+    BARE_DONE
 }
 
 pub fn check_row(numbers: &mut Numbers, site: Site, holds: bool) -> Moved

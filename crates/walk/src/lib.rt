@@ -30,10 +30,10 @@ use meeting::Reply;
 pub use meeting::Ticked;
 use meeting::answer;
 use meeting::conclude;
+pub use meeting::faulted;
 use meeting::mark;
 use meeting::note_if;
 use meeting::reach;
-pub use meeting::stops;
 use path::Bound;
 use table::Shape;
 
@@ -68,7 +68,7 @@ pub fn tick(
 {
     let thread = wide16(numbers[ACTIVE_THREAD]);
     if MAX_THREADS <= thread {
-        return stops(Fault::Impossible, no_site(), cursor);
+        return faulted(Fault::Impossible, no_site(), cursor);
     }
     let row = numbers[NEXT_ROW + thread];
     let decoded = table::row_of(table, shape, thread, row);
@@ -163,7 +163,7 @@ fn meet(
     let cursor = met.cursor;
     let site = here.site;
     let Reply::Says(choice) = answer(path, cursor.pos, question) else {
-        return stops(Fault::Impossible, site, cursor);
+        return faulted(Fault::Impossible, site, cursor);
     };
     let event = execution::answered(clocks, marks, values, numbers, here, choice);
     conclude(trace, here, event, passed(cursor))
