@@ -13,8 +13,8 @@ ghost use Rattle.layout.specs.Tables.{state};
 ghost use Rattle.atomic.specs.Accesses.{accessOf};
 ghost use Rattle.change.specs.Changes.{changeMeant};
 ghost use Rattle.matches.specs.Offers.{scanned, offered};
-ghost use Rattle.event.specs.Moves.{moveOf, matchedFor};
-ghost use Rattle.decode.specs.Ops.{opOf, decodedOf, inRange, opWithin};
+ghost use Rattle.event.specs.Moves.{HereWithin, moveOf, matchedFor};
+ghost use Rattle.decode.specs.Ops.{opOf, decodedOf, inRange};
 ghost use Rattle.accesses.specs.Reads.{Means, readDone};
 use atomic::AccessResult;
 use atomic::Mutated;
@@ -22,6 +22,7 @@ use change::Change;
 use decode::Decoded;
 use decode::Op;
 use event::Fault;
+use event::Here;
 use event::Moved;
 use event::NO_SLOT;
 use event::Site;
@@ -54,27 +55,30 @@ pub fn store_row(
     marks: &mut Marks,
     values: &mut Values,
     numbers: &mut Numbers,
-    site: Site,
-    cell: usize,
-    order: u8,
+    access: Access,
+    row: u16,
     value: u64,
 ) -> Moved
-    requires { ⌜ (site .thread < 5) × (cell < 4) ⌝ }
-    ensures { λ r. ⌜ ((opcode : ℕ) (m : events.Matched) → moveOf r (site .thread) (site .row) opcode m (state (now (clocks .exit)) (now (marks .exit)) (now (values .exit)) (now (numbers .exit))) ≡ machine.stores (state (now (clocks .entry)) (now (marks .entry)) (now (values .entry)) (now (numbers .entry))) (site .thread) (site .row) opcode cell order value) ⌝ }
+    requires { ⌜ (access .thread < 5) × (access .cell < 4) ⌝ }
+    ensures { λ r. ⌜ ((opcode : ℕ) (m : events.Matched) → moveOf r (access .thread) row opcode m (state (now (clocks .exit)) (now (marks .exit)) (now (values .exit)) (now (numbers .exit))) ≡ machine.stores (state (now (clocks .entry)) (now (marks .entry)) (now (values .entry)) (now (numbers .entry))) (access .thread) row opcode (access .cell) (access .order) value) ⌝ }
 {
-    let thread = site.thread;
+    let thread = access.thread;
+    let cell = access.cell;
     thread::raise(clocks, thread);
     if let Race::With { kind, other } = track::track_store(clocks, thread, cell) {
         return Moved::Stops(Fault::Race { kind, other });
     }
     let slot = slots::index(numbers[COUNT + cell]);
-    let act = Access {
-        thread,
-        cell,
-        order,
-    };
-    atomic::store(clocks, marks, values, numbers, act, [0; MAX_THREADS], value);
-    thread::complete(numbers, thread, vv::one_more(site.row));
+    atomic::store(
+        clocks,
+        marks,
+        values,
+        numbers,
+        access,
+        [0; MAX_THREADS],
+        value,
+    );
+    thread::complete(numbers, thread, vv::one_more(row));
     Moved::Done {
         slot: slot as u8,
         mask: 0,
@@ -177,19 +181,20 @@ pub fn offers(
     marks: &Marks,
     numbers: &Numbers,
     dst: &mut [u8; MAX_ATOMIC_HISTORY],
-    thread: usize,
-    row: Decoded,
+    here: Here,
 ) -> Matched
-    requires { ⌜ (thread < 5) × opWithin row ⌝ }
-    ensures { λ r. ⌜ ((values : rules.Values) → scanned r (now (dst .exit)) ≡ offered (matchedFor (state (now (clocks .entry)) (now (marks .entry)) values (now (numbers .entry))) thread (decodedOf row)) (now (dst .entry))) ⌝ }
+    requires { ⌜ HereWithin here ⌝ }
+    ensures { λ r. ⌜ ((values : rules.Values) → scanned r (now (dst .exit)) ≡ offered (matchedFor (state (now (clocks .entry)) (now (marks .entry)) values (now (numbers .entry))) (here .site .thread) (decodedOf (here .row))) (now (dst .entry))) ⌝ }
 {
+    let site = here.site;
+    let row = here.row;
     let Decoded::Row(op) = row else {
         return Matched::Offers(0);
     };
     match op {
         Op::Load { cell, order, .. } => {
             let act = Access {
-                thread,
+                thread: site.thread,
                 cell,
                 order,
             };
@@ -206,14 +211,15 @@ pub fn read_from(
     marks: &mut Marks,
     values: &mut Values,
     numbers: &mut Numbers,
-    site: Site,
-    row: Decoded,
+    here: Here,
     slot: usize,
     mask: u8,
 ) -> Moved
-    requires { ⌜ (site .thread < 5) × (slot < 7) × opWithin row ⌝ }
-    ensures { λ r. ⌜ ((m : events.Matched) → moveOf r (site .thread) (site .row) (opcodeIn (decodedOf row)) m (state (now (clocks .exit)) (now (marks .exit)) (now (values .exit)) (now (numbers .exit))) ≡ machine.readFrom (state (now (clocks .entry)) (now (marks .entry)) (now (values .entry)) (now (numbers .entry))) (site .thread) (site .row) slot mask (machine.roleIn (decodedOf row))) ⌝ }
+    requires { ⌜ HereWithin here × (slot < 7) ⌝ }
+    ensures { λ r. ⌜ ((m : events.Matched) → moveOf r (here .site .thread) (here .site .row) (opcodeIn (decodedOf (here .row))) m (state (now (clocks .exit)) (now (marks .exit)) (now (values .exit)) (now (numbers .exit))) ≡ machine.readFrom (state (now (clocks .entry)) (now (marks .entry)) (now (values .entry)) (now (numbers .entry))) (here .site .thread) (here .site .row) slot mask (machine.roleIn (decodedOf (here .row)))) ⌝ }
 {
+    let site = here.site;
+    let row = here.row;
     let Decoded::Row(op) = row else {
         return Moved::Stops(Fault::Impossible);
     };

@@ -59,10 +59,10 @@ module _ (path : List ℕ) (met : Bool) (o : Outcome) (len : ℕ) (last : Bool) 
             ∙ ap (λ (y : Outcome). judgedAs met y (openIn bs) last) (sym e);
       }
 
-  pub judge-fault : {f : Fault} {s : Site} → o ≡ code.Stops f s → Judges path met o len last (afterwards.Answers (answer.Stopped f s))
+  pub judge-fault : {f : Fault} {s : Site} → o ≡ code.Faulted f s → Judges path met o len last (afterwards.Answers (answer.Stopped f s))
   judge-fault e = record { continues = tt; is = λ bs h l. ap (λ (y : Outcome). judgedAs met y (openIn bs) last) (sym e) }
 
-  module _ (k : o ≡ code.Ends) {held : Bool} (q : held ≡ met) where
+  module _ (k : o ≡ code.Over) {held : Bool} (q : held ≡ met) where
     as-ended : (bs : List Branch) {b : Bool} → held ≡ b → judgedAs met o (openIn bs) last ≡ endedAs b (openIn bs) last
     as-ended bs e = ap (λ (y : Outcome). judgedAs met y (openIn bs) last) k ∙ ap (λ (y : Bool). endedAs y (openIn bs) last) (sym q ∙ e)
 
@@ -167,12 +167,12 @@ module _ (final : State → Bool) (x : Lent) (c : Cursor) (last : Bool) (past : 
       }
   stops-with code.Goes (over w) a h e = absurd h
   stops-with code.Goes (faulted g s w) a h e = absurd h
-  stops-with code.Ends (goes w) a h e = absurd h
-  stops-with code.Ends (over w) a h e = over-stops w a met (eqb (openIn (w .ledger .path)) 0) last (met-by w h) refl refl e h
-  stops-with code.Ends (faulted g s w) a h e = absurd h
-  stops-with (code.Stops f s) (goes w) a h e = absurd h
-  stops-with (code.Stops f s) (over w) a h e = absurd h
-  stops-with (code.Stops f s) (faulted g there w) a h e =
+  stops-with code.Over (goes w) a h e = absurd h
+  stops-with code.Over (over w) a h e = over-stops w a met (eqb (openIn (w .ledger .path)) 0) last (met-by w h) refl refl e h
+  stops-with code.Over (faulted g s w) a h e = absurd h
+  stops-with (code.Faulted f s) (goes w) a h e = absurd h
+  stops-with (code.Faulted f s) (over w) a h e = absurd h
+  stops-with (code.Faulted f s) (faulted g there w) a h e =
       record {
         verdict = explorer.stopped g there;
         walk = w;
@@ -187,21 +187,21 @@ module _ (final : State → Bool) (x : Lent) (c : Cursor) (last : Bool) (past : 
   goes-with code.Goes (goes w) h e = absurd (answers-not (answer.Stopped fault.Impossible atNoSite) (sym e))
   goes-with code.Goes (over w) h e = absurd h
   goes-with code.Goes (faulted g s w) h e = absurd h
-  goes-with code.Ends (goes w) h e = absurd h
-  goes-with code.Ends (over w) h e = over-goes w met (eqb (openIn (w .ledger .path)) 0) last (met-by w h) refl refl e h
-  goes-with code.Ends (faulted g s w) h e = absurd h
-  goes-with (code.Stops f s) (goes w) h e = absurd h
-  goes-with (code.Stops f s) (over w) h e = absurd h
-  goes-with (code.Stops f s) (faulted g there w) h e = absurd (answers-not (answer.Stopped f s) (sym e))
+  goes-with code.Over (goes w) h e = absurd h
+  goes-with code.Over (over w) h e = over-goes w met (eqb (openIn (w .ledger .path)) 0) last (met-by w h) refl refl e h
+  goes-with code.Over (faulted g s w) h e = absurd h
+  goes-with (code.Faulted f s) (goes w) h e = absurd h
+  goes-with (code.Faulted f s) (over w) h e = absurd h
+  goes-with (code.Faulted f s) (faulted g there w) h e = absurd (answers-not (answer.Stopped f s) (sym e))
 
 -- the walk that an outcome leaves stands for the tables and bytes
 pub left-stands : (x : Lent) (c : Cursor) (o : Outcome) (t : Tick State) → ComesTo o c x t → Stands x c (leftBy t)
 left-stands x c code.Goes (goes w) h = h
 left-stands x c code.Goes (over w) h = absurd h
 left-stands x c code.Goes (faulted g s w) h = absurd h
-left-stands x c code.Ends (goes w) h = absurd h
-left-stands x c code.Ends (over w) h = h
-left-stands x c code.Ends (faulted g s w) h = absurd h
-left-stands x c (code.Stops f s) (goes w) h = absurd h
-left-stands x c (code.Stops f s) (over w) h = absurd h
-left-stands x c (code.Stops f s) (faulted g there w) h = h .stands
+left-stands x c code.Over (goes w) h = absurd h
+left-stands x c code.Over (over w) h = h
+left-stands x c code.Over (faulted g s w) h = absurd h
+left-stands x c (code.Faulted f s) (goes w) h = absurd h
+left-stands x c (code.Faulted f s) (over w) h = absurd h
+left-stands x c (code.Faulted f s) (faulted g there w) h = h .stands

@@ -46,8 +46,8 @@ endedAs met n last =
 -- case by case as the definition's `after`: one that would still go on is the impossible outcome
 abbrev pub judgedAs : Bool → Outcome → ℕ → Bool → After
 judgedAs met outcome.Goes n last = afterwards.Answers (answer.Stopped fault.Impossible atNoSite)
-judgedAs met outcome.Ends n last = endedAs met n last
-judgedAs met (outcome.Stops f site) n last = afterwards.Answers (answer.Stopped f site)
+judgedAs met outcome.Over n last = endedAs met n last
+judgedAs met (outcome.Faulted f site) n last = afterwards.Answers (answer.Stopped f site)
 
 abbrev pub Continues : After → Bool → Type 0
 Continues afterwards.GoesOn last = last ≡ false

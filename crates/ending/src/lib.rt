@@ -41,8 +41,8 @@ pub fn judge_end(
                 site: walk::no_site(),
             });
         }
-        Outcome::Ends => {}
-        Outcome::Stops { fault, site } => {
+        Outcome::Over => {}
+        Outcome::Faulted { fault, site } => {
             return After::Answers(Answer::Stopped { fault, site });
         }
     }

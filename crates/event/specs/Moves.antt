@@ -1,10 +1,11 @@
 -- What a fault, an answer and an event of the code stand for in the definition, for every case. Assumes nothing.
 --     siteOf        a thread at its row
+--     HereWithin    the thread is one of the five, and its row names only what there is
 --     faultOf       a fault
 --     matchedFor    what a row that asks for a slot is offered
 --     entryIf       the entry of a row that asks, if it is complete
 --     moveOf        an event, with the state that it leaves
-use Prim.Native.Nat.{ℕ}
+use Prim.Native.Nat.{ℕ, _<_}
 use mathlib.Core.List.{List, []}
 use mathlib.Core.Bool.{Bool, true, false}
 use Rattle.rules.specs.Event as rules
@@ -13,8 +14,10 @@ use Rattle.rules.specs.State.{State, marksOf}
 use Rattle.rules.specs.Cell.{matchedLoad, matchedRmw}
 use Rattle.rules.specs.Machine.{Role, loads, storesOperand, storesRegister, modifies, takesBit, otherwise, roleIn, schedules, entry, noSlot, exploringNow}
 use Rattle.rules.specs.Table.{Op, Decoded}
+use Rattle.decode.specs.Ops.{opWithin}
 use Rattle.event.specs.declared.Fault.{Fault}
 use Rattle.event.specs.declared.Fault.the-variants as fault
+use Rattle.event.specs.declared.Here.{Here}
 use Rattle.event.specs.declared.Site.{Site}
 use Rattle.event.specs.declared.Question.{Question}
 use Rattle.event.specs.declared.Question.the-variants as question
@@ -23,6 +26,10 @@ use Rattle.event.specs.declared.Moved.the-variants as event
 
 abbrev pub siteOf : Site → rules.Site
 siteOf s = record { thread = s .thread; row = s .row }
+
+pub record HereWithin (h : Here) : Type 0 where
+  pub who : h .site .thread < 5
+  pub names : opWithin (h .row)
 
 abbrev pub faultOf : Fault → rules.Fault
 faultOf fault.Deadlock = rules.deadlock

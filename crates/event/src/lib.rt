@@ -1,5 +1,6 @@
 // What the machine does at a tick, as the explorer is told it: document 01's faults, the questions that the path answers, and
 // how a tick comes out. Each stands for a case of the definition (specs/Moves).
+use decode::Decoded;
 use layout::Operation;
 
 // Why a run stops within an execution: document 01's answers from 10 on. Impossible stands for a number read back that
@@ -20,6 +21,12 @@ pub enum Fault {
 pub struct Site {
     pub thread: usize,
     pub row: u16,
+}
+
+// A thread at its row, and what that row does.
+pub struct Here {
+    pub site: Site,
+    pub row: Decoded,
 }
 
 // A pending operation, what a thread is about to do and to which cell: the one that a row sets, or that a thread has.
@@ -57,8 +64,15 @@ pub enum Moved {
     Stops(Fault),
 }
 
-// A row without slot or value in its trace entry.
+// A row without a slot in its trace entry.
 pub const NO_SLOT: u8 = 255;
+
+// A row is complete that has neither slot nor value in its trace entry.
+pub const BARE_DONE: Moved = Moved::Done {
+    slot: NO_SLOT,
+    mask: 0,
+    value: 0,
+};
 
 // In the report: no thread, no row, and no other thread where there is no race.
 pub const NO_PLACE: u64 = 255;

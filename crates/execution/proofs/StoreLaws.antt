@@ -10,7 +10,7 @@ use mir.Val.{hasKey}
 use lib.Dec.{T}
 use types.Run.{OneOf, hit}
 use denote.Enum.Declared.{tagOf}
-use Rattle.rules.specs.Event.{Move}
+use Rattle.rules.specs.Event.{Matched, Move}
 use Rattle.rules.specs.State.{State, Values, value, ofRegister, registerAt}
 use Rattle.rules.specs.Machine.{Role, loads, storesOperand, storesRegister, modifies, takesBit, otherwise, roleOf, Program, acts, actsAs, stores}
 use Rattle.rules.specs.Table as Table
@@ -21,8 +21,11 @@ use Rattle.decode.proofs.NumberLaws.{allBut, by-number, narrow}
 use Rattle.decode.specs.declared.Op.{Op}
 use Rattle.decode.specs.declared.Op.the-variants as code
 use Rattle.decode.specs.Ops.{opOf, inRange}
+use Rattle.layout.specs.declared.Access.{Access}
+use Rattle.event.specs.declared.Moved.{Moved}
+use Rattle.event.specs.Moves.{moveOf}
 use Rattle.execution.specs.Alone.{unsync, storing, Unsync, Storing}
-use Rattle.execution.specs.Stores.{storedOf, storeWithin, Stores}
+use Rattle.execution.specs.Stores.{accessBy, storedOf, storeWithin, Stores}
 use Rattle.execution.specs.declared.Stored.{Stored}
 use Rattle.execution.specs.declared.Stored.the-variants.{Nothing, Of}
 use Rattle.execution.proofs.ActLaws.{op-within}
@@ -34,16 +37,16 @@ abbrev others : List ℕ
 others = allBut (1 ∷ 2 ∷ [])
 
 module _ (vs : Values) (t : ℕ) where
-  pub operand-stored : (op : Op) (o c a : ℕ) → op ≡ code.Store o c a → inRange (opOf op) → Stores (Of o c a) vs t (roleOf (opOf op))
+  pub operand-stored : (op : Op) (o c a : ℕ) → op ≡ code.Store o c a → inRange (opOf op) → Stores (Of (accessBy t c o) a) vs t (roleOf (opOf op))
   operand-stored op o c a e h =
-      record { is = sym (ap (λ (p : Op). storedOf vs t (roleOf (opOf p))) e); within = op-within op _ e h }
+      record { is = sym (ap (λ (p : Op). storedOf vs t (roleOf (opOf p))) e); within = (refl, op-within op _ e h) }
 
   pub register-stored : (op : Op) (o c r v : ℕ) → op ≡ code.StoreRegister o c r → inRange (opOf op) →
-      v ≡ value vs (ofRegister (registerAt t r)) → Stores (Of o c v) vs t (roleOf (opOf op))
+      v ≡ value vs (ofRegister (registerAt t r)) → Stores (Of (accessBy t c o) v) vs t (roleOf (opOf op))
   register-stored op o c r v e h f =
       record {
-        is = ap (λ (x : ℕ). Of o c x) f ∙ sym (ap (λ (p : Op). storedOf vs t (roleOf (opOf p))) e);
-        within = op-within op _ e h .0;
+        is = ap (λ (x : ℕ). Of (accessBy t c o) x) f ∙ sym (ap (λ (p : Op). storedOf vs t (roleOf (opOf p))) e);
+        within = (refl, op-within op _ e h .0);
       }
 
   nothing-in : (op : Op) → OneOf others (tagOf Op.the-type op) → Nothing ≡ storedOf vs t (roleOf (opOf op))
@@ -65,17 +68,17 @@ module _ (vs : Values) (t : ℕ) where
 
 -- A row by what it stores
 
-pub of-within : (s : Stored) (o c v : ℕ) → s ≡ Of o c v → storeWithin s → c < 4
-of-within s o c v e h = subst (λ (x : Stored). storeWithin x) e h
+pub of-within : (t : ℕ) (s : Stored) (a : Access) (v : ℕ) → s ≡ Of a v → storeWithin t s → (a .thread ≡ t) × (a .cell < 4)
+of-within t s a v e h = subst (λ (x : Stored). storeWithin t x) e h
 
 -- a store, or else what the row does
-abbrev storesBy : Stored → State → ℕ → ℕ → ℕ → Move State → Move State
-storesBy Nothing st t k n other = other
-storesBy (Of o c v) st t k n other = stores st t k n c o v
+abbrev storesBy : Stored → State → ℕ → ℕ → Move State → Move State
+storesBy Nothing st k n other = other
+storesBy (Of a v) st k n other = stores st (a .thread) k n (a .cell) (a .order) v
 
 module _ (p : Program) (st : State) (t k : ℕ) where
   abbrev By : Role → Table.Op → Type 0
-  By role op = storesBy (storedOf (st .values) t role) st t k (opcodeOf op) (acts p st t k op) ≡ acts p st t k op
+  By role op = storesBy (storedOf (st .values) t role) st k (opcodeOf op) (acts p st t k op) ≡ acts p st t k op
 
   by-operand : (c o a : ℕ) → By (storesOperand c o a) (Table.store c o a)
   unfolding actsAs
@@ -93,16 +96,19 @@ module _ (p : Program) (st : State) (t k : ℕ) where
   by-storing (takesBit r) op e = refl
   by-storing otherwise op e = refl
 
-  pub stores-as : (op : Op) (s : Stored) → s ≡ storedOf (st .values) t (roleOf (opOf op)) → (o c v : ℕ) → s ≡ Of o c v → (out : Move State) →
-      out ≡ stores st t k (opcodeOf (opOf op)) c o v → out ≡ acts p st t k (opOf op)
-  stores-as op s is o c v e out h =
-      h
-      ∙ ap (λ (x : Stored). storesBy x st t k (opcodeOf (opOf op)) (acts p st t k (opOf op))) (sym e ∙ is)
+  pub stores-as : (op : Op) (s : Stored) → s ≡ storedOf (st .values) t (roleOf (opOf op)) → (a : Access) (v : ℕ) → s ≡ Of a v → a .thread ≡ t →
+      (r : Moved) (m : Matched) (left : State) →
+      moveOf r (a .thread) k (opcodeOf (opOf op)) m left ≡ stores st (a .thread) k (opcodeOf (opOf op)) (a .cell) (a .order) v →
+      moveOf r t k (opcodeOf (opOf op)) m left ≡ acts p st t k (opOf op)
+  stores-as op s is a v e own r m left h =
+      ap (λ (u : ℕ). moveOf r u k (opcodeOf (opOf op)) m left) (sym own)
+      ∙ h
+      ∙ ap (λ (x : Stored). storesBy x st k (opcodeOf (opOf op)) (acts p st t k (opOf op))) (sym e ∙ is)
       ∙ by-storing (roleOf (opOf op)) (opOf op) (told (opOf op))
 
 abbrev Something : Stored → Type 0
 Something Nothing = ⊥
-Something (Of o c v) = Unit
+Something (Of a v) = Unit
 
 -- a row that stores nothing, among those that store and those without synchronisation
 module _ (vs : Values) (t : ℕ) (s : Stored) (none : s ≡ Nothing) where

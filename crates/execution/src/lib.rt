@@ -8,8 +8,8 @@ ghost use Rattle.rules.specs.Machine as machine;
 ghost use Rattle.rules.specs.State as rules;
 ghost use Rattle.rules.specs.Table.{cellsOf, opcodeOf, opcodeIn};
 ghost use Rattle.layout.specs.Tables.{state};
-ghost use Rattle.event.specs.Moves.{moveOf, matchedFor};
-ghost use Rattle.decode.specs.Ops.{opOf, decodedOf, inRange, opWithin};
+ghost use Rattle.event.specs.Moves.{HereWithin, moveOf, matchedFor};
+ghost use Rattle.decode.specs.Ops.{opOf, decodedOf, inRange};
 ghost use Rattle.execution.specs.Alone.{Storing, Unsync, Alone};
 ghost use Rattle.execution.specs.Answers.{Answers, choiceWithin};
 ghost use Rattle.execution.specs.Next.{nextWith};
@@ -17,10 +17,12 @@ ghost use Rattle.execution.specs.Stores.{Stores};
 use decode::Decoded;
 use decode::Op;
 use event::Fault;
+use event::Here;
 use event::Moved;
 use event::Picked;
 use event::Question;
 use event::Site;
+use layout::Access;
 use layout::Clocks;
 use layout::Marks;
 use layout::Numbers;
@@ -35,7 +37,7 @@ use table::Shape;
 // What a row stores, if it is a store: of an operand, or of a register.
 pub enum Stored {
     Nothing,
-    Of { order: u8, cell: usize, value: u64 },
+    Of { access: Access, value: u64 },
 }
 
 // One tick of the active thread at its row: past its last row it ends; else it begins the row and, if no scheduling comes first
@@ -47,12 +49,13 @@ pub fn next(
     values: &mut Values,
     numbers: &mut Numbers,
     limit: u16,
-    site: Site,
-    row: Decoded,
+    here: Here,
 ) -> Moved
-    requires { ⌜ (site .thread < 5) × (getD (now shape) 1 0 ≤ 4) × opWithin row ⌝ }
-    ensures { λ r. ⌜ ((p : machine.Program) → p .operations ≡ limit → cellsOf (p .table) ≡ getD (now (shape .entry)) 1 0 → moveOf r (site .thread) (site .row) (opcodeIn (decodedOf row)) (matchedFor (state (now (clocks .exit)) (now (marks .exit)) (now (values .exit)) (now (numbers .exit))) (site .thread) (decodedOf row)) (state (now (clocks .exit)) (now (marks .exit)) (now (values .exit)) (now (numbers .exit))) ≡ nextWith p (state (now (clocks .entry)) (now (marks .entry)) (now (values .entry)) (now (numbers .entry))) (site .thread) (site .row) (getD (now (shape .entry)) (2 + site .thread) 0) (decodedOf row)) ⌝ }
+    requires { ⌜ HereWithin here × (getD (now shape) 1 0 ≤ 4) ⌝ }
+    ensures { λ r. ⌜ ((p : machine.Program) → p .operations ≡ limit → cellsOf (p .table) ≡ getD (now (shape .entry)) 1 0 → moveOf r (here .site .thread) (here .site .row) (opcodeIn (decodedOf (here .row))) (matchedFor (state (now (clocks .exit)) (now (marks .exit)) (now (values .exit)) (now (numbers .exit))) (here .site .thread) (decodedOf (here .row))) (state (now (clocks .exit)) (now (marks .exit)) (now (values .exit)) (now (numbers .exit))) ≡ nextWith p (state (now (clocks .entry)) (now (marks .entry)) (now (values .entry)) (now (numbers .entry))) (here .site .thread) (here .site .row) (getD (now (shape .entry)) (2 + here .site .thread) 0) (decodedOf (here .row))) ⌝ }
 {
+    let site = here.site;
+    let row = here.row;
     let thread = site.thread;
     let to_begin = thread::is_to_begin(numbers, thread);
     if to_begin {
@@ -113,8 +116,8 @@ fn act_store(
     requires { ⌜ (site .thread < 5) × inRange (opOf op) × Storing (opOf op) ⌝ }
     ensures { λ r. ⌜ ((p : machine.Program) (m : Matched) → moveOf r (site .thread) (site .row) (opcodeOf (opOf op)) m (state (now (clocks .exit)) (now (marks .exit)) (now (values .exit)) (now (numbers .exit))) ≡ machine.acts p (state (now (clocks .entry)) (now (marks .entry)) (now (values .entry)) (now (numbers .entry))) (site .thread) (site .row) (opOf op)) ⌝ }
 {
-    if let Stored::Of { order, cell, value } = to_store(values, site.thread, op) {
-        return accesses::store_row(clocks, marks, values, numbers, site, cell, order, value);
+    if let Stored::Of { access, value } = to_store(values, site.thread, op) {
+        return accesses::store_row(clocks, marks, values, numbers, access, site.row, value);
     }
     act_unsync(clocks, values, numbers, site, op)
 }
@@ -125,14 +128,26 @@ fn to_store(values: &Values, thread: usize, op: Op) -> Stored
     ensures { λ r. ⌜ Stores r (now (values .entry)) thread (machine.roleOf (opOf op)) ⌝ }
 {
     match op {
-        Op::Store { cell, order, value } => Stored::Of { order, cell, value },
+        Op::Store { cell, order, value } => {
+            let access = Access {
+                thread,
+                cell,
+                order,
+            };
+            Stored::Of { access, value }
+        }
         Op::StoreRegister {
             cell,
             order,
             register,
         } => {
+            let access = Access {
+                thread,
+                cell,
+                order,
+            };
             let value = register_of(values, thread, register);
-            Stored::Of { order, cell, value }
+            Stored::Of { access, value }
         }
         _ => Stored::Nothing,
     }
@@ -233,19 +248,18 @@ pub fn answered(
     marks: &mut Marks,
     values: &mut Values,
     numbers: &mut Numbers,
-    site: Site,
-    row: Decoded,
+    here: Here,
     choice: Picked,
 ) -> Moved
-    requires { ⌜ (site .thread < 5) × opWithin row × choiceWithin choice ⌝ }
-    ensures { λ r. ⌜ ((m : Matched) → Answers choice (decodedOf row) (site .thread) (site .row) (state (now (clocks .entry)) (now (marks .entry)) (now (values .entry)) (now (numbers .entry))) (moveOf r (site .thread) (site .row) (opcodeIn (decodedOf row)) m (state (now (clocks .exit)) (now (marks .exit)) (now (values .exit)) (now (numbers .exit))))) ⌝ }
+    requires { ⌜ HereWithin here × choiceWithin choice ⌝ }
+    ensures { λ r. ⌜ ((m : Matched) → Answers choice (decodedOf (here .row)) (here .site .thread) (here .site .row) (state (now (clocks .entry)) (now (marks .entry)) (now (values .entry)) (now (numbers .entry))) (moveOf r (here .site .thread) (here .site .row) (opcodeIn (decodedOf (here .row))) m (state (now (clocks .exit)) (now (marks .exit)) (now (values .exit)) (now (numbers .exit))))) ⌝ }
 {
     match choice {
         Picked::Thread { chosen, branch } => scheduling::switch(clocks, numbers, chosen, branch),
         Picked::Nobody => scheduling::nobody(numbers),
         Picked::Slot { slot, mask } => {
-            accesses::read_from(clocks, marks, values, numbers, site, row, slot, mask)
+            accesses::read_from(clocks, marks, values, numbers, here, slot, mask)
         }
-        Picked::Bit(bit) => rows::take_bit(values, numbers, site, row, bit),
+        Picked::Bit(bit) => rows::take_bit(values, numbers, here, bit),
     }
 }

@@ -16,19 +16,19 @@ use Rattle.rules.specs.Explorer.{Walk, Tick, goes, over, faulted}
 use Rattle.rules.specs.Explored.{ticksOf}
 use Rattle.event.specs.declared.Fault.the-variants as fault
 use Rattle.event.specs.declared.Site.{Site}
-use Rattle.meeting.specs.Stands.{Lent, Stands, ComesTo, Stopped, siteOf}
+use Rattle.meeting.specs.Stands.{Lent, Stands, ComesTo, FaultMet, siteOf}
 use Rattle.meeting.specs.declared.Cursor.{Cursor}
 use Rattle.meeting.specs.declared.Outcome.{Outcome}
 use Rattle.meeting.specs.declared.Outcome.the-variants as code
 use Rattle.meeting.specs.declared.Ticked.{Ticked}
 use Rattle.meeting.proofs.Outcome.{the-type as outcomes}
-use Rattle.meeting.proofs.ComesLaws.{same-stands, comes-stops}
+use Rattle.meeting.proofs.ComesLaws.{same-stands, comes-faulted}
 use Rattle.walk.specs.Walks.{CursorPlaced, Runs, Gone, Ticks}
 use Rattle.walk.specs.Parts.{thenOn}
 use Rattle.walk.specs.declared.Limits.{Limits}
 use Rattle.walk.proofs.MeetLaws.{stays-then, went-on}
 use Rattle.iteration.specs.Executes.{mostOpened, Underway, Ticking, Walks}
-use Rattle.iteration.proofs.GoneLaws.{gone-more, stopped-gone}
+use Rattle.iteration.proofs.GoneLaws.{gone-more, faulted-gone}
 
 module _ (p : Program) (L : explorer.Limits) where
   walked-then : (m : ℕ) (w : Walk State) → explorer.walked (machine p) L (suc m) w ≡ thenOn (explorer.walked (machine p) L m) (explorer.tick (machine p) L w)
@@ -125,14 +125,14 @@ module _ (table shape : List ℕ) (limits : Limits) (c : Cursor) (entry : Lent) 
             beyond = still;
           }
 
-    pub walks-spent : n ≡ ticksOf (limits .operations) → n ≤ ticksOf 65535 → (s : Site) → siteOf s ≡ rules.noSite → (r : Ticked) → Stopped fault.Impossible s d r → Walks entry now table shape limits c r
+    pub walks-spent : n ≡ ticksOf (limits .operations) → n ≤ ticksOf 65535 → (s : Site) → siteOf s ≡ rules.noSite → (r : Ticked) → FaultMet fault.Impossible s d r → Walks entry now table shape limits c r
     walks-spent e few s nowhere r stopped =
         record {
           comes = λ p L w runs stands.
               let u = under p L w runs stands in
-              comes-stops r now (u .walk) fault.Impossible s (explorer.walked (machine p) L (ticksOf (limits .operations)) w) (stopped .is)
+              comes-faulted r now (u .walk) fault.Impossible s (explorer.walked (machine p) L (ticksOf (limits .operations)) w) (stopped .is)
               (ap (λ (j : ℕ). explorer.walked (machine p) L j w) (omega (arith, e)) ∙ u .rest 0 ∙ walked-none p L (u .walk) ∙ ap (λ (y : rules.Site). faulted rules.impossible y (u .walk)) (sym nowhere))
               (same-stands (stopped .stays) (u .stands));
-          gone = stopped-gone (t .gone) stopped (omega arith);
+          gone = faulted-gone (t .gone) stopped (omega arith);
           beyond = λ i h. t .beyond i (omega (arith, stopped .stays .same-entries));
         }

@@ -64,7 +64,7 @@ fn again(mut cursor: Cursor) -> Cursor
     cursor
 }
 
-// Tick after tick, until the execution ends or stops.
+// Tick after tick, until the execution is over or has met a fault.
 fn walked(
     table: &[u8],
     shape: &Shape,
@@ -102,7 +102,7 @@ fn walked(
         let next = ticked.cursor;
         now = next;
     }
-    walk::stops(Fault::Impossible, walk::no_site(), now)
+    walk::faulted(Fault::Impossible, walk::no_site(), now)
 }
 
 // More ticks than an execution of so many rows can take: one more than the definition's measure of its start.

@@ -35,12 +35,12 @@ use Rattle.event.specs.declared.Fault.the-variants as fault
 use Rattle.event.specs.declared.Site.{Site}
 use Rattle.event.specs.declared.Question.{Question}
 use Rattle.event.specs.declared.Question.the-variants as question
-use Rattle.meeting.specs.Stands.{lent, Stands, ComesTo, GoesOn, Stopped, siteOf}
+use Rattle.meeting.specs.Stands.{lent, Stands, ComesTo, GoesOn, FaultMet, siteOf}
 use Rattle.meeting.specs.Branches.{Met, OneMore, addedTo, branched, askedAt, Holding, Reaches, addedAt, reachedAt}
 use Rattle.meeting.specs.declared.Cursor.{Cursor}
-use Rattle.meeting.specs.declared.Here.{Here}
+use Rattle.event.specs.declared.Here.{Here}
 use Rattle.meeting.specs.declared.Ticked.{Ticked}
-use Rattle.meeting.proofs.ComesLaws.{same-stands, comes-goes, comes-stops}
+use Rattle.meeting.proofs.ComesLaws.{same-stands, comes-goes, comes-faulted}
 
 module _ (c : Cursor) (r : Ticked) (site : Site) (clocks : Clocks) (marks : MarkTable) (numbers : Numbers) (entry exit : List ℕ) where
   module _ (w : Walk State) (values : Values) (trace : List ℕ) (s : Stands (lent clocks marks values numbers entry trace) c w) where
@@ -67,10 +67,10 @@ module _ (c : Cursor) (r : Ticked) (site : Site) (clocks : Clocks) (marks : Mark
         comes-goes r _ _ _ (m .0) refl (more-stands b h (m .1))
     answer-comes paths.full p e h to =
         let m = subst (λ (x : Addition). addedTo x site c r) e to in
-        comes-stops r _ w fault.Full site _ (m .is) refl (same-stands (m .stays) (refused-stands h))
+        comes-faulted r _ w fault.Full site _ (m .is) refl (same-stands (m .stays) (refused-stands h))
     answer-comes paths.preempted p e h to =
         let m = subst (λ (x : Addition). addedTo x site c r) e to in
-        comes-stops r _ w fault.Preemptions site _ (m .is) refl (same-stands (m .stays) (refused-stands h))
+        comes-faulted r _ w fault.Preemptions site _ (m .is) refl (same-stands (m .stays) (refused-stands h))
 
   records : (L : explorer.Limits) → Holding L entry → recordsOf entry ≡ L .branches
   records L h = omega (arith, h .branches)
@@ -265,12 +265,12 @@ module _ (c : Cursor) (r : Ticked) (h : Here) (clocks : Clocks) (marks : MarkTab
 
 module _ (c : Cursor) (r : Ticked) (h : Here) (clocks : Clocks) (marks : MarkTable) (numbers : Numbers) (entry : List ℕ) (dst seed : List ℕ) (m : Matched)
     (says : (values : Values) → scanned m seed ≡ offered (matchedFor (state clocks marks values numbers) (h .site .thread) (decodedOf (h .row))) dst) (met : Met c r entry) where
-  pub equal-reaches : m ≡ match.Equal → Stopped fault.EqualOrders (h .site) c r → Reaches c r clocks marks numbers entry entry (addedAt question.Slot h)
+  pub equal-reaches : m ≡ match.Equal → FaultMet fault.EqualOrders (h .site) c r → Reaches c r clocks marks numbers entry entry (addedAt question.Slot h)
   unfolding explorer.pushed
   equal-reaches e stop =
       added-reaches c r h question.Slot clocks marks numbers entry entry met question.Slot refl
       (λ L w values trace room s.
       let offer : rules.Matched = matchedFor (state clocks marks values numbers) (h .site .thread) (decodedOf (h .row)) in
-      comes-stops r _ w fault.EqualOrders (h .site) _ (stop .is)
+      comes-faulted r _ w fault.EqualOrders (h .site) _ (stop .is)
       (ap (branched (siteOf (h .site)) w) (equal-out c r h clocks marks numbers entry entry dst seed m says met offer (sym (ap (λ (y : Matched). scanned y seed) e) ∙ says values) (L .branches) (w .ledger .path) (exploringNow numbers)))
       (same-stands (stop .stays) s))

@@ -33,9 +33,9 @@ use Rattle.event.specs.declared.Fault.the-variants as fault
 use Rattle.event.specs.declared.Site.{Site}
 use Rattle.event.specs.declared.Question.{Question}
 use Rattle.event.specs.declared.Question.the-variants as question
-use Rattle.meeting.specs.Stands.{Lent, Stands, ComesTo, SameCursor, GoesOn, Stopped, siteOf}
+use Rattle.meeting.specs.Stands.{Lent, Stands, ComesTo, SameCursor, GoesOn, FaultMet, siteOf}
 use Rattle.meeting.specs.declared.Cursor.{Cursor}
-use Rattle.meeting.specs.declared.Here.{Here}
+use Rattle.event.specs.declared.Here.{Here}
 use Rattle.meeting.specs.declared.Outcome.{Outcome}
 use Rattle.meeting.specs.declared.Outcome.the-variants as code
 use Rattle.meeting.specs.declared.Ticked.{Ticked}
@@ -64,13 +64,13 @@ module _ (r : Ticked) (x : Lent) (v : Walk State) where
   pub comes-goes : (o : Tick State) → r .outcome ≡ code.Goes → o ≡ goes v → Stands x (r .cursor) v → ComesTo (r .outcome) (r .cursor) x o
   comes-goes o e f h = subst (λ (y : Outcome). ComesTo y (r .cursor) x o) (sym e) (subst (λ (y : Tick State). ComesTo code.Goes (r .cursor) x y) (sym f) h)
 
-  pub comes-over : (o : Tick State) → r .outcome ≡ code.Ends → o ≡ over v → Stands x (r .cursor) v → ComesTo (r .outcome) (r .cursor) x o
-  comes-over o e f h = subst (λ (y : Outcome). ComesTo y (r .cursor) x o) (sym e) (subst (λ (y : Tick State). ComesTo code.Ends (r .cursor) x y) (sym f) h)
+  pub comes-over : (o : Tick State) → r .outcome ≡ code.Over → o ≡ over v → Stands x (r .cursor) v → ComesTo (r .outcome) (r .cursor) x o
+  comes-over o e f h = subst (λ (y : Outcome). ComesTo y (r .cursor) x o) (sym e) (subst (λ (y : Tick State). ComesTo code.Over (r .cursor) x y) (sym f) h)
 
-  pub comes-stops : (f : Fault) (s : Site) (o : Tick State) → r .outcome ≡ code.Stops f s → o ≡ faulted (faultOf f) (siteOf s) v → Stands x (r .cursor) v → ComesTo (r .outcome) (r .cursor) x o
-  comes-stops f s o e g h =
+  pub comes-faulted : (f : Fault) (s : Site) (o : Tick State) → r .outcome ≡ code.Faulted f s → o ≡ faulted (faultOf f) (siteOf s) v → Stands x (r .cursor) v → ComesTo (r .outcome) (r .cursor) x o
+  comes-faulted f s o e g h =
       subst (λ (y : Outcome). ComesTo y (r .cursor) x o) (sym e)
-      (subst (λ (y : Tick State). ComesTo (code.Stops f s) (r .cursor) x y) (sym g) (record { is-fault = refl; is-site = refl; stands = h }))
+      (subst (λ (y : Tick State). ComesTo (code.Faulted f s) (r .cursor) x y) (sym g) (record { is-fault = refl; is-site = refl; stands = h }))
 
 -- Nothing is written
 
@@ -96,15 +96,15 @@ module _ (c : Cursor) (r : Ticked) (trace : List ℕ) (room : 16 * c .entries �
         comes = λ p L x w fits h. comes-goes r (withTrace x trace) w (out p L w) (g .is) (is p L w (omega (arith, h .is-entries))) (same-stands (g .stays) h);
       }
 
-  pub lands-stops : {f : Fault} {s : Site} → Stopped f s c r → ((p : Program) (L : explorer.Limits) (w : Walk State) → out p L w ≡ faulted (faultOf f) (siteOf s) w) → Lands c r trace trace out
-  lands-stops {f} {s} g is =
+  pub lands-faulted : {f : Fault} {s : Site} → FaultMet f s c r → ((p : Program) (L : explorer.Limits) (w : Walk State) → out p L w ≡ faulted (faultOf f) (siteOf s) w) → Lands c r trace trace out
+  lands-faulted {f} {s} g is =
       record {
         kept = same-kept (g .stays) room;
         wrote = wrote-none c (r .cursor) trace (g .stays .same-entries);
-        comes = λ p L x w fits h. comes-stops r (withTrace x trace) w f s (out p L w) (g .is) (is p L w) (same-stands (g .stays) h);
+        comes = λ p L x w fits h. comes-faulted r (withTrace x trace) w f s (out p L w) (g .is) (is p L w) (same-stands (g .stays) h);
       }
 
-  pub lands-over : r .outcome ≡ code.Ends → SameCursor c (r .cursor) → ((p : Program) (L : explorer.Limits) (w : Walk State) → out p L w ≡ over w) → Lands c r trace trace out
+  pub lands-over : r .outcome ≡ code.Over → SameCursor c (r .cursor) → ((p : Program) (L : explorer.Limits) (w : Walk State) → out p L w ≡ over w) → Lands c r trace trace out
   lands-over e g is =
       record {
         kept = same-kept g room;
@@ -159,7 +159,7 @@ module _ (c : Cursor) (r : Ticked) (h : Here) (opcode slot mask v : ℕ) (is : o
         let e : leb (length (w .trace) + 1) (L .operations) ≡ false = lt-leb (length (w .trace) + 1) (L .operations) (omega (arith, fits, many, past)) in
         ap (λ (y : Bool). cond y (goes (explorer.noted w (w .state) (written ∷ []))) (faulted rules.impossible (siteOf (h .site)) w)) e
 
-    pub note-full : b ≡ false → Stopped fault.Impossible (h .site) c r → Lands c r entry exit out
+    pub note-full : b ≡ false → FaultMet fault.Impossible (h .site) c r → Lands c r entry exit out
     note-full f s =
         let e : exit ≡ entry = n .left ∙ ap (λ (y : Bool). cond y (paste entry (16 * c .entries) (entryBytes written) 16) entry) f in
         subst (λ (y : List ℕ). Lands c r entry y out) (sym e)
@@ -167,7 +167,7 @@ module _ (c : Cursor) (r : Ticked) (h : Here) (opcode slot mask v : ℕ) (is : o
         (record {
           kept = same-kept (s .stays) room;
           wrote = wrote-none c (r .cursor) entry (s .stays .same-entries);
-          comes = λ p L x w fits g. comes-stops r (withTrace x entry) w fault.Impossible (h .site) (written-out p L w) (s .is) (full-out f p L w fits (g .is-entries)) (same-stands (s .stays) g);
+          comes = λ p L x w fits g. comes-faulted r (withTrace x entry) w fault.Impossible (h .site) (written-out p L w) (s .is) (full-out f p L w fits (g .is-entries)) (same-stands (s .stays) g);
         }))
 
     module _ (t : b ≡ true) (goes-on : r .outcome ≡ code.Goes) (d : OneNoted c (r .cursor)) where
@@ -242,14 +242,14 @@ module _ (h : Here) where
       pub conclude-moves : e ≡ event.Moves → GoesOn c r → Lands c r trace trace (concluded e)
       conclude-moves is g = done-lands event.Moves is (lands-goes c r trace room (concluded event.Moves) g (λ p L w fits. landed-none L (siteOf (h .site)) w fits))
 
-      pub conclude-asks : OneOf (2 ∷ []) (tagOf happened e) → Stopped fault.Impossible (h .site) c r → Lands c r trace trace (concluded e)
-      conclude-asks k s = lands-stops c r trace room (concluded e) s (asked-by e k)
+      pub conclude-asks : OneOf (2 ∷ []) (tagOf happened e) → FaultMet fault.Impossible (h .site) c r → Lands c r trace trace (concluded e)
+      conclude-asks k s = lands-faulted c r trace room (concluded e) s (asked-by e k)
 
-      pub conclude-ends : e ≡ event.Ends → r .outcome ≡ code.Ends → SameCursor c (r .cursor) → Lands c r trace trace (concluded e)
+      pub conclude-ends : e ≡ event.Ends → r .outcome ≡ code.Over → SameCursor c (r .cursor) → Lands c r trace trace (concluded e)
       conclude-ends is o s = done-lands event.Ends is (lands-over c r trace room (concluded event.Ends) o s (λ p L w. refl))
 
-      pub conclude-stops : {f : Fault} → e ≡ event.Stops f → Stopped f (h .site) c r → Lands c r trace trace (concluded e)
-      conclude-stops {f} is s = done-lands (event.Stops f) is (lands-stops c r trace room (concluded (event.Stops f)) s (λ p L w. refl))
+      pub conclude-stops : {f : Fault} → e ≡ event.Stops f → FaultMet f (h .site) c r → Lands c r trace trace (concluded e)
+      conclude-stops {f} is s = done-lands (event.Stops f) is (lands-faulted c r trace room (concluded (event.Stops f)) s (λ p L w. refl))
 
 -- The entry of a row that is complete before it asks
 

@@ -28,7 +28,7 @@ use Rattle.event.specs.declared.Question.the-variants as question
 use Rattle.meeting.specs.Stands.{lent, Stands}
 use Rattle.meeting.specs.Branches.{askedAt, MarkedBy, MarksThread, markedBelow, MarksBelow, MarksThreads, CursorMarks}
 use Rattle.meeting.specs.declared.Cursor.{Cursor}
-use Rattle.meeting.specs.declared.Here.{Here}
+use Rattle.event.specs.declared.Here.{Here}
 
 module _ (clocks : Clocks) (numbers : Numbers) (bound : Bound) where
   module _ (t : ℕ) (p : Point) (says : (marks : MarkTable) (values : Values) → pointOf p ≡ conflict (state clocks marks values numbers) t) where

@@ -2,7 +2,7 @@
 --     reads-within                                           a slot is one of the seven
 --     added-few, added-one, added-full, added-preempted      a branch that was added is counted
 --     pushes-few, pushes-met, and of a schedule              a question has met the path by a new branch
---     stops-met, goes-met                                    and by a fault, and by one that was there
+--     faulted-met, goes-met                                    and by a fault, and by one that was there
 --     met-ahead                                              where it goes on, a branch stands there
 use Prim.Native.Nat.{ℕ, _+_, _*_, _≤_, _<_}
 use mathlib.Core.List.{List}
@@ -22,7 +22,7 @@ use Rattle.path.specs.declared.Addition.the-variants as pushed
 use Rattle.event.specs.declared.Fault.{Fault}
 use Rattle.event.specs.declared.Fault.the-variants as fault
 use Rattle.event.specs.declared.Site.{Site}
-use Rattle.meeting.specs.Stands.{BranchThere, SameCursor, Stopped}
+use Rattle.meeting.specs.Stands.{BranchThere, SameCursor, FaultMet}
 use Rattle.meeting.specs.Branches.{Met, OneMore, pushedFew, addedTo}
 use Rattle.meeting.specs.declared.Cursor.{Cursor}
 use Rattle.meeting.specs.declared.Outcome.{Outcome}
@@ -39,16 +39,16 @@ module _ (p : Addition) (s : Site) (c : Cursor) (r : Ticked) where
   pub added-one : {n : ℕ} → p ≡ pushed.Added n → r .outcome ≡ code.Goes → OneMore c n (r .cursor) → addedTo p s c r
   added-one e g h = subst (λ (x : Addition). addedTo x s c r) (sym e) (g, h)
 
-  pub added-full : p ≡ pushed.Full → Stopped fault.Full s c r → addedTo p s c r
+  pub added-full : p ≡ pushed.Full → FaultMet fault.Full s c r → addedTo p s c r
   added-full e h = subst (λ (x : Addition). addedTo x s c r) (sym e) h
 
-  pub added-preempted : p ≡ pushed.Preempted → Stopped fault.Preemptions s c r → addedTo p s c r
+  pub added-preempted : p ≡ pushed.Preempted → FaultMet fault.Preemptions s c r → addedTo p s c r
   added-preempted e h = subst (λ (x : Addition). addedTo x s c r) (sym e) h
 
 ahead-any : (o : Outcome) (c : Cursor) → c .pos < c .len → BranchThere o c
 ahead-any code.Goes c h = h
-ahead-any code.Ends c h = tt
-ahead-any (code.Stops f s) c h = tt
+ahead-any code.Over c h = tt
+ahead-any (code.Faulted f s) c h = tt
 
 within-few : (entry exit : List ℕ) (len most : ℕ) → most ≤ 6 → (p : Addition) → pushedWithin entry exit len most p → pushedFew p
 within-few entry exit len most h (pushed.Added n) w = omega (arith, w .few)
@@ -57,8 +57,8 @@ within-few entry exit len most h pushed.Preempted w = tt
 
 module _ (c : Cursor) (r : Ticked) {path : List ℕ} (passed : c .pos ≤ c .len) (within : 16 * c .len ≤ length path) where
   -- a fault
-  pub stops-met : {f : Fault} {at : Site} → Stopped f at c r → Met c r path
-  stops-met s =
+  pub faulted-met : {f : Fault} {at : Site} → FaultMet f at c r → Met c r path
+  faulted-met s =
       record {
         ahead = s .idle;
         passed = omega (arith, s .stays .same-pos, s .stays .same-len);
@@ -80,8 +80,8 @@ module _ (c : Cursor) (r : Ticked) (entry exit : List ℕ) (passed : c .pos ≤ 
 
   within-met : (most : ℕ) → most ≤ 6 → (p : Addition) → pushedWithin entry exit (c .len) most p → (s : Site) → addedTo p s c r → Met c r exit
   within-met most h (pushed.Added n) w s a = one-more-met n (omega (arith, w .few)) (w .room) (a .1)
-  within-met most h pushed.Full w s a = stops-met c r passed (omega arith) a
-  within-met most h pushed.Preempted w s a = stops-met c r passed (omega arith) a
+  within-met most h pushed.Full w s a = faulted-met c r passed (omega arith) a
+  within-met most h pushed.Preempted w s a = faulted-met c r passed (omega arith) a
 
 pub pushes-few : {entry exit : List ℕ} {len most : ℕ} {answer : ℕ → List Branch → Added} {p : Addition} → Pushes entry exit len most answer p → most ≤ 6 → pushedFew p
 pushes-few {entry} {exit} {len} {most} {answer} {p} h few = within-few entry exit len most few p (h .within)

@@ -34,9 +34,9 @@ use Rattle.event.specs.declared.Question.{Question}
 use Rattle.event.specs.declared.Question.the-variants as question
 use Rattle.event.specs.declared.Site.{Site}
 use Rattle.execution.specs.Answers.{choiceWithin}
-use Rattle.meeting.specs.Stands.{lent, Stands, ComesTo, BranchThere, Stopped, siteOf}
+use Rattle.meeting.specs.Stands.{lent, Stands, ComesTo, BranchThere, FaultMet, siteOf}
 use Rattle.meeting.specs.declared.Cursor.{Cursor}
-use Rattle.meeting.specs.declared.Here.{Here}
+use Rattle.event.specs.declared.Here.{Here}
 use Rattle.meeting.specs.declared.Outcome.the-variants as outcome
 use Rattle.meeting.specs.declared.Reply.{Reply}
 use Rattle.meeting.specs.declared.Reply.the-variants as reply
@@ -111,8 +111,8 @@ pub record OneMore (c : Cursor) (n : ℕ) (d : Cursor) : Type 0 where
 
 abbrev pub addedTo : Addition → Site → Cursor → Ticked → Type 0
 addedTo (pushed.Added n) s c r = (r .outcome ≡ outcome.Goes) × OneMore c n (r .cursor)
-addedTo pushed.Full s c r = Stopped fault.Full s c r
-addedTo pushed.Preempted s c r = Stopped fault.Preemptions s c r
+addedTo pushed.Full s c r = FaultMet fault.Full s c r
+addedTo pushed.Preempted s c r = FaultMet fault.Preemptions s c r
 
 -- a question has met the path, which these bytes now are
 pub record Met (c : Cursor) (r : Ticked) (path : List ℕ) : Type 0 where

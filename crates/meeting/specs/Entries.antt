@@ -20,7 +20,7 @@ use Rattle.event.specs.Moves.{entryIf, moveOf, matchedFor}
 use Rattle.event.specs.declared.Moved.{Moved}
 use Rattle.meeting.specs.Stands.{Lent, lent, Stands, ComesTo, siteOf}
 use Rattle.meeting.specs.declared.Cursor.{Cursor}
-use Rattle.meeting.specs.declared.Here.{Here}
+use Rattle.event.specs.declared.Here.{Here}
 use Rattle.meeting.specs.declared.Ticked.{Ticked}
 
 -- from the cursor c to the cursor d, with this trace: an entry was noted, or none

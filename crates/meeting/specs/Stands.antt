@@ -1,8 +1,7 @@
 -- What the lent tables, bytes and the cursor stand for in the definition. Assumes nothing.
---     HereWithin    the thread is one of the five, and its row names only what there is
 --     SameCursor    the cursor is left as it is
 --     BranchThere   where a tick goes on, there is a branch to be passed
---     GoesOn, Stopped  how a tick comes out that leaves it
+--     GoesOn, FaultMet  how a tick comes out that leaves it
 --     Lent          the tables and bytes that are lent
 --     Stands        they stand for a walk: its state, the path that the bytes hold, the counts, the trace at the front of its bytes
 --     ComesTo       how a tick came out, as the definition has it
@@ -16,21 +15,15 @@ use Rattle.rules.specs.Explorer as explorer
 use Rattle.rules.specs.Explorer.{Walk, goes, over, faulted}
 use Rattle.rules.specs.Explored.{entriesBytes}
 use Rattle.layout.specs.Tables.{state}
-use Rattle.decode.specs.Ops.{opWithin}
 use Rattle.path.specs.Holds.{Holds}
 use Rattle.event.specs.Moves.{faultOf}
 pub use Rattle.event.specs.Moves.{siteOf}
 use Rattle.event.specs.declared.Fault.{Fault}
 use Rattle.event.specs.declared.Site.{Site}
 use Rattle.meeting.specs.declared.Cursor.{Cursor}
-use Rattle.meeting.specs.declared.Here.{Here}
 use Rattle.meeting.specs.declared.Outcome.{Outcome}
 use Rattle.meeting.specs.declared.Outcome.the-variants as code
 use Rattle.meeting.specs.declared.Ticked.{Ticked}
-
-pub record HereWithin (h : Here) : Type 0 where
-  pub who : h .site .thread < 5
-  pub names : opWithin (h .row)
 
 -- the cursor c is left as it is
 pub record SameCursor (c d : Cursor) : Type 0 where
@@ -42,8 +35,8 @@ pub record SameCursor (c d : Cursor) : Type 0 where
 -- where a tick goes on, there is a branch to be passed
 abbrev pub BranchThere : Outcome → Cursor → Type 0
 BranchThere code.Goes c = c .pos < c .len
-BranchThere code.Ends c = Unit
-BranchThere (code.Stops f s) c = Unit
+BranchThere code.Over c = Unit
+BranchThere (code.Faulted f s) c = Unit
 
 -- it goes on
 pub record GoesOn (c : Cursor) (r : Ticked) : Type 0 where
@@ -51,8 +44,8 @@ pub record GoesOn (c : Cursor) (r : Ticked) : Type 0 where
   pub stays : SameCursor c (r .cursor)
 
 -- a fault, which leaves the cursor
-pub record Stopped (f : Fault) (s : Site) (c : Cursor) (r : Ticked) : Type 0 where
-  pub is : r .outcome ≡ code.Stops f s
+pub record FaultMet (f : Fault) (s : Site) (c : Cursor) (r : Ticked) : Type 0 where
+  pub is : r .outcome ≡ code.Faulted f s
   pub stays : SameCursor c (r .cursor)
   pub idle : BranchThere (r .outcome) (r .cursor)
 
@@ -87,9 +80,9 @@ abbrev pub ComesTo : Outcome → Cursor → Lent → explorer.Tick State → Typ
 ComesTo code.Goes c x (goes w) = Stands x c w
 ComesTo code.Goes c x (over w) = ⊥
 ComesTo code.Goes c x (faulted g there w) = ⊥
-ComesTo code.Ends c x (goes w) = ⊥
-ComesTo code.Ends c x (over w) = Stands x c w
-ComesTo code.Ends c x (faulted g there w) = ⊥
-ComesTo (code.Stops f s) c x (goes w) = ⊥
-ComesTo (code.Stops f s) c x (over w) = ⊥
-ComesTo (code.Stops f s) c x (faulted g there w) = Faults (faultOf f) (siteOf s) x c g there w
+ComesTo code.Over c x (goes w) = ⊥
+ComesTo code.Over c x (over w) = Stands x c w
+ComesTo code.Over c x (faulted g there w) = ⊥
+ComesTo (code.Faulted f s) c x (goes w) = ⊥
+ComesTo (code.Faulted f s) c x (over w) = ⊥
+ComesTo (code.Faulted f s) c x (faulted g there w) = Faults (faultOf f) (siteOf s) x c g there w

@@ -6,12 +6,14 @@ ghost use lib.ListN.{length};
 ghost use Rattle.rules.specs.Table.{opcodeIn};
 ghost use Rattle.rules.specs.Machine.{exploringNow};
 ghost use Rattle.decode.specs.Ops.{decodedOf};
-ghost use Rattle.meeting.specs.Stands.{HereWithin, GoesOn, Stopped};
+ghost use Rattle.event.specs.Moves.{HereWithin};
+ghost use Rattle.meeting.specs.Stands.{GoesOn, FaultMet};
 ghost use Rattle.meeting.specs.Branches.{CursorMarks, MarksThreads, Reaches, addedAt, reachedAt, pushedFew, addedTo, RepliesBy};
 ghost use Rattle.meeting.specs.Entries.{Lands, notedAt, completedAt, concludedAt};
 use decode::Decoded;
 use decode::opcodes::NO_OPCODE;
 use event::Fault;
+use event::Here;
 use event::Moved;
 use event::NO_SLOT;
 use event::Picked;
@@ -42,17 +44,11 @@ pub struct Cursor {
     pub entries: usize,
 }
 
-// A thread at its row, and what that row does.
-pub struct Here {
-    pub site: Site,
-    pub row: Decoded,
-}
-
-// How a tick comes out: the execution goes on, has ended, or has met a fault.
+// How a tick comes out: the execution goes on, is over, or has met a fault.
 pub enum Outcome {
     Goes,
-    Ends,
-    Stops { fault: Fault, site: Site },
+    Over,
+    Faulted { fault: Fault, site: Site },
 }
 
 pub struct Ticked {
@@ -135,15 +131,16 @@ fn add(
     ensures { λ r. ⌜ Reaches cursor r (now (clocks .entry)) (now (marks .entry)) (now (numbers .entry)) (now (path .entry)) (now (path .exit)) (addedAt question here) ⌝ }
 {
     let site = here.site;
-    let exploring = numbers[EXPLORING] == 1;
     match question {
         Question::Thread => {
             let seed = scheduling::seed(numbers);
+            let exploring = is_exploring(numbers);
             let pushed = path::push_thread(path, cursor.len, exploring, seed);
             added(site, pushed, cursor)
         }
-        Question::Slot => add_load(clocks, marks, numbers, path, here, exploring, cursor),
+        Question::Slot => add_load(clocks, marks, numbers, path, here, cursor),
         Question::Bit => {
+            let exploring = is_exploring(numbers);
             let pushed = path::push_spurious(path, cursor.len, exploring);
             added(site, pushed, cursor)
         }
@@ -157,21 +154,26 @@ fn add_load(
     numbers: &Numbers,
     path: &mut [u8],
     here: Here,
-    exploring: bool,
     cursor: Cursor,
 ) -> Ticked
-    requires { ⌜ HereWithin here × (cursor .pos ≤ cursor .len) × (16 * cursor .len ≤ length (now path)) × (cursor .opened + 6 < 2 ^ 64) × (exploring ≡ exploringNow (now numbers)) ⌝ }
+    requires { ⌜ HereWithin here × (cursor .pos ≤ cursor .len) × (16 * cursor .len ≤ length (now path)) × (cursor .opened + 6 < 2 ^ 64) ⌝ }
     ensures { λ r. ⌜ Reaches cursor r (now (clocks .entry)) (now (marks .entry)) (now (numbers .entry)) (now (path .entry)) (now (path .exit)) (addedAt Question.Slot here) ⌝ }
 {
     let site = here.site;
-    let row = here.row;
     let mut seed = [0u8; MAX_ATOMIC_HISTORY];
-    let Matched::Offers(n) = accesses::offers(clocks, marks, numbers, &mut seed, site.thread, row)
-    else {
-        return stops(Fault::EqualOrders, site, cursor);
+    let Matched::Offers(n) = accesses::offers(clocks, marks, numbers, &mut seed, here) else {
+        return faulted(Fault::EqualOrders, site, cursor);
     };
+    let exploring = is_exploring(numbers);
     let pushed = path::push_load(path, cursor.len, exploring, seed, n);
     added(site, pushed, cursor)
+}
+
+// Whether the execution explores now: a branch that it adds is one to be explored, or not, by this.
+fn is_exploring(numbers: &Numbers) -> bool
+    ensures { λ r. ⌜ r ≡ exploringNow (now (numbers .entry)) ⌝ }
+{
+    numbers[EXPLORING] == 1
 }
 
 // A branch that was added is counted, with what it opened; one that was not is a fault.
@@ -185,8 +187,8 @@ fn added(site: Site, pushed: Addition, mut cursor: Cursor) -> Ticked
             cursor.opened = cursor.opened + opened;
             goes(cursor)
         }
-        Addition::Full => stops(Fault::Full, site, cursor),
-        Addition::Preempted => stops(Fault::Preemptions, site, cursor),
+        Addition::Full => faulted(Fault::Full, site, cursor),
+        Addition::Preempted => faulted(Fault::Preemptions, site, cursor),
     }
 }
 
@@ -223,12 +225,12 @@ pub fn conclude(trace: &mut [u8], here: Here, event: Moved, cursor: Cursor) -> T
     match event {
         Moved::Moves => goes(cursor),
         Moved::Done { slot, mask, value } => note(trace, here, slot, mask, value, cursor),
-        Moved::Asks { .. } => stops(Fault::Impossible, site, cursor),
+        Moved::Asks { .. } => faulted(Fault::Impossible, site, cursor),
         Moved::Ends => Ticked {
-            outcome: Outcome::Ends,
+            outcome: Outcome::Over,
             cursor,
         },
-        Moved::Stops(fault) => stops(fault, site, cursor),
+        Moved::Stops(fault) => faulted(fault, site, cursor),
     }
 }
 
@@ -259,7 +261,7 @@ fn note(trace: &mut [u8], here: Here, slot: u8, mask: u8, value: u64, mut cursor
         value,
     };
     if !trace::note(trace, cursor.entries, entry) {
-        return stops(Fault::Impossible, site, cursor);
+        return faulted(Fault::Impossible, site, cursor);
     }
     cursor.entries = cursor.entries + 1;
     goes(cursor)
@@ -284,11 +286,11 @@ fn goes(cursor: Cursor) -> Ticked
     }
 }
 
-pub fn stops(fault: Fault, site: Site, cursor: Cursor) -> Ticked
-    ensures { λ r. ⌜ Stopped fault site cursor r ⌝ }
+pub fn faulted(fault: Fault, site: Site, cursor: Cursor) -> Ticked
+    ensures { λ r. ⌜ FaultMet fault site cursor r ⌝ }
 {
     Ticked {
-        outcome: Outcome::Stops { fault, site },
+        outcome: Outcome::Faulted { fault, site },
         cursor,
     }
 }

@@ -8,13 +8,15 @@ ghost use Rattle.rules.specs.State as rules;
 ghost use Rattle.rules.specs.Table.{cellsOf, opcodeIn};
 ghost use Rattle.rules.specs.Vector.{oneMore};
 ghost use Rattle.layout.specs.Tables.{state};
-ghost use Rattle.event.specs.Moves.{moveOf};
-ghost use Rattle.decode.specs.Ops.{opOf, decodedOf, inRange, opWithin};
+ghost use Rattle.event.specs.Moves.{HereWithin, moveOf};
+ghost use Rattle.decode.specs.Ops.{opOf, decodedOf, inRange};
 ghost use Rattle.rows.specs.Begins.{begunTo};
 ghost use Rattle.rows.specs.Pendings.{Pends};
 use decode::Decoded;
 use decode::Op;
+use event::BARE_DONE;
 use event::Fault;
+use event::Here;
 use event::Moved;
 use event::NO_SLOT;
 use event::Pending;
@@ -88,11 +90,7 @@ pub fn done(numbers: &mut Numbers, site: Site) -> Moved
     ensures { λ r. ⌜ ((clocks : rules.Clocks) (marks : rules.Marks) (values : rules.Values) (opcode : ℕ) (m : Matched) → moveOf r (site .thread) (site .row) opcode m (state clocks marks values (now (numbers .exit))) ≡ machine.done (state clocks marks values (now (numbers .entry))) (site .thread) (site .row) opcode) ⌝ }
 {
     thread::complete(numbers, site.thread, vv::one_more(site.row));
-    Moved::Done {
-        slot: NO_SLOT,
-        mask: 0,
-        value: 0,
-    }
+    BARE_DONE
 }
 
 pub fn fence_row(
@@ -154,11 +152,7 @@ pub fn jump_row(numbers: &mut Numbers, site: Site, taken: bool, target: u16) -> 
         return done(numbers, site);
     }
     thread::complete(numbers, site.thread, target);
-    Moved::Done {
-        slot: NO_SLOT,
-        mask: 0,
-        value: 0,
-    }
+    BARE_DONE
 }
 
 pub fn check_row(numbers: &mut Numbers, site: Site, holds: bool) -> Moved
@@ -199,16 +193,12 @@ pub fn skip_branch(numbers: &mut Numbers, site: Site) -> Moved
 }
 
 // Goes on with the bit that was answered for `branch_spurious`. No other row is given one.
-pub fn take_bit(
-    values: &mut Values,
-    numbers: &mut Numbers,
-    site: Site,
-    row: Decoded,
-    bit: bool,
-) -> Moved
-    requires { ⌜ (site .thread < 5) × opWithin row ⌝ }
-    ensures { λ r. ⌜ ((clocks : rules.Clocks) (marks : rules.Marks) (m : Matched) → moveOf r (site .thread) (site .row) (opcodeIn (decodedOf row)) m (state clocks marks (now (values .exit)) (now (numbers .exit))) ≡ machine.bitTaken (state clocks marks (now (values .entry)) (now (numbers .entry))) (site .thread) (site .row) (cond bit 1 0) (machine.roleIn (decodedOf row))) ⌝ }
+pub fn take_bit(values: &mut Values, numbers: &mut Numbers, here: Here, bit: bool) -> Moved
+    requires { ⌜ HereWithin here ⌝ }
+    ensures { λ r. ⌜ ((clocks : rules.Clocks) (marks : rules.Marks) (m : Matched) → moveOf r (here .site .thread) (here .site .row) (opcodeIn (decodedOf (here .row))) m (state clocks marks (now (values .exit)) (now (numbers .exit))) ≡ machine.bitTaken (state clocks marks (now (values .entry)) (now (numbers .entry))) (here .site .thread) (here .site .row) (cond bit 1 0) (machine.roleIn (decodedOf (here .row)))) ⌝ }
 {
+    let site = here.site;
+    let row = here.row;
     let thread = site.thread;
     let Decoded::Row(op) = row else {
         return Moved::Stops(Fault::Impossible);

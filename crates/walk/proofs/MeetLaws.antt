@@ -33,33 +33,33 @@ use Rattle.event.specs.declared.Moved.{Moved}
 use Rattle.event.specs.declared.Fault.the-variants as fault
 use Rattle.event.specs.declared.Question.{Question}
 use Rattle.event.specs.declared.Question.the-variants as question
-use Rattle.meeting.specs.Stands.{Lent, lent, Stands, ComesTo, Stopped, siteOf}
+use Rattle.meeting.specs.Stands.{Lent, lent, Stands, ComesTo, FaultMet, siteOf}
 use Rattle.meeting.specs.Branches.{questionOf, askedAt, branched, reached, reachedAt, PickFits, AnswersBy, RepliesBy, Reaches, Holding}
 use Rattle.meeting.specs.Entries.{moveAt, concludedAt, Lands}
 use Rattle.meeting.specs.declared.Cursor.{Cursor}
-use Rattle.meeting.specs.declared.Here.{Here}
+use Rattle.event.specs.declared.Here.{Here}
 use Rattle.meeting.specs.declared.Outcome.{Outcome}
 use Rattle.meeting.specs.declared.Outcome.the-variants as code
 use Rattle.meeting.specs.declared.Reply.{Reply}
 use Rattle.meeting.specs.declared.Reply.the-variants as answer
 use Rattle.meeting.specs.declared.Ticked.{Ticked}
 use Rattle.meeting.proofs.Outcome.{the-type as outcomes}
-use Rattle.meeting.proofs.ComesLaws.{same-stands, comes-stops}
+use Rattle.meeting.proofs.ComesLaws.{same-stands, comes-faulted}
 use Rattle.meeting.proofs.MetLaws.{met-ahead}
 use Rattle.walk.specs.Walks.{CursorPlaced, Passed}
 use Rattle.walk.specs.Parts.{thenOn, thenReplied, AtRow, AsksAt, Rooms, Goes, meetsAt, metAt}
-use Rattle.walk.proofs.WalkLaws.{meet-stops, meet-on}
+use Rattle.walk.proofs.WalkLaws.{meet-faulted, meet-on}
 use Rattle.meeting.proofs.ComesLaws.{wrote-none}
 
 module _ (f : Walk State → Tick State) (c : Cursor) (x : Lent) where
   pub stays-then : (o : Outcome) → OneOf (1 ∷ 2 ∷ []) (tagOf outcomes o) → (t : Tick State) → ComesTo o c x t → ComesTo o c x (thenOn f t)
   stays-then code.Goes k t h = absurd (miss (1 ∷ 2 ∷ []) 0 tt k)
-  stays-then code.Ends k (goes w) h = absurd h
-  stays-then code.Ends k (over w) h = h
-  stays-then code.Ends k (faulted g s w) h = absurd h
-  stays-then (code.Stops e s) k (goes w) h = absurd h
-  stays-then (code.Stops e s) k (over w) h = absurd h
-  stays-then (code.Stops e s) k (faulted g there w) h = h
+  stays-then code.Over k (goes w) h = absurd h
+  stays-then code.Over k (over w) h = h
+  stays-then code.Over k (faulted g s w) h = absurd h
+  stays-then (code.Faulted e s) k (goes w) h = absurd h
+  stays-then (code.Faulted e s) k (over w) h = absurd h
+  stays-then (code.Faulted e s) k (faulted g there w) h = h
 
 pub record WentOn (x : Lent) (c : Cursor) (t : Tick State) : Type 0 where
   pub walk : Walk State
@@ -212,16 +212,16 @@ module _ (c : Cursor) (m : Ticked) (h : Here) (q : Question) (clocks : Clocks) (
         (f p L v rooms (on .stands) (explorer.reply (v .pos) (getD (v .ledger .path) (v .pos) noBranch) (askedAt q h (w .state))) (answers p L w v (rooms .holding) (on .stands))
         (reply-row q (v .state) h row (v .pos) (getD (v .ledger .path) (v .pos) noBranch) (w .state) (h .site .thread) (decodedOf (h .row))))
 
-  unexpected-comes : (r : Ticked) → Stopped fault.Impossible (h .site) (m .cursor) r → (p : Program) (L : explorer.Limits) (v : Walk State) → Stands reaching (m .cursor) v
+  unexpected-comes : (r : Ticked) → FaultMet fault.Impossible (h .site) (m .cursor) r → (p : Program) (L : explorer.Limits) (v : Walk State) → Stands reaching (m .cursor) v
       → (x : explorer.Reply) → AnswersBy answer.Unexpected x → ComesTo (r .outcome) (r .cursor) reaching (explorer.replied (machine p) L (siteOf (h .site)) v x)
   unexpected-comes r s p L v stands (says a) f = absurd f
-  unexpected-comes r s p L v stands unexpected f = comes-stops r reaching v fault.Impossible (h .site) _ (s .is) refl (same-stands (s .stays) stands)
+  unexpected-comes r s p L v stands unexpected f = comes-faulted r reaching v fault.Impossible (h .site) _ (s .is) refl (same-stands (s .stays) stands)
 
-  pub meet-unexpected : m .outcome ≡ code.Goes → length there ≡ length path → (a : Reply) → RepliesBy there (m .cursor .pos) q a → a ≡ answer.Unexpected → (r : Ticked) → Stopped fault.Impossible (h .site) (m .cursor) r
+  pub meet-unexpected : m .outcome ≡ code.Goes → length there ≡ length path → (a : Reply) → RepliesBy there (m .cursor .pos) q a → a ≡ answer.Unexpected → (r : Ticked) → FaultMet fault.Impossible (h .site) (m .cursor) r
       → Goes before reaching c r 6 h (meetsAt q h) (metAt q h)
   meet-unexpected goes-on long a ans e r s =
       record {
-        gone = meet-stops placed (reach .met) s;
+        gone = meet-faulted placed (reach .met) s;
         wrote = wrote-none c (r .cursor) trace (s .stays .same-entries ∙ reach .met .same-entries);
         comes = meets-by goes-on long a ans r reaching
             (λ p L v rooms stands x f row. unexpected-comes r s p L v stands x (subst (λ (y : Reply). AnswersBy y x) e f));

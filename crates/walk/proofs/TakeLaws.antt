@@ -28,7 +28,7 @@ use Rattle.meeting.specs.Stands.{Lent, lent, Stands, ComesTo, siteOf}
 use Rattle.meeting.specs.Branches.{askedAt, CursorMarks}
 use Rattle.meeting.specs.Entries.{Kept, completedBy, completedAt, concludedAt, Lands}
 use Rattle.meeting.specs.declared.Cursor.{Cursor}
-use Rattle.meeting.specs.declared.Here.{Here}
+use Rattle.event.specs.declared.Here.{Here}
 use Rattle.meeting.specs.declared.Outcome.the-variants as code
 use Rattle.meeting.specs.declared.Ticked.{Ticked}
 use Rattle.meeting.proofs.Outcome.{the-type as outcomes}

@@ -34,7 +34,7 @@ use Rattle.execution.proofs.TickLaws.{next-with}
 use Rattle.meeting.specs.Stands.{Lent, lent, ComesTo, siteOf}
 use Rattle.meeting.specs.Entries.{moveAt}
 use Rattle.meeting.specs.declared.Cursor.{Cursor}
-use Rattle.meeting.specs.declared.Here.{Here}
+use Rattle.event.specs.declared.Here.{Here}
 use Rattle.meeting.specs.declared.Ticked.{Ticked}
 use Rattle.walk.specs.Parts.{AtRow, MovesAt, Goes, takesAt, takenAt, ticksAt, tickedAt}
 use Rattle.walk.specs.declared.Limits.{Limits}

@@ -1,6 +1,6 @@
 -- How far each part of a tick takes the cursor. Assumes nothing.
 --     says-within              a choice names one of what there is
---     meet-stops, meet-on      what a meeting comes to
+--     meet-faulted, meet-on      what a meeting comes to
 --     take-on                  and the whole tick
 use Prim.Native.Nat.{ℕ}
 use mathlib.Core.List.{List}
@@ -10,7 +10,7 @@ use Rattle.event.specs.declared.Picked.{Picked}
 use Rattle.event.specs.declared.Fault.{Fault}
 use Rattle.event.specs.declared.Site.{Site}
 use Rattle.execution.specs.Answers.{choiceWithin}
-use Rattle.meeting.specs.Stands.{Stopped}
+use Rattle.meeting.specs.Stands.{FaultMet}
 use Rattle.meeting.specs.Branches.{CursorMarked, Met, replyWithin}
 use Rattle.meeting.specs.Entries.{Kept}
 use Rattle.meeting.specs.declared.Cursor.{Cursor}
@@ -25,8 +25,8 @@ pub says-within : (r : Reply) {x : Picked} → r ≡ reply.Says x → replyWithi
 says-within r e h = subst (λ (x : Reply). replyWithin x) e h
 
 module _ {c : Cursor} {m : Ticked} {entry path trace : List ℕ} (placed : CursorPlaced c entry trace) (met : Met c m path) where
-  pub meet-stops : {r : Ticked} {f : Fault} {at : Site} → Stopped f at (m .cursor) r → Gone c (r .cursor) 6 path trace
-  meet-stops s =
+  pub meet-faulted : {r : Ticked} {f : Fault} {at : Site} → FaultMet f at (m .cursor) r → Gone c (r .cursor) 6 path trace
+  meet-faulted s =
       record {
         placed = record {
           passed = omega (arith, met .passed, s .stays .same-pos, s .stays .same-len);

@@ -21,11 +21,11 @@ use Rattle.decode.specs.Ops.{decodedOf}
 use Rattle.table.specs.Answers.{OpAt, roomIn}
 use Rattle.event.specs.declared.Fault.the-variants as fault
 use Rattle.event.specs.declared.Site.{Site}
-use Rattle.meeting.specs.Stands.{Lent, lent, Stands, ComesTo, Stopped, siteOf}
+use Rattle.meeting.specs.Stands.{Lent, lent, Stands, ComesTo, FaultMet, siteOf}
 use Rattle.meeting.specs.declared.Cursor.{Cursor}
-use Rattle.meeting.specs.declared.Here.{Here}
+use Rattle.event.specs.declared.Here.{Here}
 use Rattle.meeting.specs.declared.Ticked.{Ticked}
-use Rattle.meeting.proofs.ComesLaws.{comes-stops, same-stands}
+use Rattle.meeting.proofs.ComesLaws.{comes-faulted, same-stands}
 use Rattle.walk.specs.Walks.{CursorPlaced, Runs, Ticks}
 use Rattle.walk.specs.Parts.{Goes, ticksAt, tickedAt, AtRow}
 use Rattle.walk.specs.declared.Limits.{Limits}
@@ -43,11 +43,11 @@ module _ (table shape : List ℕ) (limits : Limits) (c : Cursor) (r : Ticked) (c
   abbrev entry : Lent
   entry = lent clocks marks values numbers path trace
 
-  pub tick-nobody : (s : Site) → CursorPlaced c path trace → 5 ≤ number numbers activeThread → siteOf s ≡ noSite → Stopped fault.Impossible s c r → Ticks entry entry table shape limits c r
+  pub tick-nobody : (s : Site) → CursorPlaced c path trace → 5 ≤ number numbers activeThread → siteOf s ≡ noSite → FaultMet fault.Impossible s c r → Ticks entry entry table shape limits c r
   tick-nobody s placed h e g =
       record {
         comes = λ p L w runs stands.
-            comes-stops r entry w fault.Impossible s (explorer.tick (machine p) L w) (g .is)
+            comes-faulted r entry w fault.Impossible s (explorer.tick (machine p) L w) (g .is)
             (nobody-tick p L w (subst (λ (st : State). ltb (current st) 5 ≡ false) (sym (stands .is-state)) (le-ltb (number numbers activeThread) 5 h))
             ∙ ap (λ (x : rules.Site). faulted rules.impossible x w) (sym e))
             (same-stands (g .stays) stands);

@@ -24,7 +24,7 @@ use Rattle.meeting.specs.Stands.{Lent, Stands, ComesTo, siteOf}
 use Rattle.meeting.specs.Branches.{askedAt, Holding}
 use Rattle.meeting.specs.Entries.{moveAt, Wrote}
 use Rattle.meeting.specs.declared.Cursor.{Cursor}
-use Rattle.meeting.specs.declared.Here.{Here}
+use Rattle.event.specs.declared.Here.{Here}
 use Rattle.meeting.specs.declared.Ticked.{Ticked}
 use Rattle.walk.specs.Walks.{Gone}
 use Rattle.walk.specs.declared.Limits.{Limits}

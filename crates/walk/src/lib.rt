@@ -5,10 +5,12 @@ ghost use Prim.Native.Nat.{_<_, _≤_, _+_, _^_};
 ghost use mathlib.Core.Path.{_≡_};
 ghost use lib.ListN.{getD};
 ghost use Rattle.rules.specs.Event.{noSite};
-ghost use Rattle.meeting.specs.Stands.{HereWithin, lent, siteOf};
+ghost use Rattle.event.specs.Moves.{HereWithin};
+ghost use Rattle.meeting.specs.Stands.{lent, siteOf};
 ghost use Rattle.walk.specs.Parts.{Goes, ticksAt, tickedAt, takesAt, takenAt, meetsAt, metAt};
 ghost use Rattle.walk.specs.Walks.{CursorPlaced, Ticks, Passed};
 use event::Fault;
+use event::Here;
 use event::Moved;
 use event::NO_ROW;
 use event::NOWHERE;
@@ -23,16 +25,15 @@ use layout::of_run::ACTIVE_THREAD;
 use layout::of_thread::NEXT_ROW;
 use layout::wide16;
 pub use meeting::Cursor;
-use meeting::Here;
 pub use meeting::Outcome;
 use meeting::Reply;
 pub use meeting::Ticked;
 use meeting::answer;
 use meeting::conclude;
+pub use meeting::faulted;
 use meeting::mark;
 use meeting::note_if;
 use meeting::reach;
-pub use meeting::stops;
 use path::Bound;
 use table::Shape;
 
@@ -67,15 +68,12 @@ pub fn tick(
 {
     let thread = wide16(numbers[ACTIVE_THREAD]);
     if MAX_THREADS <= thread {
-        return stops(Fault::Impossible, no_site(), cursor);
+        return faulted(Fault::Impossible, no_site(), cursor);
     }
-    let number = numbers[NEXT_ROW + thread];
-    let row = table::row_of(table, shape, thread, number);
-    let site = Site {
-        thread,
-        row: number,
-    };
-    let here = Here { site, row };
+    let row = numbers[NEXT_ROW + thread];
+    let decoded = table::row_of(table, shape, thread, row);
+    let site = Site { thread, row };
+    let here = Here { site, row: decoded };
     let at = TickAt {
         limits,
         here,
@@ -100,10 +98,8 @@ fn tick_at(
 {
     let limits = at.limits;
     let here = at.here;
-    let site = here.site;
-    let row = here.row;
     let operations = limits.operations;
-    let event = execution::next(shape, clocks, marks, values, numbers, operations, site, row);
+    let event = execution::next(shape, clocks, marks, values, numbers, operations, here);
     take(clocks, marks, values, numbers, path, trace, at, event)
 }
 
@@ -166,11 +162,10 @@ fn meet(
     };
     let cursor = met.cursor;
     let site = here.site;
-    let row = here.row;
     let Reply::Says(choice) = answer(path, cursor.pos, question) else {
-        return stops(Fault::Impossible, site, cursor);
+        return faulted(Fault::Impossible, site, cursor);
     };
-    let event = execution::answered(clocks, marks, values, numbers, site, row, choice);
+    let event = execution::answered(clocks, marks, values, numbers, here, choice);
     conclude(trace, here, event, passed(cursor))
 }
 

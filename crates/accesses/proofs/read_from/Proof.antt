@@ -14,7 +14,7 @@ returns : tie.Need-returns
 returns c = λ m. from-refused _ _ _ _ _ _ (c .enum-told .given .1)
 
 to-read-requires : tie.Need-to-read-requires
-to-read-requires c κs = row-within _ _ (c .before .row .given .1) (c .before .before .before .pre .2)
+to-read-requires c κs = row-within _ _ (c .before .row .given .1) (c .before .before .before .before .pre .0 .names)
 
 enum-known-cell : tie.Need-enum-known-cell
 enum-known-cell c = search needs
@@ -35,14 +35,14 @@ returns-3 c =
 
 read-requires : tie.Need-read-requires
 read-requires c κs =
-    let start = c .before .before .before .before .before .before .before .before .before .before .before .before .before .before in
-    (start .pre .0, start .pre .1, row-within _ _ (c .before .before .before .before .before .before .before .before .before .before .before .before .row .given .1) (start .pre .2))
+    let start = c .before .before .before .before .before .before .before .before .before .before .before .before .before .before .before in
+    (start .pre .0 .who, start .pre .1, row-within _ _ (c .before .before .before .before .before .before .before .before .before .before .before .before .row .given .1) (start .pre .0 .names))
 
 cast-put-value : tie.Need-cast-put-value
 cast-put-value c = search needs
 
 put-value-requires : tie.Need-put-value-requires
-put-value-requires c κs = (c .before .before .before .before .before .before .before .before .before .before .before .before .before .before .before .before .before .pre .0, of-within _ _ _ (c .before .before .before .before .before .before .before .before .before .before .before .cell .given .1) (c .before .before .before .before .before .before .before .before .before .before .before .before .before .to-read .ensures .within) .1)
+put-value-requires c κs = (c .before .before .before .before .before .before .before .before .before .before .before .before .before .before .before .before .before .before .pre .0 .who, of-within _ _ _ (c .before .before .before .before .before .before .before .before .before .before .before .cell .given .1) (c .before .before .before .before .before .before .before .before .before .before .before .before .before .to-read .ensures .within) .1)
 
 returns-4 : tie.Need-returns-4
 returns-4 c =

@@ -18,7 +18,7 @@ returns c =
     let call = c .before .before .before in
     let start = call .before .before .before .before in
     λ opcode m.
-    store-raced _ _ opcode _ (start .args .order) (start .args .value) _ (start .args .marks .now) (start .args .values .now) (start .args .numbers .now) _
+    store-raced _ _ opcode _ (start .args .access .order) (start .args .value) _ (start .args .marks .now) (start .args .values .now) (start .args .numbers .now) _
     (call .track-store .ensures .left) _ (call .before .before .raise .ensures _ _ _) _ _ (answered _ _ _ (c .before .kind .given .1) (call .track-store .ensures .answer))
 
 enum-told : tie.Need-enum-told
@@ -45,8 +45,8 @@ one-more-requires c κs = search needs
 complete-requires : tie.Need-complete-requires
 complete-requires c κs = search needs
 
-cast-t30 : tie.Need-cast-t30
-cast-t30 c = search needs
+cast-t29 : tie.Need-cast-t29
+cast-t29 c = search needs
 
 returns-2 : tie.Need-returns-2
 returns-2 c =
@@ -54,7 +54,7 @@ returns-2 c =
     let call = index .before .before .before .before in
     let start = call .before .before .before .before in
     λ opcode m.
-    store-done _ _ opcode _ (start .args .order) _ _ (start .args .marks .now) (start .args .values .now) (start .args .numbers .now) _
+    store-done _ _ opcode _ (start .args .access .order) _ _ (start .args .marks .now) (start .args .values .now) (start .args .numbers .now) _
     (call .track-store .ensures .left) _ (call .before .before .raise .ensures _ _ _)
     (answered _ _ _ (index .before .before .enum-told .given .1) (call .track-store .ensures .answer))
     _ _ (index .index .ensures .is) (c .before .one-more .ensures) _ _ (c .before .before .before .store .ensures) (c .complete .ensures _ _ _)
@@ -75,5 +75,5 @@ store-row-spec =
     store-requires
     one-more-requires
     complete-requires
-    cast-t30
+    cast-t29
     returns-2)

@@ -1,3 +1,4 @@
+use native.Mathlib.Omega.{arith}
 use Rattle.layout.specs.Tables.{state}
 use Rattle.execution.proofs.StoreLaws.{of-within, stores-as, unsync-of}
 use borrow.Author.Needs.{needs}
@@ -7,22 +8,23 @@ use Rattle.execution.proofs.act_store.Tie as tie
 to-store-requires : tie.Need-to-store-requires
 to-store-requires c κs = search needs
 
-enum-known-order : tie.Need-enum-known-order
-enum-known-order c = search needs
+enum-known-access : tie.Need-enum-known-access
+enum-known-access c = search needs
 
 store-row-requires : tie.Need-store-row-requires
 store-row-requires c κs =
-    let order = c .before .before .before .before .before in
-    let call = order .before .before in
-    (call .before .before .pre .0, of-within _ _ _ _ (order .order .given .1) (call .to-store .ensures .within))
+    let access = c .before .before .before .before .before in
+    let call = access .before .before in
+    let own = of-within _ _ _ _ (access .access .given .1) (call .to-store .ensures .within) in
+    (omega (arith, own .0, call .before .before .pre .0), own .1)
 
 returns : tie.Need-returns
 returns c =
-    let order = c .before .before .before .before .before .before in
-    let call = order .before .before in
+    let access = c .before .before .before .before .before .before in
+    let call = access .before .before in
     let args = call .before .before .args in
     λ p m.
-    stores-as p (state (args .clocks .now) (args .marks .now) (args .values .now) (args .numbers .now)) (args .site .thread) (args .site .row) (args .op) _ (call .to-store .ensures .is) _ _ _ (order .order .given .1) _ (c .store-row .ensures _ m)
+    stores-as p (state (args .clocks .now) (args .marks .now) (args .values .now) (args .numbers .now)) (args .site .thread) (args .site .row) (args .op) _ (call .to-store .ensures .is) _ _ (access .access .given .1) (of-within _ _ _ _ (access .access .given .1) (call .to-store .ensures .within) .0) (c .store-row .result) m _ (c .store-row .ensures _ m)
 
 enum-told : tie.Need-enum-told
 enum-told c = search needs
@@ -42,7 +44,7 @@ act-store-spec =
     tie.close
     (tie.spec
     to-store-requires
-    enum-known-order
+    enum-known-access
     store-row-requires
     returns
     enum-told

@@ -25,7 +25,7 @@ read-from-requires : tie.Need-read-from-requires
 read-from-requires c κs =
     let choice = c .before .before .before .before .before in
     let pre = choice .before .before .pre in
-    (pre .0, slot-within _ _ _ (choice .choice2 .given .1) (pre .2), pre .1)
+    (pre .0, slot-within _ _ _ (choice .choice2 .given .1) (pre .1))
 
 enum-known-choice-3 : tie.Need-enum-known-choice-3
 enum-known-choice-3 c = search needs
@@ -38,23 +38,23 @@ returns c =
     let choice = c .before .before .before .before in
     let args = choice .before .before .args in
     λ m.
-    answers-as _ _ (decodedOf (args .row)) (args .site .thread) (args .site .row) (state (args .clocks .now) (args .marks .now) (args .values .now) (args .numbers .now)) _ (choice .choice .given .1)
-    (c .switch .ensures (args .marks .now) (args .values .now) (args .site .thread) (args .site .row) (opcodeIn (decodedOf (args .row))) m)
+    answers-as _ _ (decodedOf (args .here .row)) (args .here .site .thread) (args .here .site .row) (state (args .clocks .now) (args .marks .now) (args .values .now) (args .numbers .now)) _ (choice .choice .given .1)
+    (c .switch .ensures (args .marks .now) (args .values .now) (args .here .site .thread) (args .here .site .row) (opcodeIn (decodedOf (args .here .row))) m)
 
 returns-2 : tie.Need-returns-2
 returns-2 c =
     let choice = c .before .before in
     let args = choice .before .before .args in
     λ m.
-    answers-as _ _ (decodedOf (args .row)) (args .site .thread) (args .site .row) (state (args .clocks .now) (args .marks .now) (args .values .now) (args .numbers .now)) _ (choice .enum-told .given .1)
-    (λ at. c .nobody .ensures (args .clocks .now) (args .marks .now) (args .values .now) (args .site .thread) (args .site .row) (opcodeIn (decodedOf (args .row))) at m)
+    answers-as _ _ (decodedOf (args .here .row)) (args .here .site .thread) (args .here .site .row) (state (args .clocks .now) (args .marks .now) (args .values .now) (args .numbers .now)) _ (choice .enum-told .given .1)
+    (λ at. c .nobody .ensures (args .clocks .now) (args .marks .now) (args .values .now) (args .here .site .thread) (args .here .site .row) (opcodeIn (decodedOf (args .here .row))) at m)
 
 returns-3 : tie.Need-returns-3
 returns-3 c =
     let choice = c .before .before .before .before .before .before in
     let args = choice .before .before .args in
     λ m.
-    answers-as _ _ (decodedOf (args .row)) (args .site .thread) (args .site .row) (state (args .clocks .now) (args .marks .now) (args .values .now) (args .numbers .now)) _ (choice .choice2 .given .1)
+    answers-as _ _ (decodedOf (args .here .row)) (args .here .site .thread) (args .here .site .row) (state (args .clocks .now) (args .marks .now) (args .values .now) (args .numbers .now)) _ (choice .choice2 .given .1)
     (c .read-from .ensures m)
 
 returns-4 : tie.Need-returns-4
@@ -62,7 +62,7 @@ returns-4 c =
     let choice = c .before .before .before .before in
     let args = choice .before .before .args in
     λ m.
-    answers-as _ _ (decodedOf (args .row)) (args .site .thread) (args .site .row) (state (args .clocks .now) (args .marks .now) (args .values .now) (args .numbers .now)) _ (choice .choice3 .given .1)
+    answers-as _ _ (decodedOf (args .here .row)) (args .here .site .thread) (args .here .site .row) (state (args .clocks .now) (args .marks .now) (args .values .now) (args .numbers .now)) _ (choice .choice3 .given .1)
     (c .take-bit .ensures (args .clocks .now) (args .marks .now) m)
 
 pub answered-spec : {M : Type 1} → statement M

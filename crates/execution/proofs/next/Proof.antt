@@ -31,9 +31,9 @@ returns c =
     let past = c .before .before in
     let first = past .before .before .before in
     let call = first .before in
-    let args = call .before .before .args in
+    let args = call .before .before .before .args in
     λ p limited celled.
-    next-ended p (state (args .clocks .now) (args .marks .now) (args .values .now) (args .numbers .now)) (args .site .thread) (args .site .row) _ _ (call .is-to-begin .ensures (args .clocks .now) (args .marks .now) (args .values .now)) (args .row) (first .if1 .taken) (past .if2 .taken) _ (c .end .ensures (args .clocks .now) (args .marks .now) (args .values .now))
+    next-ended p (state (args .clocks .now) (args .marks .now) (args .values .now) (args .numbers .now)) (args .here .site .thread) (args .here .site .row) _ _ (call .is-to-begin .ensures (args .clocks .now) (args .marks .now) (args .values .now)) (args .here .row) (first .if1 .taken) (past .if2 .taken) _ (c .end .ensures (args .clocks .now) (args .marks .now) (args .values .now))
 
 enum-known-row : tie.Need-enum-known-row
 enum-known-row c = search needs
@@ -45,17 +45,17 @@ returns-2 : tie.Need-returns-2
 returns-2 c =
     let joined = c .before .before in
     let call = joined .before in
-    let start = call .before .before in
+    let start = call .before .before .before in
     let args = start .args in
     λ p limited celled.
-    next-refused p (state (args .clocks .now) (args .marks .now) (args .values .now) (args .numbers .now)) (args .site .thread) (args .site .row) _ _ (call .is-to-begin .ensures (args .clocks .now) (args .marks .now) (args .values .now)) (args .row) (⊎-elim (λ w. inl (w .3 .left)) (λ w. inr (w .left)) (joined .if1 .came)) (c .enum-told .given .1)
+    next-refused p (state (args .clocks .now) (args .marks .now) (args .values .now) (args .numbers .now)) (args .here .site .thread) (args .here .site .row) _ _ (call .is-to-begin .ensures (args .clocks .now) (args .marks .now) (args .values .now)) (args .here .row) (⊎-elim (λ w. inl (w .3 .left)) (λ w. inr (w .left)) (joined .if1 .came)) (c .enum-told .given .1)
 
 begin-requires : tie.Need-begin-requires
 begin-requires c κs =
     let row = c .before .before .before in
     let joined = row .before .before in
-    let start = joined .before .before .before in
-    (start .pre .0, row-within _ _ (row .row .given .1) (start .pre .2))
+    let start = joined .before .before .before .before in
+    (start .pre .0 .who, row-within _ _ (row .row .given .1) (start .pre .0 .names))
 
 enum-told-2 : tie.Need-enum-told-2
 enum-told-2 c = search needs
@@ -67,11 +67,11 @@ returns-3 c =
     let row = test .before .before in
     let joined = row .before .before in
     let call = joined .before in
-    let start = call .before .before in
+    let start = call .before .before .before in
     let args = start .args in
     λ p limited celled.
-    next-begins p (state (args .clocks .now) (args .marks .now) (args .values .now) (args .numbers .now)) (args .site .thread) (args .site .row) _ _ (call .is-to-begin .ensures (args .clocks .now) (args .marks .now) (args .values .now)) (args .row) (⊎-elim (λ w. inl (w .3 .left)) (λ w. inr (w .left)) (joined .if1 .came)) _ (row .row .given .1) (test .if3 .taken) _
-    (begun-other p (state (args .clocks .now) (args .marks .now) (args .values .now) (args .numbers .now)) _ (args .site .thread) (args .site .row) _ _ _ _ (begin .begin .result) limited (begin .begin .ensures (args .clocks .now) (args .marks .now) (args .values .now) (args .site .row) _ _) (c .match2 .keys2))
+    next-begins p (state (args .clocks .now) (args .marks .now) (args .values .now) (args .numbers .now)) (args .here .site .thread) (args .here .site .row) _ _ (call .is-to-begin .ensures (args .clocks .now) (args .marks .now) (args .values .now)) (args .here .row) (⊎-elim (λ w. inl (w .3 .left)) (λ w. inr (w .left)) (joined .if1 .came)) _ (row .row .given .1) (test .if3 .taken) _
+    (begun-other p (state (args .clocks .now) (args .marks .now) (args .values .now) (args .numbers .now)) _ (args .here .site .thread) (args .here .site .row) _ _ _ _ (begin .begin .result) limited (begin .begin .ensures (args .clocks .now) (args .marks .now) (args .values .now) (args .here .site .row) _ _) (c .match2 .keys2))
 
 element-copy-out-wide16 : tie.Need-element-copy-out-wide16
 element-copy-out-wide16 c = search needs
@@ -84,8 +84,8 @@ act-requires c κs =
     let wide = c .before .before .before .before in
     let row = wide .before .before .before .before in
     let joined = row .before .before in
-    let start = joined .before .before .before in
-    (start .pre .0, omega (arith, wide .wide16 .ensures .same, start .pre .1), row-within _ _ (row .row .given .1) (start .pre .2))
+    let start = joined .before .before .before .before in
+    (start .pre .0 .who, omega (arith, wide .wide16 .ensures .same, start .pre .1), row-within _ _ (row .row .given .1) (start .pre .0 .names))
 
 returns-4 : tie.Need-returns-4
 returns-4 c =
@@ -94,13 +94,13 @@ returns-4 c =
     let row = test .before .before in
     let joined = row .before .before in
     let call = joined .before in
-    let start = call .before .before in
+    let start = call .before .before .before in
     let args = start .args in
     λ p limited celled.
-    next-acts p (state (args .clocks .now) (args .marks .now) (args .values .now) (args .numbers .now)) (args .site .thread) (args .site .row) _ _ (call .is-to-begin .ensures (args .clocks .now) (args .marks .now) (args .values .now)) (args .row) (⊎-elim (λ w. inl (w .3 .left)) (λ w. inr (w .left)) (joined .if1 .came)) _ (row .row .given .1)
+    next-acts p (state (args .clocks .now) (args .marks .now) (args .values .now) (args .numbers .now)) (args .here .site .thread) (args .here .site .row) _ _ (call .is-to-begin .ensures (args .clocks .now) (args .marks .now) (args .values .now)) (args .here .row) (⊎-elim (λ w. inl (w .3 .left)) (λ w. inr (w .left)) (joined .if1 .came)) _ (row .row .given .1)
     (state (args .clocks .now) (args .marks .now) (args .values .now) (test .if3 .numbers))
     (⊎-elim
-    (λ w. inl (w .0 .taken, begun-acts p (state (args .clocks .now) (args .marks .now) (args .values .now) (args .numbers .now)) _ (args .site .thread) (args .site .row) 0 (args .limit) (opOf (row .row .given .0 .0)) (offers []) (w .2 .result) limited (w .2 .ensures (args .clocks .now) (args .marks .now) (args .values .now) (args .site .row) 0 (offers [])) (w .4 .given .1) _ (ap (λ (n : Numbers). state (args .clocks .now) (args .marks .now) (args .values .now) n) (w .5))))
+    (λ w. inl (w .0 .taken, begun-acts p (state (args .clocks .now) (args .marks .now) (args .values .now) (args .numbers .now)) _ (args .here .site .thread) (args .here .site .row) 0 (args .limit) (opOf (row .row .given .0 .0)) (offers []) (w .2 .result) limited (w .2 .ensures (args .clocks .now) (args .marks .now) (args .values .now) (args .here .site .row) 0 (offers [])) (w .4 .given .1) _ (ap (λ (n : Numbers). state (args .clocks .now) (args .marks .now) (args .values .now) n) (w .5))))
     (λ w. inr (w .0 .left, ap (λ (n : Numbers). state (args .clocks .now) (args .marks .now) (args .values .now) n) (w .1)))
     (test .if3 .came))
     (c .act .result) _

@@ -75,8 +75,8 @@ loop-again c =
 no-site-requires : tie.Need-no-site-requires Inv-loop μ-loop
 no-site-requires c κs = search needs
 
-stops-requires : tie.Need-stops-requires Inv-loop μ-loop
-stops-requires c κs = search needs
+faulted-requires : tie.Need-faulted-requires Inv-loop μ-loop
+faulted-requires c κs = search needs
 
 same-length-3 : tie.Need-same-length-3 Inv-loop μ-loop
 same-length-3 c = search needs
@@ -89,7 +89,7 @@ returns-2 c =
     let loop = c .before .before .before in
     walks-spent _ _ _ _ _ (loop .loop .inv .1)
     (omega (arith, loop .loop .inv .0, c .before .before .loop-test .left, loop .before .ticks .ensures .is)) (omega (arith, loop .loop .inv .0, loop .before .ticks .ensures .few))
-    (c .before .no-site .result) (c .before .no-site .ensures) (c .stops .result) (c .stops .ensures)
+    (c .before .no-site .result) (c .before .no-site .ensures) (c .faulted .result) (c .faulted .ensures)
 
 pub walked-spec : {M : Type 1} → statement M
 walked-spec =
@@ -108,7 +108,7 @@ walked-spec =
     loop-less
     loop-again
     no-site-requires
-    stops-requires
+    faulted-requires
     same-length-3
     same-length-4
     returns-2)

@@ -1,5 +1,5 @@
 use mathlib.Core.Path.{refl}
-use Rattle.meeting.proofs.MetLaws.{stops-met}
+use Rattle.meeting.proofs.MetLaws.{faulted-met}
 use Rattle.meeting.proofs.BranchLaws.{offers-reaches, equal-reaches}
 use native.Mathlib.Omega.{arith}
 use Rattle.meeting.proofs.MetLaws.{pushes-few, pushes-met}
@@ -16,14 +16,17 @@ enum-known-n c = search needs
 enum-told : tie.Need-enum-told
 enum-told c = search needs
 
-stops-requires : tie.Need-stops-requires
-stops-requires c κs = search needs
+faulted-requires : tie.Need-faulted-requires
+faulted-requires c κs = search needs
 
 returns : tie.Need-returns
 returns c =
     let start = c .before .before .before .before .before .before .before in
     let args = start .args in
-    equal-reaches (args .cursor) (c .stops .result) (args .here) (args .clocks .now) (args .marks .now) (args .numbers .now) (args .path .now) _ _ (c .before .before .before .offers .result) (c .before .before .before .offers .ensures) (stops-met (args .cursor) (c .stops .result) (start .pre .1) (start .pre .2) (c .stops .ensures)) (c .before .enum-told .given .1) (c .stops .ensures)
+    equal-reaches (args .cursor) (c .faulted .result) (args .here) (args .clocks .now) (args .marks .now) (args .numbers .now) (args .path .now) _ _ (c .before .before .before .offers .result) (c .before .before .before .offers .ensures) (faulted-met (args .cursor) (c .faulted .result) (start .pre .1) (start .pre .2) (c .faulted .ensures)) (c .before .enum-told .given .1) (c .faulted .ensures)
+
+is-exploring-requires : tie.Need-is-exploring-requires
+is-exploring-requires c κs = search needs
 
 push-load-requires : tie.Need-push-load-requires
 push-load-requires c κs = search needs
@@ -31,7 +34,7 @@ push-load-requires c κs = search needs
 added-requires : tie.Need-added-requires
 added-requires c κs =
     let push = c .before .before in
-    let start = push .before .before .before .before .before .before .before .before .before in
+    let start = push .before .before .before .before .before .before .before .before .before .before in
     (pushes-few (push .push-load .ensures) (omega arith), omega (arith, start .pre, start .good), omega (arith, start .pre))
 
 same-length : tie.Need-same-length
@@ -40,9 +43,9 @@ same-length c = search needs
 returns-2 : tie.Need-returns-2
 returns-2 c =
     let push = c .before .before .before in
-    let start = c .before .before .before .before .before .before .before .before .before .before .before .before in
+    let start = c .before .before .before .before .before .before .before .before .before .before .before .before .before in
     let args = start .args in
-    offers-reaches (args .cursor) (c .added .result) (args .here) (args .clocks .now) (args .marks .now) (args .numbers .now) (args .path .now) _ _ _ (c .before .before .before .before .before .before .before .before .offers .result) (c .before .before .before .before .before .before .before .before .offers .ensures) (pushes-met (args .cursor) (c .added .result) (start .pre .1) (start .pre .2) (args .here .site) (omega arith) (push .push-load .ensures) (c .added .ensures)) (args .exploring) (c .before .before .before .before .before .before .n .given .1) (start .pre .4) refl (push .push-load .ensures) (c .added .ensures)
+    offers-reaches (args .cursor) (c .added .result) (args .here) (args .clocks .now) (args .marks .now) (args .numbers .now) (args .path .now) _ _ _ (c .before .before .before .before .before .before .before .before .before .offers .result) (c .before .before .before .before .before .before .before .before .before .offers .ensures) (pushes-met (args .cursor) (c .added .result) (start .pre .1) (start .pre .2) (args .here .site) (omega arith) (push .push-load .ensures) (c .added .ensures)) (c .before .before .before .before .before .is-exploring .result) (c .before .before .before .before .before .before .before .n .given .1) (c .before .before .before .before .before .is-exploring .ensures) refl (push .push-load .ensures) (c .added .ensures)
 
 pub add-load-spec : {M : Type 1} → statement M
 add-load-spec =
@@ -51,8 +54,9 @@ add-load-spec =
     offers-requires
     enum-known-n
     enum-told
-    stops-requires
+    faulted-requires
     returns
+    is-exploring-requires
     push-load-requires
     added-requires
     same-length

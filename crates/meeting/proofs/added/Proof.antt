@@ -21,14 +21,14 @@ goes-requires c κs = search needs
 enum-told : tie.Need-enum-told
 enum-told c = search needs
 
-stops-requires : tie.Need-stops-requires
-stops-requires c κs = search needs
+faulted-requires : tie.Need-faulted-requires
+faulted-requires c κs = search needs
 
 enum-told-2 : tie.Need-enum-told-2
 enum-told-2 c = search needs
 
-stops-requires-2 : tie.Need-stops-requires-2
-stops-requires-2 c κs = search needs
+faulted-requires-2 : tie.Need-faulted-requires-2
+faulted-requires-2 c κs = search needs
 
 returns : tie.Need-returns
 returns c =
@@ -39,12 +39,12 @@ returns c =
 returns-2 : tie.Need-returns-2
 returns-2 c =
     let start = c .before .before .before in
-    added-full (start .args .pushed) (start .args .site) (start .args .cursor) (c .stops .result) (c .before .enum-told .given .1) (c .stops .ensures)
+    added-full (start .args .pushed) (start .args .site) (start .args .cursor) (c .faulted .result) (c .before .enum-told .given .1) (c .faulted .ensures)
 
 returns-3 : tie.Need-returns-3
 returns-3 c =
     let start = c .before .before .before in
-    added-preempted (start .args .pushed) (start .args .site) (start .args .cursor) (c .stops2 .result) (c .before .enum-told2 .given .1) (c .stops2 .ensures)
+    added-preempted (start .args .pushed) (start .args .site) (start .args .cursor) (c .faulted2 .result) (c .before .enum-told2 .given .1) (c .faulted2 .ensures)
 
 pub added-spec : {M : Type 1} → statement M
 added-spec =
@@ -55,9 +55,9 @@ added-spec =
     add-cursor-2
     goes-requires
     enum-told
-    stops-requires
+    faulted-requires
     enum-told-2
-    stops-requires-2
+    faulted-requires-2
     returns
     returns-2
     returns-3)

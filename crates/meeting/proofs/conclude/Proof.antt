@@ -19,8 +19,8 @@ note-requires c κs = search needs
 enum-told-2 : tie.Need-enum-told-2
 enum-told-2 c = search needs
 
-stops-requires : tie.Need-stops-requires
-stops-requires c κs = search needs
+faulted-requires : tie.Need-faulted-requires
+faulted-requires c κs = search needs
 
 enum-told-3 : tie.Need-enum-told-3
 enum-told-3 c = search needs
@@ -28,8 +28,8 @@ enum-told-3 c = search needs
 enum-known-event-2 : tie.Need-enum-known-event-2
 enum-known-event-2 c = search needs
 
-stops-requires-2 : tie.Need-stops-requires-2
-stops-requires-2 c κs = search needs
+faulted-requires-2 : tie.Need-faulted-requires-2
+faulted-requires-2 c κs = search needs
 
 returns : tie.Need-returns
 returns c =
@@ -47,7 +47,7 @@ returns-2 c =
 returns-3 : tie.Need-returns-3
 returns-3 c =
     let start = c .before .before .before .before .before in
-    conclude-asks (start .args .here) (start .args .cursor) (c .stops .result) (start .args .event) _ (start .pre) (c .before .before .match .keys3) (c .stops .ensures)
+    conclude-asks (start .args .here) (start .args .cursor) (c .faulted .result) (start .args .event) _ (start .pre) (c .before .before .match .keys3) (c .faulted .ensures)
 
 returns-4 : tie.Need-returns-4
 returns-4 c =
@@ -57,7 +57,7 @@ returns-4 c =
 returns-5 : tie.Need-returns-5
 returns-5 c =
     let start = c .before .before .before .before .before .before in
-    conclude-stops (start .args .here) (start .args .cursor) (c .stops2 .result) (start .args .event) _ (start .pre) (c .before .before .event2 .given .1) (c .stops2 .ensures)
+    conclude-stops (start .args .here) (start .args .cursor) (c .faulted2 .result) (start .args .event) _ (start .pre) (c .before .before .event2 .given .1) (c .faulted2 .ensures)
 
 pub conclude-spec : {M : Type 1} → statement M
 conclude-spec =
@@ -68,10 +68,10 @@ conclude-spec =
     enum-known-event
     note-requires
     enum-told-2
-    stops-requires
+    faulted-requires
     enum-told-3
     enum-known-event-2
-    stops-requires-2
+    faulted-requires-2
     returns
     same-length
     returns-2

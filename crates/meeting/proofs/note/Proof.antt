@@ -10,8 +10,8 @@ opcode-in-requires c κs = search needs
 note-requires : tie.Need-note-requires
 note-requires c κs = search needs
 
-stops-requires : tie.Need-stops-requires
-stops-requires c κs = search needs
+faulted-requires : tie.Need-faulted-requires
+faulted-requires c κs = search needs
 
 same-length : tie.Need-same-length
 same-length c = search needs
@@ -20,7 +20,7 @@ returns : tie.Need-returns
 returns c =
     let start = c .before .before .before .before .before .before .before .before .before in
     let args = start .args in
-    note-full (args .cursor) (c .stops .result) (args .here) _ (args .slot) (args .mask) (args .value) (c .before .before .before .before .before .before .opcode-in .ensures) _ (c .before .before .before .before .note .ensures) (start .pre) (not-true _ (c .before .if1 .taken)) (c .stops .ensures)
+    note-full (args .cursor) (c .faulted .result) (args .here) _ (args .slot) (args .mask) (args .value) (c .before .before .before .before .before .before .opcode-in .ensures) _ (c .before .before .before .before .note .ensures) (start .pre) (not-true _ (c .before .if1 .taken)) (c .faulted .ensures)
 
 add-cursor : tie.Need-add-cursor
 add-cursor c = search needs
@@ -43,7 +43,7 @@ note-spec =
     (tie.spec
     opcode-in-requires
     note-requires
-    stops-requires
+    faulted-requires
     same-length
     returns
     add-cursor

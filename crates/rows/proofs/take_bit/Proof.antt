@@ -17,8 +17,8 @@ enum-told c = search needs
 
 returns : tie.Need-returns
 returns c =
-    let args = c .before .before .args in
-    λ clocks marks m. bit-refused (state clocks marks (args .values .now) (args .numbers .now)) (args .site .thread) (args .site .row) (cond (args .bit) 1 0) (args .row) (c .enum-told .given .1)
+    let args = c .before .before .before .args in
+    λ clocks marks m. bit-refused (state clocks marks (args .values .now) (args .numbers .now)) (args .here .site .thread) (args .here .site .row) (cond (args .bit) 1 0) (args .here .row) (c .enum-told .given .1)
 
 enum-known-op : tie.Need-enum-known-op
 enum-known-op c = search needs
@@ -26,45 +26,45 @@ enum-known-op c = search needs
 returns-2 : tie.Need-returns-2
 returns-2 c =
     let row = c .before .before in
-    let args = row .before .before .args in
+    let args = row .before .before .before .args in
     λ clocks marks m.
-    bit-other (state clocks marks (args .values .now) (args .numbers .now)) (args .site .thread) (args .site .row) (cond (args .bit) 1 0) (args .row) _ (row .row .given .1) (c .match2 .keys2)
+    bit-other (state clocks marks (args .values .now) (args .numbers .now)) (args .here .site .thread) (args .here .site .row) (cond (args .bit) 1 0) (args .here .row) _ (row .row .given .1) (c .match2 .keys2)
 
 register-at-requires : tie.Need-register-at-requires
 register-at-requires c κs =
     let joined = c in
     let op = joined .before .before in
     let row = op .before .before .before in
-    let start = row .before .before in
+    let start = row .before .before .before in
     let args = start .args in
-    (search needs, omega (arith, bit-within (args .row) _ _ (row .row .given .1) (op .op .given .1) (start .pre .1)))
+    (search needs, omega (arith, bit-within (args .here .row) _ _ (row .row .given .1) (op .op .given .1) (start .pre .names)))
 
 add-values : tie.Need-add-values
 add-values c =
     let joined = c .before in
     let op = joined .before .before in
     let row = op .before .before .before in
-    let start = row .before .before in
+    let start = row .before .before .before in
     let args = start .args in
-    omega (arith, c .register-at .ensures, bit-within (args .row) _ _ (row .row .given .1) (op .op .given .1) (start .pre .1))
+    omega (arith, c .register-at .ensures, bit-within (args .here .row) _ _ (row .row .given .1) (op .op .given .1) (start .pre .names))
 
 mul-values : tie.Need-mul-values
 mul-values c =
     let joined = c .before in
     let op = joined .before .before in
     let row = op .before .before .before in
-    let start = row .before .before in
+    let start = row .before .before .before in
     let args = start .args in
-    omega (arith, c .register-at .ensures, bit-within (args .row) _ _ (row .row .given .1) (op .op .given .1) (start .pre .1))
+    omega (arith, c .register-at .ensures, bit-within (args .here .row) _ _ (row .row .given .1) (op .op .given .1) (start .pre .names))
 
 element-write-values : tie.Need-element-write-values
 element-write-values c =
     let joined = c .before in
     let op = joined .before .before in
     let row = op .before .before .before in
-    let start = row .before .before in
+    let start = row .before .before .before in
     let args = start .args in
-    omega (arith, c .register-at .ensures, bit-within (args .row) _ _ (row .row .given .1) (op .op .given .1) (start .pre .1))
+    omega (arith, c .register-at .ensures, bit-within (args .here .row) _ _ (row .row .given .1) (op .op .given .1) (start .pre .names))
 
 one-more-requires : tie.Need-one-more-requires
 one-more-requires c κs = search needs
@@ -79,10 +79,10 @@ returns-3 c =
     let joined = at .before in
     let op = joined .before .before in
     let row = op .before .before .before in
-    let start = row .before .before in
+    let start = row .before .before .before in
     let args = start .args in
     λ clocks marks m.
-    bit-taken clocks marks (args .values .now) (args .numbers .now) _ (args .site .thread) (args .site .row) (args .row) _ _ _ (joined .if1 .value) (cond (args .bit) 1 0) _
+    bit-taken clocks marks (args .values .now) (args .numbers .now) _ (args .here .site .thread) (args .here .site .row) (args .here .row) _ _ _ (joined .if1 .value) (cond (args .bit) 1 0) _
     (row .row .given .1) (op .op .given .1) (at .register-at .ensures)
     (⊎-elim (λ w. flag-true (args .bit) _ (w .0 .taken) (w .1)) (λ w. flag-false (args .bit) _ (w .0 .left) (w .1)) (joined .if1 .came))
     (more .one-more .ensures)

@@ -29,8 +29,8 @@ enum-known-choice c = search needs
 enum-told-2 : tie.Need-enum-told-2
 enum-told-2 c = search needs
 
-stops-requires : tie.Need-stops-requires
-stops-requires c κs = search needs
+faulted-requires : tie.Need-faulted-requires
+faulted-requires c κs = search needs
 
 same-length-2 : tie.Need-same-length-2
 same-length-2 c = search needs
@@ -40,12 +40,12 @@ returns-2 c =
     let start = c .before .before .before .before .before .before .before .before .before .before .before .before .before .before .before .before .before .before .before .before in
     let args = start .args in
     let reach = c .before .before .before .before .before .before .before .before .before .before .before in
-    meet-unexpected (args .at .cursor) (reach .reach .result) (args .at .here) (args .question) (args .clocks .now) (args .marks .now) (args .values .now) (args .numbers .now) (args .path .now) _ (args .trace .now) (start .pre .1) (reach .reach .ensures) (c .before .before .before .before .before .before .before .enum-told .given .1) (reach .reach .kept .1 .1 .1 .0) (c .before .before .before .answer .result) (c .before .before .before .answer .ensures) (c .before .enum-told2 .given .1) (c .stops .result) (c .stops .ensures)
+    meet-unexpected (args .at .cursor) (reach .reach .result) (args .at .here) (args .question) (args .clocks .now) (args .marks .now) (args .values .now) (args .numbers .now) (args .path .now) _ (args .trace .now) (start .pre .1) (reach .reach .ensures) (c .before .before .before .before .before .before .before .enum-told .given .1) (reach .reach .kept .1 .1 .1 .0) (c .before .before .before .answer .result) (c .before .before .before .answer .ensures) (c .before .enum-told2 .given .1) (c .faulted .result) (c .faulted .ensures)
 
 answered-requires : tie.Need-answered-requires
 answered-requires c κs =
     let told = c .before .before .before .before .before in
-    (told .before .before .before .before .before .before .before .before .before .before .before .before .before .before .before .before .before .before .before .pre .0 .who, told .before .before .before .before .before .before .before .before .before .before .before .before .before .before .before .before .before .before .before .pre .0 .names, says-within (told .before .before .answer .result) (told .choice .given .1) (told .before .before .answer .ensures .within))
+    (told .before .before .before .before .before .before .before .before .before .before .before .before .before .before .before .before .before .before .before .pre .0, says-within (told .before .before .answer .result) (told .choice .given .1) (told .before .before .answer .ensures .within))
 
 passed-requires : tie.Need-passed-requires
 passed-requires c κs =
@@ -81,7 +81,7 @@ meet-spec =
     answer-requires
     enum-known-choice
     enum-told-2
-    stops-requires
+    faulted-requires
     same-length-2
     returns-2
     answered-requires

@@ -14,24 +14,24 @@ wide16-requires c κs = search needs
 no-site-requires : tie.Need-no-site-requires
 no-site-requires c κs = search needs
 
-stops-requires : tie.Need-stops-requires
-stops-requires c κs = search needs
+faulted-requires : tie.Need-faulted-requires
+faulted-requires c κs = search needs
 
 returns : tie.Need-returns
 returns c =
     let wide = c .before .before .before in
     let start = c .before .before .before .before .before .before .before .before in
-    tick-nobody (start .args .table .now) (start .args .shape .now) (start .args .limits) (start .args .cursor) (c .stops .result) (start .args .clocks .now) (start .args .marks .now) (start .args .values .now) (start .args .numbers .now) (start .args .path .now) (start .args .trace .now)
-    (c .before .no-site .result) (start .pre .1) (subst (λ (n : ℕ). 5 ≤ n) (wide .wide16 .ensures .same) (c .before .before .if1 .taken)) (c .before .no-site .ensures) (c .stops .ensures)
+    tick-nobody (start .args .table .now) (start .args .shape .now) (start .args .limits) (start .args .cursor) (c .faulted .result) (start .args .clocks .now) (start .args .marks .now) (start .args .values .now) (start .args .numbers .now) (start .args .path .now) (start .args .trace .now)
+    (c .before .no-site .result) (start .pre .1) (subst (λ (n : ℕ). 5 ≤ n) (wide .wide16 .ensures .same) (c .before .before .if1 .taken)) (c .before .no-site .ensures) (c .faulted .ensures)
 
-add-number : tie.Need-add-number
-add-number c = search needs
+add-row : tie.Need-add-row
+add-row c = search needs
 
-mul-number : tie.Need-mul-number
-mul-number c = search needs
+mul-row : tie.Need-mul-row
+mul-row c = search needs
 
-element-copy-out-number : tie.Need-element-copy-out-number
-element-copy-out-number c = search needs
+element-copy-out-row : tie.Need-element-copy-out-row
+element-copy-out-row c = search needs
 
 row-of-requires : tie.Need-row-of-requires
 row-of-requires c κs = search needs
@@ -61,11 +61,11 @@ tick-spec =
     element-copy-out-wide16
     wide16-requires
     no-site-requires
-    stops-requires
+    faulted-requires
     returns
-    add-number
-    mul-number
-    element-copy-out-number
+    add-row
+    mul-row
+    element-copy-out-row
     row-of-requires
     tick-at-requires
     same-length

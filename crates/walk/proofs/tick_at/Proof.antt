@@ -17,7 +17,7 @@ same-length-2 c = search needs
 
 returns : tie.Need-returns
 returns c =
-    let start = c .before .before .before .before .before .before .before .before .before .before .before .before .before .before .before .before .before .before .before .before .before in
+    let start = c .before .before .before .before .before .before .before .before .before .before .before .before .before .before .before .before .before .before .before .before in
     let args = start .args in
     tick-takes (args .at .cursor) (args .at .here) (c .before .before .before .before .before .before .before .before .before .before .before .next .result) (args .shape .now) (args .at .limits) (args .clocks .now) (args .marks .now) (args .values .now) (args .numbers .now) _ _ _ _ (args .path .now) (args .trace .now) (c .before .before .before .before .before .before .before .before .before .before .before .next .ensures) (start .pre .1 .who) (c .before .before .before .before .take .result) _ (c .before .before .before .before .take .ensures)
 
