@@ -41,7 +41,7 @@ pub enum Line {
 }
 
 // The first token of a line: where it begins, and where it ends.
-struct First {
+struct FirstToken {
     here: usize,
     to: usize,
 }
@@ -83,7 +83,7 @@ pub fn line_of(text: &[u8], table: &mut [u8], lines: usize, all: usize, reached:
         });
     }
     let to = token::token_end(text, here);
-    let first = First { here, to };
+    let first = FirstToken { here, to };
     if table[CELL_COUNT] == 0 {
         if token::is_word(text, b"cells", here, to) {
             return values_line(text, table, CELL_VALUES, length, to);
@@ -103,7 +103,7 @@ pub fn line_of(text: &[u8], table: &mut [u8], lines: usize, all: usize, reached:
 }
 
 // `finally`, once there is a thread.
-fn the_condition(header: &[u8], first: First) -> Line
+fn the_condition(header: &[u8], first: FirstToken) -> Line
     requires { ⌜ 1 ≤ length (now header) ⌝ }
     ensures { λ r. ⌜ r ≡ cond (ltb 0 (getD (now (header .entry)) 0 0)) (Line.Concludes (first .to)) (Line.Refused (first .here)) ⌝ }
 {
@@ -114,7 +114,7 @@ fn the_condition(header: &[u8], first: First) -> Line
 }
 
 // `thread`, and its rows.
-fn a_thread(text: &[u8], table: &mut [u8], lines: usize, length: usize, first: First) -> Line
+fn a_thread(text: &[u8], table: &mut [u8], lines: usize, length: usize, first: FirstToken) -> Line
     requires { ⌜ HoldsTable (now table) length ⌝ }
     ensures { λ r. ⌜ LineSteps (now (text .entry)) (now (table .entry)) (now (table .exit)) length r (λ m. aThreadAt lines m (drop (first .here) (now (text .entry))) (drop (first .to) (now (text .entry)))) ⌝ }
 {
@@ -168,7 +168,7 @@ fn a_row(text: &[u8], table: &mut [u8], all: usize, reached: Reached, here: usiz
 }
 
 // Whether it is the line of the plain cells: behind the cells, ahead of the threads, once.
-fn is_plain_line(text: &[u8], table: &[u8], first: First) -> bool
+fn is_plain_line(text: &[u8], table: &[u8], first: FirstToken) -> bool
     requires { ⌜ headerBytes ≤ length (now table) ⌝ }
     ensures { λ r. ⌜ r ≡ isPlains (now (table .entry)) (part (first .here) (first .to) (now (text .entry))) ⌝ }
 {

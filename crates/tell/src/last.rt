@@ -6,7 +6,7 @@ use steps::held;
 use steps::held::Held;
 
 // How wide the rows of the listing are, how many steps the execution has, and whether all are shown.
-struct Extent {
+struct Frame {
     width: usize,
     n: usize,
     whole: bool,
@@ -23,25 +23,25 @@ pub fn execution(page: &mut Page, table: &[u8], trace: &[u8], whole: bool) {
     let width = listing::width(table, trace);
     let to = listing::put_head(page, 0, width);
     out::write(page, to);
-    let extent = Extent { width, n, whole };
+    let frame = Frame { width, n, whole };
     let mut held = held::start(table);
     let mut i = 0;
     while i < n {
-        step(page, table, trace, &held, extent, i);
+        step(page, table, trace, &held, frame, i);
         held::take(table, trace, &mut held, i);
         i += 1;
     }
 }
 
 // Writes a step, if it is among those that are shown, and in the place of the others one line.
-fn step(page: &mut Page, table: &[u8], trace: &[u8], held: &Held, extent: Extent, i: usize) {
-    if extent.whole || listing::is_shown(extent.n, i) {
-        let to = listing::put_step(page, 0, table, trace, held, extent.width, i);
+fn step(page: &mut Page, table: &[u8], trace: &[u8], held: &Held, frame: Frame, i: usize) {
+    if frame.whole || listing::is_shown(frame.n, i) {
+        let to = listing::put_step(page, 0, table, trace, held, frame.width, i);
         out::write(page, to);
         return;
     }
     if i == SHOWN {
-        let to = listing::put_between(page, 0, extent.n);
+        let to = listing::put_between(page, 0, frame.n);
         out::write(page, to);
     }
 }
