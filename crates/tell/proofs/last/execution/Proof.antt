@@ -4,10 +4,10 @@ use Rattle.tell.proofs.last.execution.Statement.{statement}
 use Rattle.tell.proofs.last.execution.Tie as tie
 
 abbrev Inv-loop : tie.InvT-loop
-Inv-loop page₀ table trace whole n width to extent held₀ i₀ page held i = i ≤ n
+Inv-loop page₀ table trace whole n width to frame held₀ i₀ page held i = i ≤ n
 
 abbrev μ-loop : tie.MeasureT-loop
-μ-loop page₀ table trace whole n width to extent held₀ i₀ page held i = n - i
+μ-loop page₀ table trace whole n width to frame held₀ i₀ page held i = n - i
 
 count-requires : tie.Need-count-requires Inv-loop μ-loop
 count-requires c κs = search needs
