@@ -23,7 +23,7 @@ use Rattle.rules.specs.Explorer.{Verdict, exhausted, spent, unmet, stopped}
 use Rattle.rules.specs.Explored.{Settings, Explored, refused, ran, reported, isRefusal, settingsFine, stopOf, traceLeft, verdictNumber}
 use Rattle.rules.proofs.ExploredLaws.{explored-2, explored-3, explored-4, explored-5-header, explored-5-row, explored-5-condition, explored-ran}
 use Rattle.offers.specs.Offered.{Among}
-use Rattle.demands.specs.Demands.{right, Answered, inRange, pathFits, traceFits, badInput, it, report, run, theAnswers}
+use Rattle.demands.specs.Demands.{right, Answered, settingsInRange, pathFits, traceFits, badInput, it, report, run, theAnswers}
 
 -- A verdict's number
 
@@ -96,7 +96,7 @@ module _ (table condition : List ℕ) (s : Settings) (path trace : List ℕ) whe
   whole = it right table condition s path trace
 
   abbrev fine : Type 0
-  fine = inRange right table condition s path trace
+  fine = settingsInRange right table condition s path trace
 
   abbrev pathy : Type 0
   pathy = pathFits right table condition s path trace

@@ -226,7 +226,7 @@ module _ (table condition : List ℕ) (s : Settings) (path trace : List ℕ) (r 
   abbrev p : Program
   p = programOf table condition s
 
-  earlier-so : ButLast (Demands.Met right table condition s path trace) (executions right table condition s path trace)
+  earlier-so : ButLast (Demands.ConditionMet right table condition s path trace) (executions right table condition s path trace)
   earlier-so = earlier-met p (limitsOf s) (s .executions) (whole .walk) (whole .verdict) empty (executions right table condition s path trace) (told .made)
 
   pub stops : Demands.Stops right table condition s path trace

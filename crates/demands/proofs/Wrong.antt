@@ -37,7 +37,7 @@ use Rattle.standing.specs.Standing as standing
 use Rattle.bounds.specs.Bounds.{BoundsLeft}
 use Rattle.bounds.specs.Range.{RangeIn}
 use Rattle.offers.specs.Chosen as chosen
-use Rattle.offers.specs.Chosen.{OfferOfRow, Offers, Offering, OfferingCourse, left}
+use Rattle.offers.specs.Chosen.{OfferOfRow, Offers, OfferingTick, OfferingCourse, tickLeft}
 use Rattle.offers.specs.Seen.{Taken, here, on, Lasting, Watched, Seeing}
 use Rattle.offers.proofs.Chosen.{all-offers}
 use Rattle.demands.specs.Demands as Demands
@@ -114,9 +114,9 @@ slot-question (ends s) h = absurd (omega (arith, h))
 
 -- a record that does not have as many values as are offered
 misoffered : (p : Program) (limits : Limits) (w : Walk State) (s : State) (es : List Entry) (x : Bool) (m : Matched) (a b : ℕ)
-    → next p (w .state) .move ≡ asks s es x (whichSlot m) → w .pos < left p limits w .pos
-    → length (valuesIn (getD (left p limits w .ledger .path) (w .pos) noBranch)) ≡ a → length (slotsIn m) ≡ b → (a ≡ b → ⊥)
-    → Offering p limits w → ⊥
+    → next p (w .state) .move ≡ asks s es x (whichSlot m) → w .pos < tickLeft p limits w .pos
+    → length (valuesIn (getD (tickLeft p limits w .ledger .path) (w .pos) noBranch)) ≡ a → length (slotsIn m) ≡ b → (a ≡ b → ⊥)
+    → OfferingTick p limits w → ⊥
 misoffered p limits w s es x m a b e k f g differ h =
     let c = h .at-slot s es x m e .chosen k in
     differ
@@ -206,12 +206,12 @@ wrong-stops =
           let z = ap verdictNumber (sym (c .none-verdict) ∙ h .unmet .whenever (c .none-last, c .none-false)) in omega (arith, z);
       behind-one = λ h.
           let s = p3Settings 2 in
-          let P = Demands.Met Wrong.judgingLast storeAndLoad ofThreadOne s (pathFor s) (traceFor s) in
+          let P = Demands.ConditionMet Wrong.judgingLast storeAndLoad ofThreadOne s (pathFor s) (traceFor s) in
           let z = every-at P (Wrong.judgingLast .executions storeAndLoad ofThreadOne s) 1 noCourse (omega (arith, c .one-made)) (h .met (omega (arith, c .one-said))) in
           true-false (z .1) (c .one-false);
       unjudged = λ h.
           let s = p3Settings 3 in
-          let P = Demands.Met Wrong.unjudging storeAndLoad ofThreadOne s (pathFor s) (traceFor s) in
+          let P = Demands.ConditionMet Wrong.unjudging storeAndLoad ofThreadOne s (pathFor s) (traceFor s) in
           let z = but-last-at P (Wrong.unjudging .executions storeAndLoad ofThreadOne s) 1 (omega (arith, c .unjudged-made)) (h .earlier) in
           true-false (z .1) (c .unjudged-false);
       condemned = λ h. true-false (c .condemned-true) (h .unmet .only (c .condemned) .1);
@@ -242,7 +242,7 @@ module _ (x : Explorer) (table : List ℕ) (s : Settings) (i k : ℕ) (h : There
       let move = next (programOf table [] s) (w .state) .move in
       misoffered (programOf table [] s) (limitsOf s) w (stateIn move) (entriesIn move) (exploringIn move) (matchIn (questionIn move)) a b
       (slot-asked move (m .asked)) (ltb-true _ _ (m .passed)) (m .values) (m .slots) differ
-      (at-tick (Offering (programOf table [] s) (limitsOf s)) e)
+      (at-tick (OfferingTick (programOf table [] s) (limitsOf s)) e)
 
 -- the first execution is the machine's
 made-first : (M : Event.Machine) (limits : Limits) (n : ℕ) (w : Walk (M .State)) (v : Verdict) (l : Ledger) (cs : List (Course (M .State))) (d : Course (M .State))
@@ -263,8 +263,8 @@ lasting-next (w ∷ v ∷ ws) (suc k) t c i h a b f l e = lasting-next (v ∷ ws
 -- the cell that is read is that of the row
 read-cell : (p : Program) (s : State) (m : Matched) (offered : List Bool) (c opcode : ℕ)
     → OfferOfRow p s m offered c opcode → c ≡ cellIn (activeOp p s)
-read-cell p s m offered c opcode (chosen.aLoad e f g) = sym (ap cellIn e)
-read-cell p s m offered c opcode (chosen.anRmw e f g) = sym (ap cellIn e)
+read-cell p s m offered c opcode (chosen.ofLoad e f g) = sym (ap cellIn e)
+read-cell p s m offered c opcode (chosen.ofRmw e f g) = sym (ap cellIn e)
 
 -- the slot that is read is the choice of the record
 abbrev slotIn : Choice → ℕ
@@ -276,10 +276,10 @@ not-seen : (w : Walk State) (t c i t′ c′ i′ : ℕ) → t ≡ t′ → c �
 not-seen w t c i t′ c′ i′ e f g h k = true-false k (cc (e, f, g, h))
 
 unwatched : (p : Program) (limits : Limits) (w v : Walk State) (t c i : ℕ)
-    → asksSlot (next p (w .state) .move) ≡ 1 → w .pos < left p limits w .pos
-    → choiceOf (getD (left p limits w .ledger .path) (w .pos) noBranch) ≡ Path.reads i
+    → asksSlot (next p (w .state) .move) ≡ 1 → w .pos < tickLeft p limits w .pos
+    → choiceOf (getD (tickLeft p limits w .ledger .path) (w .pos) noBranch) ≡ Path.reads i
     → current (stateIn (next p (w .state) .move)) ≡ t → cellIn (activeOp p (stateIn (next p (w .state) .move))) ≡ c
-    → sees v t c i ≡ false → Offering p limits w → Watched p limits w v → ⊥
+    → sees v t c i ≡ false → OfferingTick p limits w → Watched p limits w v → ⊥
 unfolding choiceOf
 unwatched p limits w v t c i a k e f g h o r =
     let move = next p (w .state) .move in
@@ -322,7 +322,7 @@ wrong-offers =
       unseen =
           unwatched p limits Wrong.beforeLoad (Wrong.tickOf Wrong.unseeing storeAndLoad (p3Settings 2) Wrong.beforeLoad) 1 0 1
           (c .ticks-asked) (ltb-true _ _ (c .ticks-passed)) (c .ticks-branch) (c .ticks-thread) (c .ticks-cell) (c .ticks-unseen)
-          (at-tick right storeAndLoad (p3Settings 2) 1 4 (c .ticks-there) (Offering p limits) (all-offers p limits 2));
+          (at-tick right storeAndLoad (p3Settings 2) 1 4 (c .ticks-there) (OfferingTick p limits) (all-offers p limits 2));
     }
 
 -- What holds at every tick
@@ -358,13 +358,13 @@ disagreed x (spurious u) (whichSlot m) e f h = h
 disagreed x b whichBit e f h = omega (arith, e)
 
 disagrees : (p : Program) (limits : Limits) (w : Walk State) (a b : ℕ) → (a ≡ b → ⊥) → asksSlot (next p (w .state) .move) ≡ 1
-    → w .pos < left p limits w .pos → length (valuesIn (getD (left p limits w .ledger .path) (w .pos) noBranch)) ≡ a
+    → w .pos < tickLeft p limits w .pos → length (valuesIn (getD (tickLeft p limits w .ledger .path) (w .pos) noBranch)) ≡ a
     → length (slotsIn (matchIn (questionIn (next p (w .state) .move)))) ≡ b → replay.Answered (machine p) limits w → ⊥
 unfolding replay.Answered
 disagrees p limits w a b differ e k f g h =
     let it = h k in
     let q : it .3 ≡ questionIn (next p (w .state) .move) = ap questionIn (sym (it .4)) in
-    disagreed (it .2) (getD (left p limits w .ledger .path) (w .pos) noBranch) (it .3)
+    disagreed (it .2) (getD (tickLeft p limits w .ledger .path) (w .pos) noBranch) (it .3)
     (ap isSlot q ∙ slot-question (next p (w .state) .move) e)
     (λ same. differ (sym f ∙ same ∙ ap (λ (y : Question). length (slotsIn (matchIn y))) q ∙ g)) (it .5)
 

@@ -34,7 +34,7 @@ use Rattle.ledger.specs.Wrong.{walkedBy, runFromBy, runBy, steppedFirst, uncoun
 use Rattle.ledger.specs.History.{Course, end, ticksFrom, courseOf, coursesFrom, courses}
 use Rattle.ledger.specs.Tree.{noExecution}
 use Rattle.ledger.specs.Turning.{running, turningPoint, threadsFrom, alternatives, openNames, newlyPending, markedAlternatives, openedNames, joinedOver}
-use Rattle.offers.specs.Chosen.{left}
+use Rattle.offers.specs.Chosen.{tickLeft}
 use Rattle.demands.specs.Demands.{Explorer, right, LastIs, it, report, openedChoices, turnedChoices, openChoices}
 use Rattle.demands.specs.Exchanged.{ticksFromBy, courseBy, coursesFromBy, coursesBy, runningBy}
 use Rattle.demands.specs.Wrong as Wrong
@@ -179,7 +179,7 @@ moveAt x table s i k = next (programOf table [] s) (walkAt x table s i k .state)
 
 -- the walk that the definition's tick leaves there, and the record that answers
 abbrev pub leftAt : Explorer → List ℕ → Settings → ℕ → ℕ → Walk State
-leftAt x table s i k = left (programOf table [] s) (limitsOf s) (walkAt x table s i k)
+leftAt x table s i k = tickLeft (programOf table [] s) (limitsOf s) (walkAt x table s i k)
 
 abbrev pub answeringAt : Explorer → List ℕ → Settings → ℕ → ℕ → Branch
 answeringAt x table s i k = getD (leftAt x table s i k .ledger .path) (walkAt x table s i k .pos) noBranch

@@ -103,8 +103,8 @@ module _ (x : Explorer) (table condition : List ℕ) (s : Settings) (path trace 
 
   -- Demand 1
 
-  abbrev pub inRange : Type 0
-  inRange = settingsFine s ≡ true
+  abbrev pub settingsInRange : Type 0
+  settingsInRange = settingsFine s ≡ true
 
   abbrev pub pathFits : Type 0
   pathFits = length path ≡ recordBytes * s .branches
@@ -121,9 +121,9 @@ module _ (x : Explorer) (table condition : List ℕ) (s : Settings) (path trace 
     pub one : Among (report .answer) theAnswers
     -- "Each refusal is given exactly when document 01 says": "Checks run 2, 3, 4, 5"
     pub two : Exactly (report .answer ≡ 2) (settingsFine s ≡ false)
-    pub three : Exactly (report .answer ≡ 3) (inRange × (pathFits → ⊥))
-    pub four : Exactly (report .answer ≡ 4) (inRange × pathFits × (traceFits → ⊥))
-    pub five : Exactly (report .answer ≡ 5) (inRange × pathFits × traceFits × badInput)
+    pub three : Exactly (report .answer ≡ 3) (settingsInRange × (pathFits → ⊥))
+    pub four : Exactly (report .answer ≡ 4) (settingsInRange × pathFits × (traceFits → ⊥))
+    pub five : Exactly (report .answer ≡ 5) (settingsInRange × pathFits × traceFits × badInput)
     -- "for 5 the first bad row, or 255, 255 if header or length is bad"
     pub header : report .answer ≡ 5 → judged table ≡ badHeader → (report .thread ≡ 255) × (report .row ≡ 255)
     pub row : report .answer ≡ 5 → (t k : ℕ) → judged table ≡ badRow t k → (report .thread ≡ t) × (report .row ≡ k)
@@ -176,8 +176,8 @@ module _ (x : Explorer) (table condition : List ℕ) (s : Settings) (path trace 
     pub seen : Every (Seeing (programOf table condition s) (limitsOf s)) executions
 
   -- an execution came to its end, and its condition was true there
-  abbrev pub Met : Course State → Type 0
-  Met c = (c .outcome ≡ over (end c)) × (theMachine .final (end c .state) ≡ true)
+  abbrev pub ConditionMet : Course State → Type 0
+  ConditionMet c = (c .outcome ≡ over (end c)) × (theMachine .final (end c .state) ≡ true)
 
   pub record Stops : Type 0 where
     -- the answer is the verdict's
@@ -193,8 +193,8 @@ module _ (x : Explorer) (table condition : List ℕ) (s : Settings) (path trace 
         Exactly (run .verdict ≡ unmet) (LastIs executions (over (run .walk)) × (theMachine .final (run .walk .state) ≡ false))
     pub place : report .answer ≡ 18 → (report .thread ≡ 255) × (report .row ≡ 255)
     -- "ahead of 0 and 1 .., and the run stops there": it was true at the end of every execution but the last; with 0 and 1, of all
-    pub earlier : ButLast Met executions
-    pub met : report .answer ≤ 1 → Every Met executions
+    pub earlier : ButLast ConditionMet executions
+    pub met : report .answer ≤ 1 → Every ConditionMet executions
     -- "In a run the first fault stops everything": the last execution met that very fault, there
     pub fault : (f : Fault) (site : Site) → run .verdict ≡ stopped f site → LastIs executions (faulted f site (run .walk))
 

@@ -1,7 +1,7 @@
 -- The forms tried one after the other, from a text of which each line is one. Assumes nothing.
 --     Trying                          a line that was tried with the forms before a place
---     trying-none, trying-on          none yet, and one that did not fit
---     trying-fits, trying-all         one that fits, and none left
+--     trying-none, trying-next        none yet, and one that did not fit
+--     tried-fits, trying-all          one that fits, and none left
 use Prim.Native.Nat.{ℕ, suc, _+_, _-_, _≤_, _<_}
 use mathlib.Core.List.{List, [], _∷_, _++_}
 use mathlib.Core.Bool.{Bool, true, false, true≢false, cond, not, _&&_, and-eq-true-iff}

@@ -1,6 +1,6 @@
 -- What ticks and executions do to the path, whatever the machine asks: marks, and records added.
 --     tick-gained             a tick
---     course-open             what an execution opens and what it leaves open
+--     course-gains            what an execution opens and what it leaves open
 use Prim.Native.Nat.{ℕ, zero, suc}
 use mathlib.Core.List.{List, [], _∷_, _++_, append-assoc, Perm, Perm·refl, Perm·trans, Perm·symm, Perm·append-left}
 use mathlib.Core.Bool.{Bool, true, false, cond}

@@ -1,5 +1,5 @@
 -- Demand 3, the balance, of every run of every machine. Assumes nothing of the machine.
---     begun, opened, open      the three counts of a run that has stopped
+--     begun, opened, open-in   the three counts of a run that has stopped
 --     Balance, Balanced        what they come to
 --     Begun                    the executions begun are those of the history
 --     Adds, AddedOpens         what a record opens that is added

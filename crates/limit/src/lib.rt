@@ -30,18 +30,18 @@ pub fn put(
     trace: &[u8],
     settings: Settings,
     number: u64,
-    fault: AtFault,
+    site: AtFault,
 ) -> usize
-    ensures { λ r. ⌜ pageOf (now (page .exit)) r ≡ putLimit (pageOf (now (page .entry)) at) (now (trace .entry)) (settingsOf settings) number (fault .thread) (fault .row) ⌝ }
+    ensures { λ r. ⌜ pageOf (now (page .exit)) r ≡ putLimit (pageOf (now (page .entry)) at) (now (trace .entry)) (settingsOf settings) number (site .thread) (site .row) ⌝ }
 {
-    let to = put_reached(page, at, settings, number, fault);
+    let to = put_reached(page, at, settings, number, site);
     let to = put_to_do(page, to, settings, number);
     put_spin(page, to, trace)
 }
 
 // Which limit was reached.
-fn put_reached(page: &mut Page, at: usize, settings: Settings, number: u64, fault: AtFault) -> usize
-    ensures { λ r. ⌜ pageOf (now (page .exit)) r ≡ putReached (pageOf (now (page .entry)) at) (settingsOf settings) number (fault .thread) (fault .row) ⌝ }
+fn put_reached(page: &mut Page, at: usize, settings: Settings, number: u64, site: AtFault) -> usize
+    ensures { λ r. ⌜ pageOf (now (page .exit)) r ≡ putReached (pageOf (now (page .entry)) at) (settingsOf settings) number (site .thread) (site .row) ⌝ }
 {
     match number {
         answers::SPENT => put_budget(page, at, settings.executions),
@@ -50,24 +50,24 @@ fn put_reached(page: &mut Page, at: usize, settings: Settings, number: u64, faul
             at,
             b"answer 11: no verdict: an execution needs more branches than the limit, #, at thread #, row #\n",
             settings.branches,
-            fault.thread,
-            fault.row,
+            site.thread,
+            site.row,
         ),
         answers::ROWS => page::fill(
             page,
             at,
             b"answer 12: no verdict: an execution needs more rows than the limit, #, at thread #, row #\n",
             settings.operations,
-            fault.thread,
-            fault.row,
+            site.thread,
+            site.row,
         ),
         _ => page::fill(
             page,
             at,
             b"answer 17: no verdict: an order of the threads has more than # preemptions, at thread #, row #\n",
             MAX_PREEMPTIONS as u64,
-            fault.thread,
-            fault.row,
+            site.thread,
+            site.row,
         ),
     }
 }

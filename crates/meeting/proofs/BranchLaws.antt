@@ -36,7 +36,7 @@ use Rattle.event.specs.declared.Site.{Site}
 use Rattle.event.specs.declared.Question.{Question}
 use Rattle.event.specs.declared.Question.the-variants as question
 use Rattle.meeting.specs.Stands.{lent, Stands, ComesTo, GoesOn, FaultMet, siteOf}
-use Rattle.meeting.specs.Branches.{Met, OneMore, addedTo, branched, askedAt, Holding, Reaches, addedAt, reachedAt}
+use Rattle.meeting.specs.Branches.{Met, OneMore, addedTo, branched, askedAt, BranchesHeld, Reaches, addedAt, reachedAt}
 use Rattle.meeting.specs.declared.Cursor.{Cursor}
 use Rattle.event.specs.declared.Here.{Here}
 use Rattle.meeting.specs.declared.Ticked.{Ticked}
@@ -72,18 +72,18 @@ module _ (c : Cursor) (r : Ticked) (site : Site) (clocks : Clocks) (marks : Mark
         let m = subst (λ (x : Addition). addedTo x site c r) e to in
         comes-faulted r _ w fault.Preemptions site _ (m .is) refl (same-stands (m .stays) (refused-stands h))
 
-  records : (L : explorer.Limits) → Holding L entry → recordsOf entry ≡ L .branches
+  records : (L : explorer.Limits) → BranchesHeld L entry → recordsOf entry ≡ L .branches
   records L h = omega (arith, h .branches)
 
   pub pushes-comes : {most : ℕ} {answer : ℕ → List Branch → Added} {p : Addition} → Pushes entry exit (c .len) most answer p → addedTo p site c r
-      → (L : explorer.Limits) (w : Walk State) (values : Values) (trace : List ℕ) → Holding L entry → Stands (lent clocks marks values numbers entry trace) c w
+      → (L : explorer.Limits) (w : Walk State) (values : Values) (trace : List ℕ) → BranchesHeld L entry → Stands (lent clocks marks values numbers entry trace) c w
       → ComesTo (r .outcome) (r .cursor) (lent clocks marks values numbers exit trace) (branched (siteOf site) w (orFault (answer (L .branches) (w .ledger .path))))
   pushes-comes {most} {answer} {p} h to L w values trace room s =
       subst (λ (B : ℕ). ComesTo (r .outcome) (r .cursor) (lent clocks marks values numbers exit trace) (branched (siteOf site) w (orFault (answer B (w .ledger .path))))) (records L room)
       (answer-comes w values trace s (answer (recordsOf entry) (w .ledger .path)) p (h .says (w .ledger .path) (s .holds) (s .is-len)) (h .holds (w .ledger .path) (s .holds) (s .is-len)) to)
 
   pub pushes-thread-comes : {exploring : Bool} {seed : List ℕ} {p : Addition} → 16 * c .len ≤ length entry → PushesThread entry exit (c .len) exploring seed p → addedTo p site c r
-      → (L : explorer.Limits) (w : Walk State) (values : Values) (trace : List ℕ) → Holding L entry → Stands (lent clocks marks values numbers entry trace) c w
+      → (L : explorer.Limits) (w : Walk State) (values : Values) (trace : List ℕ) → BranchesHeld L entry → Stands (lent clocks marks values numbers entry trace) c w
       → ComesTo (r .outcome) (r .cursor) (lent clocks marks values numbers exit trace) (branched (siteOf site) w (orFault (threadAdded (L .branches) (w .ledger .path) exploring seed)))
   pushes-thread-comes {exploring} {seed} {p} within h to L w values trace room s =
       subst (λ (B : ℕ). ComesTo (r .outcome) (r .cursor) (lent clocks marks values numbers exit trace) (branched (siteOf site) w (orFault (threadAdded B (w .ledger .path) exploring seed)))) (records L room)
@@ -100,7 +100,7 @@ module _ (c : Cursor) (r : Ticked) (h : Here) (q : Question) (clocks : Clocks) (
 
   module _ (met : Met c r exit) where
     added-reaches : (k : Question) → q ≡ k
-        → ((L : explorer.Limits) (w : Walk State) (values : Values) (trace : List ℕ) → Holding L entry → Stands (lent clocks marks values numbers entry trace) c w
+        → ((L : explorer.Limits) (w : Walk State) (values : Values) (trace : List ℕ) → BranchesHeld L entry → Stands (lent clocks marks values numbers entry trace) c w
         → ComesTo (r .outcome) (r .cursor) (lent clocks marks values numbers exit trace) (adds k (state clocks marks values numbers) L w))
         → Reaches c r clocks marks numbers entry exit (addedAt q h)
     added-reaches k e f =
@@ -240,7 +240,7 @@ read-back n seed dst rules.equal long few e = subst isSlots e tt
 module _ (c : Cursor) (r : Ticked) (h : Here) (clocks : Clocks) (marks : MarkTable) (numbers : Numbers) (entry exit : List ℕ) (dst seed : List ℕ) (m : Matched)
     (says : (values : Values) → scanned m seed ≡ offered (matchedFor (state clocks marks values numbers) (h .site .thread) (decodedOf (h .row))) dst) (met : Met c r exit) where
   offers-comes : (exploring : Bool) → exploring ≡ exploringNow numbers → (n : ℕ) → {p : Addition} → Pushes entry exit (c .len) 6 (λ B bs. loadAdded B bs exploring (take n seed)) p → addedTo p (h .site) c r
-      → (L : explorer.Limits) (w : Walk State) (values : Values) (trace : List ℕ) → Holding L entry → Stands (lent clocks marks values numbers entry trace) c w
+      → (L : explorer.Limits) (w : Walk State) (values : Values) (trace : List ℕ) → BranchesHeld L entry → Stands (lent clocks marks values numbers entry trace) c w
       → (offer : rules.Matched) → ReadBack n seed offer
       → ComesTo (r .outcome) (r .cursor) (lent clocks marks values numbers exit trace) (branched (siteOf (h .site)) w (explorer.loadPushed (L .branches) (w .ledger .path) (exploringNow numbers) offer))
   offers-comes exploring x n push to L w values trace room s (rules.offers os) back =

@@ -1,7 +1,7 @@
 -- What rule (a) marks, thread by thread. Assumes nothing.
 --     thread-nowhere, thread-marked                     of one thread
 --     below-none, turn-marked, turn-same, below-all     of those below a thread, and of all
---     mark-other, mark-threads                          before a question meets the path
+--     mark-other, mark-all                              before a question meets the path
 use Prim.Native.Nat.{ℕ, suc, _+_, _*_, _≤_}
 use mathlib.Core.List.{List, [], _∷_, map}
 use mathlib.Core.Path.{_≡_, refl, ap, sym, subst, _∙_}

@@ -3,7 +3,7 @@
 --     CursorMarked, MarkedBy, MarksThread, MarksThreads, CursorMarks    rule (a)
 --     pushedFew, OneMore, addedTo                           a branch that was added, and how it is counted
 --     branched, reached                                     the definition's: a branch added, the path met
---     Met, Holding, Reaches, addedAt, reachedAt             a branch is added where there is none
+--     Met, BranchesHeld, Reaches, addedAt, reachedAt             a branch is added where there is none
 --     replyWithin, PickFits, AnswersBy, RepliesBy           what a branch chooses
 use Prim.Native.Nat.{ℕ, zero, suc, _+_, _*_, _≤_, _<_}
 use mathlib.Core.List.{List, map}
@@ -123,7 +123,7 @@ pub record Met (c : Cursor) (r : Ticked) (path : List ℕ) : Type 0 where
   pub few : r .cursor .opened ≤ c .opened + 6
 
 -- the limit of branches is that of the path's bytes
-pub record Holding (L : explorer.Limits) (path : List ℕ) : Type 0 where
+pub record BranchesHeld (L : explorer.Limits) (path : List ℕ) : Type 0 where
   pub branches : 16 * L .branches ≡ length path
   pub few : L .branches ≤ positions
 
@@ -131,7 +131,7 @@ pub record Holding (L : explorer.Limits) (path : List ℕ) : Type 0 where
 pub record Reaches (c : Cursor) (r : Ticked) (clocks : Clocks) (marks : MarkTable) (numbers : Numbers) (entry exit : List ℕ) (out : explorer.Limits → Walk State → Tick State) : Type 0 where
   pub met : Met c r exit
   pub comes :
-      (L : explorer.Limits) (w : Walk State) (values : Values) (trace : List ℕ) → Holding L entry
+      (L : explorer.Limits) (w : Walk State) (values : Values) (trace : List ℕ) → BranchesHeld L entry
       → Stands (lent clocks marks values numbers entry trace) c w
       → ComesTo (r .outcome) (r .cursor) (lent clocks marks values numbers exit trace) (out L w)
 

@@ -22,7 +22,7 @@ pub fn of_report(done: Report) -> [u64; REPORT_NUMBERS]
     ensures { λ r. ⌜ r ≡ numbersOf (reportOf done) ⌝ }
 {
     let answer = done.answer;
-    let fault = report::at_fault(answer);
+    let site = report::at_fault(answer);
     let threads = done.threads;
     let t = summaries(threads);
     [
@@ -31,8 +31,8 @@ pub fn of_report(done: Report) -> [u64; REPORT_NUMBERS]
         done.opened,
         done.still_open,
         done.rows,
-        fault.thread,
-        fault.row,
+        site.thread,
+        site.row,
         long8(report::race_kind(answer)),
         report::other_thread(answer),
         t[0],

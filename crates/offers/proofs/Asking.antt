@@ -1,7 +1,7 @@
 -- Which rows ask for a slot: a load and an RMW, with the version raised. Assumes nothing.
 --     AsksFor            what such a row asks, and in which state
 --     next-asks          whatever the active thread does next
---     read-noted         how a row goes on with a slot, and its entry
+--     load-noted, rmw-noted   how a row goes on with a slot, and its entry
 use Prim.Native.Nat.{ℕ}
 use mathlib.Core.List.{List, []}
 use mathlib.Core.Bool.{Bool, true, false, cond, _&&_}

@@ -23,7 +23,7 @@ use Rattle.ledger.specs.Replay.{Agrees, Answered, Replay, Follows}
 use Rattle.ledger.proofs.Lists.{every-map}
 use Rattle.ledger.proofs.Replay.{replay}
 use Rattle.offers.specs.Offered.{LoadOffered, RmwOffered}
-use Rattle.offers.specs.Chosen.{OfferOfRow, aLoad, anRmw, Noted, left, Chosen, Offering, OfferingCourse, Offers}
+use Rattle.offers.specs.Chosen.{OfferOfRow, ofLoad, ofRmw, Noted, tickLeft, SlotChosen, OfferingTick, OfferingCourse, Offers}
 use Rattle.offers.proofs.Offered.{load-offered, rmw-offered}
 use Rattle.offers.proofs.Passing.{tick-passes}
 use Rattle.offers.proofs.Noting.{no-other}
@@ -81,7 +81,7 @@ module _ (p : Program) (limits : Limits) (site : Event.Site) (st s : State) (es 
         cell = c;
         opcode = 0;
         reading =
-            aLoad row scan (load-offered (s .clocks) (marksOf (s .marks) c) (s .numbers) (current s) c o offered (sym scan ∙ is));
+            ofLoad row scan (load-offered (s .clocks) (marksOf (s .marks) c) (s .numbers) (current s) c o offered (sym scan ∙ is));
         entry = load-noted p limits site u s slot values c o r row;
       }
   reads-from (decoded (Table.rmw c o x change r)) e (ofRmw f g h) =
@@ -91,7 +91,7 @@ module _ (p : Program) (limits : Limits) (site : Event.Site) (st s : State) (es 
         bare = g;
         cell = c;
         opcode = 3;
-        reading = anRmw row h (rmw-offered (s .clocks) (s .numbers) c offered (sym h ∙ is));
+        reading = ofRmw row h (rmw-offered (s .clocks) (s .numbers) c offered (sym h ∙ is));
         entry = rmw-noted p limits site u s slot values c o x r change row;
       }
 
@@ -99,18 +99,18 @@ module _ (p : Program) (limits : Limits) where
   -- the question that the ledger has is this one
   same-question : (w : Walk State) (s : State) (es : List Entry) (x : Bool) (m : Matched) →
       Machine.next p (w .state) .move ≡ asks s es x (whichSlot m) → Answered (machine p) limits w →
-      w .pos < left p limits w .pos →
-      LoadOf (getD (left p limits w .ledger .path) (w .pos) noBranch) m
+      w .pos < tickLeft p limits w .pos →
+      LoadOf (getD (tickLeft p limits w .ledger .path) (w .pos) noBranch) m
   unfolding Answered
   same-question w s es x m e answered h =
       let a = answered h in
       let f : a .3 ≡ whichSlot m = cc (e, a .4) in
-      load-of (a .2) (getD (left p limits w .ledger .path) (w .pos) noBranch) m (rw f at (a .5))
+      load-of (a .2) (getD (tickLeft p limits w .ledger .path) (w .pos) noBranch) m (rw f at (a .5))
 
   chosen : (w : Walk State) (s : State) (es : List Entry) (x : Bool) (m : Matched) →
       Machine.next p (w .state) .move ≡ asks s es x (whichSlot m) → Answered (machine p) limits w →
-      w .pos < left p limits w .pos →
-      Chosen p limits w s es m
+      w .pos < tickLeft p limits w .pos →
+      SlotChosen p limits w s es m
   chosen w s es x m e answered h =
       let l = same-question w s es x m e answered h in
       let g = tick-passes (machine p) limits w s es x (whichSlot m) e .passing h in
@@ -141,7 +141,7 @@ module _ (p : Program) (limits : Limits) where
         noted = noted-as _ same tick-is (r .entry);
       }
 
-  pub offering : (w : Walk State) → Answered (machine p) limits w → Offering p limits w
+  pub offering : (w : Walk State) → Answered (machine p) limits w → OfferingTick p limits w
   offering w answered = record {
     at-slot = λ s es x m e. record {
       passes = tick-passes (machine p) limits w s es x (whichSlot m) e .goes-past;
@@ -151,7 +151,7 @@ module _ (p : Program) (limits : Limits) where
   }
 
   course-offers : (c : Course State) → Follows (machine p) limits c → OfferingCourse p limits c
-  course-offers c f = every-map (Answered (machine p) limits) (Offering p limits) (c .ticks) offering (f .answered)
+  course-offers c f = every-map (Answered (machine p) limits) (OfferingTick p limits) (c .ticks) offering (f .answered)
 
 pub all-offers : Offers
 unfolding Offers Replay

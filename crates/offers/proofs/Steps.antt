@@ -2,7 +2,7 @@
 --     Quiet, Stores        a step at which no store is made, or one
 --     Steps                and how the threads' vectors grow
 --     store-steps          a store
---     load-steps, rmw-steps, ..       an access, where no race stops it
+--     sighted-calm, sighted-sees      a load's sight of its store: nothing else changes, and it is seen
 use Prim.Native.Nat.{ℕ, _≤_, _<_}
 use mathlib.Core.List.{List}
 use mathlib.Core.Path.{_≡_, refl, ap, sym, _∙_}

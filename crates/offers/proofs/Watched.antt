@@ -27,7 +27,7 @@ use Rattle.rules.proofs.MeasureSteps.{Asked, Lower, asking}
 use Rattle.rules.proofs.MeasureTicks.{next-lower}
 use Rattle.rules.proofs.MeasureWalk.{tick-lowers}
 use Rattle.ledger.specs.Replay.{Answered}
-use Rattle.offers.specs.Chosen.{OfferOfRow, aLoad, anRmw, Chosen}
+use Rattle.offers.specs.Chosen.{OfferOfRow, ofLoad, ofRmw, SlotChosen}
 use Rattle.offers.specs.Offered.{Below, Among}
 use Rattle.offers.specs.Seen.{Sees, Taken, Watched, Watching}
 use Rattle.offers.proofs.Sight.{Stays, rowIn, seen-stays}
@@ -220,7 +220,7 @@ module _ (p : Program) (limits : Limits) where
       -- a load or an RMW reads its slot
       module _ (s : State) (es : List Entry) (x : Bool) (q : Matched)
           (e : Machine.next p (w .state) .move ≡ asks s es x (whichSlot q)) where
-        chosen : Chosen p limits w s es q
+        chosen : SlotChosen p limits w s es q
         chosen =
             let k = offering p limits w answered .at-slot s es x q e in
             k .chosen (let l = k .passes v g in rw g l)
@@ -275,7 +275,7 @@ module _ (p : Program) (limits : Limits) (limited : p .operations ≤ largest) (
 
   module _ (s : State) (es : List Entry) (x : Bool) (q : Matched)
       (e : Machine.next p (w .state) .move ≡ asks s es x (whichSlot q))
-      (c : Chosen p limits w s es q) where
+      (c : SlotChosen p limits w s es q) where
     abbrev slot : ℕ
     slot = getD (c .by .values) (c .by .pos) 0
 
@@ -302,9 +302,9 @@ module _ (p : Program) (limits : Limits) (limited : p .operations ≤ largest) (
             length (v .trace) + 2 < unseen →
             (d o : ℕ) → OfferOfRow p s q (c .offered) d o →
             AfterOf (current s) d slot (Machine.answered p s (readSlot slot (c .by .values)))
-        by-reading sound long below few d o (aLoad row m r) =
+        by-reading sound long below few d o (ofLoad row m r) =
             load-read p (length (v .trace) + 2) s sound long below slot (c .by .values) slot-small few d _ _ row
-        by-reading sound long below few d o (anRmw row m r) =
+        by-reading sound long below few d o (ofRmw row m r) =
             rmw-read p (length (v .trace) + 2) s sound long below slot (c .by .values) slot-small few d _ _ _ _ row
 
     read-seen : Sees (v .state) (current s) (c .cell) slot
@@ -329,7 +329,7 @@ module _ (p : Program) (limits : Limits) (limited : p .operations ≤ largest) (
     (h : Holds p limits w) where
   never-offered : (s : State) (es : List Entry) (x : Bool) (m : Matched) →
       Machine.next p (w .state) .move ≡ asks s es x (whichSlot m) →
-      (c : Chosen p limits w s es m) (i j : ℕ) → Among i (c .by .values) → j < liveIn (s .numbers) (c .cell) →
+      (c : SlotChosen p limits w s es m) (i j : ℕ) → Among i (c .by .values) → j < liveIn (s .numbers) (c .cell) →
       Sees (w .state) (current s) (c .cell) j → Below (s .clocks) (c .cell) i j → ⊥
   never-offered s es x m e c i j a l k b =
       let same : current s ≡ current (w .state) = ap current (c .raised) in
@@ -341,8 +341,8 @@ module _ (p : Program) (limits : Limits) (limited : p .operations ≤ largest) (
     where
       by-reading : (d o : ℕ) → OfferOfRow p s m (c .offered) d o → Among i (slotsOf (c .offered)) → j < liveIn (s .numbers) d →
           Sees s (current s) d j → Below (s .clocks) d i j → ⊥
-      by-reading d o (aLoad row f r) a l k b = r .never i j a l k b
-      by-reading d o (anRmw row f r) a l k b = r .never i j a l tt b
+      by-reading d o (ofLoad row f r) a l k b = r .never i j a l k b
+      by-reading d o (ofRmw row f r) a l k b = r .never i j a l tt b
 
   pub watching : Answered (machine p) limits w → Watching p limits w
   watching answered = record { never = never-offered; goes-on = λ v g. watched p limits limited room w v h g answered }

@@ -2,8 +2,8 @@
 -- of them, and so are the trace's slot and mask. Assumes nothing.
 --     OfferOfRow       a row that reads a slot, with what it is offered
 --     Noted            the trace entry of such a row, or none where it faults
---     Chosen           a tick at which a slot is chosen
---     Offering         and that no other tick notes a load or an RMW
+--     SlotChosen       a tick at which a slot is chosen
+--     OfferingTick     and that no other tick notes a load or an RMW
 --     Offers           the statement: every such tick of every execution of every run, of any table
 use Prim.Native.Nat.{ℕ, _<_}
 use mathlib.Core.List.{List, [], _++_}
@@ -25,11 +25,11 @@ use Rattle.offers.specs.Offered.{OfferedRight}
 -- the active thread's row is a load or an RMW of cell c, with its opcode; what it is offered is judged in this state, by this
 -- thread, and is right
 pub data OfferOfRow (p : Program) (s : State) (m : Matched) (offered : List Bool) : (c opcode : ℕ) → Type 0 where
-  aLoad : {c o r : ℕ} → activeOp p s ≡ decoded (Table.load c o r)
+  ofLoad : {c o r : ℕ} → activeOp p s ≡ decoded (Table.load c o r)
       → m ≡ matchedLoad (s .clocks) (marksOf (s .marks) c) (s .numbers) (current s) c o
       → OfferedRight (s .clocks) (s .numbers) c (λ j. seenBy (s .clocks) (marksOf (s .marks) c) (current s) j ≡ true) offered
       → OfferOfRow p s m offered c 0
-  anRmw : {c o f r : ℕ} {change : Change} → activeOp p s ≡ decoded (Table.rmw c o f change r)
+  ofRmw : {c o f r : ℕ} {change : Change} → activeOp p s ≡ decoded (Table.rmw c o f change r)
       → m ≡ matchedRmw (s .clocks) (s .numbers) c
       → OfferedRight (s .clocks) (s .numbers) c (λ j. Unit {0}) offered
       → OfferOfRow p s m offered c 3
@@ -46,21 +46,21 @@ NoRead e = (e .opcode ≡ 0 → ⊥) × (e .opcode ≡ 3 → ⊥)
 
 module _ (p : Program) (limits : Limits) where
   -- the walk that a tick leaves
-  abbrev pub left : Walk State → Walk State
-  left w = leftBy (tick (machine p) limits w)
+  abbrev pub tickLeft : Walk State → Walk State
+  tickLeft w = leftBy (tick (machine p) limits w)
 
   -- a tick at which the machine asks in this state, with these entries, for one of these offers; exploring or not
   abbrev pub AsksSlot : Walk State → State → List Entry → Bool → Matched → Type 0
   AsksSlot w s es x m = next p (w .state) .move ≡ asks s es x (whichSlot m)
 
   -- A tick at which the machine asks in this state for one of these offers, and is answered
-  pub record Chosen (w : Walk State) (s : State) (es : List Entry) (m : Matched) : Type 0 where
+  pub record SlotChosen (w : Walk State) (s : State) (es : List Entry) (m : Matched) : Type 0 where
     -- the state is that of the tick, with the thread's version raised; no row is complete yet
     pub raised : s ≡ versionRaised (w .state) (current (w .state))
     pub bare : es ≡ []
     -- the record that answers, whether it was added now or known before, has just the slots that are offered now
     pub by : Load
-    pub at-branch : getD (left w .ledger .path) (w .pos) noBranch ≡ load by
+    pub at-branch : getD (tickLeft w .ledger .path) (w .pos) noBranch ≡ load by
     pub offered : List Bool
     pub is : m ≡ offers offered
     pub all : by .values ≡ slotsOf offered
@@ -80,9 +80,9 @@ module _ (p : Program) (limits : Limits) where
   -- a tick that asks for a slot: it passes a branch if it goes on at all, and wherever it does a slot is chosen
   pub record Unrefused (w : Walk State) (s : State) (es : List Entry) (m : Matched) : Type 0 where
     pub passes : (v : Walk State) → tick (machine p) limits w ≡ goes v → w .pos < v .pos
-    pub chosen : w .pos < left w .pos → Chosen w s es m
+    pub chosen : w .pos < tickLeft w .pos → SlotChosen w s es m
 
-  pub record Offering (w : Walk State) : Type 0 where
+  pub record OfferingTick (w : Walk State) : Type 0 where
     pub at-slot : (s : State) (es : List Entry) (x : Bool) (m : Matched) → AsksSlot w s es x m → Unrefused w s es m
     -- a tick that asks for none notes no load and no RMW
     pub no-other :
@@ -91,7 +91,7 @@ module _ (p : Program) (limits : Limits) where
         → (new : List Entry) × (v .trace ≡ w .trace ++ new) × Every NoRead new
 
   abbrev pub OfferingCourse : Course State → Type 0
-  OfferingCourse c = Every Offering (c .ticks)
+  OfferingCourse c = Every OfferingTick (c .ticks)
 
 -- "Every unrefused load and RMW is offered, judged as its slot is chosen, each live store recorded below no other, and never one
 -- recorded below another live store that its thread has seen by then."

@@ -22,7 +22,7 @@ use Rattle.rules.specs.Explorer.{Limits, Walk, goes, tick}
 use Rattle.rules.specs.Explored.{Settings, settingsFine, programOf, limitsOf}
 use Rattle.ledger.specs.History.{Every, Course, courses}
 use Rattle.offers.specs.Offered.{Below, Among}
-use Rattle.offers.specs.Chosen.{AsksSlot, Chosen}
+use Rattle.offers.specs.Chosen.{AsksSlot, SlotChosen}
 
 -- the store in slot i of cell c counts as seen by thread t
 abbrev pub Sees : State → ℕ → ℕ → ℕ → Type 0
@@ -40,7 +40,7 @@ module _ (p : Program) (limits : Limits) where
     -- the store that a load or an RMW has read is seen by its thread, also where the RMW's own store has taken its place
     pub read :
         (s : State) (es : List Entry) (x : Bool) (m : Matched) → AsksSlot p limits w s es x m
-        → (c : Chosen p limits w s es m) → Sees (v .state) (current s) (c .cell) (getD (c .by .values) (c .by .pos) 0)
+        → (c : SlotChosen p limits w s es m) → Sees (v .state) (current s) (c .cell) (getD (c .by .values) (c .by .pos) 0)
     -- a store that is new is seen by the thread that made it
     pub wrote : (c i : ℕ) → c < cells → Taken c i (w .state) (v .state) → Sees (v .state) (current (w .state)) c i
     -- what any thread has seen it still sees, unless a store took that slot
@@ -51,7 +51,7 @@ module _ (p : Program) (limits : Limits) where
     -- a load or an RMW is offered nothing that is recorded below another live store that its thread has seen before this tick
     pub never :
         (s : State) (es : List Entry) (x : Bool) (m : Matched) → AsksSlot p limits w s es x m
-        → (c : Chosen p limits w s es m) (i j : ℕ) → Among i (c .by .values) → j < liveIn (s .numbers) (c .cell)
+        → (c : SlotChosen p limits w s es m) (i j : ℕ) → Among i (c .by .values) → j < liveIn (s .numbers) (c .cell)
         → Sees (w .state) (current s) (c .cell) j → Below (s .clocks) (c .cell) i j → ⊥
     pub goes-on : (v : Walk State) → tick (machine p) limits w ≡ goes v → Watched w v
 

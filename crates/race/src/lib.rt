@@ -17,13 +17,13 @@ pub fn put(
     at: usize,
     table: &[u8],
     trace: &[u8],
-    fault: AtFault,
+    site: AtFault,
     kind: u8,
     other: u64,
 ) -> usize
-    ensures { λ r. ⌜ pageOf (now (page .exit)) r ≡ putRace (pageOf (now (page .entry)) at) (now (table .entry)) (now (trace .entry)) (fault .thread) (fault .row) kind other ⌝ }
+    ensures { λ r. ⌜ pageOf (now (page .exit)) r ≡ putRace (pageOf (now (page .entry)) at) (now (table .entry)) (now (trace .entry)) (site .thread) (site .row) kind other ⌝ }
 {
-    let cell = cell_at(table, fault);
+    let cell = cell_at(table, site);
     let met = CellAccess {
         cell,
         kind: met(kind),
@@ -32,13 +32,13 @@ pub fn put(
         cell,
         kind: against(kind),
     };
-    let to = put_met(page, at, fault, met);
+    let to = put_met(page, at, site, met);
     put_before(page, to, table, trace, other, before)
 }
 
 // The access that met the race, of the row at fault.
-fn put_met(page: &mut Page, at: usize, fault: AtFault, access: CellAccess) -> usize
-    ensures { λ r. ⌜ pageOf (now (page .exit)) r ≡ putMet (pageOf (now (page .entry)) at) (access .cell) (access .kind) (fault .thread) (fault .row) ⌝ }
+fn put_met(page: &mut Page, at: usize, site: AtFault, access: CellAccess) -> usize
+    ensures { λ r. ⌜ pageOf (now (page .exit)) r ≡ putMet (pageOf (now (page .entry)) at) (access .cell) (access .kind) (site .thread) (site .row) ⌝ }
 {
     let kind = access.kind;
     let to = put_where(page, at, access);
@@ -47,8 +47,8 @@ fn put_met(page: &mut Page, at: usize, fault: AtFault, access: CellAccess) -> us
         page,
         to,
         b" of thread #, row #, against ",
-        fault.thread,
-        fault.row,
+        site.thread,
+        site.row,
         0,
     )
 }
@@ -114,10 +114,10 @@ fn put_step(page: &mut Page, at: usize, trace: &[u8], other: u64, step: u64) -> 
 }
 
 // The cell, or the plain cell, of the row at fault.
-fn cell_at(table: &[u8], fault: AtFault) -> u64
-    ensures { λ r. ⌜ r ≡ cellAt (now (table .entry)) (fault .thread) (fault .row) ⌝ }
+fn cell_at(table: &[u8], site: AtFault) -> u64
+    ensures { λ r. ⌜ r ≡ cellAt (now (table .entry)) (site .thread) (site .row) ⌝ }
 {
-    let Decoded::Row(op) = steps::row_of(table, (fault.thread % 256) as u8, (fault.row % 256) as u8)
+    let Decoded::Row(op) = steps::row_of(table, (site.thread % 256) as u8, (site.row % 256) as u8)
     else {
         return NO_CELL;
     };

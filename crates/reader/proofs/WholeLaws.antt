@@ -1,7 +1,7 @@
 -- A whole text. Assumes nothing.
 --     Going, going-start      on the way, and before the first line
 --     step-..                 what comes of a line
---     took-ended, closes-..   a text that ends, and its condition
+--     closes-..               a text's condition, where it ends
 use Prim.Native.Nat.{ℕ, zero, suc, _+_, _-_, _*_, _≤_, _<_}
 use mathlib.Core.List.{List, [], _∷_, _++_}
 use mathlib.Core.Bool.{Bool, true, false, cond}

@@ -1,7 +1,7 @@
 -- The laws of a record that is a branch's. Assumes nothing.
 --     length-encoded               16 bytes say a branch
 --     stands-field                 a byte of its record
---     stands-put, stands-same      another branch in its place; the same one
+--     stands-moved, stands-same    another branch in its place; the same one
 --     five-states, stands-states   a schedule's states
 --     stands-states-put            others in their place
 --     seven-values, stands-pos, -len, -values, -moved      a load's values and position

@@ -12,16 +12,16 @@ mod header;
 
 // Puts it, in one line: what is wrong with this row; or, where no row is named, with the header or the length; or else with the
 // condition, which is judged behind the table.
-pub fn put(page: &mut Page, at: usize, table: &[u8], condition: &[u8], fault: AtFault) -> usize
-    ensures { λ r. ⌜ pageOf (now (page .exit)) r ≡ putRefusal (pageOf (now (page .entry)) at) (now (table .entry)) (now (condition .entry)) (fault .thread) (fault .row) ⌝ }
+pub fn put(page: &mut Page, at: usize, table: &[u8], condition: &[u8], site: AtFault) -> usize
+    ensures { λ r. ⌜ pageOf (now (page .exit)) r ≡ putRefusal (pageOf (now (page .entry)) at) (now (table .entry)) (now (condition .entry)) (site .thread) (site .row) ⌝ }
 {
-    if fault.thread != NO_PLACE {
+    if site.thread != NO_PLACE {
         return bad_row::put(
             page,
             at,
             table,
-            (fault.thread % 256) as u8,
-            (fault.row % 256) as u8,
+            (site.thread % 256) as u8,
+            (site.row % 256) as u8,
         );
     }
     if let Judged::Good = table::judge(table) {

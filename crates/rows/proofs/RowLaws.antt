@@ -6,7 +6,8 @@
 --     fences-as, yields-as          the fence, the yield
 --     joins-..                      a join that goes through, and one that blocks
 --     jumps-.., checks-..           by their test
---     flag-of, explores-..          the flag that is meant, and what comes of it
+--     flag-true, flag-false         the flag of each row that switches exploring
+--     explores-..                   the flag that is meant, and what comes of it
 --     bit-..                        a row that is refused, one of another kind, and the bit
 use Prim.Native.Nat.{ℕ, _+_, _*_, _≤_, _<_}
 use mathlib.Core.List.{List, [], _∷_}

@@ -5,7 +5,7 @@
 --     joined-left, joined-right, joined-least     the join is an upper bound, and the least
 --     joined-comm, joined-idem                    it commutes and is idempotent
 --     ahead-nobody, nobody-ahead                  nobody is ahead exactly where the other is at most this
---     ahead-greater, ahead-lowest, ahead-is       whoever is ahead is the lowest whose part in the other is greater
+--     ahead-lowest, ahead-is                      whoever is ahead is the lowest whose part in the other is greater
 use Prim.Native.Nat.{ℕ, zero, suc, _+_, _≤_, _<_, max}
 use mathlib.Core.List.{List, [], _∷_}
 use mathlib.Core.Bool.{Bool, true, false, not, _&&_, true≢false, false≢true, and-eq-true-iff}

@@ -112,8 +112,8 @@ abbrev pub runUnder : List ℕ → List ℕ → Settings → Explored
 runUnder t condition s = explored t condition s (replicate (16 * s .branches) 165) (replicate (16 * s .operations) 90)
 
 -- without a condition
-abbrev pub run : List ℕ → Settings → Explored
-run t s = runUnder t [] s
+abbrev pub runFree : List ℕ → Settings → Explored
+runFree t s = runUnder t [] s
 
 abbrev pub answerOf : Explored → List ℕ
 answerOf e = e .report .answer ∷ []
@@ -156,17 +156,17 @@ abbrev pub oneLoad : List ℕ
 oneLoad = table (7 ∷ []) ((load 0 ∷ []) ∷ [])
 
 abbrev pub p1 : Worked
-p1 = record { given = answerOf (run oneLoad (limits 3 1 unbounded)); said = 0 ∷ [] }
+p1 = record { given = answerOf (runFree oneLoad (limits 3 1 unbounded)); said = 0 ∷ [] }
 
 abbrev pub p1Trace : Worked
 p1Trace = record {
-  given = run oneLoad (limits 3 1 unbounded) .trace;
+  given = runFree oneLoad (limits 3 1 unbounded) .trace;
   said = 0 ∷ 0 ∷ 0 ∷ 0 ∷ 1 ∷ 0 ∷ 0 ∷ 0 ∷ 7 ∷ replicate 7 0;
 }
 
 abbrev pub p1Path : Worked
 p1Path = record {
-  given = run oneLoad (limits 3 1 unbounded) .path;
+  given = runFree oneLoad (limits 3 1 unbounded) .path;
   said =
       1 ∷ 1 ∷ 4 ∷ 0 ∷ 0 ∷ 0 ∷ 0 ∷ 0 ∷ 0 ∷ 255 ∷ 255 ∷ (replicate 5 0
       ++ (2 ∷ 1 ∷ (replicate 8 0 ++ (1 ∷ (replicate 5 0 ++ (1 ∷ 1 ∷ (replicate 6 0 ++ (255 ∷ replicate 7 0))))))));
@@ -174,14 +174,14 @@ p1Path = record {
 
 -- "P2 B=2: 11."
 abbrev pub p2 : Worked
-p2 = record { given = answerOf (run oneLoad (limits 2 1 unbounded)); said = 11 ∷ [] }
+p2 = record { given = answerOf (runFree oneLoad (limits 2 1 unbounded)); said = 11 ∷ [] }
 
 -- "P3 thread 0 stores 1, thread 1 loads, Relaxed, one cell starting at 0: 5 executions, values 0,1,0,0,1, opened 4."
 abbrev pub storeAndLoad : List ℕ
 storeAndLoad = table (0 ∷ []) ((store 1 ∷ []) ∷ (load 0 ∷ []) ∷ [])
 
 abbrev pub p3 : Worked
-p3 = record { given = answerAndBegun (run storeAndLoad (limits 8 4 unbounded)); said = 0 ∷ 5 ∷ [] }
+p3 = record { given = answerAndBegun (runFree storeAndLoad (limits 8 4 unbounded)); said = 0 ∷ 5 ∷ [] }
 
 abbrev pub p3Values : Worked
 p3Values = record {
@@ -190,18 +190,18 @@ p3Values = record {
 }
 
 abbrev pub p3Opened : Worked
-p3Opened = record { given = run storeAndLoad (limits 8 4 unbounded) .report .opened ∷ []; said = 4 ∷ [] }
+p3Opened = record { given = runFree storeAndLoad (limits 8 4 unbounded) .report .opened ∷ []; said = 4 ∷ [] }
 
 -- "P4 bound 0: 2 executions. P5 bound 1: 3."
 abbrev pub p4 : Worked
-p4 = record { given = answerAndBegun (run storeAndLoad (limits 8 4 (atMost 0))); said = 0 ∷ 2 ∷ [] }
+p4 = record { given = answerAndBegun (runFree storeAndLoad (limits 8 4 (atMost 0))); said = 0 ∷ 2 ∷ [] }
 
 abbrev pub p5 : Worked
-p5 = record { given = answerAndBegun (run storeAndLoad (limits 8 4 (atMost 1))); said = 0 ∷ 3 ∷ [] }
+p5 = record { given = answerAndBegun (runFree storeAndLoad (limits 8 4 (atMost 1))); said = 0 ∷ 3 ∷ [] }
 
 -- "P6 a thread joins itself: 10."
 abbrev pub p6 : Worked
-p6 = record { given = answerOf (run (table (0 ∷ []) ((join 0 ∷ []) ∷ [])) (limits 8 4 unbounded)); said = 10 ∷ [] }
+p6 = record { given = answerOf (runFree (table (0 ∷ []) ((join 0 ∷ []) ∷ [])) (limits 8 4 unbounded)); said = 10 ∷ [] }
 
 -- "P7 thread 0 exclusive, thread 1 load: 14, kind 1, other 0."
 abbrev pub raceIn : Explored → List ℕ
@@ -209,7 +209,7 @@ raceIn e = e .report .answer ∷ e .report .kind ∷ e .report .other ∷ []
 
 abbrev pub p7 : Worked
 p7 = record {
-  given = raceIn (run (table (0 ∷ []) ((exclusive 0 ∷ []) ∷ (load 0 ∷ []) ∷ [])) (limits 8 4 unbounded));
+  given = raceIn (runFree (table (0 ∷ []) ((exclusive 0 ∷ []) ∷ (load 0 ∷ []) ∷ [])) (limits 8 4 unbounded));
   said = 14 ∷ 1 ∷ 0 ∷ [];
 }
 
@@ -234,7 +234,7 @@ raceAndBegun e = raceIn e ++ (e .report .begun ∷ [])
 
 abbrev pub p8Run : Worked
 p8Run = record {
-  given = raceAndBegun (run fenceOverNine (limits 20 16 unbounded));
+  given = raceAndBegun (runFree fenceOverNine (limits 20 16 unbounded));
   said = 14 ∷ 2 ∷ 0 ∷ 1 ∷ [];
 }
 
@@ -253,10 +253,10 @@ abbrev pub decrementThenCheck : ℕ → List ℕ
 decrementThenCheck a = table (0 ∷ 7 ∷ []) ((load 1 ∷ decrement 0 ∷ check a ∷ []) ∷ [])
 
 abbrev pub p11Register : Worked
-p11Register = record { given = answerOf (run (decrementThenCheck 0) (limits 8 4 unbounded)); said = 0 ∷ [] }
+p11Register = record { given = answerOf (runFree (decrementThenCheck 0) (limits 8 4 unbounded)); said = 0 ∷ [] }
 
 abbrev pub p11NotKept : Worked
-p11NotKept = record { given = answerOf (run (decrementThenCheck 7) (limits 8 4 unbounded)); said = 15 ∷ [] }
+p11NotKept = record { given = answerOf (runFree (decrementThenCheck 7) (limits 8 4 unbounded)); said = 15 ∷ [] }
 
 -- "a comparison of a thread's register with a number": register 0, the number a small one
 abbrev pub comparing : ℕ → ℕ → ℕ → List ℕ
@@ -306,7 +306,7 @@ p1NoThread = record {
 -- One plain cell: thread 0 has one of these rows or two, thread 1 the next. "A read is refused if a write vector has a thread ahead
 -- (race kind 10). A write is refused if a read vector (kind 11), then a write vector (kind 12), has one." (document 02, §5)
 abbrev pub plainRace : List Row → Row → List ℕ
-plainRace first second = raceAndBegun (run (tableWith (0 ∷ []) (9 ∷ []) (first ∷ (second ∷ []) ∷ [])) (limits 8 4 unbounded))
+plainRace first second = raceAndBegun (runFree (tableWith (0 ∷ []) (9 ∷ []) (first ∷ (second ∷ []) ∷ [])) (limits 8 4 unbounded))
 
 abbrev pub readOfWritten : Worked
 readOfWritten = record { given = plainRace (plainWrite 7 ∷ []) plainRead; said = 14 ∷ 10 ∷ 0 ∷ 1 ∷ [] }
@@ -327,7 +327,7 @@ readOfRead = record { given = plainRace (plainRead ∷ []) plainRead; said = 0 �
 -- "the trace gives the value read or written, slot 255": the start value is read, then 7 written
 abbrev pub plainTrace : Worked
 plainTrace = record {
-  given = run (tableWith (0 ∷ []) (9 ∷ []) ((plainRead ∷ plainWrite 7 ∷ []) ∷ [])) (limits 3 2 unbounded) .trace;
+  given = runFree (tableWith (0 ∷ []) (9 ∷ []) ((plainRead ∷ plainWrite 7 ∷ []) ∷ [])) (limits 3 2 unbounded) .trace;
   said = 0 ∷ 0 ∷ 17 ∷ 255 ∷ (replicate 4 0 ++ (9 ∷ (replicate 7 0 ++ (0 ∷ 1 ∷ 18 ∷ 255 ∷ (replicate 4 0 ++ (7 ∷ replicate 7 0))))));
 }
 
@@ -337,7 +337,7 @@ abbrev pub jumping : ℕ → ℕ → Row
 jumping opcode target = record { opcode = opcode; object = 0; order = 0; failure = 0; kind = 0; register = 0; target = target; a = 0; b = 0 }
 
 abbrev pub jumpThere : Row → List ℕ
-jumpThere r = placeAndBegun (run (table (0 ∷ []) ((load 0 ∷ r ∷ []) ∷ [])) (limits 8 4 unbounded))
+jumpThere r = placeAndBegun (runFree (table (0 ∷ []) ((load 0 ∷ r ∷ []) ∷ [])) (limits 8 4 unbounded))
 
 abbrev pub toItself : Worked
 toItself = record { given = jumpThere (jumping 9 1); said = 5 ∷ 0 ∷ 1 ∷ 0 ∷ 255 ∷ 0 ∷ [] }

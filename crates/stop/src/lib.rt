@@ -10,23 +10,23 @@ use table::limits::MAX_ROWS;
 use thread::BLOCKED;
 
 // The row that failed, or at which a limit stopped the run, if there is one.
-pub fn put_place(page: &mut Page, at: usize, table: &[u8], fault: AtFault, limited: bool) -> usize
-    ensures { λ r. ⌜ pageOf (now (page .exit)) r ≡ putPlace (pageOf (now (page .entry)) at) (now (table .entry)) limited (fault .thread) (fault .row) ⌝ }
+pub fn put_place(page: &mut Page, at: usize, table: &[u8], site: AtFault, limited: bool) -> usize
+    ensures { λ r. ⌜ pageOf (now (page .exit)) r ≡ putPlace (pageOf (now (page .entry)) at) (now (table .entry)) limited (site .thread) (site .row) ⌝ }
 {
-    if MAX_THREADS as u64 <= fault.thread {
+    if MAX_THREADS as u64 <= site.thread {
         return at;
     }
-    if (MAX_ROWS as u64) < fault.row {
+    if (MAX_ROWS as u64) < site.row {
         return at;
     }
     let to = put_how(page, at, limited);
-    let to = page::fill(page, to, b": thread #, row #: ", fault.thread, fault.row, 0);
+    let to = page::fill(page, to, b": thread #, row #: ", site.thread, site.row, 0);
     let to = put_row(
         page,
         to,
         table,
-        (fault.thread % 256) as u8,
-        (fault.row % 256) as u8,
+        (site.thread % 256) as u8,
+        (site.row % 256) as u8,
     );
     page::put(page, to, b"\n")
 }

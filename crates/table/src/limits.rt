@@ -33,7 +33,7 @@ pub const COUNT_OF_LAST: usize = ROW_COUNTS - 1;
 pub const PLAIN_COUNT: usize = ROW_COUNTS + MAX_THREADS;
 
 // In bytes: the header, a cell's start value, a row.
-pub const HEADER_BYTES: usize = 8;
+pub const HEADER_BYTES: usize = PLAIN_COUNT + 1;
 
 pub const VALUE_BYTES: usize = 8;
 

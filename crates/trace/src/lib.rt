@@ -33,7 +33,7 @@ pub fn note(trace: &mut [u8], entries: usize, entry: Entry) -> bool
     true
 }
 
-// The bytes of an entry, each at its place (`of_entry`), zeros between the mask and the value; of that the least byte first.
+// The bytes of an entry, in the order of `of_entry`, zeros between the mask and the value; of that the least byte first.
 fn bytes_of(entry: Entry) -> [u8; RECORD]
     ensures { λ r. ⌜ r ≡ entryBytes (entryOf entry) ⌝ }
 {

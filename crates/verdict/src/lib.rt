@@ -27,23 +27,23 @@ pub fn put(
 {
     let answer = report.answer;
     let number = report::number(answer);
-    let fault = report::at_fault(answer);
+    let site = report::at_fault(answer);
     if limit::is_limit(number) {
-        return limit::put(page, at, trace, settings, number, fault);
+        return limit::put(page, at, trace, settings, number, site);
     }
     if report::is_refusal(number) {
-        return put_refused(page, at, table, condition, number, fault);
+        return put_refused(page, at, table, condition, number, site);
     }
     match number {
         answers::EXHAUSTED => put_passed(page, at, table, condition, settings, report.begun),
         answers::RACE => {
             let kind = report::race_kind(answer);
             let other = report::other_thread(answer);
-            race::put(page, at, table, trace, fault, kind, other)
+            race::put(page, at, table, trace, site, kind, other)
         }
-        answers::CHECK => put_check(page, at, table, trace, fault),
+        answers::CHECK => put_check(page, at, table, trace, site),
         answers::UNMET => finally::put(page, at, table, condition, trace),
-        _ => put_failed(page, at, number, fault),
+        _ => put_failed(page, at, number, site),
     }
 }
 
@@ -76,9 +76,9 @@ fn put_refused(
     table: &[u8],
     condition: &[u8],
     number: u64,
-    fault: AtFault,
+    site: AtFault,
 ) -> usize
-    ensures { λ r. ⌜ pageOf (now (page .exit)) r ≡ putRefused (pageOf (now (page .entry)) at) (now (table .entry)) (now (condition .entry)) number (fault .thread) (fault .row) ⌝ }
+    ensures { λ r. ⌜ pageOf (now (page .exit)) r ≡ putRefused (pageOf (now (page .entry)) at) (now (table .entry)) (now (condition .entry)) number (site .thread) (site .row) ⌝ }
 {
     match number {
         answers::BAD_SETTINGS => page::put(
@@ -96,20 +96,20 @@ fn put_refused(
             at,
             b"answer 4: refused: the trace buffer has the wrong length\n",
         ),
-        _ => refusal::put(page, at, table, condition, fault),
+        _ => refusal::put(page, at, table, condition, site),
     }
 }
 
 // A check that failed, with what its register holds.
-fn put_check(page: &mut Page, at: usize, table: &[u8], trace: &[u8], fault: AtFault) -> usize
-    ensures { λ r. ⌜ pageOf (now (page .exit)) r ≡ putCheck (pageOf (now (page .entry)) at) (now (table .entry)) (now (trace .entry)) (fault .thread) (fault .row) ⌝ }
+fn put_check(page: &mut Page, at: usize, table: &[u8], trace: &[u8], site: AtFault) -> usize
+    ensures { λ r. ⌜ pageOf (now (page .exit)) r ≡ putCheck (pageOf (now (page .entry)) at) (now (table .entry)) (now (trace .entry)) (site .thread) (site .row) ⌝ }
 {
     let to = page::fill(
         page,
         at,
         b"answer 15: failed: the check at thread #, row #",
-        fault.thread,
-        fault.row,
+        site.thread,
+        site.row,
         0,
     );
     let to = put_wanted(
@@ -117,8 +117,8 @@ fn put_check(page: &mut Page, at: usize, table: &[u8], trace: &[u8], fault: AtFa
         to,
         table,
         trace,
-        (fault.thread % 256) as u8,
-        (fault.row % 256) as u8,
+        (site.thread % 256) as u8,
+        (site.row % 256) as u8,
     );
     page::put(page, to, b"\n")
 }
@@ -146,8 +146,8 @@ fn put_wanted(page: &mut Page, at: usize, table: &[u8], trace: &[u8], thread: u8
 }
 
 // What else stops a run where it goes wrong.
-fn put_failed(page: &mut Page, at: usize, number: u64, fault: AtFault) -> usize
-    ensures { λ r. ⌜ pageOf (now (page .exit)) r ≡ putFailed (pageOf (now (page .entry)) at) number (fault .thread) (fault .row) ⌝ }
+fn put_failed(page: &mut Page, at: usize, number: u64, site: AtFault) -> usize
+    ensures { λ r. ⌜ pageOf (now (page .exit)) r ≡ putFailed (pageOf (now (page .entry)) at) number (site .thread) (site .row) ⌝ }
 {
     match number {
         answers::DEADLOCK => page::put(
@@ -159,16 +159,16 @@ fn put_failed(page: &mut Page, at: usize, number: u64, fault: AtFault) -> usize
             page,
             at,
             b"answer 13: failed: two stores that a load may read have no order between them, at thread #, row #\n",
-            fault.thread,
-            fault.row,
+            site.thread,
+            site.row,
             0,
         ),
         answers::FLAGS => page::fill(
             page,
             at,
             b"answer 16: failed: `critical` while exploring is off, or `explore_state` while it is on, at thread #, row #\n",
-            fault.thread,
-            fault.row,
+            site.thread,
+            site.row,
             0,
         ),
         _ => page::fill(
@@ -176,8 +176,8 @@ fn put_failed(page: &mut Page, at: usize, number: u64, fault: AtFault) -> usize
             at,
             b"answer #: stopped by a mistake of the explorer itself, at thread #, row #: please report it\n",
             number,
-            fault.thread,
-            fault.row,
+            site.thread,
+            site.row,
         ),
     }
 }

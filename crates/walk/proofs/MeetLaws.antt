@@ -34,7 +34,7 @@ use Rattle.event.specs.declared.Fault.the-variants as fault
 use Rattle.event.specs.declared.Question.{Question}
 use Rattle.event.specs.declared.Question.the-variants as question
 use Rattle.meeting.specs.Stands.{Lent, lent, Stands, ComesTo, FaultMet, siteOf}
-use Rattle.meeting.specs.Branches.{questionOf, askedAt, branched, reached, reachedAt, PickFits, AnswersBy, RepliesBy, Reaches, Holding}
+use Rattle.meeting.specs.Branches.{questionOf, askedAt, branched, reached, reachedAt, PickFits, AnswersBy, RepliesBy, Reaches, BranchesHeld}
 use Rattle.meeting.specs.Entries.{moveAt, concludedAt, Lands}
 use Rattle.meeting.specs.declared.Cursor.{Cursor}
 use Rattle.event.specs.declared.Here.{Here}
@@ -191,10 +191,10 @@ module _ (c : Cursor) (m : Ticked) (h : Here) (q : Question) (clocks : Clocks) (
       }
 
   module _ (goes-on : m .outcome ≡ code.Goes) (long : length there ≡ length path) (a : Reply) (ans : RepliesBy there (m .cursor .pos) q a) (r : Ticked) (exit : Lent) where
-    small : (L : explorer.Limits) → Holding L path → m .cursor .pos < positions
+    small : (L : explorer.Limits) → BranchesHeld L path → m .cursor .pos < positions
     small L room = omega (arith, met-ahead (reach .met) goes-on, reach .met .within, long, room .branches, room .few)
 
-    answers : (p : Program) (L : explorer.Limits) (w v : Walk State) → Holding L path → Stands reaching (m .cursor) v → AnswersBy a (explorer.reply (v .pos) (getD (v .ledger .path) (v .pos) noBranch) (askedAt q h (w .state)))
+    answers : (p : Program) (L : explorer.Limits) (w v : Walk State) → BranchesHeld L path → Stands reaching (m .cursor) v → AnswersBy a (explorer.reply (v .pos) (getD (v .ledger .path) (v .pos) noBranch) (askedAt q h (w .state)))
     answers p L w v room s =
         subst (λ (k : ℕ). AnswersBy a (explorer.reply k (getD (v .ledger .path) k noBranch) (askedAt q h (w .state)))) (sym (s .is-pos))
         (ans .is (v .ledger .path) (s .holds) (small L room) (w .state) (h .site .thread) (decodedOf (h .row)))

@@ -21,7 +21,7 @@ use Rattle.event.specs.declared.Moved.the-variants as event
 use Rattle.event.specs.declared.Question.{Question}
 use Rattle.event.specs.declared.Question.the-variants as question
 use Rattle.meeting.specs.Stands.{Lent, Stands, ComesTo, siteOf}
-use Rattle.meeting.specs.Branches.{askedAt, Holding}
+use Rattle.meeting.specs.Branches.{askedAt, BranchesHeld}
 use Rattle.meeting.specs.Entries.{moveAt, Wrote}
 use Rattle.meeting.specs.declared.Cursor.{Cursor}
 use Rattle.event.specs.declared.Here.{Here}
@@ -60,7 +60,7 @@ MovesAt (event.Stops f) st h = Unit
 
 -- the row is that of the table, and the limits are those of the buffers
 pub record Rooms (p : Program) (L : explorer.Limits) (h : Here) (path trace : List ℕ) : Type 0 where
-  pub holding : Holding L path
+  pub holding : BranchesHeld L path
   pub room : 16 * L .operations ≡ length trace
   pub is-row : rowOf p (h .site .thread) (h .site .row) ≡ decodedOf (h .row)
 
