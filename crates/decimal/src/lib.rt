@@ -1,4 +1,5 @@
 // Decimal numbers in texts.
+#![tactic(auto)]
 ghost use Rattle.std.specs.Prelude.{◌≡◌};
 ghost use Rattle.decimal.specs.Decimal.{number_spelled, between, with_digit};
 

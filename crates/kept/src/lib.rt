@@ -1,1 +1,2 @@
 // What a machine keeps has no code: the statements stand in specs/, their proofs in proofs/.
+#![tactic(auto)]

@@ -2,6 +2,7 @@
 // lends: vectors (clocks), marks of first sight, values and numbers. A part is found at its constant plus the number of its
 // thread, cell, store, register or plain cell; nothing else does arithmetic on positions. A new part goes at the end of its table, past
 // all that are there, and the table's size grows by it: then no position that a proof names moves.
+#![tactic(auto)]
 ghost use Rattle.std.specs.Prelude.{◌≡◌, ◌+◌, ◌*◌, ◌<◌, ◌≤◌};
 ghost use Rattle.layout.specs.Wide.{Wide};
 

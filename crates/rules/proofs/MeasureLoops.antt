@@ -77,7 +77,7 @@ module _ {t ph b : ℕ} (below : t < threads) where
   freed-all {m} zero i a e is = (m, is, omega arith, λ h. absurd (omega arith))
   freed-all {m} (suc n) i a e is =
       let one = freed-one i (omega arith) is in
-      let more = freed-all n (i + 1) (freed t i a) (omega arith) one.1 in (
+      let more = freed-all {m = one.0} n (i + 1) (freed t i a) (omega arith) one.1 in (
         more.0,
         more.1,
         omega (arith, one.2, more.2),

@@ -1,6 +1,7 @@
 // An execution under way: one tick of the machine, with the question that it may ask put to the path. There is one meeting with
 // the path for all questions: past the known path the question adds a branch, and then, as everywhere else, the branch
 // there answers.
+#![tactic(auto)]
 ghost use Rattle.std.specs.Prelude.{◌<◌, ◌≤◌, ◌+◌, ◌^◌, ◌≡◌, get_or};
 ghost use Rattle.rules.specs.Event.{no_site};
 ghost use Rattle.event.specs.Moves.{HereWithin};
