@@ -31,7 +31,7 @@ use matches::Matched;
 use track::Race;
 
 // What a row reads, if it is a load or a read-modify-write.
-#[derive(Drop)]
+#[derive(Clone, Copy)]
 pub enum Reading {
     Nothing,
     Of { cell: usize, register: usize },

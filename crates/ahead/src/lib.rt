@@ -5,7 +5,7 @@ ghost use Rattle.rules.specs.Text.{rows_ahead, threads_ahead};
 ghost use Rattle.ahead.specs.Counts.{LinesCounted, PlacedAt, Behind, row_here, thread_here};
 
 // A line and a column, both from 1, the column in bytes.
-#[derive(Drop)]
+#[derive(Clone, Copy)]
 pub struct Place {
     pub line: usize,
     pub column: usize,

@@ -21,14 +21,14 @@ use synchronize::{sync_load, sync_store};
 use track::Race;
 
 // The value read, or the race that stopped the access.
-#[derive(Drop)]
+#[derive(Clone, Copy)]
 pub enum AccessResult {
     Read(u64),
     Raced { kind: u8, other: u8 },
 }
 
 // The value that an exclusive change found and the one it left, or the race that stopped it.
-#[derive(Drop)]
+#[derive(Clone, Copy)]
 pub enum Mutated {
     Values { read: u64, left: u64 },
     Raced { kind: u8, other: u8 },

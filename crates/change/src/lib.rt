@@ -5,7 +5,7 @@ ghost use Rattle.rules.specs.Change as rules;
 ghost use Rattle.change.specs.Changes.{change_meant, changed_of};
 
 // The thirteen changes, with their operands.
-#[derive(Drop)]
+#[derive(Clone, Copy)]
 pub enum Change {
     Swap(u64),
     Add(u64),
@@ -23,7 +23,7 @@ pub enum Change {
 }
 
 // What a change answers: the value to be written, or that it fails.
-#[derive(Drop)]
+#[derive(Clone, Copy)]
 pub enum Changed {
     Success(u64),
     Failure,

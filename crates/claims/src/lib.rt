@@ -15,7 +15,7 @@ pub const MOST_CLAIMED: usize = CONDITION_BYTES + COMPARISON;
 
 // What stands at a place: so many bytes of a condition and where they end, or, with none, nothing that a condition has. A comparison that
 // breaks off is not whole: it is filled up, and ends where it broke off.
-#[derive(Drop)]
+#[derive(Clone, Copy)]
 struct Unit {
     whole: bool,
     size: usize,
@@ -24,7 +24,7 @@ struct Unit {
 }
 
 // What was read of a condition, where that ended, and whether all of the text was read.
-#[derive(Drop)]
+#[derive(Clone, Copy)]
 struct Claim {
     whole: bool,
     length: usize,
@@ -33,7 +33,7 @@ struct Claim {
 }
 
 // A text's condition: taken, with its bytes; or refused, with the place where.
-#[derive(Drop)]
+#[derive(Clone, Copy)]
 pub struct Conclusion {
     pub taken: bool,
     pub at: usize,

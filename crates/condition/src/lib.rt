@@ -49,14 +49,14 @@ pub const NUMBER_AT: usize = 3;
 pub const DEEP: usize = 8;
 
 // A condition that was read: whether it holds, and where it ends; or the first byte that cannot stand where it does.
-#[derive(Drop)]
+#[derive(Clone, Copy)]
 enum Read {
     Bad(usize),
     Value(bool, usize),
 }
 
 // The same without its value.
-#[derive(Drop)]
+#[derive(Clone, Copy)]
 pub enum Extent {
     Bad(usize),
     Ends(usize),

@@ -9,7 +9,7 @@ use layout::{MAX_THREADS, wide16};
 use table::{COUNTS, Shape};
 
 // A row of the table, or none.
-#[derive(Drop)]
+#[derive(Clone, Copy)]
 pub enum Switch {
     Nowhere,
     At { thread: usize, row: usize },

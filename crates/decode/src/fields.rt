@@ -13,7 +13,7 @@ use layout::REGISTERS;
 use layout::order::{ACQ_REL, ACQUIRE, RELAXED, RELEASE, SEQ_CST};
 
 // A row's change with its operands, or that the row has none.
-#[derive(Drop)]
+#[derive(Clone, Copy)]
 pub enum ChangeDecoded {
     Refused,
     Change(Change),

@@ -24,7 +24,7 @@ use opcodes::{
 
 // What a row does, with the fields that its opcode uses. They stand in an order by which a field of one case never shares its
 // bytes with one of another width: then the compiler keeps each in a register of its own.
-#[derive(Drop)]
+#[derive(Clone, Copy)]
 pub enum Op {
     Load {
         order: u8,
@@ -98,7 +98,7 @@ pub enum Op {
 }
 
 // What a row says, or that it is refused.
-#[derive(Drop)]
+#[derive(Clone, Copy)]
 pub enum Decoded {
     Refused,
     Row(Op),
@@ -106,7 +106,7 @@ pub enum Decoded {
 
 // What a row may name: so many threads, cells and plain cells, and the rows of its thread, which a jump may lead to; and the row's
 // own number, which a jump without a test may not have as its target.
-#[derive(Drop)]
+#[derive(Clone, Copy)]
 pub struct Room {
     pub threads: usize,
     pub cells: usize,
@@ -116,7 +116,7 @@ pub struct Room {
 }
 
 // The fields of a row as they stand. `object` is the cell, the plain cell or the thread.
-#[derive(Drop)]
+#[derive(Clone, Copy)]
 pub struct Row {
     pub opcode: u8,
     pub object: u8,

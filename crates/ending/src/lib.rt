@@ -11,7 +11,7 @@ use table::limits::THREAD_COUNT;
 use walk::{Cursor, Outcome, Ticked};
 
 // What an execution that is over says of the run.
-#[derive(Drop)]
+#[derive(Clone, Copy)]
 pub enum After {
     GoesOn,
     Answers(Answer),

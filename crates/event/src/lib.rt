@@ -6,7 +6,7 @@ use layout::Operation;
 
 // Why a run stops within an execution: document 01's answers from 10 on. Impossible stands for a number read back that
 // no run from a fresh start can have written.
-#[derive(Drop)]
+#[derive(Clone, Copy)]
 pub enum Fault {
     Deadlock,
     Full,
@@ -20,28 +20,28 @@ pub enum Fault {
 }
 
 // Where something happens: a thread, and its row.
-#[derive(Drop)]
+#[derive(Clone, Copy)]
 pub struct Site {
     pub thread: usize,
     pub row: u16,
 }
 
 // A thread at its row, and what that row does.
-#[derive(Drop)]
+#[derive(Clone, Copy)]
 pub struct Here {
     pub site: Site,
     pub row: Decoded,
 }
 
 // A pending operation, what a thread is about to do and to which cell: the one that a row sets, or that a thread has.
-#[derive(Drop)]
+#[derive(Clone, Copy)]
 pub enum Pending {
     Nothing,
     On(Operation),
 }
 
 // What is asked: which thread runs, which store is read, whether `branch_spurious` is set.
-#[derive(Drop)]
+#[derive(Clone, Copy)]
 pub enum Question {
     Thread,
     Slot,
@@ -50,7 +50,7 @@ pub enum Question {
 
 // What a branch of the path chooses: a thread, chosen at the branch with this position, or nobody; a slot, with the mask of all that were
 // offered; a bit.
-#[derive(Drop)]
+#[derive(Clone, Copy)]
 pub enum Picked {
     Thread { chosen: usize, branch: u16 },
     Nobody,
@@ -59,7 +59,7 @@ pub enum Picked {
 }
 
 // What a tick, or going on with an answer, comes to.
-#[derive(Drop)]
+#[derive(Clone, Copy)]
 pub enum Moved {
     // It goes on, and no row is complete.
     Moves,

@@ -16,7 +16,7 @@ const BEFORE: usize = 100;
 const DELETE: u8 = 127;
 
 // A line that is shown, with a place in it: where the line begins, the place, and where the line ends.
-#[derive(Drop)]
+#[derive(Clone, Copy)]
 pub struct Excerpt {
     pub begin: usize,
     pub place: usize,

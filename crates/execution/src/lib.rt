@@ -21,7 +21,7 @@ use layout::{Access, Clocks, Marks, Numbers, Values, register_at, wide16};
 use table::{CELLS, COUNTS, Shape};
 
 // What a row stores, if it is a store: of an operand, or of a register.
-#[derive(Drop)]
+#[derive(Clone, Copy)]
 pub enum Stored {
     Nothing,
     Of { access: Access, value: u64 },

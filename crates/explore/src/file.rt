@@ -3,7 +3,7 @@ use libc::STDERR_FILENO;
 use source::FILE_BYTES;
 
 // A file's bytes, by their count, or a read that failed.
-#[derive(Drop)]
+#[derive(Clone, Copy)]
 pub enum Got {
     Bytes(usize),
     Failed,

@@ -5,7 +5,7 @@ use path::Bound;
 use settings::{MAX_BOUND, MAX_BRANCHES, MAX_EXECUTIONS, MAX_OPERATIONS, Settings, bound_of};
 
 // An option that takes a number or a name, which is the next word.
-#[derive(Drop)]
+#[derive(Clone, Copy)]
 pub enum Awaited {
     Nothing,
     Branches,
@@ -16,7 +16,7 @@ pub enum Awaited {
 }
 
 // What is asked of the program in the file: to explore it, or to write it as text, its table, or its condition.
-#[derive(Drop)]
+#[derive(Clone, Copy)]
 pub enum Task {
     Explore,
     ToText,
@@ -26,7 +26,7 @@ pub enum Task {
 
 // What was asked so far. `file` is the place of the file's name among the words, 0 for none; `condition` that of a condition's, which
 // begins `behind` so many bytes of that word.
-#[derive(Drop)]
+#[derive(Clone, Copy)]
 pub struct Options {
     pub file: usize,
     pub condition: usize,
@@ -38,7 +38,7 @@ pub struct Options {
 }
 
 // The options after a word, or the wish to be told the usage, or a refusal that has been named on standard error.
-#[derive(Drop)]
+#[derive(Clone, Copy)]
 pub enum Asked {
     For(Options),
     Usage,

@@ -15,7 +15,7 @@ use settings::Settings;
 use walk::{Cursor, Limits, Ticked};
 
 // What a run has come to after some executions: the cursor of the last, the entries of the longest trace, how many were begun.
-#[derive(Drop)]
+#[derive(Clone, Copy)]
 pub struct Progress {
     pub cursor: Cursor,
     pub longest: usize,

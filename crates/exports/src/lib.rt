@@ -15,7 +15,7 @@ pub const NO_RUN: u64 = 255;
 const NO_BOUND: u64 = MAX_BOUND + 1;
 
 // The settings as a caller gives them: numbers alone.
-#[derive(Drop)]
+#[derive(Clone, Copy)]
 struct SettingNumbers {
     branches: u64,
     operations: u64,

@@ -17,7 +17,7 @@ use table::limits::{
 use token::Found;
 
 // How far a text is read: to a line that begins at this place, in a thread of so many rows, behind a table of so many bytes.
-#[derive(Drop)]
+#[derive(Clone, Copy)]
 pub struct Reached {
     pub rows: usize,
     pub length: usize,
@@ -25,7 +25,7 @@ pub struct Reached {
 }
 
 // How a line comes out: the next one follows; it is refused at a place; the text ends; the condition follows.
-#[derive(Drop)]
+#[derive(Clone, Copy)]
 pub enum Line {
     GoesOn(Reached),
     Refused(usize),
@@ -34,14 +34,14 @@ pub enum Line {
 }
 
 // The first token of a line: where it begins, and where it ends.
-#[derive(Drop)]
+#[derive(Clone, Copy)]
 struct FirstToken {
     here: usize,
     to: usize,
 }
 
 // Start values, of cells or of plain cells: how many at most, and the place at which the header counts them.
-#[derive(Drop)]
+#[derive(Clone, Copy)]
 struct StartValues {
     most: usize,
     place: usize,

@@ -39,7 +39,7 @@ const OPERAND_B: usize = TARGET + 2;
 
 // A line that was read: of a form, with its fields and the place of the next line; or of none, with the place of the first token that no
 // form has there.
-#[derive(Drop)]
+#[derive(Clone, Copy)]
 pub struct RowRead {
     pub fits: bool,
     pub at: usize,

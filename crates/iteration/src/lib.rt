@@ -11,7 +11,7 @@ use table::Shape;
 use walk::{Cursor, Limits, Outcome, Ticked};
 
 // What an execution is given beside its table: the limits, and whether it explores from the start.
-#[derive(Drop)]
+#[derive(Clone, Copy)]
 pub struct Terms {
     pub limits: Limits,
     pub exploring: bool,

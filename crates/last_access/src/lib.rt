@@ -13,7 +13,7 @@ use decode::{Decoded, Op};
 pub const NO_CELL: u64 = 255;
 
 // How a step accesses a cell or, in the last two, a plain cell. A change that fails only loads.
-#[derive(Drop)]
+#[derive(Clone, Copy)]
 pub enum AccessKind {
     Load,
     UnsyncLoad,
@@ -24,7 +24,7 @@ pub enum AccessKind {
 }
 
 // An access to a cell, or to a plain cell: its kind says to which.
-#[derive(Drop)]
+#[derive(Clone, Copy)]
 pub struct CellAccess {
     pub cell: u64,
     pub kind: AccessKind,

@@ -59,7 +59,7 @@ pub type Values = [u64; VALUES];
 pub type Numbers = [u16; NUMBERS];
 
 // An atomic access to a cell: whose, to which, by which order.
-#[derive(Drop)]
+#[derive(Clone, Copy)]
 pub struct Access {
     pub thread: usize,
     pub cell: usize,
@@ -67,7 +67,7 @@ pub struct Access {
 }
 
 // An operation on a cell that a thread is about to take: which, by its number, and on which cell.
-#[derive(Drop)]
+#[derive(Clone, Copy)]
 pub struct Operation {
     pub action: u16,
     pub cell: usize,

@@ -15,14 +15,14 @@ use vv::{Ordering, VersionVec};
 
 // How many stores are offered, or that equal orders were met: answer 13. There loom asserts that no two stores of a cell have
 // the same order, with the remark that this sometimes fails; here it is an answer.
-#[derive(Drop)]
+#[derive(Clone, Copy)]
 pub enum Matched {
     Offers(usize),
     Equal,
 }
 
 // What a scan says of one store.
-#[derive(Drop)]
+#[derive(Clone, Copy)]
 pub enum Fate {
     Kept,
     Dropped,

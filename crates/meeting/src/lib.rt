@@ -23,7 +23,7 @@ use trace::Entry;
 
 // Where an execution stands: records in the path, those that it has passed, choices opened in the whole history, entries in
 // the trace.
-#[derive(Drop)]
+#[derive(Clone, Copy)]
 pub struct Cursor {
     pub len: usize,
     pub pos: usize,
@@ -32,21 +32,21 @@ pub struct Cursor {
 }
 
 // How a tick comes out: the execution goes on, is over, or has met a fault.
-#[derive(Drop)]
+#[derive(Clone, Copy)]
 pub enum Outcome {
     Goes,
     Over,
     Faulted { fault: Fault, site: Site },
 }
 
-#[derive(Drop)]
+#[derive(Clone, Copy)]
 pub struct Ticked {
     pub outcome: Outcome,
     pub cursor: Cursor,
 }
 
 // The path's answer to a question: what the branch chooses, or that it is none of the question's kind.
-#[derive(Drop)]
+#[derive(Clone, Copy)]
 pub enum Reply {
     Says(Picked),
     Unexpected,

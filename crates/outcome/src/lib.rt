@@ -13,7 +13,7 @@ use steps::held::Held;
 
 // A value that was read comes with the step that wrote it, counted from 1, or 0 for a start value. A change that succeeds wrote
 // another behind it; an exclusive one left it in the place of what it found. A plain cell holds what was written last.
-#[derive(Drop)]
+#[derive(Clone, Copy)]
 pub enum Came {
     Nothing,
     Read(u64, u64),

@@ -23,7 +23,7 @@ use record::{Offered, fields, load, schedule};
 // What became of a new branch: it was added and opened so many choices; there is no room for it
 // (answer 11); or its preemptions would pass 255 (answer 17). In the last two cases the path is as
 // it was.
-#[derive(Drop)]
+#[derive(Clone, Copy)]
 pub enum Addition {
     Added(u64),
     Full,
@@ -31,7 +31,7 @@ pub enum Addition {
 }
 
 // The thread that a schedule branch chooses. Unexpected where the branch is no schedule.
-#[derive(Drop)]
+#[derive(Clone, Copy)]
 pub enum Chosen {
     Thread(usize),
     Nobody,
@@ -39,14 +39,14 @@ pub enum Chosen {
 }
 
 // What a spurious branch chooses. Unexpected where the branch is none.
-#[derive(Drop)]
+#[derive(Clone, Copy)]
 pub enum Said {
     Bit(bool),
     Unexpected,
 }
 
 // How many preemptions an execution may have.
-#[derive(Drop)]
+#[derive(Clone, Copy)]
 pub enum Bound {
     Unbounded,
     AtMost(u8),

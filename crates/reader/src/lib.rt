@@ -14,7 +14,7 @@ use table::limits::{HEADER_BYTES, THREAD_COUNT};
 
 // How a text was read: a buffer was too short; refused at a line and column, both from 1; or taken, with the lengths of its table and
 // its condition.
-#[derive(Drop)]
+#[derive(Clone, Copy)]
 pub enum TextAnswer {
     NoRoom,
     Refused(usize, usize),
@@ -22,7 +22,7 @@ pub enum TextAnswer {
 }
 
 // The same with a place in the text, once there is room.
-#[derive(Drop)]
+#[derive(Clone, Copy)]
 enum Lines {
     Refused(usize),
     Taken(usize, usize),

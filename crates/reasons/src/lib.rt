@@ -15,7 +15,7 @@ use decode::{Row, is_row};
 use layout::order::{RELAXED, RELEASE};
 
 // The fields of a row, in the order in which they are judged.
-#[derive(Drop)]
+#[derive(Clone, Copy)]
 pub enum Field {
     Opcode,
     Object,
@@ -46,7 +46,7 @@ const A: usize = 6;
 const B: usize = 7;
 
 // What a field may be: one of those that there are, or zero, where the opcode or the change kind does not use it.
-#[derive(Drop)]
+#[derive(Clone, Copy)]
 pub enum May {
     AnyOpcode,
     AnyCell,

@@ -12,7 +12,7 @@ ghost use Rattle.record.specs.Steps.{OpenAt, StepsAt};
 
 // The slot that a load branch chooses, and the mask of all that it offers. Unexpected where the
 // branch is no load, or one that no push_load has written.
-#[derive(Drop)]
+#[derive(Clone, Copy)]
 pub enum Offered {
     Slot { slot: usize, mask: u8 },
     Unexpected,

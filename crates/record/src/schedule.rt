@@ -12,7 +12,7 @@ use crate::fields::{field, put};
 use layout::{MAX_THREADS, seed, wide8};
 
 // A schedule record of the path, by its position, or none.
-#[derive(Drop)]
+#[derive(Clone, Copy)]
 pub enum ScheduleAt {
     At(usize),
     None,

@@ -6,7 +6,7 @@ use decimal::Parsed;
 pub const BUFFER_ROOM: usize = 70000;
 
 // The first place where a buffer is not as the list says, or none.
-#[derive(Drop)]
+#[derive(Clone, Copy)]
 pub enum Compared {
     Same,
     Differs { at: usize, listed: u8 },

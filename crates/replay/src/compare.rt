@@ -11,7 +11,7 @@ use report::Report;
 pub type Given = [u64; REPORT_NUMBERS];
 
 // How a case comes out.
-#[derive(Drop)]
+#[derive(Clone, Copy)]
 pub enum Agreement {
     Agrees,
     // The report's number `place` is `given` and not `listed`.

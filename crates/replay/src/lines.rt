@@ -10,14 +10,14 @@ pub const LONGEST_LINE: usize = 262144;
 pub const LINE_ROOM: usize = LONGEST_LINE + 1;
 
 // How far the whole lines of a text reach, with the tally of them.
-#[derive(Drop)]
+#[derive(Clone, Copy)]
 pub struct Replayed {
     pub end: usize,
     pub tally: Tally,
 }
 
 // Where the text ends after a read that brought something.
-#[derive(Drop)]
+#[derive(Clone, Copy)]
 enum More {
     To(usize),
     Ended,

@@ -9,7 +9,7 @@ use numbers::{BEFORE_SUMMARIES, SUMMARY, places};
 const SHOWN: u64 = 20;
 
 // The counts of a replay.
-#[derive(Drop)]
+#[derive(Clone, Copy)]
 pub struct Tally {
     // Lines read and cases among them. Of these the ones that agree, those that ask for longer buffers, and those that differ.
     pub lines: u64,

@@ -17,7 +17,7 @@ use layout::{Clocks, MAX_THREADS, Numbers, wide16};
 
 // Document 01's table of answers: 0 and 1, the refusals 2 to 5, the faults from 10 on, with where they were met, and 18, a final
 // condition that is false.
-#[derive(Drop)]
+#[derive(Clone, Copy)]
 pub enum Answer {
     Exhausted,
     Spent,
@@ -30,14 +30,14 @@ pub enum Answer {
 }
 
 // Where a run was stopped, or a table is refused: a thread and its row, as a report has them.
-#[derive(Drop)]
+#[derive(Clone, Copy)]
 pub struct AtFault {
     pub thread: u64,
     pub row: u64,
 }
 
 // One thread at the end of the last execution; all zero if it is absent.
-#[derive(Drop)]
+#[derive(Clone, Copy)]
 pub struct Summary {
     pub state: u16,
     pub rows: u16,
@@ -46,7 +46,7 @@ pub struct Summary {
 }
 
 // The answer says thread and row at fault too, and the race (`at_fault`, `race_kind`, `other_thread`).
-#[derive(Drop)]
+#[derive(Clone, Copy)]
 pub struct Report {
     pub answer: Answer,
     // Executions begun, choices opened in the whole history, choices open in the path left, rows begun.
@@ -58,7 +58,7 @@ pub struct Report {
 }
 
 // What is counted over the whole history, and in the path left.
-#[derive(Drop)]
+#[derive(Clone, Copy)]
 pub struct Counts {
     pub begun: u64,
     pub opened: u64,

@@ -14,7 +14,7 @@ const NAMED: usize = 40;
 
 // Where a token stands in its text: the number of its row, where its line begins, where the token before it begins, and where it begins
 // itself.
-#[derive(Drop)]
+#[derive(Clone, Copy)]
 pub struct Spot {
     pub row: usize,
     pub begin: usize,

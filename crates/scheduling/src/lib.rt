@@ -21,7 +21,7 @@ use thread::{RUNNABLE, YIELDED};
 use track::access;
 
 // A branch's position, or none.
-#[derive(Drop)]
+#[derive(Clone, Copy)]
 pub enum Point {
     Nowhere,
     Branch(u16),

@@ -8,7 +8,7 @@ ghost use Rattle.settings.specs.Given.{bound_for, settings_of};
 pub use layout::RECORD;
 use path::{Bound, MAX_PREEMPTIONS};
 
-#[derive(Drop)]
+#[derive(Clone, Copy)]
 pub struct Settings {
     pub branches: u64,
     pub operations: u64,

@@ -5,7 +5,7 @@ ghost use Rattle.rules.specs.Seen.{unseens, known, seen, seen_before_yield, seen
 use layout::{MAX_ATOMIC_HISTORY, MAX_THREADS, Marks, NONE, UNSEEN};
 
 // The version of each thread at its first sight of the store, or UNSEEN.
-#[derive(Drop)]
+#[derive(Clone, Copy)]
 pub struct FirstSeen {
     pub versions: [u16; MAX_THREADS],
 }

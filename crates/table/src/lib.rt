@@ -42,7 +42,7 @@ pub const LAST_COUNT: usize = COUNTS + MAX_THREADS - 1;
 pub const LAST_FIRST: usize = FIRSTS + MAX_THREADS - 1;
 
 // How a table is judged: good; or its header or length is bad; or else its first bad row, in byte order.
-#[derive(Drop)]
+#[derive(Clone, Copy)]
 pub enum Judged {
     Good,
     BadHeader,
@@ -50,7 +50,7 @@ pub enum Judged {
 }
 
 // The first byte of a row, or that the table does not hold it.
-#[derive(Drop)]
+#[derive(Clone, Copy)]
 pub enum RowStart {
     Nowhere,
     At(usize),

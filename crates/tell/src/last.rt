@@ -6,7 +6,7 @@ use steps::held;
 use steps::held::Held;
 
 // How wide the rows of the listing are, how many steps the execution has, and whether all are shown.
-#[derive(Drop)]
+#[derive(Clone, Copy)]
 struct Frame {
     width: usize,
     n: usize,

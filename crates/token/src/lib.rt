@@ -14,7 +14,7 @@ use decimal::Parsed;
 use layout::{MAX_PLAINS, MAX_THREADS, REGISTERS};
 
 // The bytes that make a token, or stand between two.
-#[derive(Drop)]
+#[derive(Clone, Copy)]
 enum Kind {
     Blank,
     Letter,
@@ -35,21 +35,21 @@ const LAST_REGISTER: u8 = b'0' + (REGISTERS - 1) as u8;
 const LAST_PLAIN: u8 = b'0' + (MAX_PLAINS - 1) as u8;
 
 // What a word stands for, if anything.
-#[derive(Drop)]
+#[derive(Clone, Copy)]
 pub enum Found {
     Nothing,
     Value(u64),
 }
 
 // A register, and whose it is.
-#[derive(Drop)]
+#[derive(Clone, Copy)]
 pub struct Owned {
     pub thread: u64,
     pub register: u64,
 }
 
 // The thread's register that a word stands for, if any.
-#[derive(Drop)]
+#[derive(Clone, Copy)]
 pub enum FoundOwned {
     Nothing,
     Register(Owned),

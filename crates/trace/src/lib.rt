@@ -11,7 +11,7 @@ use little::low_bytes;
 pub mod of_entry;
 
 // One row that is complete.
-#[derive(Drop)]
+#[derive(Clone, Copy)]
 pub struct Entry {
     pub thread: usize,
     pub row: u16,

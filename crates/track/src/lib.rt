@@ -20,7 +20,7 @@ use vv::{Ahead, VersionVec};
 pub mod access;
 
 // No race, or the kind of race by document 01's number and the lowest thread that is ahead.
-#[derive(Drop)]
+#[derive(Clone, Copy)]
 pub enum Race {
     Nothing,
     With { kind: u8, other: u8 },

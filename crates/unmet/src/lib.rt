@@ -14,7 +14,7 @@ use steps::held::Held;
 const ONE_DIGIT: usize = 10;
 
 // A comparison of a thread's register with a number, the value that the register holds, and whether the comparison is true.
-#[derive(Drop)]
+#[derive(Clone, Copy)]
 pub struct Part {
     pub sign: u8,
     pub thread: u8,

@@ -10,20 +10,20 @@ use layout::MAX_THREADS;
 // The largest number that a part can be; a mark of this number is unseen, so no version passes it.
 pub const LARGEST: u16 = 65535;
 
-#[derive(Drop)]
+#[derive(Clone, Copy)]
 pub struct VersionVec {
     pub versions: [u16; MAX_THREADS],
 }
 
 // The thread that is ahead, or none.
-#[derive(Drop)]
+#[derive(Clone, Copy)]
 pub enum Ahead {
     Nobody,
     Thread(u8),
 }
 
 // How a vector stands to another. Neither is greater, or greater in one part and less in another.
-#[derive(Drop)]
+#[derive(Clone, Copy)]
 pub enum Ordering {
     Less,
     Equal,

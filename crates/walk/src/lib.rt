@@ -19,14 +19,14 @@ use path::Bound;
 use table::Shape;
 
 // The operation limit, and the preemption bound.
-#[derive(Drop)]
+#[derive(Clone, Copy)]
 pub struct Limits {
     pub operations: u16,
     pub bound: Bound,
 }
 
 // Where a tick is: the limits that it is under, the thread at its row, and how far the execution has come.
-#[derive(Drop)]
+#[derive(Clone, Copy)]
 struct TickAt {
     limits: Limits,
     here: Here,

@@ -16,7 +16,7 @@ use table::limits::{CELL_COUNT, PLAIN_COUNT, THREAD_COUNT};
 use table::{COUNTS, FIRSTS, Judged};
 
 // What became of it: a table or a condition that is none; too small a buffer, with the bytes that are needed; or the text's length.
-#[derive(Drop)]
+#[derive(Clone, Copy)]
 pub enum Written {
     Unfit,
     Short(usize),
