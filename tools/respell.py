@@ -13,7 +13,8 @@ import re
 import sys
 
 TOKEN = re.compile(r"[^\s(){}\[\].,;:\"«»\\`'/<>&|!?*=+~^%@#]+")
-CAMEL = re.compile(r"[a-z][A-Za-z0-9_\-₀-₉]*[a-z0-9][A-Z]")
+# An escape of a string, as x00R, is none.
+CAMEL = re.compile(r"(?!x[0-9a-f]{2})[a-z][A-Za-z0-9_\-₀-₉]*[a-z0-9][A-Z]")
 # Definitions whose value is a type: a fact, or a relation.
 FACT = re.compile(r"^\s*(?:abbrev |unfoldable )?(?:pub )?([a-z][^\s:(){}]*) : (?:[^=\n]*→ )?Type(?: \d)?[ \t]*$", re.M)
 # Facts whose name is a plain word: turned in these files alone, since elsewhere the word is a variable or a lemma.

@@ -54,37 +54,37 @@ pub const FORM_WORDS: usize = 2;
 // The forms, a line for each: its opcode, its change kind and its words. A capital letter stands for a field. Opcodes and kinds stand here
 // as document 01 numbers them: no name can stand in a string.
 pub const FORMS: [u8; 904] = *b"\
-\x00\x00_r = load C L
+\x00\x00R = load C L
 \x01\x00store A to C S
 \x02\x00store R to C S
-\x03\x00_r = swap A on C O
-\x03\x01_r = add A on C O
-\x03\x02_r = sub A on C O
-\x03\x03_r = and A on C O
-\x03\x04_r = or A on C O
-\x03\x05_r = xor A on C O
-\x03\x06_r = nand A on C O
-\x03\x07_r = max A on C O
-\x03\x08_r = min A on C O
-\x03\x09_r = signed_max A on C O
-\x03\x0a_r = signed_min A on C O
-\x03\x0b_r = compare_exchange A B on C O X
-\x03\x0c_r = decrement on C O X
+\x03\x00R = swap A on C O
+\x03\x01R = add A on C O
+\x03\x02R = sub A on C O
+\x03\x03R = and A on C O
+\x03\x04R = or A on C O
+\x03\x05R = xor A on C O
+\x03\x06R = nand A on C O
+\x03\x07R = max A on C O
+\x03\x08R = min A on C O
+\x03\x09R = signed_max A on C O
+\x03\x0aR = signed_min A on C O
+\x03\x0bR = compare_exchange A B on C O X
+\x03\x0cR = decrement on C O X
 \x04\x00fence F
-\x05\x00_r = unsync_load C
-\x06\x00_r = with_mut swap A on C
-\x06\x01_r = with_mut add A on C
-\x06\x02_r = with_mut sub A on C
-\x06\x03_r = with_mut and A on C
-\x06\x04_r = with_mut or A on C
-\x06\x05_r = with_mut xor A on C
-\x06\x06_r = with_mut nand A on C
-\x06\x07_r = with_mut max A on C
-\x06\x08_r = with_mut min A on C
-\x06\x09_r = with_mut signed_max A on C
-\x06\x0a_r = with_mut signed_min A on C
-\x06\x0b_r = with_mut compare_exchange A B on C
-\x06\x0c_r = with_mut decrement on C
+\x05\x00R = unsync_load C
+\x06\x00R = with_mut swap A on C
+\x06\x01R = with_mut add A on C
+\x06\x02R = with_mut sub A on C
+\x06\x03R = with_mut and A on C
+\x06\x04R = with_mut or A on C
+\x06\x05R = with_mut xor A on C
+\x06\x06R = with_mut nand A on C
+\x06\x07R = with_mut max A on C
+\x06\x08R = with_mut min A on C
+\x06\x09R = with_mut signed_max A on C
+\x06\x0aR = with_mut signed_min A on C
+\x06\x0bR = with_mut compare_exchange A B on C
+\x06\x0cR = with_mut decrement on C
 \x07\x00yield
 \x08\x00join T
 \x09\x00jump G
@@ -94,8 +94,8 @@ pub const FORMS: [u8; 904] = *b"\
 \x0d\x00critical
 \x0e\x00explore_state
 \x0f\x00skip_branch
-\x10\x00_r = branch_spurious
-\x11\x00_r = read P
+\x10\x00R = branch_spurious
+\x11\x00R = read P
 \x12\x00write A to P
 ";
 
