@@ -1,6 +1,7 @@
 // The rows that access a cell or a plain cell, each once its thread has been chosen, and how a load or an RMW goes on with the
 // store it is given.
 #![tactic(auto)]
+
 ghost use Rattle.std.specs.Prelude.{◌≡◌, ℕ, ◌<◌, ltb};
 ghost use Rattle.rules.specs.Cell as cells;
 ghost use Rattle.rules.specs.Event as events;

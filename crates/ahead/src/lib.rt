@@ -1,5 +1,6 @@
 // What lies ahead in a text, by the first word of each line; and the line and column of a place.
 #![tactic(auto)]
+
 ghost use Rattle.std.specs.Prelude.{◌≡◌, ◌<◌, ◌^◌, drop};
 ghost use Rattle.rules.specs.Text.{rows_ahead, threads_ahead};
 ghost use Rattle.ahead.specs.Counts.{LinesCounted, PlacedAt, Behind, row_here, thread_here};

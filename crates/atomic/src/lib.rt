@@ -1,6 +1,7 @@
 // An atomic cell, after loom's rt/atomic.rs: what a store, a load, a read-modify-write, an unsynchronised load and an
 // exclusive change do to the lent state, each once its thread has been chosen.
 #![tactic(auto)]
+
 ghost use Rattle.std.specs.Prelude.{◌≡◌, ◌<◌};
 ghost use Rattle.rules.specs.Cell.{load_done, store_done, succeeded, rmw_done, unsync_load_done, seq_cst_flag};
 ghost use Rattle.rules.specs.State as rules;

@@ -1,5 +1,6 @@
 // What is wrong with a condition: its length, the first byte that cannot stand where it does, or what goes on behind its end.
 #![tactic(auto)]
+
 ghost use Rattle.std.specs.Prelude.{◌≡◌, ◌<◌, length};
 ghost use Rattle.page.specs.Pages.{page_of};
 ghost use Rattle.bad_condition.specs.Conditions.{put_bad_comparison, put_reason, put_bad, put_bad_condition};

@@ -1,5 +1,6 @@
 // What is wrong with a row: which of its fields, by crate reasons.
 #![tactic(auto)]
+
 ghost use Rattle.std.specs.Prelude.{◌≡◌, ◌<◌};
 ghost use Rattle.decode.specs.Ops.{row_meant, room_meant};
 ghost use Rattle.table.specs.Answers.{room_in};

@@ -1,5 +1,6 @@
 // What a read-modify-write or an exclusive change makes of a value: an enum in the place of loom's closures.
 #![tactic(auto)]
+
 ghost use Rattle.std.specs.Prelude.{◌≡◌, nat_lt};
 ghost use Rattle.rules.specs.Change as rules;
 ghost use Rattle.change.specs.Changes.{change_meant, changed_of};

@@ -1,6 +1,7 @@
 // The final condition of a text: the bytes that its signs, words and comparisons stand for, and where it is refused. Each promise is an
 // equation with the definition in rules (Text).
 #![tactic(auto)]
+
 ghost use Rattle.std.specs.Prelude.{◌≡◌, false, [], ◌+◌, ◌≤◌, ◌<◌, drop, replicate};
 ghost use Rattle.rules.specs.Text as rules;
 ghost use Rattle.token.specs.Finds.{owned_at};

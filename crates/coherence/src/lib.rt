@@ -7,6 +7,7 @@
 // write-read, the store that a load reads comes after every store that happened before the load (apply_load_coherence);
 // read-read, the store that a load reads comes after every store that was read before the load (apply_load_coherence).
 #![tactic(auto)]
+
 ghost use Rattle.std.specs.Prelude.{◌≡◌, ◌<◌};
 ghost use Rattle.rules.specs.Cell.{coherent, touch_done, store_order};
 ghost use Rattle.rules.specs.State.{marks_of};

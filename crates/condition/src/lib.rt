@@ -2,6 +2,7 @@
 // joined by `and` or `or`, groups in each other at most eight deep. Each promise is an equation with the definition in rules
 // (Condition).
 #![tactic(auto)]
+
 ghost use Rattle.std.specs.Prelude.{◌≡◌, ℕ, ◌≤◌, length, drop};
 ghost use Rattle.rules.specs.Condition as rules;
 ghost use Rattle.condition.specs.Reads.{ReadsCondition, NextByte, found_in, register_value};

@@ -1,5 +1,6 @@
 // A final condition as a line of text.
 #![tactic(auto)]
+
 ghost use Rattle.std.specs.Prelude.{◌≡◌, false, ◌+◌, ◌-◌, ◌<◌, ◌≤◌, length, get_or, drop};
 ghost use Rattle.rules.specs.Writer.{blank_before, units_shown, condition_shown};
 ghost use Rattle.put.specs.Puts.{Puts};

@@ -1,5 +1,6 @@
 // Answer 0: nothing failed, and what that covers.
 #![tactic(auto)]
+
 ghost use Rattle.std.specs.Prelude.{◌≡◌};
 ghost use Rattle.rules.specs.Table.{max_cells};
 ghost use Rattle.page.specs.Pages.{page_of};

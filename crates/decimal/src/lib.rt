@@ -1,5 +1,6 @@
 // Decimal numbers in texts.
 #![tactic(auto)]
+
 ghost use Rattle.std.specs.Prelude.{◌≡◌};
 ghost use Rattle.decimal.specs.Decimal.{number_spelled, between, with_digit};
 

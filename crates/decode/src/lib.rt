@@ -1,6 +1,7 @@
 // What a row says: its fields decoded into an enum with those that its opcode uses. A field that the opcode and the change kind
 // do not use is zero, else the row is refused. Each promise is an equation with the definition in rules (Table).
 #![tactic(auto)]
+
 ghost use Rattle.std.specs.Prelude.{◌≡◌, ◌&&◌, ltb, eqb, ℕ};
 ghost use Rattle.rules.specs.Table as rules;
 ghost use Rattle.decode.specs.Ops.{op_of, decoded_of, row_meant, room_meant};

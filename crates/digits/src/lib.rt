@@ -1,6 +1,7 @@
 // A number as text: its decimal digits, the most significant first, with no zero in front. The kit's io has such a function too;
 // this one needs no C library, so that text can be made where nothing is printed, and says what every byte is left as.
 #![tactic(auto)]
+
 ghost use Rattle.std.specs.Prelude.{◌≡◌, length};
 ghost use Rattle.std.proofs.lemmas.List.Edits.{sets};
 ghost use Rattle.digits.specs.Shown.{shown, Spelled};

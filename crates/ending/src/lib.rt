@@ -1,5 +1,6 @@
 // What an execution that is over says of the run: whether it goes on, or what it answers; and its report.
 #![tactic(auto)]
+
 ghost use Rattle.std.specs.Prelude.{◌≡◌};
 ghost use Rattle.rules.specs.Table.{threads_of};
 ghost use Rattle.ending.specs.Ends.{met_by, Judges, Finished};

@@ -1,6 +1,7 @@
 // What the machine does at a tick, as the explorer is told it: document 01's faults, the questions that the path answers, and
 // how a tick comes out. Each stands for a case of the definition (specs/Moves).
 #![tactic(auto)]
+
 use decode::Decoded;
 use layout::Operation;
 

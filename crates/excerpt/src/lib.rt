@@ -1,5 +1,6 @@
 // A line of a text, with a caret under one of its bytes: for a person whose text is refused. A long line is cut around the caret.
 #![tactic(auto)]
+
 ghost use Rattle.std.specs.Prelude.{◌≡◌, map, ◌+◌, ◌<◌, ◌^◌, length, drop};
 ghost use Rattle.put.specs.Puts.{Puts};
 ghost use Rattle.excerpt.specs.Excerpts.{excerpt_at, begin_of, with_line, rows_before, shown_length, feeds, place_from, token_before, first_shown, last_shown, seen_as, dots, line_shown, caret_shown, refused_shown};

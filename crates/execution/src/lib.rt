@@ -1,6 +1,7 @@
 // One execution of a program, a tick at a time, after loom's rt/execution.rs. The machine never sees the path: where a choice
 // is to be made it asks, and goes on with the answer. `next` and `answered` are the definition's.
 #![tactic(auto)]
+
 ghost use Rattle.std.specs.Prelude.{◌≡◌, ℕ, ◌<◌, ◌≤◌, ◌+◌, get_or};
 ghost use Rattle.rules.specs.Event.{Matched};
 ghost use Rattle.rules.specs.Machine as machine;

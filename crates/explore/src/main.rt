@@ -1,6 +1,7 @@
 // Explores the program in a file, a text or a table, and prints what happened, the counts, the threads' summaries and the last
 // execution; or writes the program as text, or its bytes.
 #![tactic(auto)]
+
 use condition::CONDITION_BYTES;
 use file::Got;
 use libc::{STDERR_FILENO, STDOUT_FILENO};

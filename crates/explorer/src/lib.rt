@@ -1,5 +1,6 @@
 // The explorer: any bytes as a table, any settings and any buffers get an answer. After loom's model::Builder::check.
 #![tactic(auto)]
+
 ghost use Rattle.std.specs.Prelude.{◌≡◌};
 ghost use Rattle.rules.specs.Explored as rules;
 ghost use Rattle.settings.specs.Given.{settings_of};

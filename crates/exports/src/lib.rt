@@ -1,5 +1,6 @@
 // The entries for Rust and C: numbers and slices only, so that no struct's layout crosses.
 #![tactic(auto)]
+
 ghost use Rattle.std.specs.Prelude.{◌≡◌, length};
 ghost use Rattle.exports.specs.Entry.{no_condition, entered, left_behind};
 

@@ -1,5 +1,6 @@
 // Fences: loom's fence and its four kinds.
 #![tactic(auto)]
+
 ghost use Rattle.std.specs.Prelude.{◌≡◌, ◌<◌, ◌≤◌};
 ghost use Rattle.rules.specs.Cell.{cell_acquired, fence_acquired, fence_released, fence_seq_cst, fenced};
 ghost use Rattle.rules.specs.State.{marks_of, vector, with_vector, released, causality};

@@ -1,5 +1,6 @@
 // A line of a text, put into the table that is made in a buffer. Each promise is by the definition in rules (Text).
 #![tactic(auto)]
+
 ghost use Rattle.std.specs.Prelude.{◌≡◌, cond, ltb, ◌+◌, ◌≤◌, ◌<◌, length, get_or, drop};
 ghost use Rattle.std.proofs.Math.Seq.{paste};
 ghost use Rattle.rules.specs.Table.{header_bytes};

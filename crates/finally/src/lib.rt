@@ -1,5 +1,6 @@
 // Answer 18: the final condition is false. It is put as in a text, and then each of its comparisons, with what its register holds.
 #![tactic(auto)]
+
 ghost use Rattle.std.specs.Prelude.{◌≡◌, length};
 ghost use Rattle.rules.specs.Token.{bytes_of};
 ghost use Rattle.page.specs.Pages.{page_of, put_text};

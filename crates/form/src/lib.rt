@@ -1,5 +1,6 @@
 // One row of a program's text: which form its line has, and what stands for each of the form's letters.
 #![tactic(auto)]
+
 ghost use Rattle.std.specs.Prelude.{◌≡◌, [], ◌∷◌, false, cond, ltb, drop, replicate};
 ghost use Rattle.rules.specs.Table.{any_order};
 ghost use Rattle.rules.specs.Token.{ends_line, next_line};

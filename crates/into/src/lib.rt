@@ -1,5 +1,6 @@
 // The second entry: the five summaries go into the caller's list too.
 #![tactic(auto)]
+
 ghost use Rattle.std.specs.Prelude.{◌≡◌, not, List, length};
 ghost use Rattle.rules.specs.Explored as rules;
 ghost use Rattle.report.specs.Answers.{answer_number, summaries_of};

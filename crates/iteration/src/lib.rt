@@ -1,5 +1,6 @@
 // One execution, from its start to its end or fault: what loom's model::Builder::check calls an iteration.
 #![tactic(auto)]
+
 ghost use Rattle.std.specs.Prelude.{◌+◌, ◌*◌, ◌^◌, ◌<◌, ◌≤◌, length, get_or};
 ghost use Rattle.meeting.specs.Stands.{lent};
 ghost use Rattle.walk.specs.Walks.{CursorPlaced};

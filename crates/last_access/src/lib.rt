@@ -1,5 +1,6 @@
 // The steps that access a cell or a plain cell, as a race speaks of them.
 #![tactic(auto)]
+
 ghost use Rattle.std.specs.Prelude.{ℕ, ◌≡◌};
 ghost use Rattle.rules.specs.Change.{applied};
 ghost use Rattle.change.specs.Changes.{change_meant};

@@ -3,6 +3,7 @@
 // thread, cell, store, register or plain cell; nothing else does arithmetic on positions. A new part goes at the end of its table, past
 // all that are there, and the table's size grows by it: then no position that a proof names moves.
 #![tactic(auto)]
+
 ghost use Rattle.std.specs.Prelude.{◌≡◌, ◌+◌, ◌*◌, ◌<◌, ◌≤◌};
 ghost use Rattle.layout.specs.Wide.{Wide};
 

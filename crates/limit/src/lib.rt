@@ -1,5 +1,6 @@
 // Answers 1, 11, 12 and 17: a limit ended the run, which is no verdict.
 #![tactic(auto)]
+
 ghost use Rattle.std.specs.Prelude.{◌≡◌};
 ghost use Rattle.page.specs.Pages.{page_of};
 ghost use Rattle.settings.specs.Given.{settings_of};

@@ -1,5 +1,6 @@
 // The caller's list of summaries, document 01's thread records.
 #![tactic(auto)]
+
 ghost use Rattle.std.specs.Prelude.{◌≡◌, cond, ◌&&◌, eqb, length};
 
 use layout::MAX_THREADS;

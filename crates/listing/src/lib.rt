@@ -1,6 +1,7 @@
 // The last execution as text, a step a line: which thread did what by which row, as the row stands in a text, and what came of it.
 // Columns count from a page's begin, so each line is put there; the caller writes one before it puts the next.
 #![tactic(auto)]
+
 ghost use Rattle.std.specs.Prelude.{◌<◌, ◌≡◌, length};
 ghost use Rattle.page.specs.Pages.{page_of, put_text};
 ghost use Rattle.steps.specs.Entries.{entry_read};

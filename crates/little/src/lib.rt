@@ -1,5 +1,6 @@
 // Little-endian numbers in bytes, as sums, so that no proof speaks of shifts.
 #![tactic(auto)]
+
 ghost use Rattle.std.specs.Prelude.{◌≡◌, ◌+◌, ◌≤◌, length};
 ghost use Rattle.rules.specs.Event.{little};
 ghost use Rattle.rules.specs.Table.{u16_at, u32_at, u64_at};

@@ -1,5 +1,6 @@
 // Which stores a load or a read-modify-write may return: loom's match_load_to_stores and match_rmw_to_stores.
 #![tactic(auto)]
+
 ghost use Rattle.std.specs.Prelude.{◌≡◌, ◌<◌};
 ghost use Rattle.rules.specs.Cell.{all_seq_cst, fate_from, live_in, rmw_fate, matched_load, matched_rmw, order_of};
 ghost use Rattle.vv.specs.Compared.{ordering_of};

@@ -1,6 +1,7 @@
 // What a tick does to the two buffers. A question meets the path: rule (a)'s marks before it; past the known path, the branch that
 // it adds; and what the branch there answers. A row that is complete has its entry in the trace.
 #![tactic(auto)]
+
 ghost use Rattle.std.specs.Prelude.{◌≡◌, ◌<◌, ◌≤◌, ◌+◌, ◌*◌, ◌^◌, length};
 ghost use Rattle.rules.specs.Table.{opcode_in};
 ghost use Rattle.rules.specs.Machine.{exploring_now};

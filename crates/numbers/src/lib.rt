@@ -1,5 +1,6 @@
 // A report as numbers alone, for entries that no struct crosses.
 #![tactic(auto)]
+
 ghost use Rattle.std.specs.Prelude.{◌≡◌, length};
 ghost use Rattle.report.specs.Answers.{report_of, summary_of, summaries_of};
 ghost use Rattle.numbers.specs.Numbers.{numbers_of, four_of, summary_numbers};

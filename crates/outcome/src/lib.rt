@@ -1,5 +1,6 @@
 // What came of a step: what it read, and which step wrote that; what it left; whether a jump was taken.
 #![tactic(auto)]
+
 ghost use Rattle.std.specs.Prelude.{◌≡◌};
 ghost use Rattle.rules.specs.Change.{applied};
 ghost use Rattle.change.specs.Changes.{change_meant};

@@ -1,6 +1,7 @@
 // A page of output that grows from the left: a buffer, and beside it the place where its text ends. What does not fit is left out; no
 // part of a report that is put on one page is that long. The programs write it.
 #![tactic(auto)]
+
 ghost use Rattle.std.specs.Prelude.{◌≡◌, [], ◌∷◌, ◌-◌};
 ghost use Rattle.digits.specs.Shown.{shown};
 ghost use Rattle.page.specs.Pages.{page_of, put_text, put_one, put_filled, padded, right_at};

@@ -3,6 +3,7 @@
 // added as the buffer has records. Every function takes any bytes, any length and any position: no
 // room is Full, and a place without the record that is asked for is Unexpected.
 #![tactic(auto)]
+
 ghost use Rattle.std.specs.Prelude.{◌+◌, ◌*◌, ◌/◌, ◌≤◌, ◌≡◌, length, take};
 ghost use Rattle.rules.specs.Path.{spurious_added, load_added};
 ghost use Rattle.record.specs.Fields.{record_byte};

@@ -1,6 +1,7 @@
 // A plain cell, which is not synchronised, after loom's rt/cell.rs: which accesses it has had, whether one more races with them, and
 // what a read and a write do to the lent state.
 #![tactic(auto)]
+
 ghost use Rattle.std.specs.Prelude.{◌≡◌, ◌<◌};
 ghost use Rattle.rules.specs.Plain.{plain_read_race, plain_read_tracked, plain_write_race, plain_write_tracked, plain_read_done};
 ghost use Rattle.rules.specs.State as rules;

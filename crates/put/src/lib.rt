@@ -1,6 +1,7 @@
 // Text put into a lent buffer. What there is no room for is not written, and is counted all the same, so that the same functions tell how
 // long a text is.
 #![tactic(auto)]
+
 ghost use Rattle.std.specs.Prelude.{[], ◌∷◌};
 ghost use Rattle.rules.specs.Writer.{shown, order_shown};
 ghost use Rattle.put.specs.Puts.{Puts};

@@ -1,5 +1,6 @@
 // Answer 14: a race, by the access that met it and the one before it: document 01's nine kinds, and three of plain cells.
 #![tactic(auto)]
+
 ghost use Rattle.std.specs.Prelude.{◌≡◌};
 ghost use Rattle.rules.specs.Token.{bytes_of};
 ghost use Rattle.page.specs.Pages.{page_of, put_text};

@@ -1,6 +1,7 @@
 // A program and its final condition read from a text, into two buffers that the caller lends. Each promise is an equation with the
 // definition in rules (Text).
 #![tactic(auto)]
+
 ghost use Rattle.std.specs.Prelude.{◌≡◌, drop};
 ghost use Rattle.rules.specs.Condition.{condition_bytes};
 ghost use Rattle.rules.specs.Text as rules;

@@ -1,6 +1,7 @@
 // Which field of a refused row is wrong, and what it may be. The library's own decode judges: a row that it accepts gets the fields
 // of the bad one, one after the other, and the first with which it is refused is the one that is wrong.
 #![tactic(auto)]
+
 ghost use Rattle.std.specs.Prelude.{◌≡◌, cond};
 ghost use Rattle.decode.specs.Ops.{row_meant, room_meant};
 ghost use Rattle.reasons.specs.Wrong.{blank_order, blank_target, first_fields, is_fit, is_opcode, wrong_in, has_cell, has_plain, is_jump, has_register, is_change, may_object, may_order, may_failure, may_target, may_be};

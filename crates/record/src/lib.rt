@@ -2,6 +2,7 @@
 // at a position of a buffer that the caller lends. Every function is asked only for a record that
 // the buffer has; which records make a path is the crate path's.
 #![tactic(auto)]
+
 pub mod fields;
 pub mod load;
 pub mod schedule;

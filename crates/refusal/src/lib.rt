@@ -1,6 +1,7 @@
 // Why a table or a condition is refused: which field of the header, or of the first bad row, or which byte of the condition is wrong,
 // and what it may be.
 #![tactic(auto)]
+
 ghost use Rattle.std.specs.Prelude.{◌≡◌};
 ghost use Rattle.page.specs.Pages.{page_of};
 ghost use Rattle.refusal.specs.Refusals.{put_refusal};

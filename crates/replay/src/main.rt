@@ -1,6 +1,7 @@
 // Reads the fixed list of the oracle's answers from standard input, asks the explorer each case again, and says how many
 // agree: the numbers of the report and every byte of both buffers.
 #![tactic(auto)]
+
 use buffers::BUFFER_ROOM;
 use lines::LINE_ROOM;
 

@@ -1,5 +1,6 @@
 // What a run answers.
 #![tactic(auto)]
+
 ghost use Rattle.std.specs.Prelude.{◌≡◌, ℕ, leb};
 ghost use Rattle.rules.specs.Event.{fault_number, race_kind, other_thread};
 ghost use Rattle.rules.specs.Explored as rules;

@@ -1,5 +1,6 @@
 // One row of a table as a line of text.
 #![tactic(auto)]
+
 ghost use Rattle.std.specs.Prelude.{◌≡◌, ◌+◌, ◌≤◌, length, get_or};
 ghost use Rattle.rules.specs.Table.{row_at};
 ghost use Rattle.rules.specs.Form as Form;

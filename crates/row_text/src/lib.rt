@@ -1,5 +1,6 @@
 // A row of a table in a line of output, as it stands in a text.
 #![tactic(auto)]
+
 ghost use Rattle.std.specs.Prelude.{◌≡◌};
 ghost use Rattle.rules.specs.Table.{row_at};
 ghost use Rattle.page.specs.Pages.{page_of, put_text};

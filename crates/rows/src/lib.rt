@@ -1,5 +1,6 @@
 // The rows that access no cell, each once it has begun, and how a row begins.
 #![tactic(auto)]
+
 ghost use Rattle.std.specs.Prelude.{◌≡◌, cond, ℕ, ◌<◌, ◌≤◌};
 ghost use Rattle.rules.specs.Event.{Matched};
 ghost use Rattle.rules.specs.Machine as machine;

@@ -1,5 +1,6 @@
 // The sentence on a text that is refused.
 #![tactic(auto)]
+
 ghost use Rattle.std.specs.Prelude.{◌≡◌, drop};
 ghost use Rattle.rules.specs.Token.{bytes_of, token, past_blanks, number_in, plain_in};
 ghost use Rattle.token.specs.Places.{part};

@@ -1,6 +1,7 @@
 // Document 01's scheduling rules, as loom's Execution::schedule has them, apart from the path: what is to be marked, the
 // seed of the branch, and what the thread that it chooses takes up.
 #![tactic(auto)]
+
 ghost use Rattle.std.specs.Prelude.{◌≡◌, cond, map, ℕ, ◌<◌};
 ghost use Rattle.rules.specs.Event as events;
 ghost use Rattle.rules.specs.Explorer.{seed_of, seed_state};

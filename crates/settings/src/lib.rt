@@ -1,5 +1,6 @@
 // What a run is given beside its table and buffers, and whether it is in range.
 #![tactic(auto)]
+
 ghost use Rattle.std.specs.Prelude.{◌≡◌, ◌*◌, eqb};
 ghost use Rattle.rules.specs.Explored as rules;
 ghost use Rattle.path.specs.Bounds.{bound_of};

@@ -1,6 +1,7 @@
 // Explores the text or table on standard input with the largest settings, and prints of it what the program explore prints. It needs
 // neither words nor files, so it runs unproved too, within seconds (examples/first).
 #![tactic(auto)]
+
 use condition::CONDITION_BYTES;
 use libc::{STDERR_FILENO, STDIN_FILENO};
 use path::Bound;

@@ -1,6 +1,7 @@
 // What a file holds: a text or a table, told by its first byte. No text that is read begins as a table does, and every accepted table
 // does (specs/Told).
 #![tactic(auto)]
+
 ghost use Rattle.std.specs.Prelude.{◌≡◌};
 ghost use Rattle.source.specs.Told.{holds_table};
 

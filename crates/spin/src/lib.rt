@@ -1,5 +1,6 @@
 // Whether an execution ends in a loop.
 #![tactic(auto)]
+
 ghost use Rattle.std.specs.Prelude.{◌≡◌, ◌-◌};
 ghost use Rattle.spin.specs.Loops.{same_row, repeats_in, period_of, is_yield, yields_in};
 

@@ -1,5 +1,6 @@
 // The start of an execution: document 01's "Start of each execution".
 #![tactic(auto)]
+
 ghost use Rattle.std.specs.Prelude.{◌≡◌, ◌<◌, ◌≤◌, get_or};
 ghost use Rattle.rules.specs.Machine as machine;
 ghost use Rattle.rules.specs.State as rules;

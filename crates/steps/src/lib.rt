@@ -1,6 +1,7 @@
 // The steps of the last execution, read back from its trace: how many there are, what each did, and from which of them the
 // machine's cells and registers have what they hold. Each promise is an equation with a definition in specs/, for any bytes.
 #![tactic(auto)]
+
 ghost use Rattle.std.specs.Prelude.{◌≡◌, ◌<◌};
 ghost use Rattle.rules.specs.Machine.{row_count};
 ghost use Rattle.decode.specs.Ops.{decoded_of};

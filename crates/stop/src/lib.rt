@@ -1,5 +1,6 @@
 // Where the last execution stopped: the row at fault, or whom each blocked thread waits for.
 #![tactic(auto)]
+
 ghost use Rattle.std.specs.Prelude.{◌≡◌};
 ghost use Rattle.page.specs.Pages.{page_of};
 ghost use Rattle.stop.specs.Stops.{put_how, put_row, put_place, put_waits};

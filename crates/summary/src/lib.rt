@@ -1,5 +1,6 @@
 // The counts of a run and the summaries of its threads, a line at a time, each put at the page's begin, from which its columns count.
 #![tactic(auto)]
+
 ghost use Rattle.std.specs.Prelude.{◌≡◌};
 ghost use Rattle.page.specs.Pages.{page_of};
 ghost use Rattle.report.specs.Answers.{summary_of};

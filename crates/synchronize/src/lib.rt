@@ -1,5 +1,6 @@
 // How vectors pass between threads and stores: loom's rt/synchronize.rs over the lent clocks.
 #![tactic(auto)]
+
 ghost use Rattle.std.specs.Prelude.{◌≡◌, ◌<◌, [], get_or, set};
 ghost use Rattle.rules.specs.Vector.{joined};
 ghost use Rattle.rules.specs.Cell.{load_synced, store_synced};

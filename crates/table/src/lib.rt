@@ -1,6 +1,7 @@
 // The table: which bytes are one, which row of one is the first bad one, and what a row says.
 // Each promise is an equation with the definition in rules (Table).
 #![tactic(auto)]
+
 ghost use Rattle.std.specs.Prelude.{◌≡◌, ◌+◌, ◌<◌, ◌≤◌, ◌^◌, length, get_or};
 ghost use Rattle.rules.specs.Table as rules;
 ghost use Rattle.rules.specs.Table.{header_bytes, row_bytes, header_fine, count_fine, counts_fine, counts_of, first_bad, judged, shape_of, start_value, row_from, op_at, is_fine};

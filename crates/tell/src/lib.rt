@@ -1,6 +1,7 @@
 // What a run answered, as text on standard output: the verdict, the counts, the threads' summaries and the last execution. What is said
 // comes from crates that put it on a page; this one writes.
 #![tactic(auto)]
+
 use page::{PAGE_BYTES, Page};
 use report::{Counts, Report, answers};
 use settings::Settings;

@@ -1,5 +1,6 @@
 // The states of threads: loom's rt/thread.rs over the lent tables.
 #![tactic(auto)]
+
 ghost use Rattle.std.specs.Prelude.{◌≡◌, ◌<◌};
 ghost use Rattle.rules.specs.Cell as cells;
 ghost use Rattle.rules.specs.Machine.{is_in, can_run, ended, completed, version_raised, yield_done, blocked_on, thread_ended, others_awake, all_over, some_can_run, is_to_begin};

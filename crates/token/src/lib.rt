@@ -1,6 +1,7 @@
 // Tokens of a text, and what a word stands for. A place in a text is a number of bytes from its start; any number is one, and past the
 // end nothing is left.
 #![tactic(auto)]
+
 ghost use Rattle.std.specs.Prelude.{[], ◌≡◌, ◌+◌, ◌-◌, ◌<◌, length, get_or, drop};
 ghost use Rattle.rules.specs.Vector.{equal};
 ghost use Rattle.rules.specs.Token.{run_length, is_blank, is_letter, is_between, ends_line, token_length, line_length, found_if, number_in, register_in, plain_in, place_in};

@@ -1,5 +1,6 @@
 // The trace of an execution: entries of 16 bytes in a buffer that the caller lends, in the order in which rows are complete.
 #![tactic(auto)]
+
 ghost use Rattle.std.specs.Prelude.{◌≡◌, cond, ◌+◌, ◌*◌, ◌/◌, ◌≤◌, ltb, length, take, drop, replicate};
 ghost use Rattle.rules.specs.Event.{entry_bytes};
 ghost use Rattle.std.proofs.Math.Seq.{paste};

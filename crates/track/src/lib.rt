@@ -1,5 +1,6 @@
 // Which accesses a cell has had, and whether one more races with them: loom's track_ functions.
 #![tactic(auto)]
+
 ghost use Rattle.std.specs.Prelude.{◌≡◌, ◌<◌, [], get_or};
 ghost use Rattle.rules.specs.Cell.{of_kind, load_race, load_tracked, unsync_load_race, unsync_load_tracked, store_race, store_tracked, mut_race, mut_tracked};
 ghost use Rattle.rules.specs.State.{vector, causality};

@@ -1,5 +1,6 @@
 // What a final condition says, part by part, of what the registers hold.
 #![tactic(auto)]
+
 ghost use Rattle.std.specs.Prelude.{◌≡◌};
 ghost use Rattle.put.specs.Puts.{Puts};
 ghost use Rattle.unmet.specs.Parts.{next_from, no_part, part_at, claim_shown};

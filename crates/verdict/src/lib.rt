@@ -1,6 +1,7 @@
 // The verdict on a run. Its first line begins with the answer's number, `answer N:`, and says what happened: exhausted, failed,
 // no verdict or refused. Behind it stands what was covered where nothing failed, or what to do where a limit ended the run.
 #![tactic(auto)]
+
 ghost use Rattle.std.specs.Prelude.{◌≡◌};
 ghost use Rattle.page.specs.Pages.{page_of};
 ghost use Rattle.settings.specs.Given.{settings_of};

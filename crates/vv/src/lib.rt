@@ -1,5 +1,6 @@
 // Version vectors, after loom's rt/vv.rs. Each promise is an equation with the definition in rules.
 #![tactic(auto)]
+
 ghost use Rattle.std.specs.Prelude.{◌≡◌};
 ghost use Rattle.rules.specs.Vector.{at_most, equal, less, joined, ahead, one_more, raised, zeros};
 ghost use Rattle.vv.specs.Compared.{ordering_of};

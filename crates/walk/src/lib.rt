@@ -2,6 +2,7 @@
 // the path for all questions: past the known path the question adds a branch, and then, as everywhere else, the branch
 // there answers.
 #![tactic(auto)]
+
 ghost use Rattle.std.specs.Prelude.{◌<◌, ◌≤◌, ◌+◌, ◌^◌, ◌≡◌, get_or};
 ghost use Rattle.rules.specs.Event.{no_site};
 ghost use Rattle.event.specs.Moves.{HereWithin};

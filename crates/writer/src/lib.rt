@@ -1,5 +1,6 @@
 // A table and a final condition written as text, into a lent buffer.
 #![tactic(auto)]
+
 ghost use Rattle.std.specs.Prelude.{◌≡◌, ◌+◌, ◌<◌, ◌≤◌, ◌^◌, length, take};
 ghost use Rattle.rules.specs.Table.{threads_of, judged, good};
 ghost use Rattle.rules.specs.Text.{filled};

@@ -1,0 +1,11 @@
+use borrow.Author.Rules.{rules}
+use Rattle.bad_row.proofs.thread_row.Goals as goal
+
+pub returns : goal.returns
+returns c =
+    rw (
+      ← c.wide16.ensures.same,
+      ← c.wide16-2.ensures.same,
+      ← c.wide16-3.ensures.same,
+      ← c.wide8.ensures.same,
+    ) c.row_at.ensures

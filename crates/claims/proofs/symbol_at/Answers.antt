@@ -1,0 +1,32 @@
+use mathlib.Core.Path.{◌≡◌, sym, ap, ◌∙◌}
+use native.Mathlib.Omega.{arith}
+use Rattle.rules.specs.Token.{found}
+use Rattle.rules.specs.Text.{symbol_in}
+use Rattle.token.specs.Places.{part}
+use Rattle.token.specs.Finds.{found_of}
+use Rattle.claims.proofs.UnitLaws.{symbol-most, symbol-none, symbol-sign, symbol-here}
+use borrow.Author.Rules.{rules}
+use Rattle.claims.proofs.symbol_at.Goals as goal
+
+-- the byte that the token is
+value : (%CTX% : goal.In-Value-2) → symbol_in (part c.args.at c.args.to c.args.text.now) ≡ found c.in-Value.symbol
+value %CTX% = sym c.symbol.ensures ∙ ap found_of c.in-Value.is
+
+pub returns-in_default : goal.returns-in_default
+returns-in_default c =
+    let a = c.args in
+    symbol-none a.text.now a.at a.to _ c.none.ensures (sym c.symbol.ensures ∙ ap found_of c.in_default.is)
+
+pub returns-then-symbol : goal.returns-then-symbol
+returns-then-symbol c =
+    let a = c.args in
+    symbol-sign a.text.now a.at a.to _ (value (goal.at.returns-then-symbol c).In-Value-2) _ c.none-then-symbol.ensures c.if-symbol.true
+
+pub overflow_cast-result : goal.overflow_cast-result
+overflow_cast-result c =
+    omega (arith, symbol-most _ _ (value (goal.at.overflow_cast-result c).In-Value-2))
+
+pub returns : goal.returns
+returns c =
+    let a = c.args in
+    symbol-here a.text.now a.at a.to _ (value (goal.at.returns c).In-Value-2) c.if-symbol.false

@@ -1,0 +1,14 @@
+use Rattle.rules.specs.Token.{bytes_of}
+use Rattle.coverage.specs.Says.{put_off}
+use borrow.Author.Rules.{rules}
+use Rattle.coverage.proofs.put_off.Goals as goal
+
+pub returns-in_default : goal.returns-in_default
+unfolding put_off bytes_of
+returns-in_default c =
+    rw c.in_default.is (rw c.put_first-to.ensures at c.put.ensures)
+
+pub returns : goal.returns
+unfolding put_off bytes_of
+returns c =
+    rw c.in-At.is (rw c.put_first-to.ensures at c.fill.ensures)

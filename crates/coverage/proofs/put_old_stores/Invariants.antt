@@ -1,0 +1,16 @@
+use Prim.Native.Nat.{◌≤◌, ◌-◌}
+use mathlib.Core.Path.{◌≡◌, refl}
+use Rattle.rules.specs.Table.{max_cells}
+use Rattle.page.specs.Pages.{page_of}
+use Rattle.coverage.specs.Says.{put_old_stores}
+use Rattle.coverage.proofs.SaysLaws.{old-on, old-none}
+use borrow.Author.Rules.{rules}
+use Rattle.coverage.proofs.put_old_stores.Given as goal
+
+abbrev pub invariant-loop-cell : goal.invariant-loop-cell
+invariant-loop-cell l =
+    (l.cell ≤ max_cells)
+    × (put_old_stores (page_of l.page l.to) l.table (max_cells - l.cell) l.cell ≡ put_old_stores (page_of l.initial.page l.at) l.table max_cells 0)
+
+abbrev pub decreases-loop-cell : goal.decreases-loop-cell
+decreases-loop-cell l = max_cells - l.cell

@@ -1,0 +1,20 @@
+use Prim.Native.Nat.{◌+◌, ◌*◌, ◌≤◌, ◌-◌}
+use mathlib.Core.Path.{◌≡◌}
+use Rattle.rules.specs.Table.{max_threads}
+use Rattle.coverage.specs.Covered.{summed, stores_in, store_count}
+use Rattle.coverage.proofs.SearchLaws.{stores-all, sum-on, sum-none}
+use borrow.Author.Rules.{rules}
+use Rattle.coverage.proofs.search.stores.Goals as goal
+
+pub loop-thread-init : goal.loop-thread-init
+loop-thread-init c = (search rules, search rules, stores-all _ _ _ c.shape-shape.ensures)
+
+pub loop-thread-preserved : goal.loop-thread-preserved
+loop-thread-preserved c = (
+  search rules,
+  search rules,
+  sum-on _ _ _ _ _ c.loop-thread.invariant.2 _ c.loop-thread-test.true c.stores_in-sum.ensures.0,
+)
+
+pub returns : goal.returns
+returns c = sum-none _ _ _ _ _ c.loop-thread.invariant.2 c.loop-thread-test.false

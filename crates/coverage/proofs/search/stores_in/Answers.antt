@@ -1,0 +1,28 @@
+use Prim.Native.Nat.{◌+◌, ◌≤◌, ◌-◌}
+use mathlib.Core.Path.{◌≡◌}
+use native.Mathlib.Omega.{arith}
+use Rattle.decode.specs.Ops.{decoded_of}
+use Rattle.coverage.specs.Covered.{summed, stores_in}
+use Rattle.coverage.proofs.SearchLaws.{storing, stored, few, sum-on, sum-none, sum-all}
+use borrow.Author.Rules.{rules}
+use Rattle.coverage.proofs.search.stores_in.Goals as goal
+
+pub loop-row-init : goal.loop-row-init
+loop-row-init c = (search rules, search rules, sum-all _ _ _ _ _ c.wide16-count.ensures.same)
+
+pub overflow_add-sum : goal.overflow_add-sum
+overflow_add-sum c =
+    omega (arith, few c.args.cell (decoded_of c.row_of.result) _ c.may_store-sum.ensures)
+
+pub loop-row-preserved : goal.loop-row-preserved
+loop-row-preserved c =
+    let cell = c.args.cell in
+    let row = decoded_of c.row_of.result in (
+      search rules,
+      omega (arith, few cell row _ c.may_store-sum.ensures),
+      sum-on _ _ _ _ _ c.loop-row.invariant.2 _ c.loop-row-test.true (stored cell row _ c.may_store-sum.ensures _ c.row_of.ensures.is),
+    )
+
+pub returns : goal.returns
+returns c =
+    (sum-none _ _ _ _ _ c.loop-row.invariant.2 c.loop-row-test.false, omega (arith, c.wide16-count.ensures.bounded))

@@ -1,0 +1,9 @@
+use Rattle.decode.specs.Ops.{row_meant}
+use Rattle.decode.proofs.RowLaws.{check-made}
+use borrow.Author.Rules.{rules}
+use Rattle.decode.proofs.check_row.Goals as goal
+
+pub returns : goal.returns
+returns c =
+    let g = c.args in
+    check-made (row_meant g.row) c.only_if.ensures c.is_register.ensures c.no_change.ensures c.wide8.ensures.same

@@ -1,0 +1,9 @@
+use Rattle.decode.specs.Ops.{row_meant}
+use Rattle.decode.proofs.RowLaws.{fence-made}
+use borrow.Author.Rules.{rules}
+use Rattle.decode.proofs.fence_row.Goals as goal
+
+pub returns : goal.returns
+returns c =
+    let g = c.args in
+    fence-made (row_meant g.row) c.only_if.ensures c.is_fence_order.ensures c.no_change.ensures c.no_operands.ensures

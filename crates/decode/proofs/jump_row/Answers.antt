@@ -1,0 +1,9 @@
+use Rattle.decode.specs.Ops.{row_meant}
+use Rattle.decode.proofs.RowLaws.{jump-made}
+use borrow.Author.Rules.{rules}
+use Rattle.decode.proofs.jump_row.Goals as goal
+
+pub returns : goal.returns
+returns c =
+    let g = c.args in
+    jump-made g.count g.own (row_meant g.row) c.only_if.ensures c.reached.ensures c.leads_on.ensures c.no_change.ensures c.no_operands.ensures

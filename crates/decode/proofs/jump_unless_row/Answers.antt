@@ -1,0 +1,5 @@
+use borrow.Author.Rules.{rules}
+use Rattle.decode.proofs.jump_unless_row.Goals as goal
+
+pub returns : goal.returns
+returns c = cc

@@ -1,0 +1,14 @@
+use Prim.Native.Nat.{◌≤◌}
+use mathlib.Core.Path.{◌≡◌}
+use native.Mathlib.Omega.{arith}
+use lib.Seq.{sets}
+use Rattle.digits.specs.Shown.{shown}
+use Rattle.digits.proofs.ShownLaws.{lowest, lowest-all, at-most, write-on, write-end}
+use borrow.Author.Rules.{rules}
+use Rattle.digits.proofs.write.Given as goal
+
+abbrev pub invariant-loop-i : goal.invariant-loop-i
+invariant-loop-i l = (l.i ≤ l.k) × (sets l.out 0 (lowest l.i l.rest) ≡ sets l.initial.out 0 (shown l.n))
+
+abbrev pub decreases-loop-i : goal.decreases-loop-i
+decreases-loop-i l = l.i

@@ -1,0 +1,14 @@
+use Prim.Native.Nat.{◌+◌, ◌-◌}
+use mathlib.Core.Path.{◌≡◌, sym, ◌∙◌}
+use native.Mathlib.Omega.{arith}
+use lib.ListN.{length, drop}
+use Rattle.excerpt.specs.Excerpts.{shown_length}
+use Rattle.excerpt.proofs.LineLaws.{shown-on, shown-stops, shown-past}
+use borrow.Author.Rules.{rules}
+use Rattle.excerpt.proofs.line_end.Given as goal
+
+abbrev pub invariant-loop-to : goal.invariant-loop-to
+invariant-loop-to l = l.to + shown_length (drop l.to l.text) ≡ l.at + shown_length (drop l.at l.text)
+
+abbrev pub decreases-loop-to : goal.decreases-loop-to
+decreases-loop-to l = length l.text - l.to

@@ -1,0 +1,23 @@
+use Prim.Native.Nat.{◌-◌}
+use mathlib.Core.List.{map}
+use native.Mathlib.Omega.{arith}
+use lib.ListN.{length, drop}
+use Rattle.put.specs.Puts.{ToPut}
+use Rattle.put.proofs.PutLaws.{coming-all, coming-on, come}
+use Rattle.excerpt.specs.Excerpts.{seen_as}
+use Rattle.excerpt.proofs.SeenLaws.{mapped_next, mapped_end}
+use borrow.Author.Rules.{rules}
+use Rattle.excerpt.proofs.put_seen.Goals as goal
+
+pub loop-i-init : goal.loop-i-init
+loop-i-init c = coming-all _ _ _ (omega arith) (omega arith)
+
+pub loop-i-preserved : goal.loop-i-preserved
+loop-i-preserved c =
+    let a = c.args in
+    coming-on _ _ _ _ _ _ _ _ _ _ (mapped_next (seen_as a.below) a.bytes.now c.loop-i.i c.loop-i-test.true _ c.seen_as.ensures) c.loop-i.invariant c.put_byte-to.ensures
+
+pub returns : goal.returns
+returns c =
+    let a = c.args in
+    come _ _ _ _ _ _ (mapped_end (seen_as a.below) a.bytes.now c.loop-i.i c.loop-i-test.false) c.loop-i.invariant

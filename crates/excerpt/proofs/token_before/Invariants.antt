@@ -1,0 +1,12 @@
+use mathlib.Core.Path.{◌≡◌, refl, sym, ◌∙◌}
+use lib.ListN.{length}
+use Rattle.excerpt.specs.Excerpts.{token_before}
+use Rattle.excerpt.proofs.BeforeLaws.{before-out, before_here, before_on}
+use borrow.Author.Rules.{rules}
+use Rattle.excerpt.proofs.token_before.Given as goal
+
+abbrev pub invariant-loop-left : goal.invariant-loop-left
+invariant-loop-left l = token_before l.text l.place l.left l.found l.from ≡ token_before l.text l.place (length l.text) l.begin l.begin
+
+abbrev pub decreases-loop-left : goal.decreases-loop-left
+decreases-loop-left l = l.left

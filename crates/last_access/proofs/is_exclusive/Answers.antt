@@ -1,0 +1,14 @@
+use mathlib.Core.List.{[], ◌∷◌}
+use mathlib.Core.Path.{refl}
+use Rattle.last_access.specs.Access.{accesses}
+use Rattle.last_access.specs.declared.AccessKind.TheVariants.{Exclusive}
+use Rattle.steps.proofs.OpLaws.{op-as}
+use Rattle.decode.proofs.NumberLaws.{all_but, no_number}
+use borrow.Author.Rules.{rules}
+use Rattle.last_access.proofs.is_exclusive.Goals as goal
+
+pub returns-in-WithMut : goal.returns-in-WithMut
+returns-in-WithMut c = op-as (accesses Exclusive read) c.in-WithMut.is refl
+
+pub returns-in_default : goal.returns-in_default
+returns-in_default c = no_number (all_but (6 ∷ [])) c.args.op c.in_default.keys2 6 tt

@@ -1,0 +1,13 @@
+use Prim.Native.Nat.{◌≤◌}
+use mathlib.Core.Path.{◌≡◌, refl, sym, ◌∙◌}
+use Rattle.last_access.specs.Access.{last_of, is_access, last_access_step}
+use Rattle.last_access.proofs.AccessLaws.{last_on, last_found, last_none}
+use borrow.Author.Rules.{rules}
+use Rattle.last_access.proofs.last.Given as goal
+
+abbrev pub invariant-loop-i : goal.invariant-loop-i
+invariant-loop-i l =
+    (l.i ≤ l.n) × (last_of (is_access l.table l.trace l.thread l.access.cell l.access.kind) l.i ≡ last_access_step l.table l.trace l.thread l.access.cell l.access.kind l.n)
+
+abbrev pub decreases-loop-i : goal.decreases-loop-i
+decreases-loop-i l = l.i

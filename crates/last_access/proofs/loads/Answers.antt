@@ -1,0 +1,19 @@
+use mathlib.Core.List.{[], ◌∷◌}
+use mathlib.Core.Path.{refl}
+use Rattle.last_access.specs.Access.{accesses}
+use Rattle.last_access.specs.declared.AccessKind.TheVariants.{Load}
+use Rattle.steps.proofs.OpLaws.{op-as}
+use Rattle.decode.proofs.NumberLaws.{all_but, no_number}
+use borrow.Author.Rules.{rules}
+use Rattle.last_access.proofs.loads.Goals as goal
+
+pub returns-in-Load : goal.returns-in-Load
+returns-in-Load c = op-as (accesses Load read) c.in-Load.is refl
+
+pub returns-in-Rmw : goal.returns-in-Rmw
+returns-in-Rmw c = op-as (accesses Load read) c.in-Rmw.is refl
+
+pub returns-in_default : goal.returns-in_default
+returns-in_default c =
+    let other = no_number (all_but (0 ∷ 3 ∷ [])) c.args.op c.in_default.keys3 in
+    rw (← other 0 tt, ← other 3 tt)

@@ -1,0 +1,14 @@
+use mathlib.Core.List.{[], ◌∷◌}
+use mathlib.Core.Path.{refl}
+use Rattle.last_access.specs.Access.{accesses}
+use Rattle.last_access.specs.declared.AccessKind.TheVariants.{UnsyncLoad}
+use Rattle.steps.proofs.OpLaws.{op-as}
+use Rattle.decode.proofs.NumberLaws.{all_but, no_number}
+use borrow.Author.Rules.{rules}
+use Rattle.last_access.proofs.loads_unsync.Goals as goal
+
+pub returns-in-UnsyncLoad : goal.returns-in-UnsyncLoad
+returns-in-UnsyncLoad c = op-as (accesses UnsyncLoad read) c.in-UnsyncLoad.is refl
+
+pub returns-in_default : goal.returns-in_default
+returns-in_default c = no_number (all_but (5 ∷ [])) c.args.op c.in_default.keys2 5 tt

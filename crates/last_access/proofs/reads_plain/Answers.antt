@@ -1,0 +1,14 @@
+use mathlib.Core.List.{[], ◌∷◌}
+use mathlib.Core.Path.{refl}
+use Rattle.last_access.specs.Access.{accesses}
+use Rattle.last_access.specs.declared.AccessKind.TheVariants.{PlainRead}
+use Rattle.steps.proofs.OpLaws.{op-as}
+use Rattle.decode.proofs.NumberLaws.{all_but, no_number}
+use borrow.Author.Rules.{rules}
+use Rattle.last_access.proofs.reads_plain.Goals as goal
+
+pub returns-in-PlainRead : goal.returns-in-PlainRead
+returns-in-PlainRead c = op-as (accesses PlainRead read) c.in-PlainRead.is refl
+
+pub returns-in_default : goal.returns-in_default
+returns-in_default c = no_number (all_but (17 ∷ [])) c.args.op c.in_default.keys2 17 tt

@@ -1,0 +1,23 @@
+use borrow.Author.Tests.{ne_eqb}
+use Rattle.rules.specs.Token.{bytes_of}
+use Rattle.limit.specs.Limits.{put_reached}
+use borrow.Author.Rules.{rules}
+use Rattle.limit.proofs.put_reached.Goals as goal
+
+pub returns-in-1 : goal.returns-in-1
+unfolding put_reached
+returns-in-1 c = rw c.in-1.is c.put_budget.ensures
+
+pub returns-in-11 : goal.returns-in-11
+unfolding put_reached bytes_of
+returns-in-11 c = rw c.in-11.is c.fill.ensures
+
+pub returns-in-12 : goal.returns-in-12
+unfolding put_reached bytes_of
+returns-in-12 c = rw c.in-12.is c.fill-in-12.ensures
+
+pub returns-in_default : goal.returns-in_default
+unfolding put_reached bytes_of
+returns-in_default c =
+    let none = c.in_default.rest in
+    rw (ne_eqb _ 1 none.0.0.1, ne_eqb _ 11 none.0.1, ne_eqb _ 12 none.1) c.fill-in_default.ensures

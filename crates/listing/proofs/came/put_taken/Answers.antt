@@ -1,0 +1,12 @@
+use Rattle.rules.specs.Token.{bytes_of}
+use Rattle.listing.specs.Words.{put_taken}
+use borrow.Author.Rules.{rules}
+use Rattle.listing.proofs.came.put_taken.Goals as goal
+
+pub returns-then-taken : goal.returns-then-taken
+unfolding put_taken bytes_of
+returns-then-taken c = rw c.if-taken.true c.put.ensures
+
+pub returns : goal.returns
+unfolding put_taken bytes_of
+returns c = rw c.if-taken.false c.put-2.ensures

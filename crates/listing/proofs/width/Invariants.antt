@@ -1,0 +1,13 @@
+use Prim.Native.Nat.{◌≤◌, ◌-◌}
+use mathlib.Core.Logic.{⊎_elim}
+use mathlib.Core.Path.{◌≡◌, refl}
+use Rattle.listing.specs.Steps.{widest}
+use Rattle.listing.proofs.StepLaws.{widest-more, widest-same, widest-all}
+use borrow.Author.Rules.{rules}
+use Rattle.listing.proofs.width.Given as goal
+
+abbrev pub invariant-loop-i : goal.invariant-loop-i
+invariant-loop-i l = (l.i ≤ l.n) × (l.most ≡ widest l.table l.trace l.i)
+
+abbrev pub decreases-loop-i : goal.decreases-loop-i
+decreases-loop-i l = l.n - l.i

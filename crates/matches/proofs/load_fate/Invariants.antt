@@ -1,0 +1,17 @@
+use borrow.Author.Rules.{rules}
+use mathlib.Core.Path.{◌≡◌, sym, ◌∙◌}
+use mathlib.Core.Logic.{inl, inr, ⊎_elim}
+use Prim.Native.Nat.{◌≤◌, ◌-◌}
+use Rattle.rules.specs.Cell.{fate_from, live_in}
+use Rattle.matches.specs.Offers.{drops}
+use Rattle.matches.proofs.OfferLaws.{fate-all, fate-none, fate-own, fate-told, fate-dropped, fate-below, drops-some, drops-none}
+use Rattle.matches.proofs.load_fate.Given as goal
+
+abbrev pub invariant-loop-j : goal.invariant-loop-j
+invariant-loop-j l =
+    let dropping = drops l.seen l.before_yield l.numbers l.access.cell l.access.order l.i in
+    let fate = fate_from l.clocks l.access.cell l.i dropping in
+    (l.j ≤ 7) × (fate (l.live - l.j) l.j ≡ fate (live_in l.numbers l.access.cell) 0)
+
+abbrev pub decreases-loop-j : goal.decreases-loop-j
+decreases-loop-j l = 7 - l.j

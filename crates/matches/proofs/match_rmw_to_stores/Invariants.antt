@@ -1,0 +1,16 @@
+use borrow.Author.Rules.{rules}
+use mathlib.Core.Path.{◌≡◌}
+use Prim.Native.Nat.{◌≤◌, ◌-◌}
+use Rattle.rules.specs.Cell.{live_in, matched_from, matched_rmw, rmw_fate}
+use Rattle.matches.specs.Offers.{offered}
+use Rattle.matches.proofs.OfferLaws.{offering, offer-all, offer-none, offer-kept, offer-dropped, offer-equal}
+use mathlib.Core.Logic.{⊎_elim}
+use Rattle.matches.proofs.match_rmw_to_stores.Given as goal
+
+abbrev pub invariant-loop-i : goal.invariant-loop-i
+invariant-loop-i l =
+    let fate = rmw_fate l.clocks l.numbers l.cell in
+    (l.n ≤ l.i) × (l.i ≤ 7) × (offering l.dst l.n l.i (matched_from fate (l.live - l.i) l.i) ≡ offered (matched_from fate (live_in l.numbers l.cell) 0) l.initial.dst)
+
+abbrev pub decreases-loop-i : goal.decreases-loop-i
+decreases-loop-i l = 7 - l.i

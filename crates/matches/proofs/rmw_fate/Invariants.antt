@@ -1,0 +1,15 @@
+use borrow.Author.Rules.{rules}
+use mathlib.Core.Bool.{Bool, true}
+use mathlib.Core.Path.{◌≡◌}
+use mathlib.Core.Logic.{⊎_elim}
+use Prim.Native.Nat.{ℕ, ◌≤◌, ◌-◌}
+use Rattle.rules.specs.Cell.{fate_from, live_in, rmw_fate}
+use Rattle.matches.proofs.OfferLaws.{fate-all, fate-none, fate-own, fate-told}
+use Rattle.matches.proofs.rmw_fate.Given as goal
+
+abbrev pub invariant-loop-j : goal.invariant-loop-j
+invariant-loop-j l =
+    (l.j ≤ 7) × (fate_from l.clocks l.cell l.i anyone (l.live - l.j) l.j ≡ fate_from l.clocks l.cell l.i anyone (live_in l.numbers l.cell) 0)
+
+abbrev pub decreases-loop-j : goal.decreases-loop-j
+decreases-loop-j l = 7 - l.j

@@ -1,0 +1,7 @@
+use Rattle.page.proofs.PageLaws.{right-at}
+use borrow.Author.Rules.{rules}
+use Rattle.page.proofs.put_right.Goals as goal
+
+pub returns : goal.returns
+returns c =
+    right-at _ _ _ _ _ _ _ c.count.ensures c.less.ensures c.pad-to.ensures c.put_number.ensures

@@ -1,0 +1,29 @@
+use borrow.Author.Rules.{rules}
+use mathlib.Core.Path.{◌≡◌, ap, sym, ◌∙◌}
+use Rattle.path.specs.Walks.{schedule_at_as}
+use Rattle.path.specs.Holds.{Holds}
+use Rattle.rules.specs.Path.{Branch, exploring_below}
+use mathlib.Core.List.{List}
+use Rattle.path.proofs.WalkLaws.{look-start, look-other, look-quiet, look-here, look_none}
+use Prim.Native.Nat.{◌≤◌, ◌+◌, ◌*◌}
+use lib.ListN.{length}
+use Rattle.path.proofs.exploring_from.Goals as goal
+
+pub loop-at-init : goal.loop-at-init
+loop-at-init c = (c.through-at.ensures.fits, λ bs h. look-start _ _ _ c.through-at.ensures h)
+
+pub returns-then-is_exploring : goal.returns-then-is_exploring
+returns-then-is_exploring c =
+    record { below = search rules; says = λ bs h. look-here _ _ c.loop-at-test.true _ c.is_kind.ensures h c.if-is_kind.true _ c.is_exploring.ensures c.if-is_exploring.true ∙ ap schedule_at_as (sym (c.loop-at.invariant.1 bs h)) }
+
+pub loop-at-preserved-else-is_exploring : goal.loop-at-preserved-else-is_exploring
+loop-at-preserved-else-is_exploring c =
+    (search rules, λ bs h. c.loop-at.invariant.1 bs h ∙ look-quiet _ _ c.loop-at-test.true _ c.is_kind.ensures h c.if-is_kind.true _ c.is_exploring.ensures c.if-is_exploring.false)
+
+pub LOST-loop-again-2 : goal.LOST-loop-again-2
+LOST-loop-again-2 c =
+    (search rules, λ bs h. c.loop.invariant.1 bs h ∙ look-other _ _ c.loop-test.true _ c.is-kind.ensures h c.if1.false)
+
+pub returns : goal.returns
+returns c =
+    record { below = search rules; says = λ bs h. look_none bs _ c.loop-at-test.false ∙ ap schedule_at_as (sym (c.loop-at.invariant.1 bs h)) }

@@ -1,0 +1,17 @@
+use borrow.Author.Rules.{rules}
+use mathlib.Core.Path.{◌≡◌, ap, sym, ◌∙◌}
+use Rattle.path.specs.Walks.{schedule_at_as}
+use Rattle.path.specs.Holds.{Holds}
+use Rattle.rules.specs.Path.{Branch, exploring_below}
+use mathlib.Core.List.{List}
+use Rattle.path.proofs.WalkLaws.{look-start, look-other, look-quiet, look-here, look_none}
+use Prim.Native.Nat.{◌≤◌, ◌+◌, ◌*◌}
+use lib.ListN.{length}
+use Rattle.path.proofs.exploring_from.Given as goal
+
+abbrev pub invariant-loop-at : goal.invariant-loop-at
+invariant-loop-at l =
+    (16 * l.at ≤ length l.path) × ((bs : List Branch) → Holds l.path bs → exploring_below bs (l.point + 1) ≡ exploring_below bs l.at)
+
+abbrev pub decreases-loop-at : goal.decreases-loop-at
+decreases-loop-at l = l.at

@@ -1,0 +1,40 @@
+use mathlib.Core.Path.{◌≡◌, refl, ap, sym}
+use native.Mathlib.Omega.{arith}
+use Rattle.race.specs.Races.{RaceSaid, race_said}
+use Rattle.race.proofs.RaceLaws.{met_by, among, past-last}
+use Rattle.race.proofs.met.Goals as goal
+
+pub returns-in-1 : goal.returns-in-1
+unfolding race_said
+returns-in-1 c = ap met_by (sym c.in-1.is)
+
+pub returns-in-10 : goal.returns-in-10
+unfolding race_said
+returns-in-10 c = ap met_by (sym c.in-10.is)
+
+pub returns-in-2 : goal.returns-in-2
+unfolding race_said
+returns-in-2 c =
+    let not-one : c.args.kind ≡ 1 → ⊥ = c.in_default-1.rest.0.1 in
+    among met_by 2 2 (refl, (refl, tt)) _ (omega (arith, not-one)) c.if-kind-lt4.true
+
+pub returns-in-4 : goal.returns-in-4
+unfolding race_said
+returns-in-4 c = among met_by 4 2 (refl, (refl, tt)) _ c.if-kind-lt4.false c.if-kind-lt6.true
+
+pub returns-in-11 : goal.returns-in-11
+unfolding race_said
+returns-in-11 c =
+    let not-ten : c.args.kind ≡ 10 → ⊥ = c.in_default-1.rest.1 in
+    among met_by 11 2 (refl, (refl, tt)) _ (omega (arith, not-ten)) c.if-kind-lt13.true
+
+pub returns-in_default : goal.returns-in_default
+unfolding race_said
+returns-in_default c = among met_by 0 1 (refl, tt) _ (omega arith) c.if-kind-lt1.true
+
+pub returns-in_default-2 : goal.returns-in_default-2
+unfolding race_said
+returns-in_default-2 c = among met_by 6 4 (refl, (refl, (refl, (refl, tt)))) _ c.if-kind-lt6.false c.if-kind-lt10.true
+
+pub returns-in_default-3 : goal.returns-in_default-3
+returns-in_default-3 c = sym (ap (λ (r : RaceSaid). r.met) (past-last _ c.if-kind-lt13.false))

@@ -1,0 +1,8 @@
+use Rattle.race.specs.Races.{put_race}
+use borrow.Author.Rules.{rules}
+use Rattle.race.proofs.put.Goals as goal
+
+pub returns : goal.returns
+unfolding put_race
+returns c =
+    rw (c.against.ensures, c.put_met-to.ensures, c.met.ensures, c.cell_at-cell.ensures) at c.put_before.ensures

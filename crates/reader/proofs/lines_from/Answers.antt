@@ -1,0 +1,59 @@
+use mathlib.Core.Path.{◌≡◌, refl, sym, ◌∙◌, subst}
+use native.Mathlib.Omega.{arith}
+use lib.ListN.{length}
+use Rattle.rules.specs.Condition.{condition_bytes}
+use Rattle.rules.specs.Text.{read_text}
+use Rattle.filling.specs.Tables.{Blank}
+use Rattle.reader.proofs.WholeLaws.{Going, going_start, going-out, step-goes, step-refused, step-ended, step-made, answered-by}
+use borrow.Author.Rules.{rules}
+use Rattle.reader.proofs.lines_from.Goals as goal
+
+pub loop-left-init : goal.loop-left-init
+loop-left-init c =
+    (refl, refl, going_start c.args.text.now c.args.table.now c.threads_ahead-all.result c.requires.0 c.threads_ahead-all.ensures.is)
+
+pub line_of-requires : goal.line_of-requires
+line_of-requires c = let g = c.loop-left.invariant.2 in record { made = g.made; held = g.held }
+
+pub returns-in-Refused : goal.returns-in-Refused
+returns-in-Refused c = record {
+  is =
+      let a = c.args in
+      let g = c.loop-left.invariant.2 in
+      step-refused a.text.now _ _ _ _ _ _ _ _ g _ c.line_of.result c.line_of.ensures c.loop-left-test.true _ c.in-Refused.is;
+}
+
+pub returns-in-Ended : goal.returns-in-Ended
+returns-in-Ended c = record {
+  is =
+      let a = c.args in
+      let g = c.loop-left.invariant.2 in
+      step-ended a.text.now _ _ _ _ _ _ _ _ g _ c.line_of.result c.line_of.ensures c.loop-left-test.true _ condition_bytes (subst (Blank condition_bytes) (sym c.loop-left.invariant.1) c.requires.1) c.in-Ended.is;
+}
+
+pub concluded-requires : goal.concluded-requires
+concluded-requires c =
+    let a = c.args in
+    let g = c.loop-left.invariant.2 in
+    let x = step-made a.text.now _ _ _ _ _ _ _ _ g _ c.line_of.result c.line_of.ensures c.loop-left-test.true _ c.in-Concludes.is in
+    (record { made = x.0; held = x.1.1 }, subst (Blank condition_bytes) (sym c.loop-left.invariant.1) c.requires.1)
+
+pub returns-in-Concludes : goal.returns-in-Concludes
+returns-in-Concludes c =
+    let a = c.args in
+    let g = c.loop-left.invariant.2 in
+    let x = step-made a.text.now _ _ _ _ _ _ _ _ g _ c.line_of.result c.line_of.ensures c.loop-left-test.true _ c.in-Concludes.is in
+    answered-by a.text.now _ _ _ c.concluded.result _ c.concluded.ensures x.0 x.1.1 _ (sym x.1.0)
+
+pub loop-left-preserved : goal.loop-left-preserved
+loop-left-preserved c =
+    let a = c.args in
+    let g = c.loop-left.invariant.2 in
+    (search rules, c.loop-left.invariant.1, step-goes a.text.now _ _ _ _ _ _ _ _ g _ c.line_of.result c.line_of.ensures c.loop-left-test.true _ c.in-GoesOn.is)
+
+pub returns : goal.returns
+returns c = record {
+  is =
+      let a = c.args in
+      going-out a.text.now _ _ _ _ _ _ _ _ c.loop-left.invariant.2 c.loop-left-test.false;
+}

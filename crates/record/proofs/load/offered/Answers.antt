@@ -1,0 +1,32 @@
+use borrow.Author.Rules.{rules}
+use mathlib.Core.Path.{◌∙◌}
+use Rattle.record.proofs.ChoiceLaws.{offered-many, offered-none, offered-bad, offered-some}
+use Rattle.record.proofs.load.offered.Goals as goal
+
+pub returns-then-len-gt-MAX_ATOMIC_HISTORY : goal.returns-then-len-gt-MAX_ATOMIC_HISTORY
+returns-then-len-gt-MAX_ATOMIC_HISTORY c =
+    let pos = c.wide8-pos.ensures.same ∙ c.field.ensures in
+    let len = c.wide8-len.ensures.same ∙ c.field-2.ensures in
+    let fits = c.requires in
+    offered-many _ _ fits _ _ pos len c.if-len-gt-MAX_ATOMIC_HISTORY.true
+
+pub returns-then-len-pos : goal.returns-then-len-pos
+returns-then-len-pos c =
+    let pos = c.wide8-pos.ensures.same ∙ c.field.ensures in
+    let len = c.wide8-len.ensures.same ∙ c.field-2.ensures in
+    let fits = c.requires in
+    offered-none _ _ fits _ _ pos len c.if-len-pos.true
+
+pub returns-then-slot-ge-MAX_ATOMIC_HISTORY : goal.returns-then-slot-ge-MAX_ATOMIC_HISTORY
+returns-then-slot-ge-MAX_ATOMIC_HISTORY c =
+    let pos = c.wide8-pos.ensures.same ∙ c.field.ensures in
+    let len = c.wide8-len.ensures.same ∙ c.field-2.ensures in
+    let fits = c.requires in
+    offered-bad _ _ fits _ _ pos len c.if-len-gt-MAX_ATOMIC_HISTORY.false c.if-len-pos.false _ (c.wide8-slot.ensures.same ∙ c.field-3.ensures) c.if-slot-ge-MAX_ATOMIC_HISTORY.true
+
+pub returns : goal.returns
+returns c =
+    let pos = c.wide8-pos.ensures.same ∙ c.field.ensures in
+    let len = c.wide8-len.ensures.same ∙ c.field-2.ensures in
+    let fits = c.requires in
+    offered-some _ _ fits _ _ pos len c.if-len-gt-MAX_ATOMIC_HISTORY.false c.if-len-pos.false _ (c.wide8-slot.ensures.same ∙ c.field-3.ensures) _ c.with_mask.ensures

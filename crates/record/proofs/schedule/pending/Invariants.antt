@@ -1,0 +1,17 @@
+use borrow.Author.Rules.{rules}
+use native.Mathlib.Omega.{arith}
+use mathlib.Core.Logic.{⊎_elim}
+use Prim.Native.Nat.{◌≤◌, ◌-◌, ◌+◌}
+use mathlib.Core.Path.{◌≡◌}
+use lib.ListN.{drop}
+use Rattle.rules.specs.Path.{pendings}
+use Rattle.record.specs.Fields.{states_at}
+use Rattle.record.proofs.StatesLaws.{count-here, count-on, count-all}
+use Rattle.record.proofs.schedule.pending.Given as goal
+
+abbrev pub invariant-loop-thread : goal.invariant-loop-thread
+invariant-loop-thread l =
+    (l.thread ≤ 5) × (l.count ≤ l.thread) × (l.count + pendings (drop l.thread (states_at l.path l.at)) ≡ pendings (states_at l.path l.at))
+
+abbrev pub decreases-loop-thread : goal.decreases-loop-thread
+decreases-loop-thread l = 5 - l.thread

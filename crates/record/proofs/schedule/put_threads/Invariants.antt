@@ -1,0 +1,14 @@
+use borrow.Author.Rules.{rules}
+use mathlib.Core.Path.{◌≡◌, refl}
+use lib.Seq.{paste}
+use Rattle.record.proofs.ThreadLaws.{threads-none, threads-on, threads-all}
+use Prim.Native.Nat.{◌≤◌, ◌-◌, ◌+◌, ◌*◌}
+use lib.ListN.{length}
+use Rattle.record.proofs.schedule.put_threads.Given as goal
+
+abbrev pub invariant-loop-thread : goal.invariant-loop-thread
+invariant-loop-thread l =
+    (l.thread ≤ 5) × (length l.path ≡ length l.initial.path) × (l.path ≡ paste l.initial.path (16 * l.at + 2) l.seed l.thread)
+
+abbrev pub decreases-loop-thread : goal.decreases-loop-thread
+decreases-loop-thread l = 5 - l.thread

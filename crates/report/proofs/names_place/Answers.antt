@@ -1,0 +1,7 @@
+use mathlib.Core.Path.{ap}
+use lib.Dec.{leb}
+use borrow.Author.Rules.{rules}
+use Rattle.report.proofs.names_place.Goals as goal
+
+pub returns : goal.returns
+returns c = ap (leb 11) c.fault_number.ensures

@@ -1,0 +1,6 @@
+use Rattle.report.proofs.RecordLaws.{refused-so}
+use borrow.Author.Rules.{rules}
+use Rattle.report.proofs.refused.Goals as goal
+
+pub returns : goal.returns
+returns c = refused-so c.args.answer c.absent.result c.absent.ensures

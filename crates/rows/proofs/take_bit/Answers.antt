@@ -1,0 +1,54 @@
+use native.Mathlib.Omega.{arith}
+use Prim.Native.Nat.{◌+◌}
+use mathlib.Core.Bool.{cond}
+use mathlib.Core.Logic.{⊎_elim}
+use lib.ListN.{set}
+use Rattle.layout.specs.Tables.{state}
+use Rattle.rows.proofs.RowLaws.{flag_true, flag-false, bit-refused, bit-other, bit-within, bit-taken}
+use borrow.Author.Rules.{rules}
+use Rattle.rows.proofs.take_bit.Goals as goal
+use Rattle.rows.proofs.take_bit.Goals.{else-bit, then-bit}
+
+pub returns-in_default : goal.returns-in_default
+returns-in_default c =
+    let args = c.args in
+    λ clocks marks m. bit-refused (state clocks marks args.values.now args.numbers.now) args.here.site.thread args.here.site.row (cond args.bit 1 0) args.here.row c.in_default.is
+
+pub returns-in_default-op : goal.returns-in_default-op
+returns-in_default-op c =
+    let args = c.args in
+    λ clocks marks m.
+    bit-other (state clocks marks args.values.now args.numbers.now) args.here.site.thread args.here.site.row (cond args.bit 1 0) args.here.row _ c.in-Row.is c.in_default-op.keys2
+
+pub register_at-requires : goal.register_at-requires
+register_at-requires c =
+    let args = c.args in
+    (search rules, omega (arith, bit-within args.here.row _ _ c.in-Row.is c.in-Spurious.is c.requires.names))
+
+pub overflow_add-values : goal.overflow_add-values
+overflow_add-values c =
+    let args = c.args in
+    omega (arith, c.register_at.ensures, bit-within args.here.row _ _ c.in-Row.is c.in-Spurious.is c.requires.names)
+
+pub offset_bounds-values-register_at : goal.offset_bounds-values-register_at
+offset_bounds-values-register_at c =
+    let args = c.args in
+    omega (arith, c.register_at.ensures, bit-within args.here.row _ _ c.in-Row.is c.in-Spurious.is c.requires.names)
+
+pub bounds-values-register_at : goal.bounds-values-register_at
+bounds-values-register_at c =
+    let args = c.args in
+    omega (arith, c.register_at.ensures, bit-within args.here.row _ _ c.in-Row.is c.in-Spurious.is c.requires.names)
+
+pub returns : goal.returns
+returns c =
+    let args = c.args in
+    λ clocks marks m.
+    bit-taken clocks marks args.values.now args.numbers.now _ args.here.site.thread args.here.site.row args.here.row _ _ _ c.if-bit.value (cond args.bit 1 0) _
+    c.in-Row.is c.in-Spurious.is c.register_at.ensures
+    (elim c.if-bit.branch [
+      | then-bit w ↦ flag_true args.bit _ w.if-bit.true w.value-is
+      | else-bit w ↦ flag-false args.bit _ w.if-bit.false w.value-is
+    ])
+    c.one_more.ensures
+    (c.complete.ensures clocks marks (set args.values.now (28 + c.register_at.result) c.if-bit.value))

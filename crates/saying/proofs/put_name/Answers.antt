@@ -1,0 +1,28 @@
+use Prim.Native.Nat.{◌≤◌}
+use mathlib.Core.Path.{refl}
+use native.Mathlib.Omega.{arith}
+use lib.ListN.{length}
+use Rattle.rules.specs.Token.{bytes_of}
+use Rattle.put.specs.Puts.{last}
+use Rattle.put.proofs.PutLaws.{puts-are, puts_none, coming-all, coming-on}
+use Rattle.saying.specs.Sayings.{name_shown}
+use Rattle.saying.proofs.SayLaws.{name-none, name-some}
+use borrow.Author.Rules.{rules}
+use Rattle.saying.proofs.put_name.Goals as goal
+
+-- no place or buffer is past the last
+low : (%CTX% : goal.After-slice_known-1) → c.args.at ≤ last
+low %CTX% = omega arith
+
+long : (%CTX% : goal.After-slice_known-1) → length c.args.page.now ≤ last
+long %CTX% = omega arith
+
+pub returns-then-name-eq0 : goal.returns-then-name-eq0
+returns-then-name-eq0 c = let a = c.args in puts-are _ _ _ _ _ _ (name-none a.name.now c.if-name-eq0.true) (puts_none _ _ (omega arith))
+
+pub returns : goal.returns
+unfolding bytes_of
+returns c =
+    let a = c.args in
+    let all = coming-all _ a.at (name_shown a.name.now) (low (goal.at.returns c).After-slice_known-1) (long (goal.at.returns c).After-slice_known-1) in
+    (coming-on _ _ _ _ _ _ _ _ _ _ (name-some a.name.now c.if-name-eq0.false) all c.put_bytes-behind.ensures).whole _ _ c.put_bytes.ensures

@@ -1,0 +1,14 @@
+use Prim.Native.Nat.{◌≤◌, ◌-◌, ◌<◌}
+use mathlib.Core.Path.{◌≡◌, refl, ◌∙◌}
+use native.Mathlib.Omega.{arith}
+use lib.ListN.{length, take, length-set}
+use Rattle.thread.proofs.FillLaws.{fill_on, fill-all}
+use Rattle.scheduling.proofs.SeedLaws.{seeded, seed-at, seed-length}
+use borrow.Author.Rules.{rules}
+use Rattle.scheduling.proofs.seed.Given as goal
+
+abbrev pub invariant-loop-t : goal.invariant-loop-t
+invariant-loop-t l = (l.t ≤ 5) × (length l.states ≡ 5) × (take l.t l.states ≡ take l.t (seeded l.numbers))
+
+abbrev pub decreases-loop-t : goal.decreases-loop-t
+decreases-loop-t l = 5 - l.t

@@ -1,0 +1,14 @@
+use Prim.Native.Nat.{suc, ◌≤◌, ◌-◌}
+use mathlib.Core.Path.{◌≡◌, sym, ◌∙◌}
+use native.Mathlib.Omega.{arith}
+use Rattle.rules.specs.Table.{max_rows}
+use Rattle.spin.specs.Loops.{repeats_in, period_of}
+use Rattle.spin.proofs.LoopLaws.{period_left, period-from, first_on, first_found, first-none}
+use borrow.Author.Rules.{rules}
+use Rattle.spin.proofs.period.Given as goal
+
+abbrev pub invariant-loop-p : goal.invariant-loop-p
+invariant-loop-p l = (l.p ≤ suc max_rows) × (period_left l.trace l.n l.p ≡ period_of l.trace l.n)
+
+abbrev pub decreases-loop-p : goal.decreases-loop-p
+decreases-loop-p l = suc max_rows - l.p

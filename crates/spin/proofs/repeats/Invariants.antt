@@ -1,0 +1,14 @@
+use Prim.Native.Nat.{◌≤◌, ◌-◌}
+use mathlib.Core.Path.{◌≡◌, sym, ◌∙◌}
+use native.Mathlib.Omega.{arith}
+use borrow.Author.Tests.{not-true, not-false}
+use Rattle.spin.specs.Loops.{repeats_in}
+use Rattle.spin.proofs.LoopLaws.{repeats_left, repeats-few, repeats-from, repeats-on, repeats-not, repeats-all}
+use borrow.Author.Rules.{rules}
+use Rattle.spin.proofs.repeats.Given as goal
+
+abbrev pub invariant-loop-i : goal.invariant-loop-i
+invariant-loop-i l = (l.i ≤ l.n) × (l.p ≤ l.i) × (repeats_left l.trace l.n l.p l.i ≡ repeats_in l.trace l.n l.p)
+
+abbrev pub decreases-loop-i : goal.decreases-loop-i
+decreases-loop-i l = l.n - l.i

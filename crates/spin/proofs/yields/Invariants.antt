@@ -1,0 +1,12 @@
+use Prim.Native.Nat.{◌-◌}
+use mathlib.Core.Path.{◌≡◌, sym, ◌∙◌}
+use Rattle.spin.specs.Loops.{is_yield, yields_in}
+use Rattle.spin.proofs.LoopLaws.{yields_left, yields-from, first_on, first_found, first-none}
+use borrow.Author.Rules.{rules}
+use Rattle.spin.proofs.yields.Given as goal
+
+abbrev pub invariant-loop-i : goal.invariant-loop-i
+invariant-loop-i l = yields_left l.trace l.n l.i ≡ yields_in l.trace l.n l.p
+
+abbrev pub decreases-loop-i : goal.decreases-loop-i
+decreases-loop-i l = l.n - l.i

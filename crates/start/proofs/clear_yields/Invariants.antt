@@ -1,0 +1,12 @@
+use Prim.Native.Nat.{◌≤◌, ◌-◌}
+use mathlib.Core.Path.{◌≡◌, refl, ◌∙◌}
+use Rattle.rules.specs.Machine.{for_threads, no_yield}
+use Rattle.thread.proofs.ThreadLaws.{for-on, for-end}
+use borrow.Author.Rules.{rules}
+use Rattle.start.proofs.clear_yields.Given as goal
+
+abbrev pub invariant-loop-t : goal.invariant-loop-t
+invariant-loop-t l = (l.t ≤ 5) × (for_threads no_yield (5 - l.t) l.t l.numbers ≡ for_threads no_yield 5 0 l.initial.numbers)
+
+abbrev pub decreases-loop-t : goal.decreases-loop-t
+decreases-loop-t l = 5 - l.t

@@ -1,0 +1,12 @@
+use Prim.Native.Nat.{◌≤◌, ◌-◌}
+use mathlib.Core.Path.{◌≡◌}
+use Rattle.steps.specs.Holds.{held_after}
+use Rattle.steps.proofs.HoldLaws.{after_on, after-all}
+use borrow.Author.Rules.{rules}
+use Rattle.steps.proofs.held.after.Given as goal
+
+abbrev pub invariant-loop-i : goal.invariant-loop-i
+invariant-loop-i l = (l.i ≤ l.n) × (l.held ≡ held_after l.table l.trace l.i)
+
+abbrev pub decreases-loop-i : goal.decreases-loop-i
+decreases-loop-i l = l.n - l.i

@@ -1,0 +1,7 @@
+use Rattle.steps.proofs.HoldLaws.{over-at}
+use borrow.Author.Rules.{rules}
+use Rattle.steps.proofs.held.write_over.Goals as goal
+
+pub returns : goal.returns
+returns c =
+    over-at _ _ _ _ c.requires c.store_at-at.ensures c.newest_slot.ensures

@@ -1,0 +1,30 @@
+use borrow.Author.Rules.{rules}
+use native.Mathlib.Omega.{arith}
+use Prim.Native.Nat.{◌≤◌, ◌-◌}
+use mathlib.Core.Bool.{Bool, ◌||◌}
+use mathlib.Core.Path.{◌≡◌, refl, sym, ap, ◌∙◌}
+use lib.ListN.{length, drop}
+use Rattle.vv.proofs.Walks.{left-none}
+use Rattle.rules.specs.Seen.{seen, seen_through}
+use Rattle.synchronize.proofs.SeenLaws.{seen-on, so-far}
+use Rattle.synchronize.proofs.first_seen.FirstSeen.is_seen_by_current.Goals as goal
+
+len1 : (%CTX% : goal.Start) → length c.args.t1.versions ≡ 5
+len1 %CTX% = search rules
+
+len2 : (%CTX% : goal.Start) → length c.args.t2 ≡ 5
+len2 %CTX% = search rules
+
+pub loop-i-init : goal.loop-i-init
+loop-i-init c = (search rules, refl)
+
+pub loop-i-preserved : goal.loop-i-preserved
+loop-i-preserved c = (
+  search rules,
+  seen-on c.args.t1.versions c.args.t2 c.loop-i.i (omega (arith, len1 (goal.at.loop-i-preserved c).Start)) (omega (arith, len2 (goal.at.loop-i-preserved c).Start)) c.loop-i.seen _ (c.latest_known.ensures _) ∙ c.loop-i.invariant.1,
+)
+
+pub returns : goal.returns
+unfolding seen seen_through
+returns c =
+    sym (so-far _) ∙ sym (ap (λ (b : Bool). c.loop-i.seen || b) (left-none seen _ _ c.loop-i.i (omega (arith, len1 (goal.at.returns c).Start)) (omega (arith, len2 (goal.at.returns c).Start)))) ∙ c.loop-i.invariant.1

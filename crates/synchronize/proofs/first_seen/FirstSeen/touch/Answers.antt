@@ -1,0 +1,30 @@
+use borrow.Author.Rules.{rules}
+use native.Mathlib.Omega.{arith}
+use Prim.Native.Nat.{◌≤◌, ◌-◌, ◌<◌}
+use mathlib.Core.Path.{◌≡◌, ◌∙◌}
+use mathlib.Core.Logic.{⊎_elim}
+use lib.ListN.{length, length-set}
+use Rattle.synchronize.proofs.SeenLaws.{touching, touch-none, touch-own, touch-on, touch-all}
+use Rattle.synchronize.proofs.first_seen.FirstSeen.touch.Goals as goal
+use Rattle.synchronize.proofs.first_seen.FirstSeen.touch.Goals.{else-i-thread, then-i-thread}
+
+len : (%CTX% : goal.Start) → length c.args.t1.versions ≡ 5
+len %CTX% = search rules
+
+pub loop-i-init : goal.loop-i-init
+loop-i-init c = (search rules, len (goal.at.loop-i-init c).Start, touch-none _ c.args.thread c.args.version)
+
+pub loop-i-preserved : goal.loop-i-preserved
+loop-i-preserved c =
+    let h : c.loop-i.i < length c.loop-i.self.versions = omega arith in (
+      search rules,
+      simp length-set c.loop-i.invariant.1,
+      elim c.if-i-thread.branch [
+        | then-i-thread w ↦ touch-own _ _ _ _ c.loop-i.i c.loop-i.invariant.2 h _ w.if-i-thread.true w.self-is
+        | else-i-thread w ↦ touch-on _ _ _ _ c.loop-i.i c.loop-i.invariant.2 h _ w.if-i-thread.false w.self-is
+      ],
+    )
+
+pub returns : goal.returns
+returns c =
+    c.loop-i.invariant.2 ∙ touch-all _ _ _ c.loop-i.i (omega (arith, len (goal.at.returns c).Start))

@@ -1,0 +1,15 @@
+use borrow.Author.Rules.{rules}
+use native.Mathlib.Omega.{arith}
+use Prim.Native.Nat.{◌≤◌, ◌-◌, ◌<◌}
+use mathlib.Core.Path.{◌≡◌, ◌∙◌}
+use mathlib.Core.Logic.{⊎_elim}
+use lib.ListN.{length, length-set}
+use Rattle.synchronize.proofs.SeenLaws.{touching, touch-none, touch-own, touch-on, touch-all}
+use Rattle.synchronize.proofs.first_seen.FirstSeen.touch.Given as goal
+
+abbrev pub invariant-loop-i : goal.invariant-loop-i
+invariant-loop-i l =
+    (l.i ≤ 5) × (length l.self.versions ≡ 5) × (l.self.versions ≡ touching l.initial.self.versions l.thread l.version l.i)
+
+abbrev pub decreases-loop-i : goal.decreases-loop-i
+decreases-loop-i l = 5 - l.i

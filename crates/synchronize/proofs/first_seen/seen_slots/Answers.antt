@@ -1,0 +1,25 @@
+use borrow.Author.Rules.{rules}
+use native.Mathlib.Omega.{arith}
+use Prim.Native.Nat.{◌≤◌, ◌-◌}
+use mathlib.Core.Path.{◌≡◌, refl, sym, ◌∙◌}
+use lib.ListN.{length, length-set}
+use Rattle.rules.specs.Seen.{seen_slots}
+use Rattle.synchronize.proofs.SeenLaws.{answering, slots-on, slots-all}
+use Rattle.synchronize.proofs.first_seen.seen_slots.Goals as goal
+
+len : (%CTX% : goal.Start) → length c.args.t1 ≡ 7
+len %CTX% = search rules
+
+pub loop-i-init : goal.loop-i-init
+loop-i-init c = (search rules, search rules, refl)
+
+pub loop-i-preserved : goal.loop-i-preserved
+loop-i-preserved c = (
+  search rules,
+  simp length-set c.loop-i.invariant.1,
+  slots-on _ _ _ c.loop-i.i (omega arith) (omega (arith, len (goal.at.loop-i-preserved c).Start)) _ c.is_seen_by_current.ensures ∙ c.loop-i.invariant.2,
+)
+
+pub returns : goal.returns
+returns c =
+    sym (slots-all _ _ _ c.loop-i.i (omega arith) (omega (arith, len (goal.at.returns c).Start))) ∙ c.loop-i.invariant.2

@@ -1,0 +1,15 @@
+use borrow.Author.Rules.{rules}
+use native.Mathlib.Omega.{arith}
+use Prim.Native.Nat.{◌≤◌, ◌-◌}
+use mathlib.Core.Path.{◌≡◌, refl, sym, ◌∙◌}
+use lib.ListN.{length, length-set}
+use Rattle.rules.specs.Seen.{seen_slots}
+use Rattle.synchronize.proofs.SeenLaws.{answering, slots-on, slots-all}
+use Rattle.synchronize.proofs.first_seen.seen_slots.Given as goal
+
+abbrev pub invariant-loop-i : goal.invariant-loop-i
+invariant-loop-i l =
+    (l.i ≤ 7) × (length l.seen ≡ 7) × (answering l.seen l.marks l.causality l.i ≡ seen_slots l.marks l.causality)
+
+abbrev pub decreases-loop-i : goal.decreases-loop-i
+decreases-loop-i l = 7 - l.i

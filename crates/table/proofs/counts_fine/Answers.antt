@@ -1,0 +1,26 @@
+use Prim.Native.Nat.{◌≤◌, ◌-◌, ◌+◌}
+use mathlib.Core.Path.{◌≡◌, refl, sym, ◌∙◌}
+use mathlib.Core.Bool.{true, false}
+use lib.ListN.{drop, get_or}
+use borrow.Author.Tests.{not-true, not-false}
+use Rattle.rules.specs.Table.{max_threads, counts_of, count_fine, counts_fine}
+use Rattle.table.proofs.Walks.{counts-on, counts_end, counts-none}
+use borrow.Author.Rules.{rules}
+use Rattle.table.proofs.counts_fine.Goals as goal
+
+pub loop-thread-init : goal.loop-thread-init
+loop-thread-init c = (search rules, refl)
+
+pub returns-then-not-count_fine : goal.returns-then-not-count_fine
+returns-then-not-count_fine c =
+    let e : count_fine c.args.threads c.loop-thread.thread (get_or c.args.table.now (2 + c.loop-thread.thread) 0) ≡ false = cc (not-true c.count_fine.result c.if-not-count_fine.true-raw) in
+    sym (sym c.loop-thread.invariant.1 ∙ counts_end _ c.requires _ _ c.loop-thread-test.true e)
+
+pub loop-thread-preserved : goal.loop-thread-preserved
+loop-thread-preserved c =
+    let e : count_fine c.args.threads c.loop-thread.thread (get_or c.args.table.now (2 + c.loop-thread.thread) 0) ≡ true = cc (not-false c.count_fine.result c.if-not-count_fine.false-raw) in
+    (search rules, counts-on _ c.requires _ _ c.loop-thread-test.true e ∙ c.loop-thread.invariant.1)
+
+pub returns : goal.returns
+returns c =
+    sym (counts-none _ c.requires _ c.loop-thread.thread c.loop-thread-test.false) ∙ c.loop-thread.invariant.1

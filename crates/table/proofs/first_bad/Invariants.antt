@@ -1,0 +1,13 @@
+use Prim.Native.Nat.{◌≤◌, ◌-◌}
+use mathlib.Core.Path.{◌≡◌, sym, ◌∙◌}
+use borrow.Author.Tests.{not-true, not-false}
+use Rattle.rules.specs.Table.{first_bad}
+use Rattle.table.proofs.Walks.{bad_left, bad-all, fine-in, first_on, first_found, first-none}
+use borrow.Author.Rules.{rules}
+use Rattle.table.proofs.first_bad.Given as goal
+
+abbrev pub invariant-loop-i : goal.invariant-loop-i
+invariant-loop-i l = (l.i ≤ l.count) × (bad_left l.table l.first l.count l.i ≡ first_bad l.table l.first l.count)
+
+abbrev pub decreases-loop-i : goal.decreases-loop-i
+decreases-loop-i l = l.count - l.i

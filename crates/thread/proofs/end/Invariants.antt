@@ -1,0 +1,13 @@
+use mathlib.Core.Logic.{⊎_elim}
+use mathlib.Core.Path.{◌≡◌, ◌∙◌}
+use Prim.Native.Nat.{◌≤◌, ◌-◌}
+use Rattle.rules.specs.Machine.{for_threads, freed}
+use Rattle.thread.proofs.ThreadLaws.{for-on, for-end, freed-one, freed-other, freed-away, ended-as}
+use borrow.Author.Rules.{rules}
+use Rattle.thread.proofs.end.Given as goal
+
+abbrev pub invariant-loop-t : goal.invariant-loop-t
+invariant-loop-t l = (l.t ≤ 5) × (for_threads (freed l.thread) (5 - l.t) l.t l.numbers ≡ for_threads (freed l.thread) 5 0 l.initial.numbers)
+
+abbrev pub decreases-loop-t : goal.decreases-loop-t
+decreases-loop-t l = 5 - l.t

@@ -1,0 +1,5 @@
+use borrow.Author.Rules.{rules}
+use Rattle.token.proofs.is_word.Goals as goal
+
+pub returns : goal.returns
+returns c = cc

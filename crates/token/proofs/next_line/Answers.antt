@@ -1,0 +1,20 @@
+use Prim.Native.Nat.{◌+◌, ◌-◌}
+use mathlib.Core.Path.{◌≡◌}
+use native.Mathlib.Omega.{arith}
+use lib.ListN.{length, drop}
+use Rattle.rules.specs.Token.{line_length}
+use Rattle.token.proofs.PlaceLaws.{line-past, line_on, line-stops}
+use borrow.Author.Rules.{rules}
+use Rattle.token.proofs.next_line.Goals as goal
+
+pub returns-then-text-to-eq10 : goal.returns-then-text-to-eq10
+returns-then-text-to-eq10 c =
+    omega (arith, line-stops c.args.text.now c.loop-to.to c.loop-to-test.true c.if-text-to-eq10.true)
+
+pub loop-to-preserved : goal.loop-to-preserved
+loop-to-preserved c =
+    omega (arith, line_on c.args.text.now c.loop-to.to c.loop-to-test.true c.if-text-to-eq10.false)
+
+pub returns : goal.returns
+returns c =
+    omega (arith, line-past c.args.text.now c.loop-to.to c.loop-to-test.false)

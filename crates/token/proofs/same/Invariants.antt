@@ -1,0 +1,13 @@
+use Prim.Native.Nat.{◌-◌}
+use mathlib.Core.Path.{◌≡◌, refl, ◌∙◌}
+use lib.ListN.{length, drop}
+use Rattle.rules.specs.Vector.{equal}
+use Rattle.token.proofs.PlaceLaws.{same-on, same_differs, same_end, same-long}
+use borrow.Author.Rules.{rules}
+use Rattle.token.proofs.same.Given as goal
+
+abbrev pub invariant-loop-i : goal.invariant-loop-i
+invariant-loop-i l = (length l.word ≡ length l.other) × (equal (drop l.i l.word) (drop l.i l.other) ≡ equal l.word l.other)
+
+abbrev pub decreases-loop-i : goal.decreases-loop-i
+decreases-loop-i l = length l.word - l.i

@@ -1,0 +1,11 @@
+use Prim.Native.Nat.{◌-◌}
+use borrow.Author.Tests.{ltb-true, ltb-false}
+use Rattle.trace.proofs.TraceLaws.{Clearing, clear_none, clear-on, clear-all, clear-past}
+use borrow.Author.Rules.{rules}
+use Rattle.trace.proofs.clear.Given as goal
+
+abbrev pub invariant-loop-i : goal.invariant-loop-i
+invariant-loop-i l = Clearing l.initial.bytes l.bytes l.from l.to l.i
+
+abbrev pub decreases-loop-i : goal.decreases-loop-i
+decreases-loop-i l = l.to - l.i

@@ -1,0 +1,6 @@
+use Rattle.trace.proofs.ZeroLaws.{all-zeros}
+use borrow.Author.Rules.{rules}
+use Rattle.trace.proofs.clear_all.Goals as goal
+
+pub returns : goal.returns
+returns c = all-zeros _ _ c.clear.ensures

@@ -1,0 +1,26 @@
+use borrow.Author.Rules.{rules}
+use mathlib.Core.Path.{◌≡◌}
+use mathlib.Core.Logic.{⊎_elim}
+use Rattle.rules.specs.State.{Marks, Values}
+use Rattle.layout.specs.Tables.{state}
+use Rattle.track.specs.LastAccess.{grown_by}
+use Rattle.track.proofs.LastAccessLaws.{grown-none, grown-joined, recorded-load, recorded-other}
+use Rattle.track.proofs.access.set_last_access.Goals as goal
+use Rattle.track.proofs.access.set_last_access.Goals.{else-last_dependent_branch, then-last_dependent_branch}
+
+grew : (%CTX% : goal.After-raise-schedule) (marks : Marks) (values : Values) →
+    let args = c.args in
+    c.raise-schedule.result.versions ≡ grown_by (state args.clocks.now marks values args.numbers.now) args.thread args.operation.action args.operation.cell
+grew %CTX% marks values =
+    let args = c.args in
+    let st = state args.clocks.now marks values args.numbers.now in
+    elim c.if-last_dependent_branch.branch [
+      | then-last_dependent_branch w ↦ grown-joined st args.thread args.operation.action args.operation.cell _ _ _ c.last_dependent_branch.ensures c.raise-schedule.ensures w.if-last_dependent_branch.true _ w.join-schedule.ensures (rw w.4 w.schedule-is.ensures)
+      | else-last_dependent_branch w ↦ grown-none st args.thread args.operation.action args.operation.cell _ _ _ c.last_dependent_branch.ensures c.raise-schedule.ensures w.if-last_dependent_branch.false (rw w.schedule-is)
+    ]
+
+pub returns-then-operation-ne-A_LOAD : goal.returns-then-operation-ne-A_LOAD
+returns-then-operation-ne-A_LOAD c = λ marks values. recorded-other _ marks values _ _ _ _ _ _ (grew (goal.at.returns-then-operation-ne-A_LOAD c).After-raise-schedule marks values) c.if-operation-ne-A_LOAD.true
+
+pub returns-else-operation-ne-A_LOAD : goal.returns-else-operation-ne-A_LOAD
+returns-else-operation-ne-A_LOAD c = λ marks values. recorded-load _ marks values _ _ _ _ _ _ (grew (goal.at.returns-else-operation-ne-A_LOAD c).After-raise-schedule marks values) c.if-operation-ne-A_LOAD.false

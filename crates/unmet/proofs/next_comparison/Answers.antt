@@ -1,0 +1,21 @@
+use Prim.Native.Nat.{◌-◌}
+use mathlib.Core.Path.{◌≡◌, sym, ◌∙◌}
+use lib.ListN.{length}
+use Rattle.unmet.specs.Parts.{next_from}
+use Rattle.unmet.proofs.PartLaws.{next_left, next-all, next-on, next-found, next-none}
+use borrow.Author.Rules.{rules}
+use Rattle.unmet.proofs.next_comparison.Goals as goal
+
+pub loop-i-init : goal.loop-i-init
+loop-i-init c = next-all _ _
+
+pub returns-then-is_sign : goal.returns-then-is_sign
+returns-then-is_sign c =
+    sym (next-found c.args.condition.now _ c.loop-i-test.true (sym c.is_sign.ensures ∙ c.if-is_sign.true)) ∙ c.loop-i.invariant
+
+pub loop-i-preserved : goal.loop-i-preserved
+loop-i-preserved c =
+    next-on c.args.condition.now _ c.loop-i-test.true (sym c.is_sign.ensures ∙ c.if-is_sign.false) ∙ c.loop-i.invariant
+
+pub returns : goal.returns
+returns c = sym (next-none c.args.condition.now _ c.loop-i-test.false) ∙ c.loop-i.invariant

@@ -1,0 +1,16 @@
+use borrow.Author.Rules.{rules}
+use native.Mathlib.Omega.{arith}
+use Prim.Native.Nat.{◌≤◌, ◌-◌, ◌<◌}
+use mathlib.Core.Path.{◌≡◌, refl, sym, ◌∙◌}
+use mathlib.Core.Logic.{⊎_elim}
+use lib.ListN.{length, length-set}
+use Rattle.rules.specs.Vector.{joined}
+use Rattle.vv.proofs.Walks.{joining, join-taken, join_kept, join-none}
+use Rattle.vv.proofs.VersionVec.join.Given as goal
+
+abbrev pub invariant-loop-i : goal.invariant-loop-i
+invariant-loop-i l =
+    (l.i ≤ 5) × (length l.self.versions ≡ 5) × (joining l.self.versions l.other.versions l.i ≡ joined l.initial.self.versions l.other.versions)
+
+abbrev pub decreases-loop-i : goal.decreases-loop-i
+decreases-loop-i l = 5 - l.i

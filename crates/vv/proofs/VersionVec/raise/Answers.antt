@@ -1,0 +1,29 @@
+use borrow.Author.Rules.{rules}
+use native.Mathlib.Omega.{arith}
+use Prim.Native.Nat.{◌≤◌, ◌-◌, ◌<◌}
+use mathlib.Core.Path.{◌≡◌, sym, ◌∙◌}
+use mathlib.Core.Logic.{⊎_elim}
+use lib.ListN.{length, length-set}
+use Rattle.vv.proofs.Walks.{raising, raise-none, raise-own, raise-on, raise-all}
+use Rattle.vv.proofs.VersionVec.raise.Goals as goal
+use Rattle.vv.proofs.VersionVec.raise.Goals.{else-i-thread, then-i-thread}
+
+len : (%CTX% : goal.Start) → length c.args.t1.versions ≡ 5
+len %CTX% = search rules
+
+pub loop-i-init : goal.loop-i-init
+loop-i-init c = (search rules, len (goal.at.loop-i-init c).Start, raise-none _ c.args.thread)
+
+pub loop-i-preserved : goal.loop-i-preserved
+loop-i-preserved c = (
+  search rules,
+  simp length-set c.loop-i.invariant.1,
+  elim c.if-i-thread.branch [
+    | then-i-thread w ↦ raise-own _ _ _ _ _ c.loop-i.invariant.2 w.if-i-thread.true (w.self-is ∙ w.one_more.ensures)
+    | else-i-thread w ↦ raise-on _ _ _ _ _ c.loop-i.invariant.2 w.if-i-thread.false w.self-is
+  ],
+)
+
+pub returns : goal.returns
+returns c =
+    c.loop-i.invariant.2 ∙ raise-all _ _ _ (omega (arith, len (goal.at.returns c).Start))
