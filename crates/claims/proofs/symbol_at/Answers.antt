@@ -9,8 +9,8 @@ use borrow.Author.Rules.{rules}
 use Rattle.claims.proofs.symbol_at.Goals as goal
 
 -- the byte that the token is
-value : (%CTX% : goal.In-Value-2) → symbol_in (part c.args.at c.args.to c.args.text.now) ≡ found c.in-Value.symbol
-value %CTX% = sym c.symbol.ensures ∙ ap found_of c.in-Value.is
+value : (c : goal.In-Value-2) → symbol_in (part c.args.at c.args.to c.args.text.now) ≡ found c.in-Value.symbol
+value c = sym c.symbol.ensures ∙ ap found_of c.in-Value.is
 
 pub returns-in_default : goal.returns-in_default
 returns-in_default c =

@@ -6,8 +6,8 @@ use borrow.Author.Rules.{rules}
 use Rattle.ending.proofs.judge_end.Goals as goal
 
 -- the condition is judged with the table's threads
-held : (%CTX% : goal.After-holds) → let g = c.args in c.holds.result ≡ met_by g.table.now g.condition.now g.values.now
-held %CTX% =
+held : (c : goal.After-holds) → let g = c.args in c.holds.result ≡ met_by g.table.now g.condition.now g.values.now
+held c =
     let g = c.args in
     held_by g.table.now g.condition.now g.values.now c.threads_of.ensures c.holds.ensures
 

@@ -11,18 +11,18 @@ use borrow.Author.Rules.{rules}
 use Rattle.excerpt.proofs.put.Goals as goal
 
 -- no place or buffer is past the last
-low : (%CTX% : goal.After-slice_known-1) → c.args.at ≤ last
-low %CTX% = omega arith
+low : (c : goal.After-slice_known-1) → c.args.at ≤ last
+low c = omega arith
 
-long : (%CTX% : goal.After-slice_known-1) → length c.args.page.now ≤ last
-long %CTX% = omega arith
+long : (c : goal.After-slice_known-1) → length c.args.page.now ≤ last
+long c = omega arith
 
 pub returns : goal.returns
 returns c =
     let shown = c.excerpt_at-shown.result in
     let a = c.args in
     let whole = refused-whole a.name.now a.text.now a.line a.column shown _ _ c.excerpt_at-shown.ensures c.rows_before-row.ensures c.token_before-before.ensures in
-    let all = coming-all _ a.at (refused_shown a.name.now a.text.now a.line a.column) (low (goal.at.returns c).After-slice_known-1) (long (goal.at.returns c).After-slice_known-1) in
+    let all = coming-all _ a.at (refused_shown a.name.now a.text.now a.line a.column) (low c.before.before.before.before.before.before.before.before.before.before.before.before.before.before.before.before.before.before.before.before.before) (long c.before.before.before.before.before.before.before.before.before.before.before.before.before.before.before.before.before.before.before.before.before) in
     let one = coming-on _ _ _ _ _ _ _ _ _ _ whole all c.put_place-named.ensures in
     let two = coming-on _ _ _ _ _ _ _ _ (what_shown a.text.now c.rows_before-row.result shown.begin c.token_before-before.result shown.place) _ refl one c.put_what-what.ensures in
     (coming-on _ _ _ _ _ _ _ _ _ _ refl two c.put_line-behind.ensures).whole _ _ c.put_caret.ensures

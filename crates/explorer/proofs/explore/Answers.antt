@@ -14,23 +14,23 @@ use borrow.Author.Rules.{rules}
 use Rattle.explorer.proofs.explore.Goals as goal
 
 -- checks 2, 3 and 4 have passed
-fine : (%CTX% : goal.Else-not-settings_fine) → settings_fine (settings_of c.args.settings) ≡ true
-fine %CTX% = sym c.settings_fine.ensures ∙ not-false _ c.if-not-settings_fine.false-raw
+fine : (c : goal.Else-not-settings_fine) → settings_fine (settings_of c.args.settings) ≡ true
+fine c = sym c.settings_fine.ensures ∙ not-false _ c.if-not-settings_fine.false-raw
 
-path-held : (%CTX% : goal.Else-not-holds_exactly) → eqb (length c.args.path.now) (16 * c.args.settings.branches) ≡ true
-path-held %CTX% = sym c.holds_exactly.ensures ∙ not-false _ c.if-not-holds_exactly.false-raw
+path-held : (c : goal.Else-not-holds_exactly) → eqb (length c.args.path.now) (16 * c.args.settings.branches) ≡ true
+path-held c = sym c.holds_exactly.ensures ∙ not-false _ c.if-not-holds_exactly.false-raw
 
-trace-held : (%CTX% : goal.Else-not-holds_exactly-2) → eqb (length c.args.trace.now) (16 * c.args.settings.operations) ≡ true
-trace-held %CTX% = sym c.holds_exactly-2.ensures ∙ not-false _ c.if-not-holds_exactly-2.false-raw
+trace-held : (c : goal.Else-not-holds_exactly-2) → eqb (length c.args.trace.now) (16 * c.args.settings.operations) ≡ true
+trace-held c = sym c.holds_exactly-2.ensures ∙ not-false _ c.if-not-holds_exactly-2.false-raw
 
 -- and check 5
-ready : (%CTX% : goal.In-Good) → RunReady c.args.table.now (settings_of c.args.settings) c.args.path.now c.args.trace.now
-ready %CTX% =
-    ready_made _ c.args.settings _ _ (fine %CTX%) (path-held %CTX%) (trace-held %CTX%) _ c.judge.ensures c.in-Good.is
+ready : (c : goal.In-Good) → RunReady c.args.table.now (settings_of c.args.settings) c.args.path.now c.args.trace.now
+ready c =
+    ready_made _ c.args.settings _ _ (fine c.before.before.before.before.before.before.before) (path-held c.before.before.before.before.before) (trace-held c.before.before.before) _ c.judge.ensures c.in-Good.is
 
 -- the condition is judged with the table's threads
-judged : (%CTX% : goal.After-is_condition) → let g = c.args in c.is_condition.result ≡ is_condition (threads_of g.table.now) g.condition.now
-judged %CTX% =
+judged : (c : goal.After-is_condition) → let g = c.args in c.is_condition.result ≡ is_condition (threads_of g.table.now) g.condition.now
+judged c =
     let g = c.args in
     judged-by g.table.now g.condition.now c.threads_of.ensures c.is_condition.ensures
 
@@ -40,11 +40,11 @@ returns-then-not-settings_fine c =
 
 pub returns-then-not-holds_exactly : goal.returns-then-not-holds_exactly
 returns-then-not-holds_exactly c =
-    refuse-path c.refused-then-not-holds_exactly.result _ _ c.args.settings _ _ (fine (goal.at.returns-then-not-holds_exactly c).Else-not-settings_fine) (sym c.holds_exactly.ensures ∙ not-true _ c.if-not-holds_exactly.true-raw) c.refused-then-not-holds_exactly.ensures
+    refuse-path c.refused-then-not-holds_exactly.result _ _ c.args.settings _ _ (fine c.before.before.before) (sym c.holds_exactly.ensures ∙ not-true _ c.if-not-holds_exactly.true-raw) c.refused-then-not-holds_exactly.ensures
 
 pub returns-then-not-holds_exactly-2 : goal.returns-then-not-holds_exactly-2
 returns-then-not-holds_exactly-2 c =
-    refuse-trace c.refused-then-not-holds_exactly-2.result _ _ c.args.settings _ _ (fine (goal.at.returns-then-not-holds_exactly-2 c).Else-not-settings_fine) (path-held (goal.at.returns-then-not-holds_exactly-2 c).Else-not-holds_exactly) (sym c.holds_exactly-2.ensures ∙ not-true _ c.if-not-holds_exactly-2.true-raw) c.refused-then-not-holds_exactly-2.ensures
+    refuse-trace c.refused-then-not-holds_exactly-2.result _ _ c.args.settings _ _ (fine c.before.before.before.before.before) (path-held c.before.before.before) (sym c.holds_exactly-2.ensures ∙ not-true _ c.if-not-holds_exactly-2.true-raw) c.refused-then-not-holds_exactly-2.ensures
 
 pub returns-then-not-is_condition : goal.returns-then-not-is_condition
 returns-then-not-is_condition c =

@@ -6,63 +6,63 @@ use Rattle.filling.proofs.HeldLaws.{mid-threads, mid-count, mid-long, length-row
 use borrow.Author.Rules.{rules}
 use Rattle.filling.proofs.add_row.Goals as goal
 
-nine : (%CTX% : goal.Start) → length c.args.fields ≡ 9
-nine %CTX% = search rules
+nine : (c : goal.Start) → length c.args.fields ≡ 9
+nine c = search rules
 
 -- there is room for a row more
-room : (%CTX% : goal.After-row_bytes-bytes) → c.args.length + length c.row_bytes-bytes.result ≤ length c.args.table.now
-room %CTX% =
+room : (c : goal.After-row_bytes-bytes) → c.args.length + length c.row_bytes-bytes.result ≤ length c.args.table.now
+room c =
     let a = c.args in
     let p = c.requires in
-    omega (arith, ap length c.row_bytes-bytes.ensures ∙ length-row_bytes a.fields (nine %CTX%), row_room a.table.now a.length p.holds.made p.holds.held p.some p.fewer)
+    omega (arith, ap length c.row_bytes-bytes.ensures ∙ length-row_bytes a.fields (nine c.before.before), row_room a.table.now a.length p.holds.made p.holds.held p.some p.fewer)
 
 pub append-requires : goal.append-requires
-append-requires c = room (goal.at.append-requires c).After-row_bytes-bytes
+append-requires c = room c.before.before
 
 pub overflow_cast-thread : goal.overflow_cast-thread
 overflow_cast-thread c =
     let a = c.args in
     let p = c.requires in
     let h = p.holds.held in
-    omega (arith, h.threads, h.room, mid-threads a.table.now a.length p.holds.made h c.row_bytes-bytes.result _ (room (goal.at.overflow_cast-thread c).After-row_bytes-bytes) c.append.ensures, mid-long a.table.now a.length p.holds.made h c.row_bytes-bytes.result _ (room (goal.at.overflow_cast-thread c).After-row_bytes-bytes) c.append.ensures)
+    omega (arith, h.threads, h.room, mid-threads a.table.now a.length p.holds.made h c.row_bytes-bytes.result _ (room c.before.before.before.before.before.before) c.append.ensures, mid-long a.table.now a.length p.holds.made h c.row_bytes-bytes.result _ (room c.before.before.before.before.before.before) c.append.ensures)
 
 pub overflow_add-rows : goal.overflow_add-rows
 overflow_add-rows c =
     let a = c.args in
     let p = c.requires in
     let h = p.holds.held in
-    omega (arith, h.threads, h.room, mid-threads a.table.now a.length p.holds.made h c.row_bytes-bytes.result _ (room (goal.at.overflow_add-rows c).After-row_bytes-bytes) c.append.ensures, mid-long a.table.now a.length p.holds.made h c.row_bytes-bytes.result _ (room (goal.at.overflow_add-rows c).After-row_bytes-bytes) c.append.ensures)
+    omega (arith, h.threads, h.room, mid-threads a.table.now a.length p.holds.made h c.row_bytes-bytes.result _ (room c.before.before.before.before.before.before) c.append.ensures, mid-long a.table.now a.length p.holds.made h c.row_bytes-bytes.result _ (room c.before.before.before.before.before.before) c.append.ensures)
 
 pub bounds-table-thread : goal.bounds-table-thread
 bounds-table-thread c =
     let a = c.args in
     let p = c.requires in
     let h = p.holds.held in
-    omega (arith, h.threads, h.room, mid-threads a.table.now a.length p.holds.made h c.row_bytes-bytes.result _ (room (goal.at.bounds-table-thread c).After-row_bytes-bytes) c.append.ensures, mid-long a.table.now a.length p.holds.made h c.row_bytes-bytes.result _ (room (goal.at.bounds-table-thread c).After-row_bytes-bytes) c.append.ensures)
+    omega (arith, h.threads, h.room, mid-threads a.table.now a.length p.holds.made h c.row_bytes-bytes.result _ (room c.before.before.before.before.before.before.before) c.append.ensures, mid-long a.table.now a.length p.holds.made h c.row_bytes-bytes.result _ (room c.before.before.before.before.before.before.before) c.append.ensures)
 
 pub overflow_add-table : goal.overflow_add-table
 overflow_add-table c =
     let a = c.args in
     let p = c.requires in
     let h = p.holds.held in
-    omega (arith, h.threads, h.room, mid-threads a.table.now a.length p.holds.made h c.row_bytes-bytes.result _ (room (goal.at.overflow_add-table c).After-row_bytes-bytes) c.append.ensures, row-fewer a.table.now a.length p.holds.made h p.some p.fewer, mid-count a.table.now a.length p.holds.made h p.some p.fewer c.row_bytes-bytes.result _ (room (goal.at.overflow_add-table c).After-row_bytes-bytes) c.append.ensures)
+    omega (arith, h.threads, h.room, mid-threads a.table.now a.length p.holds.made h c.row_bytes-bytes.result _ (room c.before.before.before.before.before.before.before) c.append.ensures, row-fewer a.table.now a.length p.holds.made h p.some p.fewer, mid-count a.table.now a.length p.holds.made h p.some p.fewer c.row_bytes-bytes.result _ (room c.before.before.before.before.before.before.before) c.append.ensures)
 
 pub overflow_add-table-2 : goal.overflow_add-table-2
 overflow_add-table-2 c =
     let a = c.args in
     let p = c.requires in
     let h = p.holds.held in
-    omega (arith, h.threads, h.room, mid-threads a.table.now a.length p.holds.made h c.row_bytes-bytes.result _ (room (goal.at.overflow_add-table-2 c).After-row_bytes-bytes) c.append.ensures, mid-long a.table.now a.length p.holds.made h c.row_bytes-bytes.result _ (room (goal.at.overflow_add-table-2 c).After-row_bytes-bytes) c.append.ensures)
+    omega (arith, h.threads, h.room, mid-threads a.table.now a.length p.holds.made h c.row_bytes-bytes.result _ (room c.before.before.before.before.before.before.before) c.append.ensures, mid-long a.table.now a.length p.holds.made h c.row_bytes-bytes.result _ (room c.before.before.before.before.before.before.before) c.append.ensures)
 
 pub bounds-table-thread-2 : goal.bounds-table-thread-2
 bounds-table-thread-2 c =
     let a = c.args in
     let p = c.requires in
     let h = p.holds.held in
-    omega (arith, h.threads, h.room, mid-threads a.table.now a.length p.holds.made h c.row_bytes-bytes.result _ (room (goal.at.bounds-table-thread-2 c).After-row_bytes-bytes) c.append.ensures, mid-long a.table.now a.length p.holds.made h c.row_bytes-bytes.result _ (room (goal.at.bounds-table-thread-2 c).After-row_bytes-bytes) c.append.ensures)
+    omega (arith, h.threads, h.room, mid-threads a.table.now a.length p.holds.made h c.row_bytes-bytes.result _ (room c.before.before.before.before.before.before.before) c.append.ensures, mid-long a.table.now a.length p.holds.made h c.row_bytes-bytes.result _ (room c.before.before.before.before.before.before.before) c.append.ensures)
 
 pub returns : goal.returns
 returns c = λ m held.
     let a = c.args in
     let p = c.requires in
-    held-row a.table.now a.length m held p.some p.fewer a.fields c.row_bytes-bytes.result _ c.row_bytes-bytes.ensures (nine (goal.at.returns c).Start) c.append.ensures
+    held-row a.table.now a.length m held p.some p.fewer a.fields c.row_bytes-bytes.result _ c.row_bytes-bytes.ensures (nine c.before.before.before.before.before.before.before.before.before) c.append.ensures

@@ -12,21 +12,21 @@ use borrow.Author.Rules.{rules}
 use Rattle.filling.proofs.values_line.Goals as goal
 
 -- what the line comes to, from a table that the buffer holds
-abbrev whole : (%CTX% : goal.At-loop-left) → Draft → Line
-whole %CTX% m =
+abbrev whole : (at : goal.At-loop-left) → Draft → Line
+whole at m =
     let a = at.args in
     values_line (with_cell_or_plain a.values.place) (how_many a.values.place) a.values.most m (drop a.at a.text.now)
 
 -- a table that the buffer holds on the way
-way : (%CTX% : goal.At-loop-left) → Underway at.args.text.now at.loop-left.table at.args.values.place at.loop-left.long at.loop-left.left at.loop-left.from (whole %CTX% at.requires.0.made)
-way %CTX% = at.loop-left.invariant.1 at.requires.0.made at.requires.0.held
+way : (at : goal.At-loop-left) → Underway at.args.text.now at.loop-left.table at.args.values.place at.loop-left.long at.loop-left.left at.loop-left.from (whole at at.requires.0.made)
+way at = at.loop-left.invariant.1 at.requires.0.made at.requires.0.held
 
 -- how many start values it has
-many : (%CTX% : goal.At-loop-left) (m : Draft) → HeldTable at.loop-left.table at.loop-left.long m → get_or at.loop-left.table at.args.values.place 0 ≡ how_many at.args.values.place m
-many %CTX% m held = held-many at.loop-left.table at.loop-left.long m held at.args.values.place at.requires.1
+many : (at : goal.At-loop-left) (m : Draft) → HeldTable at.loop-left.table at.loop-left.long m → get_or at.loop-left.table at.args.values.place 0 ≡ how_many at.args.values.place m
+many at m held = held-many at.loop-left.table at.loop-left.long m held at.args.values.place at.requires.1
 
-skipped : (%CTX% : goal.After-past_blanks-here) → drop c.past_blanks-here.result c.args.text.now ≡ past_blanks (drop c.loop-left.from c.args.text.now)
-skipped %CTX% = left_by c.args.text.now c.loop-left.from c.past_blanks-here.result _ c.past_blanks-here.ensures
+skipped : (c : goal.After-past_blanks-here) → drop c.past_blanks-here.result c.args.text.now ≡ past_blanks (drop c.loop-left.from c.args.text.now)
+skipped c = left_by c.args.text.now c.loop-left.from c.past_blanks-here.result _ c.past_blanks-here.ensures
 
 pub loop-left-init : goal.loop-left-init
 loop-left-init c = (

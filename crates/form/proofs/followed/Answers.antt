@@ -14,20 +14,20 @@ use borrow.Author.Rules.{rules}
 use Rattle.form.proofs.followed.Goals as goal
 
 -- the places of a turn's words
-left-words : (%CTX% : goal.After-past_blanks-here) → drop c.past_blanks-start.result c.args.words.now ≡ past_blanks (drop c.loop-left.from c.args.words.now)
-left-words %CTX% = left_by c.args.words.now c.loop-left.from c.past_blanks-start.result _ c.past_blanks-start.ensures
+left-words : (c : goal.After-past_blanks-here) → drop c.past_blanks-start.result c.args.words.now ≡ past_blanks (drop c.loop-left.from c.args.words.now)
+left-words c = left_by c.args.words.now c.loop-left.from c.past_blanks-start.result _ c.past_blanks-start.ensures
 
-left-text : (%CTX% : goal.After-past_blanks-here) → drop c.past_blanks-here.result c.args.text.now ≡ past_blanks (drop c.loop-left.to c.args.text.now)
-left-text %CTX% = left_by c.args.text.now c.loop-left.to c.past_blanks-here.result _ c.past_blanks-here.ensures
+left-text : (c : goal.After-past_blanks-here) → drop c.past_blanks-here.result c.args.text.now ≡ past_blanks (drop c.loop-left.to c.args.text.now)
+left-text c = left_by c.args.text.now c.loop-left.to c.past_blanks-here.result _ c.past_blanks-here.ensures
 
-so-far : (%CTX% : goal.After-past_blanks-here) → Between c.args.text.now c.args.at c.past_blanks-here.result
-so-far %CTX% = between-on _ _ c.loop-left.to _ c.loop-left.invariant.1 (between_run _ _ _ is_blank c.past_blanks-here.ensures)
+so-far : (c : goal.After-past_blanks-here) → Between c.args.text.now c.args.at c.past_blanks-here.result
+so-far c = between-on _ _ c.loop-left.to _ c.loop-left.invariant.1 (between_run _ _ _ is_blank c.past_blanks-here.ensures)
 
 -- what the turn's token stands for
-valued : (%CTX% : goal.After-value_of) →
+valued : (c : goal.After-value_of) →
     value_of (room_meant c.args.room) (part c.past_blanks-start.result c.token_end-from.result c.args.words.now) (part c.past_blanks-here.result c.token_end-to.result c.args.text.now)
     ≡ found_of c.value_of_lem.result
-valued %CTX% =
+valued c =
     sym
     (c.value_of_lem.ensures
     ∙ ap (λ (piece : List ℕ). value_of (room_meant c.args.room) piece (part c.past_blanks-here.result c.token_end-to.result c.args.text.now)) c.part-piece.ensures)
@@ -39,9 +39,9 @@ pub returns-then-words-start : goal.returns-then-words-start
 returns-then-words-start c =
     let a = c.args in
     follows_on a.text.now c.ended.result a.at c.past_blanks-here.result {some = ended c.loop-left.fields (drop c.past_blanks-here.result a.text.now)} c.ended.ensures
-    (follow-ended (room_meant a.room) c.loop-left.fields a.words.now a.text.now c.loop-left.from c.loop-left.to c.loop-left.left c.past_blanks-start.result c.past_blanks-here.result (left-words (goal.at.returns-then-words-start c).After-past_blanks-here) (left-text (goal.at.returns-then-words-start c).After-past_blanks-here) c.loop-left-test.true c.if-words-start.true
+    (follow-ended (room_meant a.room) c.loop-left.fields a.words.now a.text.now c.loop-left.from c.loop-left.to c.loop-left.left c.past_blanks-start.result c.past_blanks-here.result (left-words c.before.before) (left-text c.before.before) c.loop-left-test.true c.if-words-start.true
     ∙ c.loop-left.invariant.0)
-    (so-far (goal.at.returns-then-words-start c).After-past_blanks-here)
+    (so-far c.before.before)
 
 pub returns-in_default : goal.returns-in_default
 returns-in_default c =

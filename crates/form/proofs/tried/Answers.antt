@@ -20,20 +20,20 @@ line c = c.before.before.before.before.before
 abbrev round : tie.After-followed invariant-loop decreases-loop → tie.In-loop invariant-loop decreases-loop
 round c = (line c).before
 
-turn : (%CTX% : goal.In-loop-from) → Next (room_meant c.args.room) c.args.forms.now c.args.text.now c.args.at c.loop-from.from c.loop-from.best
-turn %CTX% = trying-next _ _ _ _ _ _ c.loop-from-test.true c.loop-from.invariant
+turn : (c : goal.In-loop-from) → Next (room_meant c.args.room) c.args.forms.now c.args.text.now c.args.at c.loop-from.from c.loop-from.best
+turn c = trying-next _ _ _ _ _ _ c.loop-from-test.true c.loop-from.invariant
 
-by_form : (%CTX% : goal.After-followed-row) →
-    followed_of (round %CTX%).before.before.before.before.before.args.text.now c.followed-row.result
-    ≡ follow most_words (room_meant (round %CTX%).before.before.before.before.before.args.room) (turn (round %CTX%)).form.words (blank_fields (turn (round %CTX%)).form) (drop (round %CTX%).before.before.before.before.before.args.at (round %CTX%).before.before.before.before.before.args.text.now)
-by_form %CTX% =
-    let n = turn (round %CTX%) in
-    let a = (round %CTX%).before.before.before.before.before.args in
+by_form : (c : goal.After-followed-row) →
+    followed_of (round c).before.before.before.before.before.args.text.now c.followed-row.result
+    ≡ follow most_words (room_meant (round c).before.before.before.before.before.args.room) (turn (round c)).form.words (blank_fields (turn (round c)).form) (drop (round c).before.before.before.before.before.args.at (round c).before.before.before.before.before.args.text.now)
+by_form c =
+    let n = turn (round c) in
+    let a = (round c).before.before.before.before.before.args in
     by-these _ n.form _ _ _ _ _ c.followed-row.ensures.said
-    (c.part-words.ensures ∙ words-there n.form n.rest _ _ n.left n.none (line %CTX%).next-line.result (line %CTX%).next-line.ensures)
+    (c.part-words.ensures ∙ words-there n.form n.rest _ _ n.left n.none (line c).next-line.result (line c).next-line.ensures)
     c.blank.ensures
-    (opcode-there n.form n.rest a.forms.now (round %CTX%).before.loop.from n.left)
-    (kind-there n.form n.rest a.forms.now (round %CTX%).before.loop.from n.left)
+    (opcode-there n.form n.rest a.forms.now (round c).before.loop.from n.left)
+    (kind-there n.form n.rest a.forms.now (round c).before.loop.from n.left)
 
 pub loop-from-init : goal.loop-from-init
 loop-from-init c =
@@ -41,16 +41,16 @@ loop-from-init c =
     trying-none (room_meant a.room) a.forms.now a.text.now a.at c.requires c.past_blanks-best.result (left_by a.text.now a.at c.past_blanks-best.result _ c.past_blanks-best.ensures) (between_run _ _ _ is_blank c.past_blanks-best.ensures)
 
 pub overflow_sub-to : goal.overflow_sub-to
-overflow_sub-to c = let n = turn (goal.at.overflow_sub-to c).In-loop-from in omega (arith, past_two n.form n.rest _ _ n.left n.none c.next_line-to.result c.next_line-to.ensures)
+overflow_sub-to c = let n = turn c.before in omega (arith, past_two n.form n.rest _ _ n.left n.none c.next_line-to.result c.next_line-to.ensures)
 
 pub overflow_add-from-in-loop-from-2 : goal.overflow_add-from-in-loop-from-2
 overflow_add-from-in-loop-from-2 c =
-    let n = turn (goal.at.overflow_add-from-in-loop-from-2 c).In-loop-from in
+    let n = turn c.before.before.before in
     omega (arith, two-there n.form n.rest c.args.forms.now c.loop-from.from n.left)
 
 pub bounds-forms-from-in-loop-from : goal.bounds-forms-from-in-loop-from
 bounds-forms-from-in-loop-from c =
-    let n = turn (goal.at.bounds-forms-from-in-loop-from c).In-loop-from in
+    let n = turn c.before.before.before.before in
     two-there n.form n.rest c.args.forms.now c.loop-from.from n.left
 
 pub returns-then-row : goal.returns-then-row
@@ -59,7 +59,7 @@ returns-then-row c =
     let a = (round c).before.before.before.before.before.args in
     record {
       follows = record {
-        said = said_fits a.text.now c.followed-row.result c.if-row.true ∙ tried-fits _ _ _ _ _ _ n _ _ (sym (said_fits a.text.now c.followed-row.result c.if-row.true) ∙ by_form (goal.at.returns-then-row c).After-followed-row);
+        said = said_fits a.text.now c.followed-row.result c.if-row.true ∙ tried-fits _ _ _ _ _ _ n _ _ (sym (said_fits a.text.now c.followed-row.result c.if-row.true) ∙ by_form c.before);
         between = c.followed-row.ensures.between;
       };
       none = λ f. absurd (true≢false (sym c.if-row.true ∙ f));
@@ -74,7 +74,7 @@ pub loop-from-preserved : goal.loop-from-preserved
 loop-from-preserved c =
     let n = turn (round c) in
     let a = (round c).before.before.before.before.before.args in
-    tried-on (room_meant a.room) a.forms.now a.text.now a.at (round c).before.loop.from (round c).before.loop.best n (line c).next-line.result c.followed-row.result.at c.further-best.result (line c).next-line.ensures (sym (said-stuck a.text.now c.followed-row.result c.if-row.false) ∙ by_form (goal.at.loop-from-preserved c).After-followed-row) c.followed-row.ensures.between c.further-best.ensures
+    tried-on (room_meant a.room) a.forms.now a.text.now a.at (round c).before.loop.from (round c).before.loop.best n (line c).next-line.result c.followed-row.result.at c.further-best.result (line c).next-line.ensures (sym (said-stuck a.text.now c.followed-row.result c.if-row.false) ∙ by_form c.before.before) c.followed-row.ensures.between c.further-best.ensures
 
 pub returns : goal.returns
 returns c =

@@ -9,10 +9,10 @@ use Rattle.matches.proofs.match_load_to_stores.Goals as goal
 use Rattle.matches.proofs.match_load_to_stores.Goals.{in-Dropped, in-Kept}
 
 -- the fate that was answered is the definition's
-fated : (%CTX% : goal.After-load_fate) →
+fated : (c : goal.After-load_fate) →
     let args = c.args in
     fate_of c.load_fate.result ≡ load_fate args.clocks.now args.t5 args.numbers.now args.access.thread args.access.cell args.access.order c.loop-i.i
-fated %CTX% =
+fated c =
     let args = c.args in
     c.load_fate.ensures
     ∙ fate-load args.clocks.now args.t5 args.numbers.now args.access.thread args.access.cell args.access.order c.loop-i.i _ _ c.seen_slots-seen.ensures c.is_seen_before_yield-before_yield.ensures
@@ -29,8 +29,8 @@ pub loop-i-preserved : goal.loop-i-preserved
 loop-i-preserved c =
     let h = c.loop-i-test.true in
     elim c.match-load_fate.branch [
-      | in-Kept w ↦ (search rules, search rules, offer-kept _ _ _ _ _ _ c.loop-i.invariant.2 h _ (fated (goal.at.loop-i-preserved c).After-load_fate) _ _ w.in-Kept.is w.way_told-in-Kept-1 w.dst-is)
-      | in-Dropped w ↦ (search rules, search rules, offer-dropped _ _ _ _ _ _ c.loop-i.invariant.2 h _ (fated (goal.at.loop-i-preserved c).After-load_fate) _ _ w.in-Dropped.is w.dst-is w.n-is)
+      | in-Kept w ↦ (search rules, search rules, offer-kept _ _ _ _ _ _ c.loop-i.invariant.2 h _ (fated c.before) _ _ w.in-Kept.is w.way_told-in-Kept-1 w.dst-is)
+      | in-Dropped w ↦ (search rules, search rules, offer-dropped _ _ _ _ _ _ c.loop-i.invariant.2 h _ (fated c.before) _ _ w.in-Dropped.is w.dst-is w.n-is)
     ]
 
 pub returns : goal.returns

@@ -4,8 +4,8 @@ use lib.ListN.{length}
 use Rattle.path.proofs.PushLaws.{load-refused, load-added, opens-left, opens-none}
 use Rattle.path.proofs.push_load.Goals as goal
 
-seven : (%CTX% : goal.Start) → length c.args.seed ≡ 7
-seven %CTX% = search rules
+seven : (c : goal.Start) → length c.args.seed ≡ 7
+seven c = search rules
 
 pub returns-then-path-len : goal.returns-then-path-len
 returns-then-path-len c =
@@ -14,8 +14,8 @@ returns-then-path-len c =
 pub returns-then-exploring : goal.returns-then-exploring
 returns-then-exploring c =
     let few = c.at_most_seven-n.ensures.few in
-    load-added _ _ _ c.args.seed _ (search rules) (seven (goal.at.returns-then-exploring c).Start) few c.args.n (c.at_most_seven-n.ensures.is _ (seven (goal.at.returns-then-exploring c).Start)) _ _ (search rules) _ (opens-left c.if-exploring.true few c.left.ensures) c.left.ensures.few c.begin.ensures c.put_values.ensures
+    load-added _ _ _ c.args.seed _ (search rules) (seven c.before.before.before.before.before.before.before.before.before.before.before.before.before) few c.args.n (c.at_most_seven-n.ensures.is _ (seven c.before.before.before.before.before.before.before.before.before.before.before.before.before)) _ _ (search rules) _ (opens-left c.if-exploring.true few c.left.ensures) c.left.ensures.few c.begin.ensures c.put_values.ensures
 
 pub returns : goal.returns
 returns c =
-    load-added _ _ _ c.args.seed _ (search rules) (seven (goal.at.returns c).Start) c.at_most_seven-n.ensures.few c.args.n (c.at_most_seven-n.ensures.is _ (seven (goal.at.returns c).Start)) _ _ (search rules) _ (opens-none _ c.if-exploring.false) (search rules) c.begin.ensures c.put_values.ensures
+    load-added _ _ _ c.args.seed _ (search rules) (seven c.before.before.before.before.before.before.before.before.before.before.before.before) c.at_most_seven-n.ensures.few c.args.n (c.at_most_seven-n.ensures.is _ (seven c.before.before.before.before.before.before.before.before.before.before.before.before)) _ _ (search rules) _ (opens-none _ c.if-exploring.false) (search rules) c.begin.ensures c.put_values.ensures

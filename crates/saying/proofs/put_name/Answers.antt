@@ -11,11 +11,11 @@ use borrow.Author.Rules.{rules}
 use Rattle.saying.proofs.put_name.Goals as goal
 
 -- no place or buffer is past the last
-low : (%CTX% : goal.After-slice_known-1) → c.args.at ≤ last
-low %CTX% = omega arith
+low : (c : goal.After-slice_known-1) → c.args.at ≤ last
+low c = omega arith
 
-long : (%CTX% : goal.After-slice_known-1) → length c.args.page.now ≤ last
-long %CTX% = omega arith
+long : (c : goal.After-slice_known-1) → length c.args.page.now ≤ last
+long c = omega arith
 
 pub returns-then-name-eq0 : goal.returns-then-name-eq0
 returns-then-name-eq0 c = let a = c.args in puts-are _ _ _ _ _ _ (name-none a.name.now c.if-name-eq0.true) (puts_none _ _ (omega arith))
@@ -24,5 +24,5 @@ pub returns : goal.returns
 unfolding bytes_of
 returns c =
     let a = c.args in
-    let all = coming-all _ a.at (name_shown a.name.now) (low (goal.at.returns c).After-slice_known-1) (long (goal.at.returns c).After-slice_known-1) in
+    let all = coming-all _ a.at (name_shown a.name.now) (low c.before.before.before.before.before.before.before.before.before.before.before.before) (long c.before.before.before.before.before.before.before.before.before.before.before.before) in
     (coming-on _ _ _ _ _ _ _ _ _ _ (name-some a.name.now c.if-name-eq0.false) all c.put_bytes-behind.ensures).whole _ _ c.put_bytes.ensures

@@ -11,8 +11,8 @@ use borrow.Author.Rules.{rules}
 use Rattle.saying.proofs.put_why.Goals as goal
 
 -- no place is past the last
-low : (%CTX% : goal.After-slice_known-1) → c.args.at ≤ last
-low %CTX% = omega arith
+low : (c : goal.After-slice_known-1) → c.args.at ≤ last
+low c = omega arith
 
 pub returns-in_default : goal.returns-in_default
 unfolding bytes_of

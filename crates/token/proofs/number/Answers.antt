@@ -9,8 +9,8 @@ use Rattle.token.proofs.number.Goals as goal
 use Rattle.token.proofs.number.Goals.{else-word-gt1, then-word-gt1+else-word-eq48}
 
 -- what decimal found, by either way past a leading zero
-parsed : (%CTX% : goal.After-number) → parsed_of c.number.result ≡ number_in (part c.args.from c.args.to c.args.text.now)
-parsed %CTX% =
+parsed : (c : goal.After-number) → parsed_of c.number.result ≡ number_in (part c.args.from c.args.to c.args.text.now)
+parsed c =
     let word = c.part-word.result.now in
     ap parsed_of c.number.ensures
     ∙ elim c.if-word-gt1.branch [

@@ -12,14 +12,14 @@ use Rattle.token.proofs.thread_register.Goals as goal
 abbrev word : tie.After-digit → List ℕ
 word c = c.before.before.before.before.before.before.before.part.result.now
 
-thread : (%CTX% : goal.In-Value-2) → found_if (is_between 48 52 (get_or (word %CTX%) 0 0)) (get_or (word %CTX%) 0 0 - 48) ≡ found c.in-Value.thread
-thread %CTX% = sym c.digit.ensures ∙ ap found_of c.in-Value.is
+thread : (c : goal.In-Value-2) → found_if (is_between 48 52 (get_or (word c) 0 0)) (get_or (word c) 0 0 - 48) ≡ found c.in-Value.thread
+thread c = sym c.digit.ensures ∙ ap found_of c.in-Value.is
 
 abbrev first : tie.After-register → tie.After-thread
 first c = c.before.before.before.before.before
 
-register : (%CTX% : goal.In-Value-digit-2) → found_if (is_between 48 51 (get_or (word (first %CTX%).before.before) 3 0)) (get_or (word (first %CTX%).before.before) 3 0 - 48) ≡ found c.in-Value-digit.register
-register %CTX% = sym c.digit-2.ensures ∙ ap found_of c.in-Value-digit.is
+register : (c : goal.In-Value-digit-2) → found_if (is_between 48 51 (get_or (word (first c).before.before) 3 0)) (get_or (word (first c).before.before) 3 0 - 48) ≡ found c.in-Value-digit.register
+register c = sym c.digit-2.ensures ∙ ap found_of c.in-Value-digit.is
 
 pub returns-then-word-ne4 : goal.returns-then-word-ne4
 returns-then-word-ne4 c =

@@ -11,8 +11,8 @@ use borrow.Author.Rules.{rules}
 use Rattle.writer.proofs.put_plains.Goals as goal
 
 -- no buffer is longer
-long : (%CTX% : goal.After-slice_known-1) → length c.args.text.now ≤ last
-long %CTX% = omega arith
+long : (c : goal.After-slice_known-1) → length c.args.text.now ≤ last
+long c = omega arith
 
 pub bounds-table-1 : goal.bounds-table-1
 bounds-table-1 c = omega (arith, c.requires.header)
@@ -33,6 +33,6 @@ pub returns : goal.returns
 unfolding bytes_of
 returns c =
     let a = c.args in
-    let all = coming-all _ a.at (plains_shown a.table.now) (omega arith) (long (goal.at.returns c).After-slice_known-1) in
+    let all = coming-all _ a.at (plains_shown a.table.now) (omega arith) (long c.before.before.before.before.before.before.before.before.before.before.before.before.before.before.before.before.before.before.before.before) in
     let one = coming-on _ _ _ _ _ _ _ _ _ _ (plains-some a.table.now _ c.wide8-plains.ensures.same c.if-plains-eq0.false _ c.wide8-cells.ensures.same) all c.put_bytes-word.ensures in
     (coming-on _ _ _ _ _ _ _ _ _ _ refl one c.put_values-values.ensures).whole _ _ c.put_byte.ensures

@@ -4,11 +4,11 @@ use Prim.Native.Nat.{◌≤◌}
 use Rattle.synchronize.proofs.SeenLaws.{known-below, known-last}
 use Rattle.synchronize.proofs.first_seen.latest_known.Goals as goal
 
-most : (%CTX% : goal.Start) → c.args.part ≤ 65535
-most %CTX% = search rules
+most : (c : goal.Start) → c.args.part ≤ 65535
+most c = search rules
 
 pub returns-then-part-lt-UNSEEN : goal.returns-then-part-lt-UNSEEN
 returns-then-part-lt-UNSEEN c = known-below mark _ c.if-part-lt-UNSEEN.true
 
 pub returns-else-part-lt-UNSEEN : goal.returns-else-part-lt-UNSEEN
-returns-else-part-lt-UNSEEN c = known-last mark _ (omega (arith, c.if-part-lt-UNSEEN.false, most (goal.at.returns-else-part-lt-UNSEEN c).Start))
+returns-else-part-lt-UNSEEN c = known-last mark _ (omega (arith, c.if-part-lt-UNSEEN.false, most c.before))

@@ -7,19 +7,20 @@ use Rattle.rules.specs.Seen.{seen_slots}
 use Rattle.synchronize.proofs.SeenLaws.{answering, slots-on, slots-all}
 use Rattle.synchronize.proofs.first_seen.seen_slots.Goals as goal
 
-len : (%CTX% : goal.Start) → length c.args.t1 ≡ 7
-len %CTX% = search rules
+len : (c : goal.Start) → length c.args.marks ≡ 7
+len c = search rules
 
 pub loop-i-init : goal.loop-i-init
 loop-i-init c = (search rules, search rules, refl)
 
 pub loop-i-preserved : goal.loop-i-preserved
-loop-i-preserved c = (
-  search rules,
-  simp length-set c.loop-i.invariant.1,
-  slots-on _ _ _ c.loop-i.i (omega arith) (omega (arith, len (goal.at.loop-i-preserved c).Start)) _ c.is_seen_by_current.ensures ∙ c.loop-i.invariant.2,
-)
+loop-i-preserved c =
+    (
+      search rules,
+      simp length-set c.loop-i.invariant.1,
+      slots-on _ _ _ c.loop-i.i (omega arith) (omega (arith, len c.before.before.before.before)) _ c.is_seen_by_current.ensures ∙ c.loop-i.invariant.2,
+    )
 
 pub returns : goal.returns
 returns c =
-    sym (slots-all _ _ _ c.loop-i.i (omega arith) (omega (arith, len (goal.at.returns c).Start))) ∙ c.loop-i.invariant.2
+    sym (slots-all _ _ _ c.loop-i.i (omega arith) (omega (arith, len c.before.before))) ∙ c.loop-i.invariant.2

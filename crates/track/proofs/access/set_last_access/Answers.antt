@@ -8,10 +8,10 @@ use Rattle.track.proofs.LastAccessLaws.{grown-none, grown-joined, recorded-load,
 use Rattle.track.proofs.access.set_last_access.Goals as goal
 use Rattle.track.proofs.access.set_last_access.Goals.{else-last_dependent_branch, then-last_dependent_branch}
 
-grew : (%CTX% : goal.After-raise-schedule) (marks : Marks) (values : Values) →
+grew : (c : goal.After-raise-schedule) (marks : Marks) (values : Values) →
     let args = c.args in
     c.raise-schedule.result.versions ≡ grown_by (state args.clocks.now marks values args.numbers.now) args.thread args.operation.action args.operation.cell
-grew %CTX% marks values =
+grew c marks values =
     let args = c.args in
     let st = state args.clocks.now marks values args.numbers.now in
     elim c.if-last_dependent_branch.branch [
@@ -20,7 +20,7 @@ grew %CTX% marks values =
     ]
 
 pub returns-then-operation-ne-A_LOAD : goal.returns-then-operation-ne-A_LOAD
-returns-then-operation-ne-A_LOAD c = λ marks values. recorded-other _ marks values _ _ _ _ _ _ (grew (goal.at.returns-then-operation-ne-A_LOAD c).After-raise-schedule marks values) c.if-operation-ne-A_LOAD.true
+returns-then-operation-ne-A_LOAD c = λ marks values. recorded-other _ marks values _ _ _ _ _ _ (grew c.before.before.before.before marks values) c.if-operation-ne-A_LOAD.true
 
 pub returns-else-operation-ne-A_LOAD : goal.returns-else-operation-ne-A_LOAD
-returns-else-operation-ne-A_LOAD c = λ marks values. recorded-load _ marks values _ _ _ _ _ _ (grew (goal.at.returns-else-operation-ne-A_LOAD c).After-raise-schedule marks values) c.if-operation-ne-A_LOAD.false
+returns-else-operation-ne-A_LOAD c = λ marks values. recorded-load _ marks values _ _ _ _ _ _ (grew c.before.before.before.before marks values) c.if-operation-ne-A_LOAD.false

@@ -7,26 +7,27 @@ use Rattle.rules.specs.Vector.{at_most}
 use Rattle.vv.proofs.Walks.{left-none, at_most-on, at_most-ends}
 use Rattle.vv.proofs.VersionVec.at_most.Goals as goal
 
-len1 : (%CTX% : goal.Start) → length c.args.t1.versions ≡ 5
-len1 %CTX% = search rules
+len1 : (c : goal.Start) → length c.args.self.versions ≡ 5
+len1 c = search rules
 
-len2 : (%CTX% : goal.Start) → length c.args.t2.versions ≡ 5
-len2 %CTX% = search rules
+len2 : (c : goal.Start) → length c.args.other.versions ≡ 5
+len2 c = search rules
 
 pub loop-i-init : goal.loop-i-init
 loop-i-init c = (search rules, refl)
 
 pub returns-then-self-i : goal.returns-then-self-i
 returns-then-self-i c =
-    sym (at_most-ends _ _ c.loop-i.i (omega (arith, len1 (goal.at.returns-then-self-i c).Start)) (omega (arith, len2 (goal.at.returns-then-self-i c).Start)) c.if-self-i.true) ∙ c.loop-i.invariant.1
+    sym (at_most-ends _ _ c.loop-i.i (omega (arith, len1 c.before.before.before.before.before)) (omega (arith, len2 c.before.before.before.before.before)) c.if-self-i.true) ∙ c.loop-i.invariant.1
 
 pub loop-i-preserved : goal.loop-i-preserved
-loop-i-preserved c = (
-  search rules,
-  at_most-on _ _ c.loop-i.i (omega (arith, len1 (goal.at.loop-i-preserved c).Start)) (omega (arith, len2 (goal.at.loop-i-preserved c).Start)) c.if-self-i.false ∙ c.loop-i.invariant.1,
-)
+loop-i-preserved c =
+    (
+      search rules,
+      at_most-on _ _ c.loop-i.i (omega (arith, len1 c.before.before.before.before.before)) (omega (arith, len2 c.before.before.before.before.before)) c.if-self-i.false ∙ c.loop-i.invariant.1,
+    )
 
 pub returns : goal.returns
 unfolding at_most
 returns c =
-    sym (left-none at_most _ _ c.loop-i.i (omega (arith, len1 (goal.at.returns c).Start)) (omega (arith, len2 (goal.at.returns c).Start))) ∙ c.loop-i.invariant.1
+    sym (left-none at_most _ _ c.loop-i.i (omega (arith, len1 c.before.before)) (omega (arith, len2 c.before.before))) ∙ c.loop-i.invariant.1

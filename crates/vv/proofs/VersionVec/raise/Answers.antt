@@ -8,22 +8,23 @@ use Rattle.vv.proofs.Walks.{raising, raise-none, raise-own, raise-on, raise-all}
 use Rattle.vv.proofs.VersionVec.raise.Goals as goal
 use Rattle.vv.proofs.VersionVec.raise.Goals.{else-i-thread, then-i-thread}
 
-len : (%CTX% : goal.Start) → length c.args.t1.versions ≡ 5
-len %CTX% = search rules
+len : (c : goal.Start) → length c.args.self.versions ≡ 5
+len c = search rules
 
 pub loop-i-init : goal.loop-i-init
-loop-i-init c = (search rules, len (goal.at.loop-i-init c).Start, raise-none _ c.args.thread)
+loop-i-init c = (search rules, len c, raise-none _ c.args.thread)
 
 pub loop-i-preserved : goal.loop-i-preserved
-loop-i-preserved c = (
-  search rules,
-  simp length-set c.loop-i.invariant.1,
-  elim c.if-i-thread.branch [
-    | then-i-thread w ↦ raise-own _ _ _ _ _ c.loop-i.invariant.2 w.if-i-thread.true (w.self-is ∙ w.one_more.ensures)
-    | else-i-thread w ↦ raise-on _ _ _ _ _ c.loop-i.invariant.2 w.if-i-thread.false w.self-is
-  ],
-)
+loop-i-preserved c =
+    (
+      search rules,
+      simp length-set c.loop-i.invariant.1,
+      elim c.if-i-thread.branch [
+      | then-i-thread w ↦ raise-own _ _ _ _ _ c.loop-i.invariant.2 w.if-i-thread.true (w.self-is ∙ w.one_more.ensures)
+      | else-i-thread w ↦ raise-on _ _ _ _ _ c.loop-i.invariant.2 w.if-i-thread.false w.self-is
+    ],
+    )
 
 pub returns : goal.returns
 returns c =
-    c.loop-i.invariant.2 ∙ raise-all _ _ _ (omega (arith, len (goal.at.returns c).Start))
+    c.loop-i.invariant.2 ∙ raise-all _ _ _ (omega (arith, len c.before.before))

@@ -8,11 +8,11 @@ use Rattle.synchronize.proofs.SeenLaws.{touching, touch-none, touch-own, touch-o
 use Rattle.synchronize.proofs.first_seen.FirstSeen.touch.Goals as goal
 use Rattle.synchronize.proofs.first_seen.FirstSeen.touch.Goals.{else-i-thread, then-i-thread}
 
-len : (%CTX% : goal.Start) → length c.args.t1.versions ≡ 5
-len %CTX% = search rules
+len : (c : goal.Start) → length c.args.self.versions ≡ 5
+len c = search rules
 
 pub loop-i-init : goal.loop-i-init
-loop-i-init c = (search rules, len (goal.at.loop-i-init c).Start, touch-none _ c.args.thread c.args.version)
+loop-i-init c = (search rules, len c, touch-none _ c.args.thread c.args.version)
 
 pub loop-i-preserved : goal.loop-i-preserved
 loop-i-preserved c =
@@ -20,11 +20,11 @@ loop-i-preserved c =
       search rules,
       simp length-set c.loop-i.invariant.1,
       elim c.if-i-thread.branch [
-        | then-i-thread w ↦ touch-own _ _ _ _ c.loop-i.i c.loop-i.invariant.2 h _ w.if-i-thread.true w.self-is
-        | else-i-thread w ↦ touch-on _ _ _ _ c.loop-i.i c.loop-i.invariant.2 h _ w.if-i-thread.false w.self-is
-      ],
+      | then-i-thread w ↦ touch-own _ _ _ _ c.loop-i.i c.loop-i.invariant.2 h _ w.if-i-thread.true w.self-is
+      | else-i-thread w ↦ touch-on _ _ _ _ c.loop-i.i c.loop-i.invariant.2 h _ w.if-i-thread.false w.self-is
+    ],
     )
 
 pub returns : goal.returns
 returns c =
-    c.loop-i.invariant.2 ∙ touch-all _ _ _ c.loop-i.i (omega (arith, len (goal.at.returns c).Start))
+    c.loop-i.invariant.2 ∙ touch-all _ _ _ c.loop-i.i (omega (arith, len c.before.before))
