@@ -6,7 +6,7 @@
 use Prim.Native.Nat.{ℕ, ◌+◌, ◌-◌, ◌≤◌, ◌<◌}
 use mathlib.Core.List.{List, [], ◌∷◌}
 use mathlib.Core.Bool.{Bool, true, false, cond}
-use mathlib.Core.Path.{◌≡◌, refl, ap}
+use mathlib.Core.Path.{◌≡◌, refl, ap, subst}
 use native.Mathlib.Omega.{arith}
 use lib.Dec.{ltb, leb}
 use lib.ListN.{length, length-map}
@@ -105,8 +105,8 @@ module _ (M : Machine) (limits : Limits) where
         equation = omega (arith, s.level);
         within = omega (arith, s.level, s.begun-is);
         sum = s.level;
-        none_left = λ v. let o = none_left n r.walk empty c cs (rw v at t.made) in (o, omega (arith, s.level));
-        some_left = λ v. some_left n r.walk empty c cs (rw v at t.made);
+        none_left = λ v. let o = none_left n r.walk empty c cs (subst (λ (x : Verdict). Made M limits n r.walk x empty (c ∷ cs)) v t.made) in (o, omega (arith, s.level));
+        some_left = λ v. some_left n r.walk empty c cs (subst (λ (x : Verdict). Made M limits n r.walk x empty (c ∷ cs)) v t.made);
         budget = (omega (arith, s.begun-is), s.within h);
       }
 

@@ -189,7 +189,7 @@ turnings M limits n w v (c ∷ cs) m =
       once = t.once;
       turns = subst (λ d. Each Turns (d ∷ cs)) (sym r.0) t.turns;
       counted = counted-all (joined_over (opened_course M limits) (c ∷ cs)) c cs w p s.level (omega (arith, s.begun-is));
-      ends = λ e. nothing-named w.ledger.path (none_left M limits n w empty c cs (rw e at m));
+      ends = λ e. nothing-named w.ledger.path (none_left M limits n w empty c cs (subst (λ (x : Verdict). Made M limits n w x empty (c ∷ cs)) e m));
     }
 
 pub turning : Turning

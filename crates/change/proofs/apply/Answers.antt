@@ -13,7 +13,7 @@ returns-in-Add c = meant _ _ _ _ c.in-Add.is (ap success c.wrapping_add_u64.ensu
 
 pub returns-in-Subtract : goal.returns-in-Subtract
 unfolding applied
-returns-in-Subtract c = meant _ _ _ _ c.in-Subtract.is (ap success (subtracted _ _ _ (omega (arith, c.wrapping_sub_u64.type_inv)) (omega (arith, c.known_told-in-Subtract-1.given)) c.wrapping_sub_u64.ensures.value))
+returns-in-Subtract c = meant _ _ _ _ c.in-Subtract.is (ap success (subtracted _ _ _ (omega (arith, c.wrapping_sub_u64.type_inv)) (omega arith) c.wrapping_sub_u64.ensures.value))
 
 pub returns-in-And : goal.returns-in-And
 unfolding applied

@@ -6,15 +6,13 @@ use Rattle.filling.proofs.HeldLaws.{mid-threads, mid-count, mid-long, length-row
 use borrow.Author.Rules.{rules}
 use Rattle.filling.proofs.add_row.Goals as goal
 
-nine : (c : goal.Start) → length c.args.fields ≡ 9
-nine c = search rules
-
 -- there is room for a row more
 room : (c : goal.After-row_bytes-bytes) → c.args.length + length c.row_bytes-bytes.result ≤ length c.args.table.now
 room c =
+    let nine : length c.args.fields ≡ 9 = search rules in
     let a = c.args in
     let p = c.requires in
-    omega (arith, ap length c.row_bytes-bytes.ensures ∙ length-row_bytes a.fields (nine c.before.before), row_room a.table.now a.length p.holds.made p.holds.held p.some p.fewer)
+    omega (arith, ap length c.row_bytes-bytes.ensures ∙ length-row_bytes a.fields nine, row_room a.table.now a.length p.holds.made p.holds.held p.some p.fewer)
 
 pub append-requires : goal.append-requires
 append-requires c = room c.before.before
@@ -62,7 +60,9 @@ bounds-table-thread-2 c =
     omega (arith, h.threads, h.room, mid-threads a.table.now a.length p.holds.made h c.row_bytes-bytes.result _ (room c.before.before.before.before.before.before.before) c.append.ensures, mid-long a.table.now a.length p.holds.made h c.row_bytes-bytes.result _ (room c.before.before.before.before.before.before.before) c.append.ensures)
 
 pub returns : goal.returns
-returns c = λ m held.
+returns c =
+    let nine : length c.args.fields ≡ 9 = search rules in
+    λ m held.
     let a = c.args in
     let p = c.requires in
-    held-row a.table.now a.length m held p.some p.fewer a.fields c.row_bytes-bytes.result _ c.row_bytes-bytes.ensures (nine c.before.before.before.before.before.before.before.before.before) c.append.ensures
+    held-row a.table.now a.length m held p.some p.fewer a.fields c.row_bytes-bytes.result _ c.row_bytes-bytes.ensures nine c.append.ensures

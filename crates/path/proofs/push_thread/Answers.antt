@@ -5,9 +5,6 @@ use mathlib.Core.Path.{◌≡◌}
 use Rattle.path.proofs.NewLaws.{thread-refused, thread-preempted, thread-added, opens-some, opens-nothing}
 use Rattle.path.proofs.push_thread.Goals as goal
 
-five : (c : goal.Start) → length c.args.seed ≡ 5
-five c = search rules
-
 pub returns-then-path-len : goal.returns-then-path-len
 returns-then-path-len c = thread-refused _ _ _ _ c.if-path-len.true
 
@@ -17,10 +14,12 @@ returns-then-preemptions-gt-MAX_PREEMPTIONS c =
 
 pub returns-then-exploring : goal.returns-then-exploring
 returns-then-exploring c =
+    let five : length c.args.seed ≡ 5 = search rules in
     let room : 16 * c.args.len + 16 ≤ length c.args.path.now = search rules in
-    thread-added _ _ _ _ room _ c.last_schedule-prev.ensures _ c.preemptions_before-preemptions.ensures c.if-preemptions-gt-MAX_PREEMPTIONS.false (five c.before.before.before.before.before.before.before.before.before.before.before.before.before.before.before.before.before.before.before.before.before.before.before.before.before.before.before.before.before.before.before) _ _ _ _ _ _ c.begin.ensures c.put_threads.ensures c.toggle_yield.ensures c.put_initial_active.ensures c.put.ensures c.put_prev.ensures (search rules) _ c.pending.ensures.few (opens-some c.if-exploring.true c.pending.ensures)
+    thread-added _ _ _ _ room _ c.last_schedule-prev.ensures _ c.preemptions_before-preemptions.ensures c.if-preemptions-gt-MAX_PREEMPTIONS.false five _ _ _ _ _ _ c.begin.ensures c.put_threads.ensures c.toggle_yield.ensures c.put_initial_active.ensures c.put.ensures c.put_prev.ensures (search rules) _ c.pending.ensures.few (opens-some c.if-exploring.true c.pending.ensures)
 
 pub returns : goal.returns
 returns c =
+    let five : length c.args.seed ≡ 5 = search rules in
     let room : 16 * c.args.len + 16 ≤ length c.args.path.now = search rules in
-    thread-added _ _ _ _ room _ c.last_schedule-prev.ensures _ c.preemptions_before-preemptions.ensures c.if-preemptions-gt-MAX_PREEMPTIONS.false (five c.before.before.before.before.before.before.before.before.before.before.before.before.before.before.before.before.before.before.before.before.before.before.before.before.before.before.before.before.before.before) _ _ _ _ _ _ c.begin.ensures c.put_threads.ensures c.toggle_yield.ensures c.put_initial_active.ensures c.put.ensures c.put_prev.ensures (search rules) _ (search rules) (opens-nothing _ c.if-exploring.false)
+    thread-added _ _ _ _ room _ c.last_schedule-prev.ensures _ c.preemptions_before-preemptions.ensures c.if-preemptions-gt-MAX_PREEMPTIONS.false five _ _ _ _ _ _ c.begin.ensures c.put_threads.ensures c.toggle_yield.ensures c.put_initial_active.ensures c.put.ensures c.put_prev.ensures (search rules) _ (search rules) (opens-nothing _ c.if-exploring.false)

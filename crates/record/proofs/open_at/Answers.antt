@@ -20,5 +20,5 @@ returns-in-3 c =
 
 pub returns-in_default : goal.returns-in_default
 returns-in_default c =
-    let others = c.in_default.rest in
+    let others = c.in_default.in_default-own.rest in
     open-other _ _ _ c.is_exploring.ensures (not-false _ c.if-not-is_exploring.false-raw) _ c.field-kind.ensures others.0.0.1 others.0.1 others.1

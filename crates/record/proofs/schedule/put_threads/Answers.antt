@@ -6,16 +6,15 @@ use Prim.Native.Nat.{◌≤◌, ◌-◌, ◌+◌, ◌*◌}
 use lib.ListN.{length}
 use Rattle.record.proofs.schedule.put_threads.Goals as goal
 
-five : (c : goal.Start) → length c.args.seed ≡ 5
-five c = search rules
-
 pub loop-thread-init : goal.loop-thread-init
 loop-thread-init c = (search rules, search rules, threads-none _ _ c.requires c.args.seed)
 
 pub loop-thread-preserved : goal.loop-thread-preserved
 loop-thread-preserved c =
-    (search rules, search rules, threads-on _ _ c.requires _ (five c.before.before.before.before.before.before.before) _ _ _ _ c.loop-thread-test.true c.loop-thread.invariant.2 refl c.put.ensures)
+    let five : length c.args.seed ≡ 5 = search rules in
+    (search rules, search rules, threads-on _ _ c.requires _ five _ _ _ _ c.loop-thread-test.true c.loop-thread.invariant.2 refl c.put.ensures)
 
 pub returns : goal.returns
 returns c =
-    threads-all _ _ c.requires _ (five c.before.before.before) _ _ c.loop-thread.invariant.0 c.loop-thread-test.false c.loop-thread.invariant.2
+    let five : length c.args.seed ≡ 5 = search rules in
+    threads-all _ _ c.requires _ five _ _ c.loop-thread.invariant.0 c.loop-thread-test.false c.loop-thread.invariant.2

@@ -4,11 +4,10 @@ use Prim.Native.Nat.{◌≤◌}
 use Rattle.synchronize.proofs.SeenLaws.{known-below, known-last}
 use Rattle.synchronize.proofs.first_seen.latest_known.Goals as goal
 
-most : (c : goal.Start) → c.args.part ≤ 65535
-most c = search rules
-
 pub returns-then-part-lt-UNSEEN : goal.returns-then-part-lt-UNSEEN
 returns-then-part-lt-UNSEEN c = known-below mark _ c.if-part-lt-UNSEEN.true
 
 pub returns-else-part-lt-UNSEEN : goal.returns-else-part-lt-UNSEEN
-returns-else-part-lt-UNSEEN c = known-last mark _ (omega (arith, c.if-part-lt-UNSEEN.false, most c.before))
+returns-else-part-lt-UNSEEN c =
+    let most : c.args.part ≤ 65535 = search rules in
+    known-last mark _ (omega (arith, c.if-part-lt-UNSEEN.false, most))

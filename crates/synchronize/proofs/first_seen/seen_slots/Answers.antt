@@ -7,20 +7,19 @@ use Rattle.rules.specs.Seen.{seen_slots}
 use Rattle.synchronize.proofs.SeenLaws.{answering, slots-on, slots-all}
 use Rattle.synchronize.proofs.first_seen.seen_slots.Goals as goal
 
-len : (c : goal.Start) → length c.args.marks ≡ 7
-len c = search rules
-
 pub loop-i-init : goal.loop-i-init
 loop-i-init c = (search rules, search rules, refl)
 
 pub loop-i-preserved : goal.loop-i-preserved
 loop-i-preserved c =
+    let len : length c.args.marks ≡ 7 = search rules in
     (
       search rules,
       simp length-set c.loop-i.invariant.1,
-      slots-on _ _ _ c.loop-i.i (omega arith) (omega (arith, len c.before.before.before.before)) _ c.is_seen_by_current.ensures ∙ c.loop-i.invariant.2,
+      slots-on _ _ _ c.loop-i.i (omega arith) (omega (arith, len)) _ c.is_seen_by_current.ensures ∙ c.loop-i.invariant.2,
     )
 
 pub returns : goal.returns
 returns c =
-    sym (slots-all _ _ _ c.loop-i.i (omega arith) (omega (arith, len c.before.before))) ∙ c.loop-i.invariant.2
+    let len : length c.args.marks ≡ 7 = search rules in
+    sym (slots-all _ _ _ c.loop-i.i (omega arith) (omega (arith, len))) ∙ c.loop-i.invariant.2

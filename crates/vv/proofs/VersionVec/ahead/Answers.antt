@@ -7,27 +7,27 @@ use Rattle.rules.specs.Vector.{ahead}
 use Rattle.vv.proofs.Walks.{left-none, past, past-none, ahead-on, ahead-ends}
 use Rattle.vv.proofs.VersionVec.ahead.Goals as goal
 
-len1 : (c : goal.Start) → length c.args.self.versions ≡ 5
-len1 c = search rules
-
-len2 : (c : goal.Start) → length c.args.other.versions ≡ 5
-len2 c = search rules
-
 pub loop-i-init : goal.loop-i-init
 loop-i-init c = (search rules, past-none _)
 
 pub returns-then-self-i : goal.returns-then-self-i
 returns-then-self-i c =
-    sym (ahead-ends _ _ c.loop-i.i (omega (arith, len1 c.before.before.before.before.before)) (omega (arith, len2 c.before.before.before.before.before)) c.if-self-i.true) ∙ c.loop-i.invariant.1
+    let len2 : length c.args.other.versions ≡ 5 = search rules in
+    let len1 : length c.args.self.versions ≡ 5 = search rules in
+    sym (ahead-ends _ _ c.loop-i.i (omega (arith, len1)) (omega (arith, len2)) c.if-self-i.true) ∙ c.loop-i.invariant.1
 
 pub loop-i-preserved : goal.loop-i-preserved
 loop-i-preserved c =
+    let len2 : length c.args.other.versions ≡ 5 = search rules in
+    let len1 : length c.args.self.versions ≡ 5 = search rules in
     (
       search rules,
-      ahead-on _ _ c.loop-i.i (omega (arith, len1 c.before.before.before.before.before)) (omega (arith, len2 c.before.before.before.before.before)) c.if-self-i.false ∙ c.loop-i.invariant.1,
+      ahead-on _ _ c.loop-i.i (omega (arith, len1)) (omega (arith, len2)) c.if-self-i.false ∙ c.loop-i.invariant.1,
     )
 
 pub returns : goal.returns
 unfolding ahead
 returns c =
-    sym (ap (past c.loop-i.i) (left-none ahead _ _ c.loop-i.i (omega (arith, len1 c.before.before)) (omega (arith, len2 c.before.before)))) ∙ c.loop-i.invariant.1
+    let len2 : length c.args.other.versions ≡ 5 = search rules in
+    let len1 : length c.args.self.versions ≡ 5 = search rules in
+    sym (ap (past c.loop-i.i) (left-none ahead _ _ c.loop-i.i (omega (arith, len1)) (omega (arith, len2)))) ∙ c.loop-i.invariant.1

@@ -9,19 +9,16 @@ use Rattle.vv.proofs.Walks.{joining, join-taken, join_kept, join-none}
 use Rattle.vv.proofs.VersionVec.join.Goals as goal
 use Rattle.vv.proofs.VersionVec.join.Goals.{else-self-i, then-self-i}
 
-len1 : (c : goal.Start) → length c.args.self.versions ≡ 5
-len1 c = search rules
-
-len2 : (c : goal.Start) → length c.args.other.versions ≡ 5
-len2 c = search rules
-
 pub loop-i-init : goal.loop-i-init
-loop-i-init c = (search rules, len1 c, refl)
+loop-i-init c =
+    let len1 : length c.args.self.versions ≡ 5 = search rules in
+    (search rules, len1, refl)
 
 pub loop-i-preserved : goal.loop-i-preserved
 loop-i-preserved c =
+    let len2 : length c.args.other.versions ≡ 5 = search rules in
     let h : c.loop-i.i < length c.loop-i.self.versions = omega arith in
-    let k : c.loop-i.i < length c.args.other.versions = omega (arith, len2 c.before.before.before.before.before) in
+    let k : c.loop-i.i < length c.args.other.versions = omega (arith, len2) in
     elim c.if-self-i.branch [
       | then-self-i w ↦ rw w.self-is (search rules, simp length-set c.loop-i.invariant.1, join-taken _ _ c.loop-i.i h k w.if-self-i.true ∙ c.loop-i.invariant.2)
       | else-self-i w ↦ rw w.self-is (search rules, c.loop-i.invariant.1, join_kept _ _ c.loop-i.i h k w.if-self-i.false ∙ c.loop-i.invariant.2)
@@ -29,4 +26,5 @@ loop-i-preserved c =
 
 pub returns : goal.returns
 returns c =
-    sym (join-none _ _ c.loop-i.i (omega arith) (omega (arith, len2 c.before.before))) ∙ c.loop-i.invariant.2
+    let len2 : length c.args.other.versions ≡ 5 = search rules in
+    sym (join-none _ _ c.loop-i.i (omega arith) (omega (arith, len2))) ∙ c.loop-i.invariant.2

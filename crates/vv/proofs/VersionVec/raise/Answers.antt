@@ -8,11 +8,10 @@ use Rattle.vv.proofs.Walks.{raising, raise-none, raise-own, raise-on, raise-all}
 use Rattle.vv.proofs.VersionVec.raise.Goals as goal
 use Rattle.vv.proofs.VersionVec.raise.Goals.{else-i-thread, then-i-thread}
 
-len : (c : goal.Start) → length c.args.self.versions ≡ 5
-len c = search rules
-
 pub loop-i-init : goal.loop-i-init
-loop-i-init c = (search rules, len c, raise-none _ c.args.thread)
+loop-i-init c =
+    let len : length c.args.self.versions ≡ 5 = search rules in
+    (search rules, len, raise-none _ c.args.thread)
 
 pub loop-i-preserved : goal.loop-i-preserved
 loop-i-preserved c =
@@ -27,4 +26,5 @@ loop-i-preserved c =
 
 pub returns : goal.returns
 returns c =
-    c.loop-i.invariant.2 ∙ raise-all _ _ _ (omega (arith, len c.before.before))
+    let len : length c.args.self.versions ≡ 5 = search rules in
+    c.loop-i.invariant.2 ∙ raise-all _ _ _ (omega (arith, len))

@@ -5,18 +5,20 @@ use lib.ListN.{length}
 use Rattle.synchronize.proofs.SeenLaws.{yield-nobody, yield-none, yield-unseen, yield-seen}
 use Rattle.synchronize.proofs.first_seen.FirstSeen.is_seen_before_yield.Goals as goal
 
-len : (c : goal.Start) → length c.args.self.versions ≡ 5
-len c = search rules
-
 pub returns-then-thread-ge-MAX_THREADS : goal.returns-then-thread-ge-MAX_THREADS
-returns-then-thread-ge-MAX_THREADS c = yield-nobody _ _ (omega (arith, len c.before)) _
+returns-then-thread-ge-MAX_THREADS c =
+    let len : length c.args.self.versions ≡ 5 = search rules in
+    yield-nobody _ _ (omega (arith, len)) _
 
 pub returns-then-last_yield-eq-NONE : goal.returns-then-last_yield-eq-NONE
 returns-then-last_yield-eq-NONE c = yield-none _ _ _ c.if-last_yield-eq-NONE.true
 
 pub returns-then-self-thread : goal.returns-then-self-thread
-returns-then-self-thread c = yield-unseen _ _ (omega (arith, len c.before.before.before.before)) _ c.if-self-thread.true
+returns-then-self-thread c =
+    let len : length c.args.self.versions ≡ 5 = search rules in
+    yield-unseen _ _ (omega (arith, len)) _ c.if-self-thread.true
 
 pub returns : goal.returns
 returns c =
-    yield-seen _ _ (omega (arith, len c.before.before.before.before.before)) _ c.if-last_yield-eq-NONE.false c.if-self-thread.false
+    let len : length c.args.self.versions ≡ 5 = search rules in
+    yield-seen _ _ (omega (arith, len)) _ c.if-last_yield-eq-NONE.false c.if-self-thread.false

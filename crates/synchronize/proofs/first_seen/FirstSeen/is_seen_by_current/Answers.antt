@@ -9,23 +9,21 @@ use Rattle.rules.specs.Seen.{seen, seen_through}
 use Rattle.synchronize.proofs.SeenLaws.{seen-on, so-far}
 use Rattle.synchronize.proofs.first_seen.FirstSeen.is_seen_by_current.Goals as goal
 
-len1 : (c : goal.Start) → length c.args.self.versions ≡ 5
-len1 c = search rules
-
-len2 : (c : goal.Start) → length c.args.causality ≡ 5
-len2 c = search rules
-
 pub loop-i-init : goal.loop-i-init
 loop-i-init c = (search rules, refl)
 
 pub loop-i-preserved : goal.loop-i-preserved
 loop-i-preserved c =
+    let len2 : length c.args.causality ≡ 5 = search rules in
+    let len1 : length c.args.self.versions ≡ 5 = search rules in
     (
       search rules,
-      seen-on c.args.self.versions c.args.causality c.loop-i.i (omega (arith, len1 c.before.before.before.before)) (omega (arith, len2 c.before.before.before.before)) c.loop-i.seen _ (c.latest_known.ensures _) ∙ c.loop-i.invariant.1,
+      seen-on c.args.self.versions c.args.causality c.loop-i.i (omega (arith, len1)) (omega (arith, len2)) c.loop-i.seen _ (c.latest_known.ensures _) ∙ c.loop-i.invariant.1,
     )
 
 pub returns : goal.returns
 unfolding seen seen_through
 returns c =
-    sym (so-far _) ∙ sym (ap (λ (b : Bool). c.loop-i.seen || b) (left-none seen _ _ c.loop-i.i (omega (arith, len1 c.before.before)) (omega (arith, len2 c.before.before)))) ∙ c.loop-i.invariant.1
+    let len2 : length c.args.causality ≡ 5 = search rules in
+    let len1 : length c.args.self.versions ≡ 5 = search rules in
+    sym (so-far _) ∙ sym (ap (λ (b : Bool). c.loop-i.seen || b) (left-none seen _ _ c.loop-i.i (omega (arith, len1)) (omega (arith, len2)))) ∙ c.loop-i.invariant.1

@@ -8,11 +8,10 @@ use Rattle.synchronize.proofs.SeenLaws.{touching, touch-none, touch-own, touch-o
 use Rattle.synchronize.proofs.first_seen.FirstSeen.touch.Goals as goal
 use Rattle.synchronize.proofs.first_seen.FirstSeen.touch.Goals.{else-i-thread, then-i-thread}
 
-len : (c : goal.Start) → length c.args.self.versions ≡ 5
-len c = search rules
-
 pub loop-i-init : goal.loop-i-init
-loop-i-init c = (search rules, len c, touch-none _ c.args.thread c.args.version)
+loop-i-init c =
+    let len : length c.args.self.versions ≡ 5 = search rules in
+    (search rules, len, touch-none _ c.args.thread c.args.version)
 
 pub loop-i-preserved : goal.loop-i-preserved
 loop-i-preserved c =
@@ -27,4 +26,5 @@ loop-i-preserved c =
 
 pub returns : goal.returns
 returns c =
-    c.loop-i.invariant.2 ∙ touch-all _ _ _ c.loop-i.i (omega (arith, len c.before.before))
+    let len : length c.args.self.versions ≡ 5 = search rules in
+    c.loop-i.invariant.2 ∙ touch-all _ _ _ c.loop-i.i (omega (arith, len))
