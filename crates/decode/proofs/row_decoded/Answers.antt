@@ -79,4 +79,4 @@ unfolding row_decoded
 returns-in-18 c = let g = c.args in arm (room_meant g.room) (row_meant g.row) 18 _ c.in-18.is c.plain_write_row.ensures
 
 pub returns-in-19-to-255 : goal.returns-in-19-to-255
-returns-in-19-to-255 c = beyond _ _ (none_below 19 _ c.in-19-to-255.rest)
+returns-in-19-to-255 c = beyond _ _ (none_below 19 _ c.in-19-to-255.in-19-to-255-own.rest)

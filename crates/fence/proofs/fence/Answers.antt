@@ -20,4 +20,4 @@ unfolding fenced
 returns-in-4 c = let args = c.args in fence-as args.clocks.now args.marks.now args.numbers.now args.thread args.cells _ _ _ c.in-4.is c.fence_seqcst.ensures
 
 pub returns-in_default : goal.returns-in_default
-returns-in_default c = let args = c.args in fence-none _ args.marks.now args.numbers.now args.thread args.cells _ c.in_default.rest.0.0.1 c.in_default.rest.0.0.0.1 c.in_default.rest.0.1 c.in_default.rest.1
+returns-in_default c = let args = c.args in fence-none _ args.marks.now args.numbers.now args.thread args.cells _ c.in_default.in_default-own.rest.0.0.1 c.in_default.in_default-own.rest.0.0.0.1 c.in_default.in_default-own.rest.0.1 c.in_default.in_default-own.rest.1

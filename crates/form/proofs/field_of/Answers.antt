@@ -35,5 +35,5 @@ returns-in-88 c = ap field_of (sym c.in-88.is)
 
 pub returns-in_default : goal.returns-in_default
 returns-in_default c =
-    let none = c.in_default.rest in
+    let none = c.in_default.in_default-own.rest in
     field-none _ none.0.0.0.0.0.0.1 (λ e. none.0.0.0.0.0.1 (inl e)) (λ e. none.0.0.0.0.0.1 (inr (inr e))) (λ e. none.0.0.0.0.0.1 (inr (inl e))) (λ e. none.0.0.0.0.1 (inr e)) (λ e. none.0.0.0.0.1 (inl e)) none.0.0.0.1 none.0.0.1 (λ e. none.0.1 (inr (inl e))) (λ e. none.0.1 (inr (inr (inr e)))) (λ e. none.0.1 (inr (inr (inl e)))) (λ e. none.0.1 (inl e)) none.1

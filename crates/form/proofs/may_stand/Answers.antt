@@ -57,5 +57,5 @@ returns-in-70 c =
 
 pub returns-in_default : goal.returns-in_default
 returns-in_default c =
-    let none = c.in_default.rest in
+    let none = c.in_default.in_default-own.rest in
     may-stand-any _ (room_meant c.args.room) _ none.0.0.0.0.0.0.0.1 none.0.0.0.0.0.0.1 none.0.0.0.0.0.1 none.0.0.0.0.1 none.0.0.0.1 (λ e. none.0.0.1 (inl e)) (λ e. none.0.0.1 (inr e)) none.0.1 none.1

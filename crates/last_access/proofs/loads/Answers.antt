@@ -8,12 +8,12 @@ use borrow.Author.Rules.{rules}
 use Rattle.last_access.proofs.loads.Goals as goal
 
 pub returns-in-Load : goal.returns-in-Load
-returns-in-Load c = op-as (accesses Load read) c.in-Load.is refl
+returns-in-Load c read = op-as (accesses Load read) c.in-Load.is refl
 
 pub returns-in-Rmw : goal.returns-in-Rmw
-returns-in-Rmw c = op-as (accesses Load read) c.in-Rmw.is refl
+returns-in-Rmw c read = op-as (accesses Load read) c.in-Rmw.is refl
 
 pub returns-in_default : goal.returns-in_default
-returns-in_default c =
+returns-in_default c read =
     let other = no_number (all_but (0 ∷ 3 ∷ [])) c.args.op c.in_default.keys3 in
     rw (← other 0 tt, ← other 3 tt)

@@ -8,7 +8,7 @@ use borrow.Author.Rules.{rules}
 use Rattle.last_access.proofs.loads_unsync.Goals as goal
 
 pub returns-in-UnsyncLoad : goal.returns-in-UnsyncLoad
-returns-in-UnsyncLoad c = op-as (accesses UnsyncLoad read) c.in-UnsyncLoad.is refl
+returns-in-UnsyncLoad c read = op-as (accesses UnsyncLoad read) c.in-UnsyncLoad.is refl
 
 pub returns-in_default : goal.returns-in_default
-returns-in_default c = no_number (all_but (5 ∷ [])) c.args.op c.in_default.keys2 5 tt
+returns-in_default c read = no_number (all_but (5 ∷ [])) c.args.op c.in_default.keys2 5 tt

@@ -8,7 +8,7 @@ use borrow.Author.Rules.{rules}
 use Rattle.last_access.proofs.reads_plain.Goals as goal
 
 pub returns-in-PlainRead : goal.returns-in-PlainRead
-returns-in-PlainRead c = op-as (accesses PlainRead read) c.in-PlainRead.is refl
+returns-in-PlainRead c read = op-as (accesses PlainRead read) c.in-PlainRead.is refl
 
 pub returns-in_default : goal.returns-in_default
-returns-in_default c = no_number (all_but (17 ∷ [])) c.args.op c.in_default.keys2 17 tt
+returns-in_default c read = no_number (all_but (17 ∷ [])) c.args.op c.in_default.keys2 17 tt

@@ -8,7 +8,7 @@ use borrow.Author.Rules.{rules}
 use Rattle.last_access.proofs.writes_plain.Goals as goal
 
 pub returns-in-PlainWrite : goal.returns-in-PlainWrite
-returns-in-PlainWrite c = op-as (accesses PlainWrite read) c.in-PlainWrite.is refl
+returns-in-PlainWrite c read = op-as (accesses PlainWrite read) c.in-PlainWrite.is refl
 
 pub returns-in_default : goal.returns-in_default
-returns-in_default c = no_number (all_but (18 ∷ [])) c.args.op c.in_default.keys2 18 tt
+returns-in_default c read = no_number (all_but (18 ∷ [])) c.args.op c.in_default.keys2 18 tt

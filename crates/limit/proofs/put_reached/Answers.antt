@@ -19,5 +19,5 @@ returns-in-12 c = rw c.in-12.is c.fill-in-12.ensures
 pub returns-in_default : goal.returns-in_default
 unfolding put_reached bytes_of
 returns-in_default c =
-    let none = c.in_default.rest in
+    let none = c.in_default.in_default-own.rest in
     rw (ne_eqb _ 1 none.0.0.1, ne_eqb _ 11 none.0.1, ne_eqb _ 12 none.1) c.fill-in_default.ensures

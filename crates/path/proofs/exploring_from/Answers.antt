@@ -20,9 +20,9 @@ pub loop-at-preserved-else-is_exploring : goal.loop-at-preserved-else-is_explori
 loop-at-preserved-else-is_exploring c =
     (search rules, λ bs h. c.loop-at.invariant.1 bs h ∙ look-quiet _ _ c.loop-at-test.true _ c.is_kind.ensures h c.if-is_kind.true _ c.is_exploring.ensures c.if-is_exploring.false)
 
-pub LOST-loop-again-2 : goal.LOST-loop-again-2
-LOST-loop-again-2 c =
-    (search rules, λ bs h. c.loop.invariant.1 bs h ∙ look-other _ _ c.loop-test.true _ c.is-kind.ensures h c.if1.false)
+pub loop-at-preserved : goal.loop-at-preserved
+loop-at-preserved c =
+    (search rules, λ bs h. c.loop-at.invariant.1 bs h ∙ look-other _ _ c.loop-at-test.true _ c.is_kind.ensures h c.if-is_kind.false)
 
 pub returns : goal.returns
 returns c =

@@ -32,10 +32,10 @@ pub loop-prev-preserved-else-active_thread_index : goal.loop-prev-preserved-else
 loop-prev-preserved-else-active_thread_index c =
     (omega (arith, place-below c.in-At.is c.prev.ensures.below), λ bs s h. walk_same _ _ _ c.loop-prev.invariant.1 _ c.prev.ensures _ c.is_exploring-exploring.ensures h _ c.in-At.is c.if-exploring-2.true _ _ c.active_thread_index.ensures c.active_thread_index-then-exploring-2.ensures c.if-active_thread_index.false)
 
-pub LOST-loop-less-2 : goal.LOST-loop-less-2
-LOST-loop-less-2 c =
-    omega (arith, place-below c.prev2.given.1 c.prev.ensures.below)
+pub loop-prev-smaller : goal.loop-prev-smaller
+loop-prev-smaller c =
+    omega (arith, place-below c.in-At.is c.prev.ensures.below)
 
-pub LOST-loop-again-2 : goal.LOST-loop-again-2
-LOST-loop-again-2 c =
-    (omega (arith, place-below c.prev2.given.1 c.prev.ensures.below), λ bs s h. walk-quiet _ _ _ c.loop.invariant.1 _ c.prev.ensures _ c.is-exploring.ensures h _ c.prev2.given.1 c.if2.false)
+pub loop-prev-preserved : goal.loop-prev-preserved
+loop-prev-preserved c =
+    (omega (arith, place-below c.in-At.is c.prev.ensures.below), λ bs s h. walk-quiet _ _ _ c.loop-prev.invariant.1 _ c.prev.ensures _ c.is_exploring-exploring.ensures h _ c.in-At.is c.if-exploring-2.false)

@@ -26,5 +26,5 @@ returns-in-10 c = ⊎_elim (λ e. ap before_by (sym e)) (λ e. ap before_by (sym
 
 pub returns-in_default : goal.returns-in_default
 returns-in_default c =
-    let none = c.in_default.rest in
+    let none = c.in_default.in_default-own.rest in
     before-other _ (λ e. none.0.0.1 (inl e)) (λ e. none.0.0.0.1 (inl e)) none.0.0.0.0.1 (λ e. none.0.0.0.1 (inr e)) (λ e. none.0.0.1 (inr e)) (λ e. none.1 (inl e)) none.0.1 (λ e. none.1 (inr e))

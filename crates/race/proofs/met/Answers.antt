@@ -15,7 +15,7 @@ returns-in-10 c = ap met_by (sym c.in-10.is)
 pub returns-in-2 : goal.returns-in-2
 unfolding race_said
 returns-in-2 c =
-    let not-one : c.args.kind ≡ 1 → ⊥ = c.in_default-1.rest.0.1 in
+    let not-one : c.args.kind ≡ 1 → ⊥ = c.in_default-1.in_default-1-own.rest.0.1 in
     among met_by 2 2 (refl, (refl, tt)) _ (omega (arith, not-one)) c.if-kind-lt4.true
 
 pub returns-in-4 : goal.returns-in-4
@@ -25,7 +25,7 @@ returns-in-4 c = among met_by 4 2 (refl, (refl, tt)) _ c.if-kind-lt4.false c.if-
 pub returns-in-11 : goal.returns-in-11
 unfolding race_said
 returns-in-11 c =
-    let not-ten : c.args.kind ≡ 10 → ⊥ = c.in_default-1.rest.1 in
+    let not-ten : c.args.kind ≡ 10 → ⊥ = c.in_default-1.in_default-1-own.rest.1 in
     among met_by 11 2 (refl, (refl, tt)) _ (omega (arith, not-ten)) c.if-kind-lt13.true
 
 pub returns-in_default : goal.returns-in_default

@@ -11,4 +11,4 @@ pub returns-in-1 : goal.returns-in-1
 returns-in-1 c = λ numbers t is. seed-skip c.args.first c.if-first.false c.args.state numbers t is c.in-1.is
 
 pub returns-in_default : goal.returns-in_default
-returns-in_default c = λ numbers t is. seed-disabled c.args.first c.if-first.false c.args.state numbers t is c.in_default.rest.0.1 c.in_default.rest.1
+returns-in_default c = λ numbers t is. seed-disabled c.args.first c.if-first.false c.args.state numbers t is c.in_default.in_default-own.rest.0.1 c.in_default.in_default-own.rest.1

@@ -17,9 +17,9 @@ returns-in-3 c = first-at c.args.thread 3 c.in-3.is
 
 pub returns-in_default : goal.returns-in_default
 returns-in_default c =
-    let n3 = c.in_default.rest.1 in
-    let n2 = c.in_default.rest.0.1 in
-    let n1 = c.in_default.rest.0.0.1 in
-    let n0 = c.in_default.rest.0.0.0.1 in
+    let n3 = c.in_default.in_default-own.rest.1 in
+    let n2 = c.in_default.in_default-own.rest.0.1 in
+    let n1 = c.in_default.in_default-own.rest.0.0.1 in
+    let n0 = c.in_default.in_default-own.rest.0.0.0.1 in
     let e : c.args.thread ≡ 4 = omega (arith, c.requires) in
     first-at c.args.thread 4 e

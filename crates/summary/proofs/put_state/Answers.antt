@@ -19,5 +19,5 @@ returns-in-3 c = rw c.in-3.is c.put-in-3.ensures
 pub returns-in_default : goal.returns-in_default
 unfolding put_state bytes_of
 returns-in_default c =
-    let none = c.in_default.rest in
+    let none = c.in_default.in_default-own.rest in
     rw (ne_eqb _ 1 none.0.0.1, ne_eqb _ 2 none.0.1, ne_eqb _ 3 none.1) c.put-in_default.ensures

@@ -5,11 +5,10 @@ use Rattle.synchronize.proofs.sync_store.Goals as goal
 use Rattle.synchronize.proofs.sync_store.Goals.{in-1-1, in_default+else-order-lt3+then-order-lt5}
 
 pub returns-in_default : goal.returns-in_default
-returns-in_default c = store-alone _ _ _ _ _ c.join-sync.ensures c.in_default-1.rest.1 (inl c.if-order-lt3.true)
+returns-in_default c = store-alone _ _ _ _ _ c.join-sync.ensures c.in_default.in_default-own.rest.1 (inl c.in_default.if-order-lt3-own.true)
 
 pub returns-in_default-2 : goal.returns-in_default-2
-returns-in_default-2 c =
-    store-alone _ _ _ _ _ c.join-sync.ensures c.in_default-1.rest.1 (inr c.if-order-lt5.false)
+returns-in_default-2 c = store-alone _ _ _ _ _ c.join-sync.ensures c.in_default.in_default-own.rest.1 (inr c.in_default.if-order-lt5-own.false)
 
 pub returns-in-1 : goal.returns-in-1
 returns-in-1 c =

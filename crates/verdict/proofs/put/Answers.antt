@@ -28,5 +28,5 @@ returns-in-18 c =
 
 pub returns-in_default : goal.returns-in_default
 returns-in_default c =
-    let none = c.in_default.rest in
+    let none = c.in_default.in_default-own.rest in
     verdict-failed _ _ _ _ _ _ c.number-number.ensures c.at_fault-site.ensures.0 c.at_fault-site.ensures.1 (rw c.if-is_limit.false at c.is_limit.ensures) (rw c.if-is_refusal.false at c.is_refusal.ensures) none.0.0.0.1 none.0.0.1 none.0.1 none.1 c.put_failed.ensures

@@ -19,5 +19,5 @@ returns-in-16 c = rw c.in-16.is c.fill-in-16.ensures
 pub returns-in_default : goal.returns-in_default
 unfolding bytes_of
 returns-in_default c =
-    let none = c.in_default.rest in
+    let none = c.in_default.in_default-own.rest in
     failed-else _ _ _ _ none.0.0.1 none.0.1 none.1 c.fill-in_default.ensures

@@ -18,5 +18,5 @@ returns-in-4 c = rw c.in-4.is c.put-in-4.ensures
 
 pub returns-in_default : goal.returns-in_default
 returns-in_default c =
-    let none = c.in_default.rest in
+    let none = c.in_default.in_default-own.rest in
     refused-else _ _ _ _ _ _ none.0.0.1 none.0.1 none.1 c.put-in_default.ensures

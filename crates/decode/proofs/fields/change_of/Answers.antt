@@ -57,4 +57,4 @@ unfolding change_decoded
 returns-in-12 c = let g = c.args in change-arm g.kind g.a g.b 12 _ c.in-12.is c.change_if-in-12.ensures
 
 pub returns-in-13-to-255 : goal.returns-in-13-to-255
-returns-in-13-to-255 c = change-beyond _ _ _ (none_below 13 _ c.in-13-to-255.rest)
+returns-in-13-to-255 c = change-beyond _ _ _ (none_below 13 _ c.in-13-to-255.in-13-to-255-own.rest)

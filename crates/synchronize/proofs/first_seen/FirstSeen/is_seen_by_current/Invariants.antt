@@ -11,7 +11,7 @@ use Rattle.synchronize.proofs.first_seen.FirstSeen.is_seen_by_current.Given as g
 
 abbrev pub invariant-loop-i : goal.invariant-loop-i
 invariant-loop-i l =
-    (l.i ≤ 5) × (found || seen (drop l.i l.self.versions) (drop l.i l.causality) ≡ seen l.self.versions l.causality)
+    (l.i ≤ 5) × (l.seen || seen (drop l.i l.self.versions) (drop l.i l.causality) ≡ seen l.self.versions l.causality)
 
 abbrev pub decreases-loop-i : goal.decreases-loop-i
 decreases-loop-i l = 5 - l.i
