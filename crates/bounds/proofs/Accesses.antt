@@ -139,7 +139,9 @@ module _ {P : Counter → ℕ → ℕ → Type 0} where
     unfolding Cell.acquired_from
     acquired-from clocks rows cnt zero k h s = s
     acquired-from clocks rows cnt (suc n) k h s =
-        acquired-from _ rows cnt n (k + 1) (omega arith)
+        acquired-from
+        (cond (Cell.seen_by clocks rows t (Cell.kth_oldest cnt k))
+        (Cell.join_into clocks (causality t) (sync (store_at c (Cell.kth_oldest cnt k)))) clocks) rows cnt n (k + 1) (omega arith)
         (pick (Since P least) (Cell.seen_by clocks rows t (Cell.kth_oldest cnt k))
         (λ e. join-into clocks (causality t) (sync (store_at c (Cell.kth_oldest cnt k))) below
         (omega (arith, oldest-live cnt k (omega arith))) refl s)
@@ -157,7 +159,8 @@ module _ {P : Counter → ℕ → ℕ → Type 0} where
     unfolding Cell.cells_acquired
     cells-acquired clocks marks numbers zero c h s = s
     cells-acquired clocks marks numbers (suc n) c h s =
-        cells-acquired _ marks numbers n (c + 1) (omega arith) (cell-acquired t c below (omega arith) clocks _ _ s)
+        cells-acquired (Cell.cell_acquired clocks (marks_of marks c) (number numbers (count c)) t c) marks numbers n (c + 1)
+        (omega arith) (cell-acquired t c below (omega arith) clocks _ _ s)
 
     released-since : (clocks : Clocks) → Since P least clocks → Since P least (Cell.fence_released clocks t)
     unfolding Cell.fence_released

@@ -150,7 +150,7 @@ module _ (p : Program) (fits : ProgramFits p) (t n : ℕ) (rows owing waits leas
       Going p n (Machine.begins p st t k op)
   unfolding Machine.begins
   begins-going st k op h v s =
-      pick (Going p n) (leb p.operations (number st.numbers rows_begun)) (λ e. over st s)
+      pick (Going p n) (leb p.operations (number st.numbers rows_begun)) (λ e. over _ _ st s)
       (λ e. begun-going st (Machine.row_begun st t) k op (pending_of op) h v (begun-at st (leb-false _ _ e) s))
 
   -- "Past its last row a thread ends"
@@ -182,7 +182,7 @@ module _ (p : Program) (fits : ProgramFits p) (st : State) (n : ℕ) (s : Bounds
 
   row-going : (k : ℕ) (row : Decoded Op) → RowNames (widest (row_count p now) k) row → Going p n (Machine.of_row p st now k row)
   unfolding RowNames
-  row-going k refused h = over st (opened st s)
+  row-going k refused h = over _ _ st (opened st s)
   row-going k (decoded op) h =
       pick (Going p n) (Machine.is_to_begin st now)
       (λ e. begins-going p fits now n _ _ _ _ s.tally.runs (nothing-owed e) st k op h (omega arith) (opened st s))
@@ -199,7 +199,7 @@ module _ (p : Program) (fits : ProgramFits p) (st : State) (n : ℕ) (s : Bounds
   unfolding Machine.next
   next-going =
       pick (λ (x : Event.Event State). Going p n x.move) (ltb now threads) (λ e. next-at (active_row st))
-      (λ e. over st (opened st s))
+      (λ e. over _ _ st (opened st s))
 
 -- A scheduling goes on with the chosen thread
 
@@ -304,14 +304,14 @@ module _ (p : Program) (fits : ProgramFits p) (n : ℕ) where
   scheduled-ending : (st : State) (whom : Whom) (at : ℕ) → Bounds.BoundsScheduling p st n → Ending p n (Machine.scheduled st whom at)
   unfolding Machine.scheduled
   scheduled-ending st nobody at s =
-      pick (Ending p n) (Machine.all_over st.numbers threads 0) (λ e. over st (opened st s))
-      (λ e. pick (Ending p n) (Machine.some_can_run st.numbers threads 0) (λ f. over st (opened st s))
-      (λ f. over st (opened st s)))
+      pick (Ending p n) (Machine.all_over st.numbers threads 0) (λ e. over _ _ st (opened st s))
+      (λ e. pick (Ending p n) (Machine.some_can_run st.numbers threads 0) (λ f. over _ _ st (opened st s))
+      (λ f. over _ _ st (opened st s)))
   scheduled-ending st (thread t) at s =
       pick (Ending p n) (Machine.can_run st.numbers t)
       (λ e. no_more (BoundsHold p (Machine.switched st t at)) n
       (switched-at p fits t n _ _ _ _ (ltb-true t threads (both_left _ _ e)) st (current st) at (opened st s)))
-      (λ e. over st (opened st s))
+      (λ e. over _ _ st (opened st s))
 
   pub thread-ending : (st : State) (whom : Whom) (at : ℕ) → Bounds.BoundsScheduling p st n →
       Ending p n (Machine.answered p st (run_thread whom at))

@@ -5,7 +5,6 @@
 --     acts-going           a row that has begun acts
 --     read_ending, bit-ending        a row that has its answer
 --     slots-few            at most seven slots are offered
-use denote.Ref.{mut_at}
 use Prim.Native.Nat.{ℕ, ◌+◌, ◌≤◌, ◌<◌}
 use mathlib.Core.List.{List, [], ◌∷◌}
 use mathlib.Core.Bool.{Bool, true, false, cond}
@@ -184,9 +183,9 @@ module _ (p : Program) (fits : ProgramFits p) (t n : ℕ) (rows owing waits leas
       unless-race (Cell.unsync_load_race st.clocks t c) st _ s
       (is_read (acts-bare _ (with-parts st _ (unsync-tracked t c below h st.clocks) s)))
 
-  mut_at : (st : State) (c : ℕ) (change : Change) → c < cells → Raised st → AtRead (mut_done st t c change)
+  mut-at : (st : State) (c : ℕ) (change : Change) → c < cells → Raised st → AtRead (mut_done st t c change)
   unfolding mut_done
-  mut_at st c change h s =
+  mut-at st c change h s =
       let after = acts-bare _ (with-parts st _ (mut-tracked t c below h st.clocks) s) in
       unless-race (Cell.mut_race st.clocks t c) st _ s (is_read
       (record { sound = after.sound; tally = after.tally; links = after.links }))
@@ -202,16 +201,16 @@ module _ (p : Program) (fits : ProgramFits p) (t n : ℕ) (rows owing waits leas
   with-register st r v s = record { sound = s.sound; tally = s.tally; links = s.links }
 
   reads-ending : (x : AccessResult) (k opcode r slot mask : ℕ) → AtRead x → Ending p n (Machine.reads x t k opcode r slot mask)
-  reads-ending (raced kind other st) k opcode r slot mask (is_raced s) = over st s
+  reads-ending (raced kind other st) k opcode r slot mask (is_raced s) = over _ _ st s
   reads-ending (read v st) k opcode r slot mask (is_read s) = finished _ (one_more k) (with-register st r v s)
 
   leaves-ending : (x : AccessResult) (k opcode c r : ℕ) → AtRead x → Ending p n (Machine.leaves_in x t k opcode c r)
-  leaves-ending (raced kind other st) k opcode c r (is_raced s) = over st s
+  leaves-ending (raced kind other st) k opcode c r (is_raced s) = over _ _ st s
   leaves-ending (read v st) k opcode c r (is_read s) = finished _ (one_more k) (with-register st r v s)
 
   stores-unless : (x : Race) (st tracked : State) (k opcode c o v : ℕ) → c < cells → Raised st → Raised tracked →
       Ending p n (Machine.stores_unless x st tracked t k opcode c o v)
-  stores-unless (race_of kind other) st tracked k opcode c o v h s i = over st s
+  stores-unless (race_of kind other) st tracked k opcode c o v h s i = over _ _ st s
   stores-unless no_race st tracked k opcode c o v h s i =
       finished _ (one_more k) (store-acted tracked c _ v o h (zeros-fine tracked i) i)
 
@@ -225,7 +224,7 @@ module _ (p : Program) (fits : ProgramFits p) (t n : ℕ) (rows owing waits leas
   writes-unless : (x : Race) (st : State) (k opcode c v : ℕ) → c < plains → Raised st →
       Ending p n (Machine.writes_unless x st (plain_write_done st t c v) t k opcode v)
   unfolding plain_write_done
-  writes-unless (race_of kind other) st k opcode c v h s = over st s
+  writes-unless (race_of kind other) st k opcode c v h s = over _ _ st s
   writes-unless no_race st k opcode c v h s =
       let after = acts-bare _ (with-parts st _ (plain-write-tracked t below c h st.clocks) s) in
       finished _ (one_more k) (record { sound = after.sound; tally = after.tally; links = after.links })
@@ -325,7 +324,7 @@ module _ (p : Program) (fits : ProgramFits p) (t n : ℕ) (rows owing waits leas
   explores-going st k opcode on s =
       let v : ℕ = cond on 1 0 in
       pick (Going p n) (Machine.is_skipping st.numbers) (λ e. bare st (one_more k) s)
-      (λ e. pick (Going p n) (eqb (number st.numbers exploring) v) (λ f. over st s)
+      (λ e. pick (Going p n) (eqb (number st.numbers exploring) v) (λ f. over _ _ st s)
       (λ f. bare (Machine.with_numbers st (with_number st.numbers exploring v)) (one_more k) (with-flag st v s)))
 
   -- a row that asks
@@ -354,14 +353,14 @@ module _ (p : Program) (fits : ProgramFits p) (t n : ℕ) (rows owing waits leas
       (reads-ending (unsync_load_done st t c) k 5 r slot 0 (unsync-at st c h (not-raised st s)))
   acts-going st k (Table.with_mut c change r) h v s =
       ending-going p n (Machine.leaves_in (mut_done st t c change) t k 6 c r)
-      (leaves-ending (mut_done st t c change) k 6 c r (mut_at st c change h (not-raised st s)))
+      (leaves-ending (mut_done st t c change) k 6 c r (mut-at st c change h (not-raised st s)))
   acts-going st k Table.yield h v s = yield-going st (one_more k) _ v s
   acts-going st k (Table.join target) h v s = joins-going st k 8 target h s
   acts-going st k (Table.jump target) h v s = bare st _ s
   acts-going st k (Table.jump_if r a target) h v s = bare st _ s
   acts-going st k (Table.jump_unless r a target) h v s = bare st _ s
   acts-going st k (Table.check r a) h v s =
-      pick (Going p n) (eqb (Machine.register st t r) a) (λ e. bare st (one_more k) s) (λ e. over st s)
+      pick (Going p n) (eqb (Machine.register st t r) a) (λ e. bare st (one_more k) s) (λ e. over _ _ st s)
   acts-going st k Table.critical h v s = explores-going st k 13 false s
   acts-going st k Table.explore_state h v s = explores-going st k 14 true s
   acts-going st k Table.skip_branch h v s = bare (Machine.skipped st) (one_more k) (skips st s)
@@ -380,21 +379,21 @@ module _ (p : Program) (fits : ProgramFits p) (t n : ℕ) (rows owing waits leas
   unfolding Machine.read_from
   read_ending st k slot mask (loads c o r) d h s =
       pick (Ending p n) (ltb slot (number st.numbers (count c)))
-      (λ e. reads-ending (load_done st t c slot o) k 0 r slot mask (load_at st c slot o h d s)) (λ e. over st s)
+      (λ e. reads-ending (load_done st t c slot o) k 0 r slot mask (load_at st c slot o h d s)) (λ e. over _ _ st s)
   read_ending st k slot mask (modifies c o f change r) d h s =
       pick (Ending p n) (ltb slot (number st.numbers (count c)))
-      (λ e. reads-ending (rmw_done st t c slot change o f) k 3 r slot mask (rmw-at st c slot change o f h d s)) (λ e. over st s)
-  read_ending st k slot mask (stores_operand c o a) d h s = over st s
-  read_ending st k slot mask (stores_register c o r) d h s = over st s
-  read_ending st k slot mask (takes_bit r) d h s = over st s
-  read_ending st k slot mask otherwise d h s = over st s
+      (λ e. reads-ending (rmw_done st t c slot change o f) k 3 r slot mask (rmw-at st c slot change o f h d s)) (λ e. over _ _ st s)
+  read_ending st k slot mask (stores_operand c o a) d h s = over _ _ st s
+  read_ending st k slot mask (stores_register c o r) d h s = over _ _ st s
+  read_ending st k slot mask (takes_bit r) d h s = over _ _ st s
+  read_ending st k slot mask otherwise d h s = over _ _ st s
 
   -- "16 `branch_spurious` into register (0 or 1)"
   pub bit-ending : (st : State) (k v : ℕ) (role : Role) → Raised st → Ending p n (Machine.bit_taken st t k v role)
   unfolding Machine.bit_taken
   bit-ending st k v (takes_bit r) s = finished _ (one_more k) (with-register st r v (acts-bare st s))
-  bit-ending st k v (loads c o r) s = over st s
-  bit-ending st k v (stores_operand c o a) s = over st s
-  bit-ending st k v (stores_register c o r) s = over st s
-  bit-ending st k v (modifies c o f change r) s = over st s
-  bit-ending st k v otherwise s = over st s
+  bit-ending st k v (loads c o r) s = over _ _ st s
+  bit-ending st k v (stores_operand c o a) s = over _ _ st s
+  bit-ending st k v (stores_register c o r) s = over _ _ st s
+  bit-ending st k v (modifies c o f change r) s = over _ _ st s
+  bit-ending st k v otherwise s = over _ _ st s

@@ -69,9 +69,6 @@ module _ {p : Program} {t n : ℕ} {rows owing waits least o w : ℕ → ℕ} (s
             s.sound.clocks.since;
       }
 
-  pub over : BoundsLeft p st n
-  over = bounded nothing nothing (λ u b. omega arith) (λ u b. omega arith)
-
   pub holds : ((u : ℕ) → u < threads → owing u ≤ o u) → ((u : ℕ) → u < threads → but t waits u ≤ w u) → BoundsHold p st n
   holds f g =
       bounded (owed st.numbers) (but (current st) (waiting st.numbers))
@@ -107,6 +104,10 @@ module _ {p : Program} {t n : ℕ} {rows owing waits least o w : ℕ → ℕ} (s
         )),
     ap (owed st.numbers) s.links.runs ∙ s.links.owes t below ∙ e,
   )
+
+pub over : {p : Program} {t n : ℕ} {rows owing waits least : ℕ → ℕ} (o w : ℕ → ℕ) (st : State) →
+    At p t n rows owing owing waits least (PartBounded rows o w) st → BoundsLeft p st n
+over o w st s = bounded {o = o} {w = w} st s nothing nothing (λ u b. omega arith) (λ u b. omega arith)
 
 -- a bounded state, by what its numbers say
 pub opened : {p : Program} {o w : ℕ → ℕ} {n : ℕ} (st : State) → Bounded p o w st n →

@@ -30,9 +30,9 @@ use Rattle.bounds.proofs.Start.{start-holds}
 
 module _ (p : Program) (fits : ProgramFits p) where
   asked-over : (st : State) (n : ℕ) (q : Question) → BoundsAsked p st n q → BoundsLeft p st n
-  asked-over st n (which_thread points initial standings) s = over st (opened st s)
-  asked-over st n (which_slot m) s = over st (opened st s.0.0)
-  asked-over st n which_bit s = over st (opened st s.0)
+  asked-over st n (which_thread points initial standings) s = over _ _ st (opened st s)
+  asked-over st n (which_slot m) s = over _ _ st (opened st s.0.0)
+  asked-over st n which_bit s = over _ _ st (opened st s.0)
 
   goes-on : (st : State) (n : ℕ) (q : Question) (a : Pick) → BoundsAsked p st n q → Fitting q a → Ending p n (answered p st a)
   goes-on st n (which_thread points initial standings) (run_thread whom at) s f = thread-ending p fits n st whom at s
@@ -53,7 +53,7 @@ module _ (p : Program) (fits : ProgramFits p) where
     at_next = λ st n s. next-going p fits st n s;
     at-answer = goes-on;
     at-question = asked-over;
-    at_tick = λ st n s. over st (opened st s);
+    at_tick = λ st n s. over _ _ st (opened st s);
   }
 
   part-below : (rows : ℕ → ℕ) (k : Counter) (u x : ℕ) → rows u ≤ p.operations → PartBounded rows nothing nothing k u x → x < largest

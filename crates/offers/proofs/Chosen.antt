@@ -94,6 +94,24 @@ module _ (p : Program) (limits : Limits) (site : Event.Site) (st s : State) (es 
         reading = of_rmw row h (rmw-offered s.clocks s.numbers c offered (sym h ∙ is));
         entry = rmw-noted p limits site u s slot values c o x r change row;
       }
+  reads-from Table.refused e x = elim x [ ]
+  reads-from (decoded (Table.store cell order a)) e x = elim x [ ]
+  reads-from (decoded (Table.store_register cell order register)) e x = elim x [ ]
+  reads-from (decoded (Table.fence order)) e x = elim x [ ]
+  reads-from (decoded (Table.unsync_load cell register)) e x = elim x [ ]
+  reads-from (decoded (Table.with_mut cell change register)) e x = elim x [ ]
+  reads-from (decoded Table.yield) e x = elim x [ ]
+  reads-from (decoded (Table.join thread)) e x = elim x [ ]
+  reads-from (decoded (Table.jump target)) e x = elim x [ ]
+  reads-from (decoded (Table.jump_if register a target)) e x = elim x [ ]
+  reads-from (decoded (Table.jump_unless register a target)) e x = elim x [ ]
+  reads-from (decoded (Table.check register a)) e x = elim x [ ]
+  reads-from (decoded Table.critical) e x = elim x [ ]
+  reads-from (decoded Table.explore_state) e x = elim x [ ]
+  reads-from (decoded Table.skip_branch) e x = elim x [ ]
+  reads-from (decoded (Table.spurious register)) e x = elim x [ ]
+  reads-from (decoded (Table.plain_read plain register)) e x = elim x [ ]
+  reads-from (decoded (Table.plain_write plain a)) e x = elim x [ ]
 
 module _ (p : Program) (limits : Limits) where
   -- the question that the ledger has is this one

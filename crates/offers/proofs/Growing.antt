@@ -4,7 +4,7 @@
 --     join-grows .. fenced-grows       what is done to the vectors
 use Prim.Native.Nat.{ℕ, zero, suc, ◌+◌, ◌≤◌, ◌<◌}
 use mathlib.Core.List.{List, [], ◌∷◌}
-use mathlib.Core.Bool.{true}
+use mathlib.Core.Bool.{true, cond}
 use mathlib.Core.Path.{◌≡◌, refl, ap}
 use native.Mathlib.Omega.{arith}
 use lib.Dec.{ltb, eqb}
@@ -207,7 +207,9 @@ module _ (n : ℕ) where
       grows-trans
       (pick (Grows n n a) (seen_by a rows t (kth_oldest cnt k))
       (λ e. join-grows n a (causality t) (sync (store_at c (kth_oldest cnt k))) (λ f. high (omega arith))) (λ e. grows-refl n a))
-      (acquired-grows _ rows cnt t c left (k + 1))
+      (acquired-grows
+      (cond (seen_by a rows t (kth_oldest cnt k)) (join_into a (causality t) (sync (store_at c (kth_oldest cnt k)))) a)
+      rows cnt t c left (k + 1))
 
   cells-grow : (a : Clocks) (marks : Marks) (numbers : Numbers) (t left c : ℕ) →
       Grows n n a (Cell.cells_acquired a marks numbers t left c)
@@ -215,7 +217,7 @@ module _ (n : ℕ) where
   cells-grow a marks numbers t zero c = grows-refl n a
   cells-grow a marks numbers t (suc left) c =
       grows-trans (acquired-grows a (marks_of marks c) (number numbers (count c)) t c _ 0)
-      (cells-grow _ marks numbers t left (c + 1))
+      (cells-grow (Cell.cell_acquired a (marks_of marks c) (number numbers (count c)) t c) marks numbers t left (c + 1))
 
   acquire-grows : (a : Clocks) (marks : Marks) (numbers : Numbers) (t cells : ℕ) →
       Grows n n a (Cell.fence_acquired a marks numbers t cells)
