@@ -19,7 +19,7 @@ CAMEL = re.compile(r"(?!x[0-9a-f]{2})[a-z][A-Za-z0-9_\-₀-₉]*[a-z0-9][A-Z]")
 FACT = re.compile(r"^\s*(?:abbrev |unfoldable )?(?:pub )?([a-z][^\s:(){}]*) : (?:[^=\n]*→ )?Type(?: \d)?[ \t]*$", re.M)
 # Facts whose name is a plain word: turned in these files alone, since elsewhere the word is a variable or a lemma.
 PLAIN_FACTS = {
-    "in_range": ("crates/accesses/src/lib.rt", "crates/accesses/proofs/OpLaws.antt", "crates/rows/src/lib.rt", "crates/rows/proofs/RowLaws.antt", "crates/decode/specs/Ops.antt"),
+    "in_range": ("crates/accesses/", "crates/rows/", "crates/decode/specs/Ops.antt", "crates/table/proofs/Within.antt", "crates/steps/", "crates/execution/"),
     "in_vectors": ("crates/bounds/", "crates/rules/proofs/StateLaws.antt"),
     "is_none": ("crates/into/proofs/Same.antt",),
     "fewer": ("crates/record/proofs/ThreadLaws.antt", "crates/record/proofs/ScheduleLaws.antt"),

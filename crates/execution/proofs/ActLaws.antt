@@ -26,11 +26,11 @@ use Rattle.event.specs.Moves.{move_of, matched_for}
 use Rattle.decode.specs.contracts.Op as Op
 use Rattle.decode.proofs.NumberLaws.{all_but, by_number, narrow}
 use Rattle.decode.specs.declared.Op.{Op}
-use Rattle.decode.specs.Ops.{op_of, in_range}
+use Rattle.decode.specs.Ops.{op_of, InRange}
 use Rattle.execution.specs.Alone.{alone, unsync, Unsync, Alone}
 use Rattle.execution.specs.Answers.{Answers, ChoiceWithin}
 
-pub op-within : (op m : Op) → op ≡ m → in_range (op_of op) → in_range (op_of m)
+pub op-within : (op m : Op) → op ≡ m → InRange (op_of op) → InRange (op_of m)
 op-within op m e h = rw e at h
 
 pub slot-within : (c : Picked) (slot mask : ℕ) → c ≡ choice.Slot slot mask → ChoiceWithin c → slot < 7

@@ -20,7 +20,7 @@ use Rattle.decode.specs.contracts.Op as Op
 use Rattle.decode.proofs.NumberLaws.{all_but, by_number, narrow}
 use Rattle.decode.specs.declared.Op.{Op}
 use Rattle.decode.specs.declared.Op.TheVariants as code
-use Rattle.decode.specs.Ops.{op_of, in_range}
+use Rattle.decode.specs.Ops.{op_of, InRange}
 use Rattle.layout.specs.declared.Access.{Access}
 use Rattle.event.specs.declared.Moved.{Moved}
 use Rattle.event.specs.Moves.{move_of}
@@ -37,11 +37,11 @@ abbrev others : List ℕ
 others = all_but (1 ∷ 2 ∷ [])
 
 module _ (vs : Values) (t : ℕ) where
-  pub operand-stored : (op : Op) (o c a : ℕ) → op ≡ code.Store o c a → in_range (op_of op) → Stores (Of (access_by t c o) a) vs t (role_of (op_of op))
+  pub operand-stored : (op : Op) (o c a : ℕ) → op ≡ code.Store o c a → InRange (op_of op) → Stores (Of (access_by t c o) a) vs t (role_of (op_of op))
   operand-stored op o c a e h =
       record { is = sym (ap (λ (p : Op). stored_of vs t (role_of (op_of p))) e); within = (refl, op-within op _ e h) }
 
-  pub register-stored : (op : Op) (o c r v : ℕ) → op ≡ code.StoreRegister o c r → in_range (op_of op) →
+  pub register-stored : (op : Op) (o c r v : ℕ) → op ≡ code.StoreRegister o c r → InRange (op_of op) →
       v ≡ value vs (of_register (register_at t r)) → Stores (Of (access_by t c o) v) vs t (role_of (op_of op))
   register-stored op o c r v e h f =
       record {

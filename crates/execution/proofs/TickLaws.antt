@@ -27,12 +27,12 @@ use Rattle.event.specs.Moves.{move_of, matched_for}
 use Rattle.decode.specs.declared.Op.{Op}
 use Rattle.decode.specs.declared.Decoded.{Decoded}
 use Rattle.decode.specs.declared.Decoded.TheVariants.{Refused, Row as Says}
-use Rattle.decode.specs.Ops.{op_of, decoded_of, in_range, OpWithin}
+use Rattle.decode.specs.Ops.{op_of, decoded_of, InRange, OpWithin}
 use Rattle.rows.specs.Begins.{begun_to, then_acts}
 use Rattle.rows.proofs.RowLaws.{begins-to}
 use Rattle.execution.specs.Next.{next_with}
 
-pub row_within : (row : Decoded) (op : Op) → row ≡ Says op → OpWithin row → in_range (op_of op)
+pub row_within : (row : Decoded) (op : Op) → row ≡ Says op → OpWithin row → InRange (op_of op)
 row_within row op e h = rw e at h
 
 -- the places of the events that are not that it moves, among the variants

@@ -9,7 +9,7 @@ ghost use Rattle.rules.specs.State as rules;
 ghost use Rattle.rules.specs.Table.{cells_of, opcode_of, opcode_in};
 ghost use Rattle.layout.specs.Tables.{state};
 ghost use Rattle.event.specs.Moves.{HereWithin, move_of, matched_for};
-ghost use Rattle.decode.specs.Ops.{op_of, decoded_of, in_range};
+ghost use Rattle.decode.specs.Ops.{op_of, decoded_of, InRange};
 ghost use Rattle.execution.specs.Alone.{Storing, Unsync, Alone};
 ghost use Rattle.execution.specs.Answers.{Answers, ChoiceWithin};
 ghost use Rattle.execution.specs.Next.{next_with};
@@ -78,7 +78,7 @@ pub fn act(
     op: Op,
     cells: usize,
 ) -> Moved
-    requires { (site.thread < 5) × (cells ≤ 4) × in_range (op_of op) }
+    requires { (site.thread < 5) × (cells ≤ 4) × InRange (op_of op) }
     ensures { (p : machine.Program) → cells_of p.table ≡ cells → move_of result site.thread site.row (opcode_of (op_of op)) (matched_for (state clocks.new marks.new values.new numbers.new) site.thread (decoded_of (Decoded.Row op))) (state clocks.new marks.new values.new numbers.new) ≡ machine.acts p (state clocks.old marks.old values.old numbers.old) site.thread site.row (op_of op) }
 {
     match op {
@@ -101,7 +101,7 @@ fn act_store(
     site: Site,
     op: Op,
 ) -> Moved
-    requires { (site.thread < 5) × in_range (op_of op) × Storing (op_of op) }
+    requires { (site.thread < 5) × InRange (op_of op) × Storing (op_of op) }
     ensures { (p : machine.Program) (m : Matched) → move_of result site.thread site.row (opcode_of (op_of op)) m (state clocks.new marks.new values.new numbers.new) ≡ machine.acts p (state clocks.old marks.old values.old numbers.old) site.thread site.row (op_of op) }
 {
     if let Stored::Of { access, value } = to_store(values, site.thread, op) {
@@ -112,7 +112,7 @@ fn act_store(
 
 // What a row stores: its operand, or what a register holds.
 fn to_store(values: &Values, thread: usize, op: Op) -> Stored
-    requires { (thread < 5) × in_range (op_of op) }
+    requires { (thread < 5) × InRange (op_of op) }
     ensures { Stores result values.now thread (machine.role_of (op_of op)) }
 {
     match op {
@@ -149,7 +149,7 @@ fn act_unsync(
     site: Site,
     op: Op,
 ) -> Moved
-    requires { (site.thread < 5) × in_range (op_of op) × Unsync (op_of op) }
+    requires { (site.thread < 5) × InRange (op_of op) × Unsync (op_of op) }
     ensures { (p : machine.Program) (marks : rules.Marks) (m : Matched) → move_of result site.thread site.row (opcode_of (op_of op)) m (state clocks.new marks values.new numbers.new) ≡ machine.acts p (state clocks.old marks values.old numbers.old) site.thread site.row (op_of op) }
 {
     match op {
@@ -173,7 +173,7 @@ fn act_unsync(
 
 // The rows that concern their own thread alone.
 fn act_alone(values: &Values, numbers: &mut Numbers, site: Site, op: Op) -> Moved
-    requires { (site.thread < 5) × in_range (op_of op) × Alone (op_of op) }
+    requires { (site.thread < 5) × InRange (op_of op) × Alone (op_of op) }
     ensures { (p : machine.Program) (clocks : rules.Clocks) (marks : rules.Marks) (m : Matched) → move_of result site.thread site.row (opcode_of (op_of op)) m (state clocks marks values.now numbers.new) ≡ machine.acts p (state clocks marks values.now numbers.old) site.thread site.row (op_of op) }
 {
     let thread = site.thread;

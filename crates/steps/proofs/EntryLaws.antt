@@ -17,7 +17,7 @@ use Rattle.rules.specs.Table.{Op, Decoded, refused, decoded, first_not, max_thre
 use Rattle.decode.specs.declared.Decoded as code
 use Rattle.decode.specs.declared.Decoded.TheVariants.{Row as Says}
 use Rattle.decode.specs.declared.Op as codes
-use Rattle.decode.specs.Ops.{op_of, decoded_of, in_range, OpWithin}
+use Rattle.decode.specs.Ops.{op_of, decoded_of, InRange, OpWithin}
 use Rattle.table.proofs.Within.{op-made}
 use Rattle.table.proofs.Walks.{first_on, first_found, first-none}
 use Rattle.steps.specs.Entries.{room, of_entry, entry_read, is_entry, entries, row_says, operation_at}
@@ -94,7 +94,7 @@ module _ (table trace : List ℕ) (i : ℕ) where
   ]
 
   pub operation-in : (d : code.Decoded) {op : codes.Op} {byte thread : ℕ} → decoded_of d ≡ operation_at table trace i → d ≡ Says op →
-      byte ≡ (entry_read trace i).thread → thread ≡ byte → (thread < 5) × in_range (op_of op)
+      byte ≡ (entry_read trace i).thread → thread ≡ byte → (thread < 5) × InRange (op_of op)
   operation-in d {op} e f p q =
-      let named : in_range (op_of op) = rw f at (operation-range d e) in
+      let named : InRange (op_of op) = rw f at (operation-range d e) in
       (omega (arith, operation-thread (sym e ∙ ap decoded_of f)), named)

@@ -16,13 +16,13 @@ use Rattle.decode.specs.declared.Op.{Op}
 use Rattle.decode.specs.declared.Op.TheVariants as code
 use Rattle.decode.specs.declared.Decoded.{Decoded}
 use Rattle.decode.specs.declared.Decoded.TheVariants.{Refused, Row as Says}
-use Rattle.decode.specs.Ops.{op_of, decoded_of, in_range}
+use Rattle.decode.specs.Ops.{op_of, decoded_of, InRange}
 use Rattle.steps.specs.Holds.{next_of, acted}
 
 pub op-as : {A : Type 0} (f : rules.Op → A) {op m : Op} {x : A} → op ≡ m → x ≡ f (op_of m) → x ≡ f (op_of op)
 op-as f e h = h ∙ sym (ap (λ (p : Op). f (op_of p)) e)
 
-pub op-in : {op m : Op} → op ≡ m → in_range (op_of op) → in_range (op_of m)
+pub op-in : {op m : Op} → op ≡ m → InRange (op_of op) → InRange (op_of m)
 op-in e h = rw e at h
 
 module _ {d : Decoded} {x : rules.Decoded rules.Op} (is : decoded_of d ≡ x) where

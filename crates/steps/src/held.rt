@@ -2,7 +2,7 @@
 // wrote each of its seven slots; a thread's registers and its next row; which step wrote what a plain cell holds.
 ghost use Rattle.std.specs.Prelude.{◌≡◌, cond, ◌<◌};
 ghost use Rattle.change.specs.Changes.{change_meant};
-ghost use Rattle.decode.specs.Ops.{op_of, in_range};
+ghost use Rattle.decode.specs.Ops.{op_of, InRange};
 ghost use Rattle.layout.specs.Slots.{Next, Newest};
 ghost use Rattle.rules.specs.Vector.{one_more};
 ghost use Rattle.steps.specs.Holds as holds;
@@ -135,7 +135,7 @@ pub fn take(table: &[u8], trace: &[u8], held: &mut Held, i: usize)
 
 // The row that a thread goes on with.
 fn next_of(held: &Held, thread: usize, row: u8, op: Op) -> u64
-    requires { (thread < 5) × in_range (op_of op) }
+    requires { (thread < 5) × InRange (op_of op) }
     ensures { result ≡ holds.next_of held.now thread row (op_of op) }
 {
     let next = row as u64 + 1;
@@ -182,7 +182,7 @@ fn go_on(held: &mut Held, thread: usize, next: u64)
 
 // What a row of this thread does, with the value of its trace entry.
 fn act(held: &mut Held, thread: usize, op: Op, value: u64, step: u64)
-    requires { (thread < 5) × in_range (op_of op) }
+    requires { (thread < 5) × InRange (op_of op) }
     ensures { held.new ≡ holds.acted held.old thread value step (op_of op) }
 {
     match op {

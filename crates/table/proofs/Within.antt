@@ -12,7 +12,7 @@ use Rattle.rules.specs.Table.{max_threads, max_cells, max_plains, Row, Room, Op,
 use Rattle.decode.specs.declared.Decoded as row
 use Rattle.decode.specs.declared.Decoded.TheVariants as rows
 use Rattle.decode.specs.declared.Op as code
-use Rattle.decode.specs.Ops.{op_of, decoded_of, in_range, AllInRange}
+use Rattle.decode.specs.Ops.{op_of, decoded_of, InRange, AllInRange}
 use Rattle.table.specs.Answers.{OpAt}
 
 first : (a b : Bool) → a && b ≡ true → a ≡ true
@@ -29,7 +29,7 @@ pick : (b : Bool) {x y : Decoded Op} → In x → In y → In (cond b x y)
 pick true p q = p
 pick false p q = q
 
-only : (b : Bool) (op : Op) → (b ≡ true → in_range op) → In (only_if b op)
+only : (b : Bool) (op : Op) → (b ≡ true → InRange op) → In (only_if b op)
 only true op f = record { is = f refl }
 only false op f = record { is = tt }
 
@@ -103,10 +103,10 @@ module _ (room : Room) (r : Row) (few : room.threads ≤ 5) (small : room.cells 
   plain-write-in : In (plain_write_row room.plains r)
   plain-write-in = only (ltb r.object room.plains && _) (plain_write r.object r.a) (λ e. below _ plain (first _ _ e))
 
-  bare-in : (op : Op) → in_range op → In (bare_row op r)
+  bare-in : (op : Op) → InRange op → In (bare_row op r)
   bare-in op h = only (eqb r.object 0 && _) op (λ e. h)
 
-  jump-on-in : (op : ℕ → ℕ → ℕ → Op) → (r.register < 4 → in_range (op r.register r.a r.target)) → In (jump_on_row op room.rows r)
+  jump-on-in : (op : ℕ → ℕ → ℕ → Op) → (r.register < 4 → InRange (op r.register r.a r.target)) → In (jump_on_row op room.rows r)
   jump-on-in op h = only (is_register r.register && _ && _) (op r.register r.a r.target) (λ e. h (register _ (first _ _ (first _ _ e))))
 
   row-in : In (row_decoded room r)
@@ -161,5 +161,5 @@ op-moved p q l e f g o = rw (← p, ← q, ← l, ← e, ← f, ← g) o
 
 -- for callers: what a row names, once it is taken apart
 pub named-in-range : {t : List ℕ} {room : Room} {index : ℕ} {r : row.Decoded} {op taken : code.Op} →
-    OpAt t room index r → r ≡ rows.Row op → op ≡ taken → in_range (op_of taken)
+    OpAt t room index r → r ≡ rows.Row op → op ≡ taken → InRange (op_of taken)
 named-in-range o e f = rw (← f) (rw e at o.within)

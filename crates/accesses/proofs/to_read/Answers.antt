@@ -9,4 +9,4 @@ pub returns-in-Rmw : goal.returns-in-Rmw
 returns-in-Rmw c = rmw-read _ _ _ _ _ _ c.in-Rmw.is c.requires
 
 pub returns-in_default : goal.returns-in_default
-returns-in_default c = other-read c.args.op c.in_default.keys3
+returns-in_default c = other-read c.args.op c.in_default.in_default-own.keys3

@@ -70,4 +70,4 @@ returns-in-SkipBranch c =
 pub returns-in_default : goal.returns-in_default
 returns-in_default c =
     let args = c.args in
-    λ p clocks marks m. asks-bit p (state clocks marks args.values.now args.numbers.now) args.site.thread args.site.row args.op c.in_default.keys8 c.requires.2
+    λ p clocks marks m. asks-bit p (state clocks marks args.values.now args.numbers.now) args.site.thread args.site.row args.op c.in_default.in_default-own.keys8 c.requires.2

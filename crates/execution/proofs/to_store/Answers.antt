@@ -16,4 +16,4 @@ returns-in-StoreRegister c =
     register-stored _ _ _ _ _ _ _ c.in-StoreRegister.is c.requires.1 c.register_of-value.ensures
 
 pub returns-in_default : goal.returns-in_default
-returns-in_default c = nothing_stored _ _ c.args.op c.in_default.keys3
+returns-in_default c = nothing_stored _ _ c.args.op c.in_default.in_default-own.keys3

@@ -16,4 +16,4 @@ returns-in-Rmw c =
     op-as (stores_after c.args.read) c.in-Rmw.is c.succeeds.ensures
 
 pub returns-in_default : goal.returns-in_default
-returns-in_default c = no_store c.args.op _ c.in_default.keys4
+returns-in_default c = no_store c.args.op _ c.in_default.in_default-own.keys4

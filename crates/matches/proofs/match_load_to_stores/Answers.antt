@@ -8,29 +8,30 @@ use mathlib.Core.Logic.{⊎_elim}
 use Rattle.matches.proofs.match_load_to_stores.Goals as goal
 use Rattle.matches.proofs.match_load_to_stores.Goals.{in-Dropped, in-Kept}
 
--- the fate that was answered is the definition's
-fated : (c : goal.After-load_fate) →
-    let args = c.args in
-    fate_of c.load_fate.result ≡ load_fate args.clocks.now args.t5 args.numbers.now args.access.thread args.access.cell args.access.order c.loop-i.i
-fated c =
-    let args = c.args in
-    c.load_fate.ensures
-    ∙ fate-load args.clocks.now args.t5 args.numbers.now args.access.thread args.access.cell args.access.order c.loop-i.i _ _ c.seen_slots-seen.ensures c.is_seen_before_yield-before_yield.ensures
-
 pub loop-i-init : goal.loop-i-init
 loop-i-init c = (search rules, search rules, offer-all _ _ _ _ c.live_stores-live.ensures.is)
 
 pub returns-in-Equal : goal.returns-in-Equal
 unfolding matched_load
 returns-in-Equal c =
-    offer-equal _ _ _ _ _ _ c.loop-i.invariant.2 c.loop-i-test.true _ (fated (goal.at.returns-in-Equal c).After-load_fate) c.in-Equal.is
+    let fated : let args = c.args in
+    fate_of c.load_fate.result ≡ load_fate args.clocks.now args.marks args.numbers.now args.access.thread args.access.cell args.access.order c.loop-i.i =
+        let args = c.args in
+    c.load_fate.ensures
+    ∙ fate-load args.clocks.now args.marks args.numbers.now args.access.thread args.access.cell args.access.order c.loop-i.i _ _ c.seen_slots-seen.ensures c.is_seen_before_yield-before_yield.ensures in
+    offer-equal _ _ _ _ _ _ c.loop-i.invariant.2 c.loop-i-test.true _ fated c.in-Equal.is
 
 pub loop-i-preserved : goal.loop-i-preserved
 loop-i-preserved c =
+    let fated : let args = c.args in
+    fate_of c.load_fate.result ≡ load_fate args.clocks.now args.marks args.numbers.now args.access.thread args.access.cell args.access.order c.loop-i.i =
+        let args = c.args in
+    c.load_fate.ensures
+    ∙ fate-load args.clocks.now args.marks args.numbers.now args.access.thread args.access.cell args.access.order c.loop-i.i _ _ c.seen_slots-seen.ensures c.is_seen_before_yield-before_yield.ensures in
     let h = c.loop-i-test.true in
     elim c.match-load_fate.branch [
-      | in-Kept w ↦ (search rules, search rules, offer-kept _ _ _ _ _ _ c.loop-i.invariant.2 h _ (fated c.before) _ _ w.in-Kept.is w.way_told-in-Kept-1 w.dst-is)
-      | in-Dropped w ↦ (search rules, search rules, offer-dropped _ _ _ _ _ _ c.loop-i.invariant.2 h _ (fated c.before) _ _ w.in-Dropped.is w.dst-is w.n-is)
+      | in-Kept w ↦ (search rules, search rules, offer-kept _ _ _ _ _ _ c.loop-i.invariant.2 h _ fated _ _ w.in-Kept.is w.dst-is w.n-is)
+      | in-Dropped w ↦ (search rules, search rules, offer-dropped _ _ _ _ _ _ c.loop-i.invariant.2 h _ fated _ _ w.in-Dropped.is w.dst-is w.n-is)
     ]
 
 pub returns : goal.returns

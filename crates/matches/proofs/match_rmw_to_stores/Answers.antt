@@ -20,7 +20,7 @@ pub loop-i-preserved : goal.loop-i-preserved
 loop-i-preserved c =
     let h = c.loop-i-test.true in
     elim c.match-rmw_fate.branch [
-      | in-Kept w ↦ (search rules, search rules, offer-kept _ _ _ _ _ _ c.loop-i.invariant.2 h _ c.rmw_fate.ensures _ _ w.in-Kept.is w.way_told-in-Kept-1 w.dst-is)
+      | in-Kept w ↦ (search rules, search rules, offer-kept _ _ _ _ _ _ c.loop-i.invariant.2 h _ c.rmw_fate.ensures _ _ w.in-Kept.is w.dst-is w.n-is)
       | in-Dropped w ↦ (search rules, search rules, offer-dropped _ _ _ _ _ _ c.loop-i.invariant.2 h _ c.rmw_fate.ensures _ _ w.in-Dropped.is w.dst-is w.n-is)
     ]
 

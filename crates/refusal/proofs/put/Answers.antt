@@ -16,4 +16,4 @@ returns-in-Good c =
 pub returns : goal.returns
 unfolding put_refusal
 returns c =
-    rw (eq-eqb _ 255 c.if-site-ne-NO_PLACE.false, ← c.judge.ensures, ← unnamed _ _ _ _ c.in_default.keys2) c.put-2.ensures
+    rw (eq-eqb _ 255 c.if-site-ne-NO_PLACE.false, ← c.judge.ensures, ← unnamed _ _ _ _ c.in_default.in_default-own.keys2) c.put-2.ensures

@@ -14,5 +14,5 @@ returns-else-names_place c =
 
 pub returns-in_default : goal.returns-in_default
 returns-in_default c =
-    let none = no_place c.args.answer c.in_default.keys3 in
+    let none = no_place c.args.answer c.in_default.in_default-own.keys3 in
     (c.nowhere-in_default.ensures.0 ∙ none.0, c.nowhere-in_default.ensures.1 ∙ none.1)

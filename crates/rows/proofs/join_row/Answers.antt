@@ -7,8 +7,8 @@ pub returns-then-is_ended : goal.returns-then-is_ended
 returns-then-is_ended c =
     let args = c.args in
     λ marks values opcode m.
-    joins-through args.clocks.now _ c.join_into-then-is_ended.new.0 marks values args.numbers.now args.site.thread args.site.row opcode _
-    (c.done.ensures c.join_into-then-is_ended.new.0 marks values opcode m)
+    joins-through args.clocks.now _ c.join_into-then-is_ended.new.clocks marks values args.numbers.now args.site.thread args.site.row opcode _
+    (c.done.ensures c.join_into-then-is_ended.new.clocks marks values opcode m)
     (c.raise.ensures marks values args.numbers.now)
     args.target _ _ c.is_ended.ensures c.if-is_ended.true c.join_into.ensures c.join_into-then-is_ended.ensures
 

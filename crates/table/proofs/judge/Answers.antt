@@ -10,12 +10,6 @@ use Rattle.table.proofs.Walks.{threads-on, threads-bad, threads-none, judged-bad
 use borrow.Author.Rules.{rules}
 use Rattle.table.proofs.judge.Goals as goal
 
-fine : (c : goal.Else-not-header_fine) → header_fine c.args.table.now ≡ true
-fine c = sym c.header_fine.ensures ∙ not-false c.header_fine.result c.if-not-header_fine.false-raw
-
-long : (c : goal.Else-not-header_fine) → header_bytes ≤ length c.args.table.now
-long c = header-long _ (fine c)
-
 pub returns-then-not-header_fine : goal.returns-then-not-header_fine
 returns-then-not-header_fine c = judged-bad _ (sym c.header_fine.ensures ∙ not-true c.header_fine.result c.if-not-header_fine.true-raw)
 
@@ -23,19 +17,41 @@ pub loop-thread-init : goal.loop-thread-init
 loop-thread-init c = (search rules, search rules, refl)
 
 pub bounds-table-thread : goal.bounds-table-thread
-bounds-table-thread c = omega (arith, long c.before.before.before)
+bounds-table-thread c =
+    let fine : header_fine c.args.table.now ≡ true =
+        sym c.header_fine.ensures ∙ not-false c.header_fine.result c.if-not-header_fine.false-raw in
+    let long : header_bytes ≤ length c.args.table.now =
+        header-long _ fine in
+    omega (arith, long)
 
 pub first_bad-row-requires : goal.first_bad-row-requires
-first_bad-row-requires c = (long c.before.before.before.before, search rules)
+first_bad-row-requires c =
+    let fine : header_fine c.args.table.now ≡ true =
+        sym c.header_fine.ensures ∙ not-false c.header_fine.result c.if-not-header_fine.false-raw in
+    let long : header_bytes ≤ length c.args.table.now =
+        header-long _ fine in
+    (long, search rules)
 
 pub returns-then-row-count : goal.returns-then-row-count
 returns-then-row-count c =
-    threads-bad _ (long c.before.before.before.before.before.before) _ _ _ c.loop-thread-test.true c.wide8-count.ensures.same c.first_bad-row.ensures c.if-row-count.true ∙ c.loop-thread.invariant.2 ∙ judged-rows _ (fine c.before.before.before.before.before.before)
+    let fine : header_fine c.args.table.now ≡ true =
+        sym c.header_fine.ensures ∙ not-false c.header_fine.result c.if-not-header_fine.false-raw in
+    let long : header_bytes ≤ length c.args.table.now =
+        header-long _ fine in
+    threads-bad _ long _ _ _ c.loop-thread-test.true c.wide8-count.ensures.same c.first_bad-row.ensures c.if-row-count.true ∙ c.loop-thread.invariant.2 ∙ judged-rows _ fine
 
 pub loop-thread-preserved : goal.loop-thread-preserved
 loop-thread-preserved c =
-    (search rules, search rules, threads-on _ (long c.before.before.before.before.before.before) _ _ _ c.loop-thread-test.true c.wide8-count.ensures.same c.first_bad-row.ensures c.if-row-count.false ∙ c.loop-thread.invariant.2)
+    let fine : header_fine c.args.table.now ≡ true =
+        sym c.header_fine.ensures ∙ not-false c.header_fine.result c.if-not-header_fine.false-raw in
+    let long : header_bytes ≤ length c.args.table.now =
+        header-long _ fine in
+    (search rules, search rules, threads-on _ long _ _ _ c.loop-thread-test.true c.wide8-count.ensures.same c.first_bad-row.ensures c.if-row-count.false ∙ c.loop-thread.invariant.2)
 
 pub returns : goal.returns
 returns c =
-    sym (threads-none _ (long c.before.before) c.loop-thread.thread _ c.loop-thread-test.false) ∙ c.loop-thread.invariant.2 ∙ judged-rows _ (fine c.before.before)
+    let fine : header_fine c.args.table.now ≡ true =
+        sym c.header_fine.ensures ∙ not-false c.header_fine.result c.if-not-header_fine.false-raw in
+    let long : header_bytes ≤ length c.args.table.now =
+        header-long _ fine in
+    sym (threads-none _ long c.loop-thread.thread _ c.loop-thread-test.false) ∙ c.loop-thread.invariant.2 ∙ judged-rows _ fine

@@ -7,7 +7,7 @@ pub returns-in_default : goal.returns-in_default
 returns-in_default c = wants-refused _ _ _ c.row_of.ensures c.in_default.is
 
 pub returns-in_default-op : goal.returns-in_default-op
-returns-in_default-op c = wants-else _ _ _ c.row_of.ensures _ c.in-Row.is c.in_default-op.keys2
+returns-in_default-op c = wants-else _ _ _ c.row_of.ensures _ c.in-Row.is c.in_default-op.in_default-op-own.keys2
 
 pub returns : goal.returns
 unfolding bytes_of

@@ -7,7 +7,7 @@ use Rattle.walk.proofs.meet.Goals as goal
 pub returns-in_default : goal.returns-in_default
 returns-in_default c =
     let args = c.args in
-    meet_stays args.at.cursor c.reach-met.result args.at.here args.question args.clocks.now args.marks.now args.values.now args.numbers.now args.path.now _ args.trace.now c.requires.1 c.reach-met.ensures c.in_default.keys2
+    meet_stays args.at.cursor c.reach-met.result args.at.here args.question args.clocks.now args.marks.now args.values.now args.numbers.now args.path.now _ args.trace.now c.requires.1 c.reach-met.ensures c.in_default.in_default-own.keys2
 
 pub returns-in_default-answer : goal.returns-in_default-answer
 returns-in_default-answer c =

@@ -17,4 +17,4 @@ returns-in-ZeroByKind c =
 pub returns-in_default : goal.returns-in_default
 unfolding put_wrong bytes_of
 returns-in_default c =
-    rw (← c.may_be.ensures, ← c.put_field-to.ensures, ← c.field_value-value.ensures, ← may-used _ _ _ _ _ c.in_default.keys3, ← c.fill-to.ensures) c.put_may.ensures
+    rw (← c.may_be.ensures, ← c.put_field-to.ensures, ← c.field_value-value.ensures, ← may-used _ _ _ _ _ c.in_default.in_default-own.keys3, ← c.fill-to.ensures) c.put_may.ensures

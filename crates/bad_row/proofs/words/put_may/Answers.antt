@@ -53,4 +53,4 @@ unfolding put_may bytes_of
 returns-in-OtherTarget c = rw c.in-OtherTarget.is c.fill-in-OtherTarget.ensures
 
 pub returns-in_default : goal.returns-in_default
-returns-in_default c = may_none _ _ _ c.in_default.keys13
+returns-in_default c = may_none _ _ _ c.in_default.in_default-own.keys13
