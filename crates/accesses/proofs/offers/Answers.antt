@@ -1,3 +1,4 @@
+use borrow.Enum.Refused.{opened}
 use borrow.Author.Rules.{rules}
 use Rattle.accesses.proofs.OpLaws.{row_within, load-within, rmw-within, offers-none, offers-load, offers-rmw, offers-other}
 use borrow.Author.Rules.{scaled_Fits}
@@ -27,4 +28,4 @@ returns-in-Rmw c =
     λ values. offers-rmw _ c.args.marks.now values _ c.args.here.site.thread _ _ _ c.in-Row.is _ _ _ _ _ c.in-Rmw.is _ c.match_rmw_to_stores.ensures
 
 pub returns-in_default-op : goal.returns-in_default-op
-returns-in_default-op c = λ values. offers-other _ _ values _ _ _ _ _ c.in-Row.is c.in_default-op.in_default-op-own.keys3
+returns-in_default-op c = λ values. offers-other _ _ values _ _ _ _ _ c.in-Row.is (opened c.in_default-op.in_default-op-own.keys3)

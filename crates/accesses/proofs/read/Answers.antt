@@ -1,3 +1,4 @@
+use borrow.Enum.Refused.{opened}
 use borrow.Author.Rules.{rules}
 use Rattle.accesses.proofs.OpLaws.{load-within, rmw-within, others, load-done, rmw-done}
 use Rattle.accesses.proofs.read.Goals as goal
@@ -17,4 +18,4 @@ pub returns-in-Rmw : goal.returns-in-Rmw
 returns-in-Rmw c = rmw-done _ _ _ _ _ _ _ _ _ _ c.in-Rmw.is c.rmw.ensures
 
 pub returns-in_default : goal.returns-in_default
-returns-in_default c = let args = c.args in (others args.op c.in_default.in_default-own.keys3).done _ args.thread args.slot
+returns-in_default c = let args = c.args in (others args.op (opened c.in_default.in_default-own.keys3)).done _ args.thread args.slot

@@ -14,7 +14,7 @@ loop-i-init c = (search rules, search rules, refl)
 pub behind-place-requires : goal.behind-place-requires
 behind-place-requires c =
     let h : c.loop-i.i < length c.args.text.now = ltb-true _ _ c.if-i-text.true-raw in
-    (omega (arith, c.loop-i.invariant.0, c.well-formed.0.1), omega (arith, c.loop-i.invariant.1, c.well-formed.0.1))
+    (omega (arith, c.loop-i.invariant.0, c.well_formed.0.1), omega (arith, c.loop-i.invariant.1, c.well_formed.0.1))
 
 pub loop-i-preserved : goal.loop-i-preserved
 loop-i-preserved c =

@@ -1,3 +1,4 @@
+use borrow.Enum.Refused.{opened}
 use mathlib.Core.Path.{refl}
 use Rattle.rules.specs.Machine.{acts_as}
 use Rattle.layout.specs.Tables.{state}
@@ -13,7 +14,7 @@ join_row-requires c =
 
 pub act_store-requires : goal.act_store-requires
 act_store-requires c =
-    (c.requires.0, c.requires.2, storing-of c.args.op c.in_default.in_default-own.keys6)
+    (c.requires.0, c.requires.2, storing-of c.args.op (opened c.in_default.in_default-own.keys6))
 
 pub returns-in-Load : goal.returns-in-Load
 unfolding acts_as

@@ -1,3 +1,4 @@
+use borrow.Enum.Refused.{opened}
 use Rattle.rules.specs.Machine.{acts_as}
 use Rattle.layout.specs.Tables.{state}
 use Rattle.execution.proofs.ActLaws.{op-within, asks-bit, alone-as, jumps-from, unless-from, checks-from}
@@ -70,4 +71,4 @@ returns-in-SkipBranch c =
 pub returns-in_default : goal.returns-in_default
 returns-in_default c =
     let args = c.args in
-    λ p clocks marks m. asks-bit p (state clocks marks args.values.now args.numbers.now) args.site.thread args.site.row args.op c.in_default.in_default-own.keys8 c.requires.2
+    λ p clocks marks m. asks-bit p (state clocks marks args.values.now args.numbers.now) args.site.thread args.site.row args.op (opened c.in_default.in_default-own.keys8) c.requires.2

@@ -1,3 +1,4 @@
+use borrow.Enum.Refused.{opened}
 use Rattle.rules.specs.Machine.{acts_as}
 use Rattle.layout.specs.Tables.{state}
 use Rattle.execution.proofs.ActLaws.{op-within, alone_of, alone-as}
@@ -26,7 +27,7 @@ plain_write_row-requires c =
 
 pub act_alone-requires : goal.act_alone-requires
 act_alone-requires c =
-    (c.requires.0, c.requires.1, alone_of c.args.op c.in_default.in_default-own.keys5 c.requires.2)
+    (c.requires.0, c.requires.1, alone_of c.args.op (opened c.in_default.in_default-own.keys5) c.requires.2)
 
 pub returns-in-UnsyncLoad : goal.returns-in-UnsyncLoad
 unfolding acts_as

@@ -1,3 +1,4 @@
+use borrow.Enum.Refused.{opened}
 use native.Mathlib.Omega.{arith}
 use mathlib.Core.List.{[]}
 use mathlib.Core.Path.{ap, sym, ◌∙◌}
@@ -38,7 +39,7 @@ returns-in_default-event c =
       | then-to_begin+else-shape-thread w ↦ inl w.struct_known-1.left
       | else-to_begin w ↦ inr w.if-to_begin.false
     ]) _ c.in-Row.is c.if-to_begin-2.true _
-    (begun-other p (state args.clocks.now args.marks.now args.values.now args.numbers.now) _ args.here.site.thread args.here.site.row _ _ _ _ c.begin-event.result limited (c.begin-event.ensures args.clocks.now args.marks.now args.values.now args.here.site.row _ _) c.in_default-event.in_default-event-own.keys2)
+    (begun-other p (state args.clocks.now args.marks.now args.values.now args.numbers.now) _ args.here.site.thread args.here.site.row _ _ _ _ c.begin-event.result limited (c.begin-event.ensures args.clocks.now args.marks.now args.values.now args.here.site.row _ _) (opened c.in_default-event.in_default-event-own.keys2))
 
 pub act-requires : goal.act-requires
 act-requires c =

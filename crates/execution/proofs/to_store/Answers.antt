@@ -1,3 +1,4 @@
+use borrow.Enum.Refused.{opened}
 use borrow.Author.Rules.{rules}
 use Rattle.execution.proofs.ActLaws.{op-within}
 use Rattle.execution.proofs.StoreLaws.{operand-stored, register-stored, nothing_stored}
@@ -16,4 +17,4 @@ returns-in-StoreRegister c =
     register-stored _ _ _ _ _ _ _ c.in-StoreRegister.is c.requires.1 c.register_of-value.ensures
 
 pub returns-in_default : goal.returns-in_default
-returns-in_default c = nothing_stored _ _ c.args.op c.in_default.in_default-own.keys3
+returns-in_default c = nothing_stored _ _ c.args.op (opened c.in_default.in_default-own.keys3)

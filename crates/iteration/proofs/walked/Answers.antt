@@ -1,3 +1,4 @@
+use borrow.Enum.Refused.{opened}
 use Prim.Native.Nat.{◌≤◌, ◌*◌, ◌-◌}
 use mathlib.Core.Path.{◌≡◌, refl}
 use lib.ListN.{length}
@@ -27,7 +28,7 @@ shape_of-trace-in_default c =
 
 pub returns-in_default : goal.returns-in_default
 returns-in_default c =
-    walks-ended _ _ _ _ _ c.loop.invariant.1 c.tick-ticked.result c.tick-ticked.ensures c.in_default.in_default-own.keys2
+    walks-ended _ _ _ _ _ c.loop.invariant.1 c.tick-ticked.result c.tick-ticked.ensures (opened c.in_default.in_default-own.keys2)
     (omega (arith, c.loop-test.true, c.ticks-fuel.ensures.is)) (omega (arith, c.loop-test.true, c.ticks-fuel.ensures.few))
 
 pub loop-preserved : goal.loop-preserved

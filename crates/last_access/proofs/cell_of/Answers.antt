@@ -1,3 +1,4 @@
+use borrow.Enum.Refused.{opened}
 use mathlib.Core.Path.{refl}
 use Rattle.last_access.specs.Access.{cell_in}
 use Rattle.steps.proofs.OpLaws.{op-as}
@@ -30,4 +31,4 @@ pub returns-in-PlainWrite : goal.returns-in-PlainWrite
 returns-in-PlainWrite c = op-as cell_in c.in-PlainWrite.is refl
 
 pub returns-in_default : goal.returns-in_default
-returns-in_default c = no_cell c.args.op c.in_default.in_default-own.keys9
+returns-in_default c = no_cell c.args.op (opened c.in_default.in_default-own.keys9)

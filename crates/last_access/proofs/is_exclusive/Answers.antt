@@ -1,3 +1,4 @@
+use borrow.Enum.Refused.{opened}
 use mathlib.Core.List.{[], ◌∷◌}
 use mathlib.Core.Path.{refl}
 use Rattle.last_access.specs.Access.{accesses}
@@ -11,4 +12,4 @@ pub returns-in-WithMut : goal.returns-in-WithMut
 returns-in-WithMut c read = op-as (accesses Exclusive read) c.in-WithMut.is refl
 
 pub returns-in_default : goal.returns-in_default
-returns-in_default c read = no_number (all_but (6 ∷ [])) c.args.op c.in_default.in_default-own.keys2 6 tt
+returns-in_default c read = no_number (all_but (6 ∷ [])) c.args.op (opened c.in_default.in_default-own.keys2) 6 tt

@@ -1,3 +1,4 @@
+use borrow.Enum.Refused.{opened}
 use mathlib.Core.List.{[], ◌∷◌}
 use mathlib.Core.Path.{refl}
 use Rattle.last_access.specs.Access.{accesses}
@@ -15,5 +16,5 @@ returns-in-Rmw c read = op-as (accesses Load read) c.in-Rmw.is refl
 
 pub returns-in_default : goal.returns-in_default
 returns-in_default c read =
-    let other = no_number (all_but (0 ∷ 3 ∷ [])) c.args.op c.in_default.in_default-own.keys3 in
+    let other = no_number (all_but (0 ∷ 3 ∷ [])) c.args.op (opened c.in_default.in_default-own.keys3) in
     rw (← other 0 tt, ← other 3 tt)

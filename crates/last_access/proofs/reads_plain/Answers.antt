@@ -1,3 +1,4 @@
+use borrow.Enum.Refused.{opened}
 use mathlib.Core.List.{[], ◌∷◌}
 use mathlib.Core.Path.{refl}
 use Rattle.last_access.specs.Access.{accesses}
@@ -11,4 +12,4 @@ pub returns-in-PlainRead : goal.returns-in-PlainRead
 returns-in-PlainRead c read = op-as (accesses PlainRead read) c.in-PlainRead.is refl
 
 pub returns-in_default : goal.returns-in_default
-returns-in_default c read = no_number (all_but (17 ∷ [])) c.args.op c.in_default.in_default-own.keys2 17 tt
+returns-in_default c read = no_number (all_but (17 ∷ [])) c.args.op (opened c.in_default.in_default-own.keys2) 17 tt

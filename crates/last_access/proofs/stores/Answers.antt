@@ -1,3 +1,4 @@
+use borrow.Enum.Refused.{opened}
 use mathlib.Core.Path.{refl}
 use Rattle.last_access.specs.Access.{stores_after}
 use Rattle.steps.proofs.OpLaws.{op-as}
@@ -16,4 +17,4 @@ returns-in-Rmw c =
     op-as (stores_after c.args.read) c.in-Rmw.is c.succeeds.ensures
 
 pub returns-in_default : goal.returns-in_default
-returns-in_default c = no_store c.args.op _ c.in_default.in_default-own.keys4
+returns-in_default c = no_store c.args.op _ (opened c.in_default.in_default-own.keys4)

@@ -6,11 +6,11 @@ use Rattle.meeting.proofs.add.Goals as goal
 
 pub added-requires : goal.added-requires
 added-requires c =
-    (pushes-thread-few c.push_thread-pushed.ensures, omega (arith, c.requires, c.well-formed), omega (arith, c.requires))
+    (pushes-thread-few c.push_thread-pushed.ensures, omega (arith, c.requires, c.well_formed), omega (arith, c.requires))
 
 pub added-requires-in-Bit : goal.added-requires-in-Bit
 added-requires-in-Bit c =
-    (pushes-few c.push_spurious-pushed.ensures (omega arith), omega (arith, c.requires, c.well-formed), omega (arith, c.requires))
+    (pushes-few c.push_spurious-pushed.ensures (omega arith), omega (arith, c.requires, c.well_formed), omega (arith, c.requires))
 
 pub returns-in-Thread : goal.returns-in-Thread
 returns-in-Thread c =

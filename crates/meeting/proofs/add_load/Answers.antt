@@ -13,7 +13,7 @@ returns-in_default c =
 
 pub added-requires : goal.added-requires
 added-requires c =
-    (pushes-few c.push_load-pushed.ensures (omega arith), omega (arith, c.requires, c.well-formed), omega (arith, c.requires))
+    (pushes-few c.push_load-pushed.ensures (omega arith), omega (arith, c.requires, c.well_formed), omega (arith, c.requires))
 
 pub returns : goal.returns
 returns c =

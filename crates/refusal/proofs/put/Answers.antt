@@ -1,3 +1,4 @@
+use borrow.Enum.Refused.{opened}
 use borrow.Author.Tests.{eq-eqb, ne_eqb}
 use Rattle.refusal.specs.Refusals.{put_refusal}
 use Rattle.refusal.proofs.RefusalLaws.{unnamed}
@@ -16,4 +17,4 @@ returns-in-Good c =
 pub returns : goal.returns
 unfolding put_refusal
 returns c =
-    rw (eq-eqb _ 255 c.if-site-ne-NO_PLACE.false, ← c.judge.ensures, ← unnamed _ _ _ _ c.in_default.in_default-own.keys2) c.put-2.ensures
+    rw (eq-eqb _ 255 c.if-site-ne-NO_PLACE.false, ← c.judge.ensures, ← unnamed _ _ _ _ (opened c.in_default.in_default-own.keys2)) c.put-2.ensures

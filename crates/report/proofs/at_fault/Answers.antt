@@ -1,3 +1,4 @@
+use borrow.Enum.Refused.{opened}
 use Rattle.report.proofs.CaseLaws.{no_place, placed, placeless}
 use mathlib.Core.Path.{◌∙◌}
 use borrow.Author.Rules.{rules}
@@ -14,5 +15,5 @@ returns-else-names_place c =
 
 pub returns-in_default : goal.returns-in_default
 returns-in_default c =
-    let none = no_place c.args.answer c.in_default.in_default-own.keys3 in
+    let none = no_place c.args.answer (opened c.in_default.in_default-own.keys3) in
     (c.nowhere-in_default.ensures.0 ∙ none.0, c.nowhere-in_default.ensures.1 ∙ none.1)

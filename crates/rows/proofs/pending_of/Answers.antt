@@ -1,3 +1,4 @@
+use borrow.Enum.Refused.{opened}
 use mathlib.Core.Path.{refl}
 use Rattle.rows.proofs.RowLaws.{pends-none, pends-as}
 use borrow.Author.Rules.{rules}
@@ -20,4 +21,4 @@ returns-in-Rmw c =
     pends-as _ _ _ _ c.in-Rmw.is c.on-in-Rmw.ensures c.requires (λ w. record { is = refl; within = w.0 })
 
 pub returns-in_default : goal.returns-in_default
-returns-in_default c = pends-none c.args.op c.in_default.in_default-own.keys5
+returns-in_default c = pends-none c.args.op (opened c.in_default.in_default-own.keys5)

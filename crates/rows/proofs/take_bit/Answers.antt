@@ -1,3 +1,4 @@
+use borrow.Enum.Refused.{opened}
 use native.Mathlib.Omega.{arith}
 use Prim.Native.Nat.{◌+◌}
 use mathlib.Core.Bool.{cond}
@@ -18,7 +19,7 @@ pub returns-in_default-op : goal.returns-in_default-op
 returns-in_default-op c =
     let args = c.args in
     λ clocks marks m.
-    bit-other (state clocks marks args.values.now args.numbers.now) args.here.site.thread args.here.site.row (cond args.bit 1 0) args.here.row _ c.in-Row.is c.in_default-op.in_default-op-own.keys2
+    bit-other (state clocks marks args.values.now args.numbers.now) args.here.site.thread args.here.site.row (cond args.bit 1 0) args.here.row _ c.in-Row.is (opened c.in_default-op.in_default-op-own.keys2)
 
 pub register_at-requires : goal.register_at-requires
 register_at-requires c =

@@ -1,3 +1,4 @@
+use borrow.Enum.Refused.{opened}
 use Rattle.rules.specs.Token.{bytes_of}
 use Rattle.verdict.proofs.VerdictLaws.{wants-refused, wants-else, wants-check}
 use borrow.Author.Rules.{rules}
@@ -7,7 +8,7 @@ pub returns-in_default : goal.returns-in_default
 returns-in_default c = wants-refused _ _ _ c.row_of.ensures c.in_default.is
 
 pub returns-in_default-op : goal.returns-in_default-op
-returns-in_default-op c = wants-else _ _ _ c.row_of.ensures _ c.in-Row.is c.in_default-op.in_default-op-own.keys2
+returns-in_default-op c = wants-else _ _ _ c.row_of.ensures _ c.in-Row.is (opened c.in_default-op.in_default-op-own.keys2)
 
 pub returns : goal.returns
 unfolding bytes_of

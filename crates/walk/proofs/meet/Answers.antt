@@ -1,3 +1,4 @@
+use borrow.Enum.Refused.{opened}
 use Rattle.walk.proofs.MeetLaws.{meet_stays, meet-unexpected, meet-answered}
 use native.Mathlib.Omega.{arith}
 use Rattle.walk.proofs.WalkLaws.{says-within}
@@ -7,7 +8,7 @@ use Rattle.walk.proofs.meet.Goals as goal
 pub returns-in_default : goal.returns-in_default
 returns-in_default c =
     let args = c.args in
-    meet_stays args.at.cursor c.reach-met.result args.at.here args.question args.clocks.now args.marks.now args.values.now args.numbers.now args.path.now _ args.trace.now c.requires.1 c.reach-met.ensures c.in_default.in_default-own.keys2
+    meet_stays args.at.cursor c.reach-met.result args.at.here args.question args.clocks.now args.marks.now args.values.now args.numbers.now args.path.now _ args.trace.now c.requires.1 c.reach-met.ensures (opened c.in_default.in_default-own.keys2)
 
 pub returns-in_default-answer : goal.returns-in_default-answer
 returns-in_default-answer c =
@@ -20,7 +21,7 @@ answered-event-requires c =
 
 pub passed-requires : goal.passed-requires
 passed-requires c =
-    omega (arith, c.reach-met.ensures.met.passed, c.reach-met.ensures.met.within, c.reach-met.auto, c.well-formed)
+    omega (arith, c.reach-met.ensures.met.passed, c.reach-met.ensures.met.within, c.reach-met.auto, c.well_formed)
 
 pub conclude-requires : goal.conclude-requires
 conclude-requires c =

@@ -1,3 +1,4 @@
+use borrow.Enum.Refused.{opened}
 use Rattle.walk.proofs.TakeLaws.{take-concludes, take-stays, take_meets}
 use native.Mathlib.Omega.{arith}
 use borrow.Author.Rules.{rules}
@@ -6,12 +7,12 @@ use Rattle.walk.proofs.take.Goals as goal
 pub returns-in_default : goal.returns-in_default
 returns-in_default c =
     let args = c.args in
-    take-concludes args.at.cursor args.at.here args.event args.at.limits.bound args.clocks.now args.marks.now args.values.now args.numbers.now args.path.now args.trace.now c.requires.1 c.conclude.result _ c.in_default.in_default-own.keys2 c.conclude.ensures
+    take-concludes args.at.cursor args.at.here args.event args.at.limits.bound args.clocks.now args.marks.now args.values.now args.numbers.now args.path.now args.trace.now c.requires.1 c.conclude.result _ (opened c.in_default.in_default-own.keys2) c.conclude.ensures
 
 pub returns-in_default-outcome : goal.returns-in_default-outcome
 returns-in_default-outcome c =
     let args = c.args in
-    take-stays args.at.cursor args.at.here args.event args.at.limits.bound args.clocks.now args.marks.now args.values.now args.numbers.now args.path.now args.trace.now c.requires.1 _ _ c.in-Asks.is c.note_if-noted.result _ c.note_if-noted.ensures c.in_default-outcome.in_default-outcome-own.keys2
+    take-stays args.at.cursor args.at.here args.event args.at.limits.bound args.clocks.now args.marks.now args.values.now args.numbers.now args.path.now args.trace.now c.requires.1 _ _ c.in-Asks.is c.note_if-noted.result _ c.note_if-noted.ensures (opened c.in_default-outcome.in_default-outcome-own.keys2)
 
 pub meet-requires : goal.meet-requires
 meet-requires c = (

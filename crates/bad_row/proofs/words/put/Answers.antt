@@ -1,3 +1,4 @@
+use borrow.Enum.Refused.{opened}
 use Rattle.rules.specs.Token.{bytes_of}
 use Rattle.bad_row.specs.Words.{put_value, put_wrong}
 use Rattle.bad_row.proofs.WordLaws.{may-used}
@@ -17,4 +18,4 @@ returns-in-ZeroByKind c =
 pub returns-in_default : goal.returns-in_default
 unfolding put_wrong bytes_of
 returns-in_default c =
-    rw (← c.may_be.ensures, ← c.put_field-to.ensures, ← c.field_value-value.ensures, ← may-used _ _ _ _ _ c.in_default.in_default-own.keys3, ← c.fill-to.ensures) c.put_may.ensures
+    rw (← c.may_be.ensures, ← c.put_field-to.ensures, ← c.field_value-value.ensures, ← may-used _ _ _ _ _ (opened c.in_default.in_default-own.keys3), ← c.fill-to.ensures) c.put_may.ensures

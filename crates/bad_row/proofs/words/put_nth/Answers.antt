@@ -18,7 +18,11 @@ loop-i-preserved c =
     let h = c.loop-i-test.true in
     let left = c.loop-i.invariant.2 in (
       search rules,
-      ⊎_elim (λ w. omega arith) (λ w. ⊎_elim (λ v. omega arith) (λ v. omega arith) w) c.if-list-i-eq44.branch,
+      elim c.if-list-i-eq44.branch [
+        | then-list-i-eq44 w ↦ omega arith
+        | else-list-i-eq44+then-past-n w ↦ omega arith
+        | else-list-i-eq44+else-past-n w ↦ omega arith
+      ],
       elim c.if-list-i-eq44.branch [
         | then-list-i-eq44 w ↦ rw (w.page-is, w.to-is, w.past-is) (part-comma _ _ _ _ _ _ left h w.if-list-i-eq44.true)
         | else-list-i-eq44+then-past-n w ↦ rw (w.page-is, w.to-is, w.past-is) (part-byte _ _ _ _ _ _ left h _ w.put-to.ensures w.if-list-i-eq44.false w.if-past-n.true)

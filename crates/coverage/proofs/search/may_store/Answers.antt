@@ -1,3 +1,4 @@
+use borrow.Enum.Refused.{opened}
 use mathlib.Core.Path.{refl}
 use Rattle.coverage.proofs.SearchLaws.{stores_as, stores-else}
 use borrow.Author.Rules.{rules}
@@ -16,4 +17,4 @@ returns-in-Rmw c =
     stores_as _ _ _ _ _ _ c.in-Row.is c.in-Rmw.is c.one_if-in-Rmw.ensures refl
 
 pub returns-in_default-op : goal.returns-in_default-op
-returns-in_default-op c = stores-else _ _ _ c.in-Row.is c.in_default-op.in_default-op-own.keys4
+returns-in_default-op c = stores-else _ _ _ c.in-Row.is (opened c.in_default-op.in_default-op-own.keys4)

@@ -1,3 +1,4 @@
+use borrow.Enum.Refused.{opened}
 use mathlib.Core.Path.{refl}
 use Rattle.coverage.proofs.SearchLaws.{switches-none, switches_on, switches-off, switches-else}
 use borrow.Author.Rules.{rules}
@@ -16,4 +17,4 @@ pub returns-in-SkipBranch : goal.returns-in-SkipBranch
 returns-in-SkipBranch c = switches-off c.args.on _ _ c.in-Row.is _ c.in-SkipBranch.is refl refl
 
 pub returns-in_default-op : goal.returns-in_default-op
-returns-in_default-op c = switches-else c.args.on _ _ c.in-Row.is c.in_default-op.in_default-op-own.keys4
+returns-in_default-op c = switches-else c.args.on _ _ c.in-Row.is (opened c.in_default-op.in_default-op-own.keys4)

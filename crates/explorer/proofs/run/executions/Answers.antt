@@ -36,7 +36,7 @@ pub stop-requires : goal.stop-requires
 stop-requires c =
     let noted = c.execute-over.ensures.gone.placed.noted in
     let within = greater-within c.further-progress.ensures.longer c.loop-answer.invariant.0.room noted (omega (arith, c.execute-over.auto)) in
-    let good = c.well-formed in (
+    let good = c.well_formed in (
       omega (arith, noted, ap (λ (d : Cursor). d.entries) c.further-progress.ensures.same-cursor, c.execute-over.auto, c.loop-answer.invariant.1, c.loop-answer.invariant.2, good),
       omega (arith, within, c.execute-over.auto, c.loop-answer.invariant.1, c.loop-answer.invariant.2, good),
     )

@@ -1,3 +1,4 @@
+use borrow.Enum.Refused.{opened}
 use Rattle.steps.specs.Holds.{acted}
 use Rattle.steps.proofs.OpLaws.{op-as, op-in, no-act}
 use borrow.Author.Rules.{rules}
@@ -112,4 +113,4 @@ returns-in-PlainWrite c =
     op-as (acted g.held.now g.thread g.value g.step) c.in-PlainWrite.is c.write.ensures
 
 pub returns-in_default : goal.returns-in_default
-returns-in_default c = let g = c.args in no-act g.held.now g.thread g.value g.step g.op c.in_default.in_default-own.keys10
+returns-in_default c = let g = c.args in no-act g.held.now g.thread g.value g.step g.op (opened c.in_default.in_default-own.keys10)

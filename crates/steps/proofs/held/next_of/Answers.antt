@@ -1,3 +1,4 @@
+use borrow.Enum.Refused.{opened}
 use mathlib.Core.Path.{refl}
 use Rattle.steps.specs.Holds.{next_of}
 use Rattle.steps.proofs.HoldLaws.{jump-from}
@@ -34,4 +35,4 @@ returns-in-JumpUnless c =
     op-as (next_of g.held.now g.thread g.row) c.in-JumpUnless.is (jump-from _ _ _ c.register_of-in-JumpUnless.ensures c.after_jump-in-JumpUnless.ensures)
 
 pub returns-in_default : goal.returns-in_default
-returns-in_default c = let g = c.args in no_jump g.held.now g.thread g.row g.op c.in_default.in_default-own.keys4
+returns-in_default c = let g = c.args in no_jump g.held.now g.thread g.row g.op (opened c.in_default.in_default-own.keys4)

@@ -19,7 +19,7 @@ go_on-requires c =
 
 pub overflow_add-i : goal.overflow_add-i
 overflow_add-i c =
-    omega (arith, c.well-formed, operation-within _ _ _ (says c.operation.ensures c.in-Row.is))
+    omega (arith, c.well_formed, operation-within _ _ _ (says c.operation.ensures c.in-Row.is))
 
 pub act-requires : goal.act-requires
 act-requires c =

@@ -8,19 +8,28 @@ use Rattle.track.proofs.LastAccessLaws.{grown-none, grown-joined, recorded-load,
 use Rattle.track.proofs.access.set_last_access.Goals as goal
 use Rattle.track.proofs.access.set_last_access.Goals.{else-last_dependent_branch, then-last_dependent_branch}
 
-grew : (c : goal.After-row-2-1) (marks : Marks) (values : Values) →
+pub returns-then-operation-ne-A_LOAD : goal.returns-then-operation-ne-A_LOAD
+returns-then-operation-ne-A_LOAD c =
+    let grew : (marks : Marks) (values : Values) →
     let args = c.args in
-    c.raise-schedule.result.versions ≡ grown_by (state args.clocks.now marks values args.numbers.now) args.thread args.operation.action args.operation.cell
-grew c marks values =
-    let args = c.args in
+    c.raise-schedule.result.versions ≡ grown_by (state args.clocks.now marks values args.numbers.now) args.thread args.operation.action args.operation.cell =
+        λ marks values. let args = c.args in
     let st = state args.clocks.now marks values args.numbers.now in
     elim c.if-last_dependent_branch.branch [
       | then-last_dependent_branch w ↦ grown-joined st args.thread args.operation.action args.operation.cell _ _ _ c.last_dependent_branch.ensures c.raise-schedule.ensures w.if-last_dependent_branch.true _ w.last_dependent_version-version.ensures (rw w.schedule-is w.join-schedule.ensures)
       | else-last_dependent_branch w ↦ grown-none st args.thread args.operation.action args.operation.cell _ _ _ c.last_dependent_branch.ensures c.raise-schedule.ensures w.if-last_dependent_branch.false (rw w.schedule-is)
-    ]
-
-pub returns-then-operation-ne-A_LOAD : goal.returns-then-operation-ne-A_LOAD
-returns-then-operation-ne-A_LOAD c = λ marks values. recorded-other _ marks values _ _ _ _ _ _ (grew c.before.before.before marks values) c.if-operation-ne-A_LOAD.true
+    ] in
+    λ marks values. recorded-other _ marks values _ _ _ _ _ _ (grew marks values) c.if-operation-ne-A_LOAD.true
 
 pub returns-else-operation-ne-A_LOAD : goal.returns-else-operation-ne-A_LOAD
-returns-else-operation-ne-A_LOAD c = λ marks values. recorded-load _ marks values _ _ _ _ _ _ (grew c.before.before.before marks values) c.if-operation-ne-A_LOAD.false
+returns-else-operation-ne-A_LOAD c =
+    let grew : (marks : Marks) (values : Values) →
+    let args = c.args in
+    c.raise-schedule.result.versions ≡ grown_by (state args.clocks.now marks values args.numbers.now) args.thread args.operation.action args.operation.cell =
+        λ marks values. let args = c.args in
+    let st = state args.clocks.now marks values args.numbers.now in
+    elim c.if-last_dependent_branch.branch [
+      | then-last_dependent_branch w ↦ grown-joined st args.thread args.operation.action args.operation.cell _ _ _ c.last_dependent_branch.ensures c.raise-schedule.ensures w.if-last_dependent_branch.true _ w.last_dependent_version-version.ensures (rw w.schedule-is w.join-schedule.ensures)
+      | else-last_dependent_branch w ↦ grown-none st args.thread args.operation.action args.operation.cell _ _ _ c.last_dependent_branch.ensures c.raise-schedule.ensures w.if-last_dependent_branch.false (rw w.schedule-is)
+    ] in
+    λ marks values. recorded-load _ marks values _ _ _ _ _ _ (grew marks values) c.if-operation-ne-A_LOAD.false
