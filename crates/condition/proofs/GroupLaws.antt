@@ -7,12 +7,12 @@ use Prim.Native.Nat.{ℕ, zero, suc, ◌+◌, ◌-◌, ◌≤◌, ◌<◌}
 use native.Mathlib.Omega.{arith}
 use mathlib.Core.Bool.{Bool, true, false}
 use mathlib.Core.List.{List}
-use mathlib.Core.Path.{◌≡◌, sym, subst, ◌∙◌}
+use mathlib.Core.Path.{◌≡◌, sym, ◌∙◌}
 use lib.ListN.{length, drop, length-drop}
 use lib.Seq.{drop-drop}
 use borrow.Author.Tests.{eq-eqb, ne_eqb}
 use Rattle.rules.specs.Condition.{Read, bad, read, next_byte, closes, group_at, behind, may_join, joined_by}
-use Rattle.condition.specs.Reads.{ReadsCondition, NextByte, read_of}
+use Rattle.condition.specs.Reads.{ReadsCondition, NextByte}
 use Rattle.condition.specs.declared.Read as code
 use Rattle.condition.specs.declared.Read.TheVariants.{Bad, Value}
 

@@ -7,15 +7,15 @@ use native.Mathlib.Omega.{arith}
 use native.Mathlib.Nat.{add-zero, add_assoc}
 use native.Mathlib.Numerals.{sub-one}
 use mathlib.Core.Bool.{Bool, true, false, cond, ◌&&◌}
-use mathlib.Core.List.{List, []}
-use mathlib.Core.Path.{◌≡◌, refl, ap, sym, ◌∙◌}
-use lib.Dec.{ltb, leb, eqb}
+use mathlib.Core.List.{List}
+use mathlib.Core.Path.{◌≡◌, refl, ap, subst, sym, ◌∙◌}
+use lib.Dec.{ltb}
 use lib.ListN.{length, get_or, drop, length-drop, drop_of_length-le}
 use lib.Seq.{get_or-drop, drop-drop}
 use borrow.Author.Tests.{lt-leb, le-leb, eq-eqb, ne_eqb}
 use Rattle.rules.specs.Table.{u16_at, u32_at, u64_at, is_register}
-use Rattle.rules.specs.Condition.{Read, bad, read, next_byte, opens, is_sign, compared, comparison_at, condition_at, group_at}
-use Rattle.condition.specs.Reads.{ReadsCondition, NextByte}
+use Rattle.rules.specs.Condition.{bad, read, next_byte, opens, is_sign, compared, comparison_at, condition_at, group_at}
+use Rattle.condition.specs.Reads.{ReadsCondition, NextByte, read_of}
 use Rattle.condition.specs.declared.Read as code
 use Rattle.condition.specs.declared.Read.TheVariants.{Bad, Value}
 
@@ -68,4 +68,6 @@ module _ (threads : ℕ) (register : ℕ → ℕ → ℕ) (bytes : List ℕ) (at
   unfolding condition_at
   opened zero n e z h = absurd (z refl)
   opened (suc deep) n e z h =
-      record { is = rw (eq-eqb _ _ (sym n.is ∙ e), drop-drop) (rw sub-one at h.is); on = omega (arith, h.on); within = h.within }
+      let less = subst (λ (k : ℕ). read_of bytes r ≡ group_at (condition_at threads register k) (drop (at + 1) bytes)) (sub-one (suc deep)) h.is in
+      let joined = less ∙ ap (λ (bs : List ℕ). group_at (condition_at threads register deep) bs) (sym (drop-drop 1 at bytes)) in
+      record { is = rw (eq-eqb _ _ (sym n.is ∙ e)) joined; on = omega (arith, h.on); within = h.within }

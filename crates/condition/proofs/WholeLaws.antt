@@ -4,16 +4,16 @@
 --     none-holds, bad-fails, read-holds          whether it holds
 use Prim.Native.Nat.{ℕ, zero, suc, ◌+◌, ◌-◌, ◌*◌, ◌≤◌, ◌<◌}
 use native.Mathlib.Omega.{arith}
-use mathlib.Core.Bool.{Bool, true, false, ◌&&◌}
+use mathlib.Core.Bool.{Bool, true, false}
 use mathlib.Core.List.{List, [], ◌∷◌}
 use mathlib.Core.Path.{◌≡◌, refl, ap, sym, ◌∙◌}
-use lib.Dec.{leb, eqb, eqb-suc-zero}
+use lib.Dec.{eqb, eqb-suc-zero}
 use lib.ListN.{length, get_or, drop, length-drop, replicate}
 use borrow.Author.Tests.{lt-leb, le-leb, eq-eqb, ne_eqb}
 use Rattle.rules.specs.Condition as rules
 use Rattle.rules.specs.Condition.{bad, read, condition_at, claim_at, ends, groups_deep, is_condition, holds}
 use Rattle.rules.specs.State.{values_held}
-use Rattle.condition.specs.Reads.{ReadsCondition, register_value, read_of, found_in}
+use Rattle.condition.specs.Reads.{ReadsCondition, register_value, found_in}
 use Rattle.condition.specs.declared.Read as code
 use Rattle.condition.specs.declared.Read.TheVariants.{Bad, Value}
 use Rattle.condition.specs.declared.Extent.{Extent}

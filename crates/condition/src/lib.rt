@@ -81,7 +81,7 @@ pub fn is_condition(bytes: &[u8], threads: usize) -> bool
 
 // Where the condition ends with which these bytes begin, or which byte of it is the first bad one.
 pub fn first_bad(bytes: &[u8], threads: usize) -> Extent
-    ensures* { λ r. ⌜ r ≡ found_in (length bytes.now) (rules.condition_at threads (λ t r. 0) rules.groups_deep bytes.now) ⌝ }
+    ensures { result ≡ found_in (length bytes.now) (rules.condition_at threads (λ t r. 0) rules.groups_deep bytes.now) }
 {
     let zeros = [0u64; VALUES];
     match condition(bytes, &zeros, threads, DEEP, 0) {

@@ -1,6 +1,5 @@
 use native.Mathlib.Omega.{arith}
 use Rattle.condition.proofs.ReadLaws.{here, past}
-use borrow.Author.Rules.{rules}
 use Rattle.condition.proofs.byte_at.Goals as goal
 
 pub returns-then-at-bytes : goal.returns-then-at-bytes

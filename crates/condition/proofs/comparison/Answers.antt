@@ -1,6 +1,5 @@
 use mathlib.Core.Path.{refl}
 use Rattle.condition.proofs.ReadLaws.{short, wrong, right}
-use borrow.Author.Rules.{rules}
 use Rattle.condition.proofs.comparison.Goals as goal
 
 pub returns-then-bytes-at-lt-COMPARISON : goal.returns-then-bytes-at-lt-COMPARISON

@@ -1,5 +1,4 @@
 use Rattle.condition.proofs.WholeLaws.{found-bad, found-end}
-use borrow.Author.Rules.{rules}
 use Rattle.condition.proofs.first_bad.Goals as goal
 
 pub returns-in-Bad : goal.returns-in-Bad

@@ -1,5 +1,4 @@
 use Rattle.condition.proofs.WholeLaws.{none-holds, bad-fails, read-holds}
-use borrow.Author.Rules.{rules}
 use Rattle.condition.proofs.holds.Goals as goal
 
 pub returns-then-bytes-eq0 : goal.returns-then-bytes-eq0

@@ -1,5 +1,4 @@
 use Rattle.condition.proofs.WholeLaws.{none-fine, long-bad, bad-bad, end-fine}
-use borrow.Author.Rules.{rules}
 use Rattle.condition.proofs.is_condition.Goals as goal
 
 pub returns-then-bytes-eq0 : goal.returns-then-bytes-eq0

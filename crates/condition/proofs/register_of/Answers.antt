@@ -2,7 +2,6 @@ use native.Mathlib.Omega.{arith}
 use mathlib.Core.Path.{sym, ap, ◌∙◌}
 use Prim.Native.Nat.{ℕ, ◌+◌}
 use lib.ListN.{get_or-eq_default, get_or}
-use borrow.Author.Rules.{rules}
 use Rattle.condition.proofs.register_of.Goals as goal
 
 pub overflow_add-at : goal.overflow_add-at
