@@ -1,7 +1,6 @@
 use borrow.Author.Tests.{lt-ltb, le-ltb}
 use Rattle.rules.specs.Token.{bytes_of}
 use Rattle.bad_condition.specs.Conditions.{put_found, put_bad_condition}
-use borrow.Author.Rules.{rules}
 use Rattle.bad_condition.proofs.put.Goals as goal
 
 pub returns-then-condition-gt-CONDITION_BYTES : goal.returns-then-condition-gt-CONDITION_BYTES

@@ -1,7 +1,6 @@
 use borrow.Author.Tests.{le-leb, lt-leb}
 use Rattle.rules.specs.Token.{bytes_of}
 use Rattle.bad_condition.specs.Conditions.{put_bad}
-use borrow.Author.Rules.{rules}
 use Rattle.bad_condition.proofs.put_bad.Goals as goal
 
 pub returns-then-condition-from : goal.returns-then-condition-from

@@ -4,7 +4,6 @@ use lib.ListN.{length}
 use borrow.Author.Tests.{lt-ltb, le-ltb, le-leb, lt-leb}
 use Rattle.rules.specs.Token.{bytes_of}
 use Rattle.bad_condition.specs.Conditions.{put_bad_comparison}
-use borrow.Author.Rules.{rules}
 use Rattle.bad_condition.proofs.put_bad_comparison.Goals as goal
 
 pub returns-then-condition-from-lt-COMPARISON : goal.returns-then-condition-from-lt-COMPARISON

@@ -1,7 +1,6 @@
 use borrow.Author.Tests.{eq-eqb, ne_eqb}
 use Rattle.rules.specs.Token.{bytes_of}
 use Rattle.bad_condition.specs.Conditions.{put_reason}
-use borrow.Author.Rules.{rules}
 use Rattle.bad_condition.proofs.put_reason.Goals as goal
 
 pub returns-then-is_sign : goal.returns-then-is_sign
