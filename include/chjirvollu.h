@@ -1,4 +1,4 @@
-/* The explorer's entries for C. Link target/staticlib/libexports.a, which 'rt staticlib exports' proves and writes (x86-64).
+/* The explorer's entries for C. Link crates/exports/out/libexports.a, which tools/library proves and writes (x86-64).
    docs/FORMAT.md has the bytes of a table, of a path and of a trace, and says what each number means; docs/GRAMMAR.md has those of a
    final condition, and the grammar of texts. */
 #ifndef CHJIRVOLLU_H

@@ -23,7 +23,7 @@ returns-in_default c =
     let args = c.args in
     λ p limited celled.
     next-refused p (state args.clocks.now args.marks.now args.values.now args.numbers.now) args.here.site.thread args.here.site.row _ _ (c.is_to_begin-to_begin.ensures args.clocks.now args.marks.now args.values.now) args.here.row (elim c.if-to_begin.branch [
-      | then-to_begin+else-shape-thread w ↦ inl w.struct_known-1.left
+      | then-to_begin+else-shape-thread w ↦ inl w.if-shape-thread.false
       | else-to_begin w ↦ inr w.if-to_begin.false
     ]) c.in_default.is
 
@@ -36,7 +36,7 @@ returns-in_default-event c =
     let args = c.args in
     λ p limited celled.
     next-begins p (state args.clocks.now args.marks.now args.values.now args.numbers.now) args.here.site.thread args.here.site.row _ _ (c.is_to_begin-to_begin.ensures args.clocks.now args.marks.now args.values.now) args.here.row (elim c.if-to_begin.branch [
-      | then-to_begin+else-shape-thread w ↦ inl w.struct_known-1.left
+      | then-to_begin+else-shape-thread w ↦ inl w.if-shape-thread.false
       | else-to_begin w ↦ inr w.if-to_begin.false
     ]) _ c.in-Row.is c.if-to_begin-2.true _
     (begun-other p (state args.clocks.now args.marks.now args.values.now args.numbers.now) _ args.here.site.thread args.here.site.row _ _ _ _ c.begin-event.result limited (c.begin-event.ensures args.clocks.now args.marks.now args.values.now args.here.site.row _ _) (opened c.in_default-event.in_default-event-own.keys2))
@@ -50,7 +50,7 @@ returns c =
     let args = c.args in
     λ p limited celled.
     next-acts p (state args.clocks.now args.marks.now args.values.now args.numbers.now) args.here.site.thread args.here.site.row _ _ (c.is_to_begin-to_begin.ensures args.clocks.now args.marks.now args.values.now) args.here.row (elim c.if-to_begin.branch [
-      | then-to_begin+else-shape-thread w ↦ inl w.struct_known-1.left
+      | then-to_begin+else-shape-thread w ↦ inl w.if-shape-thread.false
       | else-to_begin w ↦ inr w.if-to_begin.false
     ]) _ c.in-Row.is
     (state args.clocks.now args.marks.now args.values.now c.if-to_begin-2.numbers)

@@ -9,12 +9,12 @@ returns c =
     let threads = c.wide16 in
     let args = c.args in
     let cleared = c.clear.new in
-    let made = c.make_cells.new.1 in
-    let plained = c.make_plains.new.1 in
+    let made = c.make_cells.new in
+    let plained = c.make_plains.new in
     λ p a b d e f.
     let held = e ∙ sym c.wide16-cells.ensures.same in
-    start-as p cleared.0 cleared.1.0 cleared.1.1.0 cleared.1.1.1.0 args.table.now args.exploring
+    start-as p cleared.clocks cleared.marks cleared.values cleared.numbers args.table.now args.exploring
     threads.result c.wide16-cells.result c.wide16-plains.result
-    (state made.0 made.1.0 made.1.1.0 made.1.1.1.0) (state plained.0 made.1.0 plained.1.0 made.1.1.1.0) _ a b
+    (state made.clocks made.marks made.values made.numbers) (state plained.clocks made.marks plained.values made.numbers) _ a b
     (d ∙ sym threads.ensures.same) held (f ∙ sym c.wide16-plains.ensures.same)
-    c.clear.ensures c.make_cells.ensures (c.make_plains.ensures made.1.0 made.1.1.1.0 (rw a at held)) (c.start_threads.ensures made.1.0 plained.1.0)
+    c.clear.ensures c.make_cells.ensures (c.make_plains.ensures made.marks made.numbers (rw a at held)) (c.start_threads.ensures made.marks plained.values)

@@ -124,7 +124,7 @@ mod tests {
         assert_eq!(part.files.len(), (PLACE_BITS + VALUE_BITS) as usize);
         let (file, text) = &part.files[3];
         assert_eq!(file, "Place3");
-        assert!(text.contains("\ncase : bit 3 (place (toldInto (exploredInto ("), "{text}");
+        assert!(text.contains("\ncase : bit 3 (place (told_into (explored_into ("), "{text}");
         assert!(text.contains(" ∷ []) ∷ [])) ≡ 1\n"), "{text}");
         assert_eq!(part.files.last().map(|(file, _)| file.as_str()), Some("Value19"));
     }

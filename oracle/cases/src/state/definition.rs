@@ -101,7 +101,7 @@ mod tests {
             let source = definition.files.iter().find(|source| source.name == name);
             source.expect(name).shut.clone()
         };
-        assert!(shut("Explored").contains(&"exploredInto".to_string()));
+        assert!(shut("Explored").contains(&"explored_into".to_string()));
         assert!(shut("Explorer").contains(&"tick".to_string()));
         assert!(shut("Lib").is_empty());
     }

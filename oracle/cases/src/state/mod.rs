@@ -94,7 +94,7 @@ impl Heading {
             rules.chain([("told", &told)]).filter(|(_, source)| !source.shut.is_empty())
         {
             let name = &source.name;
-            heading.uses += &format!("use Rattle·{of}.specs.{name} as {name}\n");
+            heading.uses += &format!("use Rattle.{of}.specs.{name} as {name}\n");
             for shut in &source.shut {
                 heading.unfolding += &format!(" {name}.{shut}");
             }
@@ -110,14 +110,11 @@ impl Heading {
 }
 
 const USES: &str = "\
-use Prim.Native.Nat.{ℕ}
-use mathlib.Core.List.{List, [], _∷_, _++_}
-use mathlib.Core.Path.{_≡_, refl}
-use mathlib.Core.Bool.{true, false}
-use lib.ListN.{replicate}
-use Rattle·rules.specs.Path.{unbounded, atMost}
-use Rattle·rules.specs.Explored.{explored, exploredInto}
-use Rattle·told.specs.Told.{told, toldInto, summaries, pattern, records, place, value, bit}
+use mathlib.Core.Path.{◌≡◌, refl}
+use Rattle.std.specs.Prelude.{ℕ, List, [], ◌∷◌, ◌++◌, true, false, replicate}
+use Rattle.rules.specs.Path.{unbounded, at_most}
+use Rattle.rules.specs.Explored.{explored, explored_into}
+use Rattle.told.specs.Told.{told, told_into, summaries, pattern, records, place, value, bit}
 ";
 
 /// What the definition gives, as a term, and what the oracle answered.
@@ -127,7 +124,7 @@ pub fn sides(case: &Case, answer: &Answer) -> [String; 2] {
 
 fn given(case: &Case) -> String {
     let s = &case.settings;
-    let bound = s.bound.map_or_else(|| "unbounded".to_string(), |bound| format!("atMost {bound}"));
+    let bound = s.bound.map_or_else(|| "unbounded".to_string(), |bound| format!("at_most {bound}"));
     let settings = format!(
         "record {{ branches = {}; operations = {}; executions = {}; bound = {bound}; exploring = {} }}",
         s.branches, s.operations, s.executions, s.exploring
@@ -137,7 +134,7 @@ fn given(case: &Case) -> String {
     let run = format!("{program} ({settings}) (pattern {}) (pattern {})", case.path, case.trace);
     match case.list {
         None => format!("told (explored {run})"),
-        Some(places) => format!("toldInto (exploredInto {run} (records {places}))"),
+        Some(places) => format!("told_into (explored_into {run} (records {places}))"),
     }
 }
 
@@ -223,7 +220,7 @@ mod tests {
         let (case, answer) = first();
         let case = Case { list: Some(5), ..case };
         let after = |list| stated(&case, &Answer { list, ..answer.clone() });
-        assert!(given(&case).starts_with("toldInto (exploredInto ("));
+        assert!(given(&case).starts_with("told_into (explored_into ("));
         assert!(given(&case).ends_with(" (pattern 48) (pattern 16) (records 5))"));
         assert!(after(ListLeft::Unchanged).ends_with(") ∷ summaries (records 5) ∷ [])"));
         let five = list(answer.numbers[9..].iter().copied(), "[]");
@@ -242,7 +239,7 @@ mod tests {
         let (mut case, _) = first();
         case.settings.bound = Some(3);
         case.settings.exploring = false;
-        assert!(given(&case).contains("; bound = atMost 3; exploring = false }"));
+        assert!(given(&case).contains("; bound = at_most 3; exploring = false }"));
     }
 
     #[test]
@@ -250,8 +247,8 @@ mod tests {
         let text = Heading::new(&definition()).statement("g1.2", "a", "b");
         let lines: Vec<&str> = text.lines().collect();
         assert_eq!(lines[0], "-- g1.2");
-        assert!(lines.contains(&"use Rattle·rules.specs.Path as Path"));
-        assert!(lines.contains(&"use Rattle·told.specs.Told as Told"));
+        assert!(lines.contains(&"use Rattle.rules.specs.Path as Path"));
+        assert!(lines.contains(&"use Rattle.told.specs.Told as Told"));
         assert!(!text.contains("as State"));
         let [.., signature, unfolding, proof] = lines[..] else { panic!("{text}") };
         assert_eq!([signature, proof], ["case : a ≡ b", "case = refl"]);
