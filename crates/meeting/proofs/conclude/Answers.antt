@@ -14,7 +14,7 @@ returns-in-Done c =
 
 pub returns-in-Asks : goal.returns-in-Asks
 returns-in-Asks c =
-    conclude-asks c.args.here c.args.cursor c.faulted.result c.args.event _ c.requires (opened c.in-Asks.in-Asks-own.keys3) c.faulted.ensures
+    conclude-asks c.args.here c.args.cursor c.faulted.result c.args.event _ c.requires c.in-Asks.in-Asks-own.keys3 c.faulted.ensures
 
 pub returns-in-Ends : goal.returns-in-Ends
 returns-in-Ends c =
