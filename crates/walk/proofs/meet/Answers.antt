@@ -13,7 +13,7 @@ returns-in_default c =
 pub returns-in_default-answer : goal.returns-in_default-answer
 returns-in_default-answer c =
     let args = c.args in
-    meet-unexpected args.at.cursor c.reach-met.result args.at.here args.question args.clocks.now args.marks.now args.values.now args.numbers.now args.path.now _ args.trace.now c.requires.1 c.reach-met.ensures c.in-Goes.is c.reach-met.auto.1.1.1.0 c.answer.result c.answer.ensures c.in_default-answer.is c.faulted.result c.faulted.ensures
+    meet-unexpected args.at.cursor c.reach-met.result args.at.here args.question args.clocks.now args.marks.now args.values.now args.numbers.now args.path.now _ args.trace.now c.requires.1 c.reach-met.ensures c.in-Goes.is c.reach-met.auto.path c.answer.result c.answer.ensures c.in_default-answer.is c.faulted.result c.faulted.ensures
 
 pub answered-event-requires : goal.answered-event-requires
 answered-event-requires c =
@@ -33,4 +33,4 @@ shape_of-path c = omega (arith, c.reach-met.auto)
 pub returns : goal.returns
 returns c =
     let args = c.args in
-    meet-answered args.at.cursor c.reach-met.result args.at.here args.question args.clocks.now args.marks.now args.values.now args.numbers.now args.path.now _ args.trace.now c.requires.1 c.reach-met.ensures _ c.answered-event.result _ _ _ _ _ c.passed.ensures (c.answered-event.ensures _) c.conclude.result _ c.conclude.ensures c.in-Goes.is c.reach-met.auto.1.1.1.0 c.answer.result c.answer.ensures c.in-Says.is
+    meet-answered args.at.cursor c.reach-met.result args.at.here args.question args.clocks.now args.marks.now args.values.now args.numbers.now args.path.now _ args.trace.now c.requires.1 c.reach-met.ensures _ c.answered-event.result _ _ _ _ _ c.passed.ensures (c.answered-event.ensures _) c.conclude.result _ c.conclude.ensures c.in-Goes.is c.reach-met.auto.path c.answer.result c.answer.ensures c.in-Says.is

@@ -32,4 +32,4 @@ shape_of-trace c =
 pub returns : goal.returns
 returns c =
     let args = c.args in
-    take_meets args.at.cursor args.at.here args.event args.at.limits.bound args.clocks.now args.marks.now args.values.now args.numbers.now args.path.now args.trace.now c.requires.1 _ _ c.in-Asks.is c.note_if-noted.result _ c.note_if-noted.ensures c.mark-cursor.result _ c.mark-cursor.ensures c.mark-cursor.auto.1.1.0 c.in-Goes.is c.meet.result _ c.meet.ensures
+    take_meets args.at.cursor args.at.here args.event args.at.limits.bound args.clocks.now args.marks.now args.values.now args.numbers.now args.path.now args.trace.now c.requires.1 _ _ c.in-Asks.is c.note_if-noted.result _ c.note_if-noted.ensures c.mark-cursor.result _ c.mark-cursor.ensures c.mark-cursor.auto.path c.in-Goes.is c.meet.result _ c.meet.ensures
