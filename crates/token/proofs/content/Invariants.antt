@@ -1,11 +1,7 @@
-use Prim.Native.Nat.{◌-◌}
-use mathlib.Core.Path.{◌≡◌, refl, sym, ◌∙◌, ap}
-use borrow.Author.Tests.{not-true, not-false}
+use mathlib.Core.Path.{◌≡◌}
 use lib.ListN.{drop}
-use Rattle.rules.specs.Token.{is_blank, past_blanks, content}
+use Rattle.rules.specs.Token.{content}
 use Rattle.token.specs.Places.{Between}
-use Rattle.token.proofs.PlaceLaws.{left_by, between-here, between-on, between_run, between-line, content-out, content-end, content-here, content-on}
-use borrow.Author.Rules.{rules}
 use Rattle.token.proofs.content.Given as goal
 
 abbrev pub invariant-loop-left : goal.invariant-loop-left

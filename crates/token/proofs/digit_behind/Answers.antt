@@ -1,6 +1,5 @@
 use mathlib.Core.Path.{◌∙◌}
 use Rattle.token.proofs.WordLaws.{behind-long, behind-letter, behind-digit}
-use borrow.Author.Rules.{rules}
 use Rattle.token.proofs.digit_behind.Goals as goal
 
 pub returns-then-word-ne2 : goal.returns-then-word-ne2

@@ -1,4 +1,3 @@
-use borrow.Author.Rules.{rules}
 use Rattle.token.proofs.is_of.Goals as goal
 
 pub returns-in-Blank : goal.returns-in-Blank

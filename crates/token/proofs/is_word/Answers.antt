@@ -1,4 +1,3 @@
-use borrow.Author.Rules.{rules}
 use Rattle.token.proofs.is_word.Goals as goal
 
 pub returns : goal.returns

@@ -1,10 +1,7 @@
 use Prim.Native.Nat.{◌+◌, ◌-◌}
 use mathlib.Core.Path.{◌≡◌}
-use native.Mathlib.Omega.{arith}
 use lib.ListN.{length, drop}
 use Rattle.rules.specs.Token.{line_length}
-use Rattle.token.proofs.PlaceLaws.{line-past, line_on, line-stops}
-use borrow.Author.Rules.{rules}
 use Rattle.token.proofs.next_line.Given as goal
 
 abbrev pub invariant-loop-to : goal.invariant-loop-to

@@ -1,5 +1,4 @@
 use mathlib.Core.Path.{◌≡◌, ap, sym, ◌∙◌}
-use mathlib.Core.Logic.{⊎_elim}
 use native.Mathlib.Omega.{arith}
 use Rattle.rules.specs.Token.{number_in}
 use Rattle.token.specs.Places.{part}
@@ -8,22 +7,29 @@ use borrow.Author.Rules.{rules}
 use Rattle.token.proofs.number.Goals as goal
 use Rattle.token.proofs.number.Goals.{else-word-gt1, then-word-gt1+else-word-eq48}
 
--- what decimal found, by either way past a leading zero
-parsed : (c : goal.After-number) → parsed_of c.number.result ≡ number_in (part c.args.from c.args.to c.args.text.now)
-parsed c =
+pub returns-then-word-eq48 : goal.returns-then-word-eq48
+returns-then-word-eq48 c = number-zero c.part-word.result.now (search rules) c.if-word-eq48.true ∙ ap number_in c.part-word.ensures
+
+pub returns-in-Number : goal.returns-in-Number
+returns-in-Number c =
+    let parsed : parsed_of c.number.result ≡ number_in (part c.args.from c.args.to c.args.text.now) =
     let word = c.part-word.result.now in
     ap parsed_of c.number.ensures
     ∙ elim c.if-word-gt1.branch [
       | then-word-gt1+else-word-eq48 a ↦ number-first word (omega (arith, a.if-word-gt1.true)) a.if-word-eq48.false
       | else-word-gt1 b ↦ number_short word (omega (arith, b.if-word-gt1.false))
     ]
-    ∙ ap number_in c.part-word.ensures
-
-pub returns-then-word-eq48 : goal.returns-then-word-eq48
-returns-then-word-eq48 c = number-zero c.part-word.result.now (search rules) c.if-word-eq48.true ∙ ap number_in c.part-word.ensures
-
-pub returns-in-Number : goal.returns-in-Number
-returns-in-Number c = ap parsed_of (sym c.in-Number.is) ∙ parsed (goal.at.returns-in-Number c).After-number
+    ∙ ap number_in c.part-word.ensures in
+    ap parsed_of (sym c.in-Number.is) ∙ parsed
 
 pub returns-in-Bad : goal.returns-in-Bad
-returns-in-Bad c = ap parsed_of (sym c.in-Bad.is) ∙ parsed (goal.at.returns-in-Bad c).After-number
+returns-in-Bad c =
+    let parsed : parsed_of c.number.result ≡ number_in (part c.args.from c.args.to c.args.text.now) =
+    let word = c.part-word.result.now in
+    ap parsed_of c.number.ensures
+    ∙ elim c.if-word-gt1.branch [
+      | then-word-gt1+else-word-eq48 a ↦ number-first word (omega (arith, a.if-word-gt1.true)) a.if-word-eq48.false
+      | else-word-gt1 b ↦ number_short word (omega (arith, b.if-word-gt1.false))
+    ]
+    ∙ ap number_in c.part-word.ensures in
+    ap parsed_of (sym c.in-Bad.is) ∙ parsed

@@ -1,5 +1,4 @@
 use Rattle.token.proofs.PlaceLaws.{part-past, part_none, part-all}
-use borrow.Author.Rules.{rules}
 use Rattle.token.proofs.part.Goals as goal
 
 pub returns-then-text-from : goal.returns-then-text-from

@@ -1,13 +1,8 @@
-use Prim.Native.Nat.{◌+◌, ◌-◌}
-use mathlib.Core.Path.{◌≡◌, refl, sym, ◌∙◌, ap}
+use Prim.Native.Nat.{◌+◌}
+use mathlib.Core.Path.{◌≡◌}
 use lib.ListN.{length, drop}
-use Rattle.rules.specs.Vector.{equal}
-use Rattle.rules.specs.Token.{past_blanks, place_in}
-use Rattle.token.specs.Places.{part}
+use Rattle.rules.specs.Token.{place_in}
 use Rattle.token.specs.Finds.{words_in}
-use Rattle.token.proofs.PlaceLaws.{left_by}
-use Rattle.token.proofs.ListLaws.{place_out, place_end, place_here, place-on}
-use borrow.Author.Rules.{rules}
 use Rattle.token.proofs.place_in.Given as goal
 
 abbrev pub invariant-loop-left : goal.invariant-loop-left

@@ -1,6 +1,5 @@
 use mathlib.Core.Path.{ap, ◌∙◌}
 use Rattle.rules.specs.Token.{plain_in}
-use borrow.Author.Rules.{rules}
 use Rattle.token.proofs.plain.Goals as goal
 
 pub returns : goal.returns

@@ -1,6 +1,5 @@
 use mathlib.Core.Path.{ap, ◌∙◌}
 use Rattle.rules.specs.Token.{register_in}
-use borrow.Author.Rules.{rules}
 use Rattle.token.proofs.register.Goals as goal
 
 pub returns : goal.returns

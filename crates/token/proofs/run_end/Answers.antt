@@ -1,12 +1,8 @@
-use Prim.Native.Nat.{◌+◌, ◌-◌}
-use mathlib.Core.Path.{◌≡◌, sym, ◌∙◌}
+use mathlib.Core.Path.{sym, ◌∙◌}
 use native.Mathlib.Omega.{arith}
 use borrow.Author.Tests.{not-true, not-false}
-use lib.ListN.{length, drop}
-use Rattle.rules.specs.Token.{run_length}
 use Rattle.token.specs.Places.{is_of}
 use Rattle.token.proofs.PlaceLaws.{run_past, run_on, run-stops}
-use borrow.Author.Rules.{rules}
 use Rattle.token.proofs.run_end.Goals as goal
 
 pub returns-then-not-is_of : goal.returns-then-not-is_of

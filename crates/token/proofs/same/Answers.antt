@@ -1,7 +1,4 @@
-use Prim.Native.Nat.{◌-◌}
-use mathlib.Core.Path.{◌≡◌, refl, ◌∙◌}
-use lib.ListN.{length, drop}
-use Rattle.rules.specs.Vector.{equal}
+use mathlib.Core.Path.{refl, ◌∙◌}
 use Rattle.token.proofs.PlaceLaws.{same-on, same_differs, same_end, same-long}
 use borrow.Author.Rules.{rules}
 use Rattle.token.proofs.same.Goals as goal

@@ -1,9 +1,7 @@
 use Prim.Native.Nat.{◌-◌}
-use mathlib.Core.Path.{◌≡◌, refl, ◌∙◌}
+use mathlib.Core.Path.{◌≡◌}
 use lib.ListN.{length, drop}
 use Rattle.rules.specs.Vector.{equal}
-use Rattle.token.proofs.PlaceLaws.{same-on, same_differs, same_end, same-long}
-use borrow.Author.Rules.{rules}
 use Rattle.token.proofs.same.Given as goal
 
 abbrev pub invariant-loop-i : goal.invariant-loop-i

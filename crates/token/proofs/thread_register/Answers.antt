@@ -1,25 +1,10 @@
-use Prim.Native.Nat.{ℕ, ◌-◌}
-use mathlib.Core.List.{List}
+use Prim.Native.Nat.{◌-◌}
 use mathlib.Core.Path.{◌≡◌, ap, sym, ◌∙◌}
 use lib.ListN.{get_or}
 use Rattle.rules.specs.Token.{found, found_if, is_between}
 use Rattle.token.specs.Finds.{found_of}
 use Rattle.token.proofs.WordLaws.{only-not, digit-most, thread-register-long, thread-register-point, thread-register-letter, thread-register-thread, thread-register-register, thread-register-all, owned-none, owned-found}
-use borrow.Author.Rules.{rules}
 use Rattle.token.proofs.thread_register.Goals as goal
-
--- the word, the digit of its thread, and that of its register
-abbrev word : tie.After-digit → List ℕ
-word c = c.before.before.before.before.before.before.before.part.result.now
-
-thread : (c : goal.In-Value-2) → found_if (is_between 48 52 (get_or (word c) 0 0)) (get_or (word c) 0 0 - 48) ≡ found c.in-Value.thread
-thread c = sym c.digit.ensures ∙ ap found_of c.in-Value.is
-
-abbrev first : tie.After-register → tie.After-thread
-first c = c.before.before.before.before.before
-
-register : (c : goal.In-Value-digit-2) → found_if (is_between 48 51 (get_or (word (first c).before.before) 3 0)) (get_or (word (first c).before.before) 3 0 - 48) ≡ found c.in-Value-digit.register
-register c = sym c.digit-2.ensures ∙ ap found_of c.in-Value-digit.is
 
 pub returns-then-word-ne4 : goal.returns-then-word-ne4
 returns-then-word-ne4 c =
@@ -50,11 +35,13 @@ returns-in_default-digit c =
 
 pub returns : goal.returns
 returns c =
-    let one = first c in
-    let three = one.before.before.before.before in
-    let two = three.before.before in
-    let long = two.before.before in
-    owned-found _ _ long.before.part.ensures _ _
-    (thread-register-all (word one.before.before) _ _ long.if1.left two.if2.left three.if3.left (thread one) (register (goal.at.returns c).In-Value-digit-2))
-    (digit-most 52 (get_or (word one.before.before) 0 0) _ (thread one))
-    (digit-most 51 (get_or (word one.before.before) 3 0) _ (register (goal.at.returns c).In-Value-digit-2))
+    let got = c.part-word in
+    let word = got.result.now in
+    let thread : found_if (is_between 48 52 (get_or word 0 0)) (get_or word 0 0 - 48) ≡ found c.in-Value.thread =
+    sym c.digit.ensures ∙ ap found_of c.in-Value.is in
+    let register : found_if (is_between 48 51 (get_or word 3 0)) (get_or word 3 0 - 48) ≡ found c.in-Value-digit.register =
+    sym c.digit-2.ensures ∙ ap found_of c.in-Value-digit.is in
+    owned-found _ _ got.ensures _ _
+    (thread-register-all word _ _ c.if-word-ne4.false c.if-word-ne46.false c.if-word-ne114.false thread register)
+    (digit-most 52 (get_or word 0 0) _ thread)
+    (digit-most 51 (get_or word 3 0) _ register)

@@ -1,12 +1,7 @@
-use Prim.Native.Nat.{◌+◌, ◌-◌}
 use mathlib.Core.List.{[]}
-use mathlib.Core.Path.{◌≡◌, refl, sym, ◌∙◌}
+use mathlib.Core.Path.{◌≡◌}
 use lib.ListN.{length, get_or, drop}
-use Rattle.rules.specs.Token.{past_blanks}
 use Rattle.token.specs.Finds.{words_in}
-use Rattle.token.proofs.PlaceLaws.{left_by}
-use Rattle.token.proofs.ListLaws.{word_out, word_end, word-here, word_on}
-use borrow.Author.Rules.{rules}
 use Rattle.token.proofs.word_at.Given as goal
 
 abbrev pub invariant-loop-left : goal.invariant-loop-left
