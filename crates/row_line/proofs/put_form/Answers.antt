@@ -15,7 +15,7 @@ overflow_add-from-in-loop-from c =
     let turn : Next c.args.forms.now (get_or c.args.fields 0 0) (get_or c.args.fields 4 0) c.loop-from.from =
         look-next _ _ _ _ c.loop-from-test.true c.loop-from.invariant.0 in
     let two : c.loop-from.from + 1 < length c.args.forms.now =
-        λ = let n. turn in two-there n.form n.rest c.args.forms.now c.loop-from.from n.left in
+        let n = turn in two-there n.form n.rest c.args.forms.now c.loop-from.from n.left in
     omega (arith, two)
 
 pub bounds-forms-from-in-loop-from : goal.bounds-forms-from-in-loop-from
@@ -23,7 +23,7 @@ bounds-forms-from-in-loop-from c =
     let turn : Next c.args.forms.now (get_or c.args.fields 0 0) (get_or c.args.fields 4 0) c.loop-from.from =
         look-next _ _ _ _ c.loop-from-test.true c.loop-from.invariant.0 in
     let two : c.loop-from.from + 1 < length c.args.forms.now =
-        λ = let n. turn in two-there n.form n.rest c.args.forms.now c.loop-from.from n.left in
+        let n = turn in two-there n.form n.rest c.args.forms.now c.loop-from.from n.left in
     two
 
 pub overflow_sub-to : goal.overflow_sub-to
