@@ -22,5 +22,5 @@ returns c =
     let two = coming-on _ _ _ _ _ _ _ _ _ _ refl one c.put_name-named.ensures in
     let three = coming-on _ _ _ _ _ _ _ _ (bytes_of "line ") _ refl two c.put_bytes-of_line.ensures in
     let four = coming-on _ _ _ _ _ _ _ _ _ _ refl three c.put_number-line_put.ensures in
-    let five = coming-on _ _ _ _ _ _ _ _ (bytes_of ", c ") _ refl four c.put_bytes-of_column.ensures in
+    let five = coming-on _ _ _ _ _ _ _ _ (bytes_of ", column ") _ refl four c.put_bytes-of_column.ensures in
     (coming-on _ _ _ _ _ _ _ _ _ _ refl five c.put_number-column_put.ensures).whole _ _ c.put_bytes.ensures
