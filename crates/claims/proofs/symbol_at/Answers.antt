@@ -8,10 +8,6 @@ use Rattle.claims.proofs.UnitLaws.{symbol-most, symbol-none, symbol-sign, symbol
 use borrow.Author.Rules.{rules}
 use Rattle.claims.proofs.symbol_at.Goals as goal
 
--- the byte that the token is
-value : (c : goal.In-Value-2) → symbol_in (part c.args.at c.args.to c.args.text.now) ≡ found c.in-Value.symbol
-value c = sym c.symbol.ensures ∙ ap found_of c.in-Value.is
-
 pub returns-in_default : goal.returns-in_default
 returns-in_default c =
     let a = c.args in
@@ -19,14 +15,20 @@ returns-in_default c =
 
 pub returns-then-symbol : goal.returns-then-symbol
 returns-then-symbol c =
+    let value : symbol_in (part c.args.at c.args.to c.args.text.now) ≡ found c.in-Value.symbol =
+        sym c.symbol.ensures ∙ ap found_of c.in-Value.is in
     let a = c.args in
-    symbol-sign a.text.now a.at a.to _ (value (goal.at.returns-then-symbol c).In-Value-2) _ c.none-then-symbol.ensures c.if-symbol.true
+    symbol-sign a.text.now a.at a.to _ value _ c.none-then-symbol.ensures c.if-symbol.true
 
 pub overflow_cast-result : goal.overflow_cast-result
 overflow_cast-result c =
-    omega (arith, symbol-most _ _ (value (goal.at.overflow_cast-result c).In-Value-2))
+    let value : symbol_in (part c.args.at c.args.to c.args.text.now) ≡ found c.in-Value.symbol =
+        sym c.symbol.ensures ∙ ap found_of c.in-Value.is in
+    omega (arith, symbol-most _ _ value)
 
 pub returns : goal.returns
 returns c =
+    let value : symbol_in (part c.args.at c.args.to c.args.text.now) ≡ found c.in-Value.symbol =
+        sym c.symbol.ensures ∙ ap found_of c.in-Value.is in
     let a = c.args in
-    symbol-here a.text.now a.at a.to _ (value (goal.at.returns c).In-Value-2) c.if-symbol.false
+    symbol-here a.text.now a.at a.to _ value c.if-symbol.false

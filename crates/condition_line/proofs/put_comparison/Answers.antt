@@ -7,13 +7,11 @@ use Rattle.condition_line.proofs.UnitLaws.{comparison-whole}
 use borrow.Author.Rules.{rules}
 use Rattle.condition_line.proofs.put_comparison.Goals as goal
 
--- no buffer is longer
-long : (c : goal.After-slice_known-1) → length c.args.text.now ≤ last
-long c = omega arith
-
 pub returns : goal.returns
 returns c =
+    let long : length c.args.text.now ≤ last =
+        omega arith in
     puts-are _ _ _ _ _ _ (comparison-whole _ _ _ c.u64_at.ensures)
-    (puts_then _ _ _ _ _ _ _ _ (long c.before.before.before.before.before.before.before.before.before.before.before.before.before.before.before.before.before.before.before.before.before.before) c.put_bytes-named.ensures
+    (puts_then _ _ _ _ _ _ _ _ long c.put_bytes-named.ensures
     (puts_then _ _ _ _ _ _ _ _ (omega arith) c.put_symbol-signed.ensures
     (puts_then _ _ _ _ _ _ _ _ (omega arith) c.put_byte-blank.ensures c.put_number.ensures)))

@@ -10,19 +10,16 @@ use Rattle.excerpt.proofs.SeenLaws.{refused-whole}
 use borrow.Author.Rules.{rules}
 use Rattle.excerpt.proofs.put.Goals as goal
 
--- no place or buffer is past the last
-low : (c : goal.After-slice_known-1) → c.args.at ≤ last
-low c = omega arith
-
-long : (c : goal.After-slice_known-1) → length c.args.page.now ≤ last
-long c = omega arith
-
 pub returns : goal.returns
 returns c =
+    let low : c.args.at ≤ last =
+        omega arith in
+    let long : length c.args.page.now ≤ last =
+        omega arith in
     let shown = c.excerpt_at-shown.result in
     let a = c.args in
     let whole = refused-whole a.name.now a.text.now a.line a.column shown _ _ c.excerpt_at-shown.ensures c.rows_before-row.ensures c.token_before-before.ensures in
-    let all = coming-all _ a.at (refused_shown a.name.now a.text.now a.line a.column) (low c.before.before.before.before.before.before.before.before.before.before.before.before.before.before.before.before.before.before.before.before.before) (long c.before.before.before.before.before.before.before.before.before.before.before.before.before.before.before.before.before.before.before.before.before) in
+    let all = coming-all _ a.at (refused_shown a.name.now a.text.now a.line a.column) low long in
     let one = coming-on _ _ _ _ _ _ _ _ _ _ whole all c.put_place-named.ensures in
     let two = coming-on _ _ _ _ _ _ _ _ (what_shown a.text.now c.rows_before-row.result shown.begin c.token_before-before.result shown.place) _ refl one c.put_what-what.ensures in
     (coming-on _ _ _ _ _ _ _ _ _ _ refl two c.put_line-behind.ensures).whole _ _ c.put_caret.ensures

@@ -9,18 +9,15 @@ use Rattle.excerpt.proofs.SeenLaws.{line-whole}
 use borrow.Author.Rules.{rules}
 use Rattle.excerpt.proofs.put_line.Goals as goal
 
--- no place or buffer is past the last
-low : (c : goal.After-slice_known-1) → c.args.at ≤ last
-low c = omega arith
-
-long : (c : goal.After-slice_known-1) → length c.args.page.now ≤ last
-long c = omega arith
-
 pub returns : goal.returns
 returns c =
+    let low : c.args.at ≤ last =
+        omega arith in
+    let long : length c.args.page.now ≤ last =
+        omega arith in
     let a = c.args in
     let whole = line-whole a.text.now a.shown.begin a.shown.place _ c.first_shown-from.ensures a.shown.end _ _ c.last_shown-last.ensures c.part.ensures in
-    let all = coming-all _ a.at (line_shown a.text.now a.shown.begin a.shown.place a.shown.end) (low c.before.before.before.before.before.before.before.before.before.before.before.before.before.before.before.before.before.before.before.before.before.before.before.before.before.before) (long c.before.before.before.before.before.before.before.before.before.before.before.before.before.before.before.before.before.before.before.before.before.before.before.before.before.before) in
+    let all = coming-all _ a.at (line_shown a.text.now a.shown.begin a.shown.place a.shown.end) low long in
     let one = coming-on _ _ _ _ _ _ _ _ _ _ whole all c.put_bytes-indent.ensures in
     let two = coming-on _ _ _ _ _ _ _ _ _ _ refl one c.put_dots-cut.ensures in
     let three = coming-on _ _ _ _ _ _ _ _ _ _ refl two c.put_seen-seen.ensures in

@@ -6,58 +6,86 @@ use Rattle.filling.proofs.HeldLaws.{mid-threads, mid-count, mid-long, length-row
 use borrow.Author.Rules.{rules}
 use Rattle.filling.proofs.add_row.Goals as goal
 
--- there is room for a row more
-room : (c : goal.After-row_bytes-bytes) → c.args.length + length c.row_bytes-bytes.result ≤ length c.args.table.now
-room c =
-    let nine : length c.args.fields ≡ 9 = search rules in
-    let a = c.args in
-    let p = c.requires in
-    omega (arith, ap length c.row_bytes-bytes.ensures ∙ length-row_bytes a.fields nine, row_room a.table.now a.length p.holds.made p.holds.held p.some p.fewer)
-
 pub append-requires : goal.append-requires
-append-requires c = room c.before.before
+append-requires c =
+    let room : c.args.length + length c.row_bytes-bytes.result ≤ length c.args.table.now =
+        let nine : length c.args.fields ≡ 9 = search rules in
+        let a = c.args in
+        let p = c.requires in
+        omega (arith, ap length c.row_bytes-bytes.ensures ∙ length-row_bytes a.fields nine, row_room a.table.now a.length p.holds.made p.holds.held p.some p.fewer) in
+    room
 
 pub overflow_cast-thread : goal.overflow_cast-thread
 overflow_cast-thread c =
+    let room : c.args.length + length c.row_bytes-bytes.result ≤ length c.args.table.now =
+        let nine : length c.args.fields ≡ 9 = search rules in
+        let a = c.args in
+        let p = c.requires in
+        omega (arith, ap length c.row_bytes-bytes.ensures ∙ length-row_bytes a.fields nine, row_room a.table.now a.length p.holds.made p.holds.held p.some p.fewer) in
     let a = c.args in
     let p = c.requires in
     let h = p.holds.held in
-    omega (arith, h.threads, h.room, mid-threads a.table.now a.length p.holds.made h c.row_bytes-bytes.result _ (room c.before.before.before.before.before.before) c.append.ensures, mid-long a.table.now a.length p.holds.made h c.row_bytes-bytes.result _ (room c.before.before.before.before.before.before) c.append.ensures)
+    omega (arith, h.threads, h.room, mid-threads a.table.now a.length p.holds.made h c.row_bytes-bytes.result _ room c.append.ensures, mid-long a.table.now a.length p.holds.made h c.row_bytes-bytes.result _ room c.append.ensures)
 
 pub overflow_add-rows : goal.overflow_add-rows
 overflow_add-rows c =
+    let room : c.args.length + length c.row_bytes-bytes.result ≤ length c.args.table.now =
+        let nine : length c.args.fields ≡ 9 = search rules in
+        let a = c.args in
+        let p = c.requires in
+        omega (arith, ap length c.row_bytes-bytes.ensures ∙ length-row_bytes a.fields nine, row_room a.table.now a.length p.holds.made p.holds.held p.some p.fewer) in
     let a = c.args in
     let p = c.requires in
     let h = p.holds.held in
-    omega (arith, h.threads, h.room, mid-threads a.table.now a.length p.holds.made h c.row_bytes-bytes.result _ (room c.before.before.before.before.before.before) c.append.ensures, mid-long a.table.now a.length p.holds.made h c.row_bytes-bytes.result _ (room c.before.before.before.before.before.before) c.append.ensures)
+    omega (arith, h.threads, h.room, mid-threads a.table.now a.length p.holds.made h c.row_bytes-bytes.result _ room c.append.ensures, mid-long a.table.now a.length p.holds.made h c.row_bytes-bytes.result _ room c.append.ensures)
 
 pub bounds-table-thread : goal.bounds-table-thread
 bounds-table-thread c =
+    let room : c.args.length + length c.row_bytes-bytes.result ≤ length c.args.table.now =
+        let nine : length c.args.fields ≡ 9 = search rules in
+        let a = c.args in
+        let p = c.requires in
+        omega (arith, ap length c.row_bytes-bytes.ensures ∙ length-row_bytes a.fields nine, row_room a.table.now a.length p.holds.made p.holds.held p.some p.fewer) in
     let a = c.args in
     let p = c.requires in
     let h = p.holds.held in
-    omega (arith, h.threads, h.room, mid-threads a.table.now a.length p.holds.made h c.row_bytes-bytes.result _ (room c.before.before.before.before.before.before.before) c.append.ensures, mid-long a.table.now a.length p.holds.made h c.row_bytes-bytes.result _ (room c.before.before.before.before.before.before.before) c.append.ensures)
+    omega (arith, h.threads, h.room, mid-threads a.table.now a.length p.holds.made h c.row_bytes-bytes.result _ room c.append.ensures, mid-long a.table.now a.length p.holds.made h c.row_bytes-bytes.result _ room c.append.ensures)
 
 pub overflow_add-table : goal.overflow_add-table
 overflow_add-table c =
+    let room : c.args.length + length c.row_bytes-bytes.result ≤ length c.args.table.now =
+        let nine : length c.args.fields ≡ 9 = search rules in
+        let a = c.args in
+        let p = c.requires in
+        omega (arith, ap length c.row_bytes-bytes.ensures ∙ length-row_bytes a.fields nine, row_room a.table.now a.length p.holds.made p.holds.held p.some p.fewer) in
     let a = c.args in
     let p = c.requires in
     let h = p.holds.held in
-    omega (arith, h.threads, h.room, mid-threads a.table.now a.length p.holds.made h c.row_bytes-bytes.result _ (room c.before.before.before.before.before.before.before) c.append.ensures, row-fewer a.table.now a.length p.holds.made h p.some p.fewer, mid-count a.table.now a.length p.holds.made h p.some p.fewer c.row_bytes-bytes.result _ (room c.before.before.before.before.before.before.before) c.append.ensures)
+    omega (arith, h.threads, h.room, mid-threads a.table.now a.length p.holds.made h c.row_bytes-bytes.result _ room c.append.ensures, row-fewer a.table.now a.length p.holds.made h p.some p.fewer, mid-count a.table.now a.length p.holds.made h p.some p.fewer c.row_bytes-bytes.result _ room c.append.ensures)
 
 pub overflow_add-table-2 : goal.overflow_add-table-2
 overflow_add-table-2 c =
+    let room : c.args.length + length c.row_bytes-bytes.result ≤ length c.args.table.now =
+        let nine : length c.args.fields ≡ 9 = search rules in
+        let a = c.args in
+        let p = c.requires in
+        omega (arith, ap length c.row_bytes-bytes.ensures ∙ length-row_bytes a.fields nine, row_room a.table.now a.length p.holds.made p.holds.held p.some p.fewer) in
     let a = c.args in
     let p = c.requires in
     let h = p.holds.held in
-    omega (arith, h.threads, h.room, mid-threads a.table.now a.length p.holds.made h c.row_bytes-bytes.result _ (room c.before.before.before.before.before.before.before) c.append.ensures, mid-long a.table.now a.length p.holds.made h c.row_bytes-bytes.result _ (room c.before.before.before.before.before.before.before) c.append.ensures)
+    omega (arith, h.threads, h.room, mid-threads a.table.now a.length p.holds.made h c.row_bytes-bytes.result _ room c.append.ensures, mid-long a.table.now a.length p.holds.made h c.row_bytes-bytes.result _ room c.append.ensures)
 
 pub bounds-table-thread-2 : goal.bounds-table-thread-2
 bounds-table-thread-2 c =
+    let room : c.args.length + length c.row_bytes-bytes.result ≤ length c.args.table.now =
+        let nine : length c.args.fields ≡ 9 = search rules in
+        let a = c.args in
+        let p = c.requires in
+        omega (arith, ap length c.row_bytes-bytes.ensures ∙ length-row_bytes a.fields nine, row_room a.table.now a.length p.holds.made p.holds.held p.some p.fewer) in
     let a = c.args in
     let p = c.requires in
     let h = p.holds.held in
-    omega (arith, h.threads, h.room, mid-threads a.table.now a.length p.holds.made h c.row_bytes-bytes.result _ (room c.before.before.before.before.before.before.before) c.append.ensures, mid-long a.table.now a.length p.holds.made h c.row_bytes-bytes.result _ (room c.before.before.before.before.before.before.before) c.append.ensures)
+    omega (arith, h.threads, h.room, mid-threads a.table.now a.length p.holds.made h c.row_bytes-bytes.result _ room c.append.ensures, mid-long a.table.now a.length p.holds.made h c.row_bytes-bytes.result _ room c.append.ensures)
 
 pub returns : goal.returns
 returns c =

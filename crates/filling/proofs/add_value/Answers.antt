@@ -9,44 +9,72 @@ use Rattle.filling.proofs.HeldLaws.{held-many, mid-many, mid-long, counts-low, v
 use borrow.Author.Rules.{rules}
 use Rattle.filling.proofs.add_value.Goals as goal
 
--- another is not too many, and there is room for it
-few : (c : goal.Start) (m : Draft) → HeldTable c.args.table.now c.args.length m → how_many c.args.place m < 4
-few c m held = omega (arith, c.requires.2, held-many c.args.table.now c.args.length m held c.args.place c.requires.1)
-
-fits : (c : goal.Start) (m : Draft) → HeldTable c.args.table.now c.args.length m → c.args.length + 8 ≤ length c.args.table.now
-fits c m held = value_room c.args.table.now c.args.length m held c.args.place c.requires.1 (few c m held)
-
-room : (c : goal.After-low_bytes-bytes) → c.args.length + length c.low_bytes-bytes.result ≤ length c.args.table.now
-room c =
-    let a = c.args in
-    let p = c.requires in
-    let held = p.0.held in
-    omega (arith, ap length c.low_bytes-bytes.ensures ∙ little-long 8 a.value, fits c.before.before p.0.made held)
-
 pub append-requires : goal.append-requires
-append-requires c = room c.before.before
+append-requires c =
+    let few : (m : Draft) → HeldTable c.args.table.now c.args.length m → how_many c.args.place m < 4 =
+        λ m held. omega (arith, c.requires.2, held-many c.args.table.now c.args.length m held c.args.place c.requires.1) in
+    let fits : (m : Draft) → HeldTable c.args.table.now c.args.length m → c.args.length + 8 ≤ length c.args.table.now =
+        λ m held. value_room c.args.table.now c.args.length m held c.args.place c.requires.1 (few m held) in
+    let room : c.args.length + length c.low_bytes-bytes.result ≤ length c.args.table.now =
+        let a = c.args in
+        let p = c.requires in
+        let held = p.0.held in
+        omega (arith, ap length c.low_bytes-bytes.ensures ∙ little-long 8 a.value, fits p.0.made held) in
+    room
 
 pub bounds-table-place : goal.bounds-table-place
 bounds-table-place c =
+    let few : (m : Draft) → HeldTable c.args.table.now c.args.length m → how_many c.args.place m < 4 =
+        λ m held. omega (arith, c.requires.2, held-many c.args.table.now c.args.length m held c.args.place c.requires.1) in
+    let fits : (m : Draft) → HeldTable c.args.table.now c.args.length m → c.args.length + 8 ≤ length c.args.table.now =
+        λ m held. value_room c.args.table.now c.args.length m held c.args.place c.requires.1 (few m held) in
+    let room : c.args.length + length c.low_bytes-bytes.result ≤ length c.args.table.now =
+        let a = c.args in
+        let p = c.requires in
+        let held = p.0.held in
+        omega (arith, ap length c.low_bytes-bytes.ensures ∙ little-long 8 a.value, fits p.0.made held) in
     let a = c.args in
     let p = c.requires in
     let h = p.0.held in
-    omega (arith, h.room, counts-low a.place p.1, mid-long a.table.now a.length p.0.made h c.low_bytes-bytes.result _ (room c.before.before.before.before.before.before) c.append.ensures)
+    omega (arith, h.room, counts-low a.place p.1, mid-long a.table.now a.length p.0.made h c.low_bytes-bytes.result _ room c.append.ensures)
 
 pub overflow_add-table : goal.overflow_add-table
 overflow_add-table c =
+    let few : (m : Draft) → HeldTable c.args.table.now c.args.length m → how_many c.args.place m < 4 =
+        λ m held. omega (arith, c.requires.2, held-many c.args.table.now c.args.length m held c.args.place c.requires.1) in
+    let fits : (m : Draft) → HeldTable c.args.table.now c.args.length m → c.args.length + 8 ≤ length c.args.table.now =
+        λ m held. value_room c.args.table.now c.args.length m held c.args.place c.requires.1 (few m held) in
+    let room : c.args.length + length c.low_bytes-bytes.result ≤ length c.args.table.now =
+        let a = c.args in
+        let p = c.requires in
+        let held = p.0.held in
+        omega (arith, ap length c.low_bytes-bytes.ensures ∙ little-long 8 a.value, fits p.0.made held) in
     let a = c.args in
     let p = c.requires in
-    omega (arith, few c.before.before.before.before.before.before.before.before p.0.made p.0.held, mid-many a.table.now a.length p.0.made p.0.held c.low_bytes-bytes.result _ (room c.before.before.before.before.before.before) c.append.ensures a.place p.1)
+    omega (arith, few p.0.made p.0.held, mid-many a.table.now a.length p.0.made p.0.held c.low_bytes-bytes.result _ room c.append.ensures a.place p.1)
 
 pub bounds-table-place-2 : goal.bounds-table-place-2
 bounds-table-place-2 c =
+    let few : (m : Draft) → HeldTable c.args.table.now c.args.length m → how_many c.args.place m < 4 =
+        λ m held. omega (arith, c.requires.2, held-many c.args.table.now c.args.length m held c.args.place c.requires.1) in
+    let fits : (m : Draft) → HeldTable c.args.table.now c.args.length m → c.args.length + 8 ≤ length c.args.table.now =
+        λ m held. value_room c.args.table.now c.args.length m held c.args.place c.requires.1 (few m held) in
+    let room : c.args.length + length c.low_bytes-bytes.result ≤ length c.args.table.now =
+        let a = c.args in
+        let p = c.requires in
+        let held = p.0.held in
+        omega (arith, ap length c.low_bytes-bytes.ensures ∙ little-long 8 a.value, fits p.0.made held) in
     let a = c.args in
     let p = c.requires in
     let h = p.0.held in
-    omega (arith, h.room, counts-low a.place p.1, mid-long a.table.now a.length p.0.made h c.low_bytes-bytes.result _ (room c.before.before.before.before.before.before) c.append.ensures)
+    omega (arith, h.room, counts-low a.place p.1, mid-long a.table.now a.length p.0.made h c.low_bytes-bytes.result _ room c.append.ensures)
 
 pub returns : goal.returns
-returns c = λ m held.
+returns c =
+    let few : (m : Draft) → HeldTable c.args.table.now c.args.length m → how_many c.args.place m < 4 =
+        λ m held. omega (arith, c.requires.2, held-many c.args.table.now c.args.length m held c.args.place c.requires.1) in
+    let fits : (m : Draft) → HeldTable c.args.table.now c.args.length m → c.args.length + 8 ≤ length c.args.table.now =
+        λ m held. value_room c.args.table.now c.args.length m held c.args.place c.requires.1 (few m held) in
+    λ m held.
     let a = c.args in
-    held-value a.table.now a.length m held a.value c.low_bytes-bytes.result _ c.low_bytes-bytes.ensures c.append.ensures (fits c.before.before.before.before.before.before.before.before m held) a.place c.requires.1 (few c.before.before.before.before.before.before.before.before m held)
+    held-value a.table.now a.length m held a.value c.low_bytes-bytes.result _ c.low_bytes-bytes.ensures c.append.ensures (fits m held) a.place c.requires.1 (few m held)

@@ -13,34 +13,40 @@ use Rattle.filling.proofs.OneLaws.{says-cells, plains-none, plains-held, line-ea
 use borrow.Author.Rules.{rules}
 use Rattle.filling.proofs.line_of.Goals as goal
 
-skipped : (c : goal.After-past_blanks-here) → drop c.past_blanks-here.result c.args.text.now ≡ past_blanks (drop c.args.reached.at c.args.text.now)
-skipped c = left_by c.args.text.now c.args.reached.at c.past_blanks-here.result _ c.past_blanks-here.ensures
-
 pub bounds-table-0 : goal.bounds-table-0
 bounds-table-0 c =
     omega (arith, c.requires.held.room)
 
 pub returns-then-table-eq0 : goal.returns-then-table-eq0
-returns-then-table-eq0 c = record {
+returns-then-table-eq0 c =
+    let skipped : drop c.past_blanks-here.result c.args.text.now ≡ past_blanks (drop c.args.reached.at c.args.text.now) =
+        left_by c.args.text.now c.args.reached.at c.past_blanks-here.result _ c.past_blanks-here.ensures in
+    record {
   is = λ m held.
       let a = c.args in
-      line-early-end a.text.now a.lines a.all a.reached.rows m a.reached.at c.past_blanks-here.result (skipped c.before.before.before) c.if-text-here.true (omega (arith, c.if-table-eq0.true, held-threads a.table.now a.reached.length m held));
+      line-early-end a.text.now a.lines a.all a.reached.rows m a.reached.at c.past_blanks-here.result skipped c.if-text-here.true (omega (arith, c.if-table-eq0.true, held-threads a.table.now a.reached.length m held));
 }
 
 pub returns-then-text-here : goal.returns-then-text-here
-returns-then-text-here c = record {
+returns-then-text-here c =
+    let skipped : drop c.past_blanks-here.result c.args.text.now ≡ past_blanks (drop c.args.reached.at c.args.text.now) =
+        left_by c.args.text.now c.args.reached.at c.past_blanks-here.result _ c.past_blanks-here.ensures in
+    record {
   is = λ m held.
       let a = c.args in
-      (m, (line-end a.text.now a.lines a.all a.reached.rows m a.reached.at c.past_blanks-here.result (skipped c.before.before.before) c.if-text-here.true (omega (arith, c.if-table-eq0.false, held-threads a.table.now a.reached.length m held)), held));
+      (m, (line-end a.text.now a.lines a.all a.reached.rows m a.reached.at c.past_blanks-here.result skipped c.if-text-here.true (omega (arith, c.if-table-eq0.false, held-threads a.table.now a.reached.length m held)), held));
 }
 
 pub returns-then-ends_line : goal.returns-then-ends_line
-returns-then-ends_line c = record {
+returns-then-ends_line c =
+    let skipped : drop c.past_blanks-here.result c.args.text.now ≡ past_blanks (drop c.args.reached.at c.args.text.now) =
+        left_by c.args.text.now c.args.reached.at c.past_blanks-here.result _ c.past_blanks-here.ensures in
+    record {
   is = λ m held.
       let a = c.args in (
         m,
         (
-          line-bare a.text.now a.lines a.all a.reached.rows m a.reached.at c.past_blanks-here.result (skipped c.before.before.before.before) c.if-text-here.false (sym c.ends_line.ensures ∙ c.if-ends_line.true)
+          line-bare a.text.now a.lines a.all a.reached.rows m a.reached.at c.past_blanks-here.result skipped c.if-text-here.false (sym c.ends_line.ensures ∙ c.if-ends_line.true)
               ∙ ap (goes_on a.reached.rows m) (sym (left_by a.text.now c.past_blanks-here.result c.next_line.result _ c.next_line.ensures)),
           held,
         ),
@@ -56,17 +62,23 @@ values_line-requires c =
     (c.requires, inl refl, c.if-table-eq0-2.true, omega arith)
 
 pub returns-then-is_word : goal.returns-then-is_word
-returns-then-is_word c = record {
+returns-then-is_word c =
+    let skipped : drop c.past_blanks-here.result c.args.text.now ≡ past_blanks (drop c.args.reached.at c.args.text.now) =
+        left_by c.args.text.now c.args.reached.at c.past_blanks-here.result _ c.past_blanks-here.ensures in
+    record {
   is = λ m held.
       let a = c.args in
-      lined-steps a.text.now _ _ a.reached.length c.values_line.result _ c.values_line.ensures m held _ (line-cells a.text.now a.lines a.all a.reached.rows m a.reached.at c.past_blanks-here.result (skipped c.before.before.before.before.before.before.before.before.before.before.before.before.before.before) c.if-text-here.false (sym c.ends_line.ensures ∙ c.if-ends_line.false) c.token_end-to.result c.token_end-to.ensures (sym (held-cells a.table.now a.reached.length m held) ∙ c.if-table-eq0-2.true) (says-cells a.text.now c.past_blanks-here.result c.token_end-to.result _ c.is_word.ensures true c.if-is_word.true));
+      lined-steps a.text.now _ _ a.reached.length c.values_line.result _ c.values_line.ensures m held _ (line-cells a.text.now a.lines a.all a.reached.rows m a.reached.at c.past_blanks-here.result skipped c.if-text-here.false (sym c.ends_line.ensures ∙ c.if-ends_line.false) c.token_end-to.result c.token_end-to.ensures (sym (held-cells a.table.now a.reached.length m held) ∙ c.if-table-eq0-2.true) (says-cells a.text.now c.past_blanks-here.result c.token_end-to.result _ c.is_word.ensures true c.if-is_word.true));
 }
 
 pub returns-then-table-eq0-2 : goal.returns-then-table-eq0-2
-returns-then-table-eq0-2 c = record {
+returns-then-table-eq0-2 c =
+    let skipped : drop c.past_blanks-here.result c.args.text.now ≡ past_blanks (drop c.args.reached.at c.args.text.now) =
+        left_by c.args.text.now c.args.reached.at c.past_blanks-here.result _ c.past_blanks-here.ensures in
+    record {
   is = λ m held.
       let a = c.args in
-      line-no-cells a.text.now a.lines a.all a.reached.rows m a.reached.at c.past_blanks-here.result (skipped c.before.before.before.before.before.before.before.before.before.before) c.if-text-here.false (sym c.ends_line.ensures ∙ c.if-ends_line.false) c.token_end-to.result c.token_end-to.ensures (sym (held-cells a.table.now a.reached.length m held) ∙ c.if-table-eq0-2.true) (says-cells a.text.now c.past_blanks-here.result c.token_end-to.result _ c.is_word.ensures false c.if-is_word.false);
+      line-no-cells a.text.now a.lines a.all a.reached.rows m a.reached.at c.past_blanks-here.result skipped c.if-text-here.false (sym c.ends_line.ensures ∙ c.if-ends_line.false) c.token_end-to.result c.token_end-to.ensures (sym (held-cells a.table.now a.reached.length m held) ∙ c.if-table-eq0-2.true) (says-cells a.text.now c.past_blanks-here.result c.token_end-to.result _ c.is_word.ensures false c.if-is_word.false);
 }
 
 pub is_plain_line-requires : goal.is_plain_line-requires
@@ -78,20 +90,26 @@ values_line-requires-then-is_plain_line c =
     (c.requires, inr refl, plains-none c.args.table.now _ _ c.is_plain_line.ensures c.if-is_plain_line.true, omega arith)
 
 pub returns-then-is_plain_line : goal.returns-then-is_plain_line
-returns-then-is_plain_line c = record {
+returns-then-is_plain_line c =
+    let skipped : drop c.past_blanks-here.result c.args.text.now ≡ past_blanks (drop c.args.reached.at c.args.text.now) =
+        left_by c.args.text.now c.args.reached.at c.past_blanks-here.result _ c.past_blanks-here.ensures in
+    record {
   is = λ m held.
       let a = c.args in
-      lined-steps a.text.now _ _ a.reached.length c.values_line-then-is_plain_line.result _ c.values_line-then-is_plain_line.ensures m held _ (line-plains a.text.now a.lines a.all a.reached.rows m a.reached.at c.past_blanks-here.result (skipped c.before.before.before.before.before.before.before.before.before.before.before.before) c.if-text-here.false (sym c.ends_line.ensures ∙ c.if-ends_line.false) c.token_end-to.result c.token_end-to.ensures (λ (z : m.cells ≡ 0). c.if-table-eq0-2.false (held-cells a.table.now a.reached.length m held ∙ z)) (plains-held a.table.now _ a.reached.length m held _ c.is_plain_line.ensures true c.if-is_plain_line.true));
+      lined-steps a.text.now _ _ a.reached.length c.values_line-then-is_plain_line.result _ c.values_line-then-is_plain_line.ensures m held _ (line-plains a.text.now a.lines a.all a.reached.rows m a.reached.at c.past_blanks-here.result skipped c.if-text-here.false (sym c.ends_line.ensures ∙ c.if-ends_line.false) c.token_end-to.result c.token_end-to.ensures (λ (z : m.cells ≡ 0). c.if-table-eq0-2.false (held-cells a.table.now a.reached.length m held ∙ z)) (plains-held a.table.now _ a.reached.length m held _ c.is_plain_line.ensures true c.if-is_plain_line.true));
 }
 
 pub a_thread-requires : goal.a_thread-requires
 a_thread-requires c = c.requires
 
 pub returns-then-is_word-2 : goal.returns-then-is_word-2
-returns-then-is_word-2 c = record {
+returns-then-is_word-2 c =
+    let skipped : drop c.past_blanks-here.result c.args.text.now ≡ past_blanks (drop c.args.reached.at c.args.text.now) =
+        left_by c.args.text.now c.args.reached.at c.past_blanks-here.result _ c.past_blanks-here.ensures in
+    record {
   is = λ m held.
       let a = c.args in
-      lined-steps a.text.now _ _ a.reached.length c.a_thread.result _ c.a_thread.ensures m held _ (line-thread a.text.now a.lines a.all a.reached.rows m a.reached.at c.past_blanks-here.result (skipped c.before.before.before.before.before.before.before.before.before.before.before.before.before.before.before.before) c.if-text-here.false (sym c.ends_line.ensures ∙ c.if-ends_line.false) c.token_end-to.result c.token_end-to.ensures (λ (z : m.cells ≡ 0). c.if-table-eq0-2.false (held-cells a.table.now a.reached.length m held ∙ z)) (plains-held a.table.now _ a.reached.length m held _ c.is_plain_line.ensures false c.if-is_plain_line.false) (says-thread a.text.now c.past_blanks-here.result c.token_end-to.result _ c.is_word-2.ensures true c.if-is_word-2.true));
+      lined-steps a.text.now _ _ a.reached.length c.a_thread.result _ c.a_thread.ensures m held _ (line-thread a.text.now a.lines a.all a.reached.rows m a.reached.at c.past_blanks-here.result skipped c.if-text-here.false (sym c.ends_line.ensures ∙ c.if-ends_line.false) c.token_end-to.result c.token_end-to.ensures (λ (z : m.cells ≡ 0). c.if-table-eq0-2.false (held-cells a.table.now a.reached.length m held ∙ z)) (plains-held a.table.now _ a.reached.length m held _ c.is_plain_line.ensures false c.if-is_plain_line.false) (says-thread a.text.now c.past_blanks-here.result c.token_end-to.result _ c.is_word-2.ensures true c.if-is_word-2.true));
 }
 
 pub the_condition-requires : goal.the_condition-requires
@@ -99,12 +117,15 @@ the_condition-requires c =
     omega (arith, c.requires.held.room)
 
 pub returns-then-is_word-3 : goal.returns-then-is_word-3
-returns-then-is_word-3 c = record {
+returns-then-is_word-3 c =
+    let skipped : drop c.past_blanks-here.result c.args.text.now ≡ past_blanks (drop c.args.reached.at c.args.text.now) =
+        left_by c.args.text.now c.args.reached.at c.past_blanks-here.result _ c.past_blanks-here.ensures in
+    record {
   is = λ m held.
       let a = c.args in
       lined-condition a.text.now a.table.now a.reached.length c.past_blanks-here.result c.token_end-to.result _ m held
-      (λ l. line-finally a.text.now a.lines a.all a.reached.rows m a.reached.at c.past_blanks-here.result (skipped c.before.before.before.before.before.before.before.before.before.before.before.before.before.before.before.before.before) c.if-text-here.false (sym c.ends_line.ensures ∙ c.if-ends_line.false) c.token_end-to.result c.token_end-to.ensures (λ (z : m.cells ≡ 0). c.if-table-eq0-2.false (held-cells a.table.now a.reached.length m held ∙ z)) (plains-held a.table.now _ a.reached.length m held _ c.is_plain_line.ensures false c.if-is_plain_line.false) (says-thread a.text.now c.past_blanks-here.result c.token_end-to.result _ c.is_word-2.ensures false c.if-is_word-2.false) (says-finally a.text.now c.past_blanks-here.result c.token_end-to.result _ c.is_word-3.ensures true c.if-is_word-3.true) l)
-      (λ l. line-early-finally a.text.now a.lines a.all a.reached.rows m a.reached.at c.past_blanks-here.result (skipped c.before.before.before.before.before.before.before.before.before.before.before.before.before.before.before.before.before) c.if-text-here.false (sym c.ends_line.ensures ∙ c.if-ends_line.false) c.token_end-to.result c.token_end-to.ensures (λ (z : m.cells ≡ 0). c.if-table-eq0-2.false (held-cells a.table.now a.reached.length m held ∙ z)) (plains-held a.table.now _ a.reached.length m held _ c.is_plain_line.ensures false c.if-is_plain_line.false) (says-thread a.text.now c.past_blanks-here.result c.token_end-to.result _ c.is_word-2.ensures false c.if-is_word-2.false) (says-finally a.text.now c.past_blanks-here.result c.token_end-to.result _ c.is_word-3.ensures true c.if-is_word-3.true) l)
+      (λ l. line-finally a.text.now a.lines a.all a.reached.rows m a.reached.at c.past_blanks-here.result skipped c.if-text-here.false (sym c.ends_line.ensures ∙ c.if-ends_line.false) c.token_end-to.result c.token_end-to.ensures (λ (z : m.cells ≡ 0). c.if-table-eq0-2.false (held-cells a.table.now a.reached.length m held ∙ z)) (plains-held a.table.now _ a.reached.length m held _ c.is_plain_line.ensures false c.if-is_plain_line.false) (says-thread a.text.now c.past_blanks-here.result c.token_end-to.result _ c.is_word-2.ensures false c.if-is_word-2.false) (says-finally a.text.now c.past_blanks-here.result c.token_end-to.result _ c.is_word-3.ensures true c.if-is_word-3.true) l)
+      (λ l. line-early-finally a.text.now a.lines a.all a.reached.rows m a.reached.at c.past_blanks-here.result skipped c.if-text-here.false (sym c.ends_line.ensures ∙ c.if-ends_line.false) c.token_end-to.result c.token_end-to.ensures (λ (z : m.cells ≡ 0). c.if-table-eq0-2.false (held-cells a.table.now a.reached.length m held ∙ z)) (plains-held a.table.now _ a.reached.length m held _ c.is_plain_line.ensures false c.if-is_plain_line.false) (says-thread a.text.now c.past_blanks-here.result c.token_end-to.result _ c.is_word-2.ensures false c.if-is_word-2.false) (says-finally a.text.now c.past_blanks-here.result c.token_end-to.result _ c.is_word-3.ensures true c.if-is_word-3.true) l)
       _ c.the_condition.ensures;
 }
 
@@ -112,8 +133,11 @@ pub a_row-requires : goal.a_row-requires
 a_row-requires c = c.requires
 
 pub returns : goal.returns
-returns c = record {
+returns c =
+    let skipped : drop c.past_blanks-here.result c.args.text.now ≡ past_blanks (drop c.args.reached.at c.args.text.now) =
+        left_by c.args.text.now c.args.reached.at c.past_blanks-here.result _ c.past_blanks-here.ensures in
+    record {
   is = λ m held.
       let a = c.args in
-      lined-steps a.text.now _ _ a.reached.length c.a_row.result _ c.a_row.ensures m held _ (line_row a.text.now a.lines a.all a.reached.rows m a.reached.at c.past_blanks-here.result (skipped c.before.before.before.before.before.before.before.before.before.before.before.before.before.before.before.before.before.before.before.before) c.if-text-here.false (sym c.ends_line.ensures ∙ c.if-ends_line.false) c.token_end-to.result c.token_end-to.ensures (λ (z : m.cells ≡ 0). c.if-table-eq0-2.false (held-cells a.table.now a.reached.length m held ∙ z)) (plains-held a.table.now _ a.reached.length m held _ c.is_plain_line.ensures false c.if-is_plain_line.false) (says-thread a.text.now c.past_blanks-here.result c.token_end-to.result _ c.is_word-2.ensures false c.if-is_word-2.false) (says-finally a.text.now c.past_blanks-here.result c.token_end-to.result _ c.is_word-3.ensures false c.if-is_word-3.false));
+      lined-steps a.text.now _ _ a.reached.length c.a_row.result _ c.a_row.ensures m held _ (line_row a.text.now a.lines a.all a.reached.rows m a.reached.at c.past_blanks-here.result skipped c.if-text-here.false (sym c.ends_line.ensures ∙ c.if-ends_line.false) c.token_end-to.result c.token_end-to.ensures (λ (z : m.cells ≡ 0). c.if-table-eq0-2.false (held-cells a.table.now a.reached.length m held ∙ z)) (plains-held a.table.now _ a.reached.length m held _ c.is_plain_line.ensures false c.if-is_plain_line.false) (says-thread a.text.now c.past_blanks-here.result c.token_end-to.result _ c.is_word-2.ensures false c.if-is_word-2.false) (says-finally a.text.now c.past_blanks-here.result c.token_end-to.result _ c.is_word-3.ensures false c.if-is_word-3.false));
 }

@@ -11,23 +11,6 @@ use Rattle.filling.proofs.LineLaws.{Underway, lined-bare, values-out, values-fou
 use borrow.Author.Rules.{rules}
 use Rattle.filling.proofs.values_line.Goals as goal
 
--- what the line comes to, from a table that the buffer holds
-abbrev whole : (at : goal.At-loop-left) → Draft → Line
-whole at m =
-    let a = at.args in
-    values_line (with_cell_or_plain a.values.place) (how_many a.values.place) a.values.most m (drop a.at a.text.now)
-
--- a table that the buffer holds on the way
-way : (at : goal.At-loop-left) → Underway at.args.text.now at.loop-left.table at.args.values.place at.loop-left.long at.loop-left.left at.loop-left.from (whole at at.requires.0.made)
-way at = at.loop-left.invariant.1 at.requires.0.made at.requires.0.held
-
--- how many start values it has
-many : (at : goal.At-loop-left) (m : Draft) → HeldTable at.loop-left.table at.loop-left.long m → get_or at.loop-left.table at.args.values.place 0 ≡ how_many at.args.values.place m
-many at m held = held-many at.loop-left.table at.loop-left.long m held at.args.values.place at.requires.1
-
-skipped : (c : goal.After-past_blanks-here) → drop c.past_blanks-here.result c.args.text.now ≡ past_blanks (drop c.loop-left.from c.args.text.now)
-skipped c = left_by c.args.text.now c.loop-left.from c.past_blanks-here.result _ c.past_blanks-here.ensures
-
 pub loop-left-init : goal.loop-left-init
 loop-left-init c = (
   refl,
@@ -43,35 +26,50 @@ loop-left-init c = (
 
 pub bounds-table-place : goal.bounds-table-place
 bounds-table-place c =
-    omega (arith, (way (goal.at.bounds-table-place c).At-loop-left).held.room, counts-low c.args.values.place c.requires.1)
+    omega (arith, (c.loop-left.invariant.1 c.requires.0.made c.requires.0.held).held.room, counts-low c.args.values.place c.requires.1)
 
 pub returns-then-table-place-eq0 : goal.returns-then-table-place-eq0
-returns-then-table-place-eq0 c = record {
+returns-then-table-place-eq0 c =
+    let many : (m : Draft) → HeldTable c.loop-left.table c.loop-left.long m → get_or c.loop-left.table c.args.values.place 0 ≡ how_many c.args.values.place m =
+        λ m held. held-many c.loop-left.table c.loop-left.long m held c.args.values.place c.requires.1 in
+    let skipped : drop c.past_blanks-here.result c.args.text.now ≡ past_blanks (drop c.loop-left.from c.args.text.now) =
+        left_by c.args.text.now c.loop-left.from c.past_blanks-here.result _ c.past_blanks-here.ensures in
+    record {
   is = λ m held.
       let a = c.args in
       let w = c.loop-left.invariant.1 m held in
-      sym w.same ∙ values-none (with_cell_or_plain a.values.place) (how_many a.values.place) a.text.now c.loop-left.from c.loop-left.left w.made c.past_blanks-here.result c.token_end-to.result (skipped (goal.at.returns-then-table-place-eq0 c).After-past_blanks-here) c.token_end-to.ensures c.loop-left-test.true (sym c.number.ensures ∙ ap found_of c.in_default.is) (omega (arith, c.if-table-place-eq0.true, many (goal.at.returns-then-table-place-eq0 c).At-loop-left w.made w.held));
+      sym w.same ∙ values-none (with_cell_or_plain a.values.place) (how_many a.values.place) a.text.now c.loop-left.from c.loop-left.left w.made c.past_blanks-here.result c.token_end-to.result skipped c.token_end-to.ensures c.loop-left-test.true (sym c.number.ensures ∙ ap found_of c.in_default.is) (omega (arith, c.if-table-place-eq0.true, many w.made w.held));
 }
 
 pub returns-in_default : goal.returns-in_default
-returns-in_default c = record {
+returns-in_default c =
+    let many : (m : Draft) → HeldTable c.loop-left.table c.loop-left.long m → get_or c.loop-left.table c.args.values.place 0 ≡ how_many c.args.values.place m =
+        λ m held. held-many c.loop-left.table c.loop-left.long m held c.args.values.place c.requires.1 in
+    let skipped : drop c.past_blanks-here.result c.args.text.now ≡ past_blanks (drop c.loop-left.from c.args.text.now) =
+        left_by c.args.text.now c.loop-left.from c.past_blanks-here.result _ c.past_blanks-here.ensures in
+    record {
   is = λ m held.
       let a = c.args in
       let w = c.loop-left.invariant.1 m held in
-      lined-bare a.text.now c.loop-left.from 0 c.loop-left.long c.behind_values.result c.behind_values.ensures c.loop-left.table a.length w.made w.held _ (values-bare (with_cell_or_plain a.values.place) (how_many a.values.place) a.text.now c.loop-left.from c.loop-left.left w.made c.past_blanks-here.result c.token_end-to.result (skipped (goal.at.returns-in_default c).After-past_blanks-here) c.token_end-to.ensures c.loop-left-test.true (sym c.number.ensures ∙ ap found_of c.in_default.is) (omega (arith, c.if-table-place-eq0.false, many (goal.at.returns-in_default c).At-loop-left w.made w.held)) ∙ w.same);
+      lined-bare a.text.now c.loop-left.from 0 c.loop-left.long c.behind_values.result c.behind_values.ensures c.loop-left.table a.length w.made w.held _ (values-bare (with_cell_or_plain a.values.place) (how_many a.values.place) a.text.now c.loop-left.from c.loop-left.left w.made c.past_blanks-here.result c.token_end-to.result skipped c.token_end-to.ensures c.loop-left-test.true (sym c.number.ensures ∙ ap found_of c.in_default.is) (omega (arith, c.if-table-place-eq0.false, many w.made w.held)) ∙ w.same);
 }
 
 pub add_value-requires : goal.add_value-requires
 add_value-requires c =
-    let w = way (goal.at.add_value-requires c).At-loop-left in
-    (record { made = w.made; held = w.held }, c.requires.1, omega (arith, many (goal.at.add_value-requires c).At-loop-left w.made w.held, w.count, c.loop-left-test.true))
+    let many : (m : Draft) → HeldTable c.loop-left.table c.loop-left.long m → get_or c.loop-left.table c.args.values.place 0 ≡ how_many c.args.values.place m =
+        λ m held. held-many c.loop-left.table c.loop-left.long m held c.args.values.place c.requires.1 in
+    let w = c.loop-left.invariant.1 c.requires.0.made c.requires.0.held in
+    (record { made = w.made; held = w.held }, c.requires.1, omega (arith, many w.made w.held, w.count, c.loop-left-test.true))
 
 pub overflow_add-long : goal.overflow_add-long
 overflow_add-long c =
-    omega (arith, within c.loop-left.table c.loop-left.long (way (goal.at.overflow_add-long c).At-loop-left).made (way (goal.at.overflow_add-long c).At-loop-left).held)
+    let w = c.loop-left.invariant.1 c.requires.0.made c.requires.0.held in
+    omega (arith, within c.loop-left.table c.loop-left.long w.made w.held)
 
 pub loop-left-preserved : goal.loop-left-preserved
 loop-left-preserved c =
+    let skipped : drop c.past_blanks-here.result c.args.text.now ≡ past_blanks (drop c.loop-left.from c.args.text.now) =
+        left_by c.args.text.now c.loop-left.from c.past_blanks-here.result _ c.past_blanks-here.ensures in
     let a = c.args in (
       search rules,
       λ m held.
@@ -80,7 +78,7 @@ loop-left-preserved c =
             made = with_cell_or_plain a.values.place w.made c.in-Value.value;
             held = c.add_value.ensures w.made w.held;
             count = omega (arith, w.count, c.loop-left-test.true, more-many a.values.place w.made c.in-Value.value);
-            same = values-found (with_cell_or_plain a.values.place) (how_many a.values.place) a.text.now c.loop-left.from c.loop-left.left w.made c.past_blanks-here.result c.token_end-to.result (skipped (goal.at.loop-left-preserved c).After-past_blanks-here) c.token_end-to.ensures c.loop-left-test.true _ (sym c.number.ensures ∙ ap found_of c.in-Value.is) ∙ w.same;
+            same = values-found (with_cell_or_plain a.values.place) (how_many a.values.place) a.text.now c.loop-left.from c.loop-left.left w.made c.past_blanks-here.result c.token_end-to.result skipped c.token_end-to.ensures c.loop-left-test.true _ (sym c.number.ensures ∙ ap found_of c.in-Value.is) ∙ w.same;
           },
     )
 

@@ -14,7 +14,7 @@ use Rattle.filling.proofs.values_line.Given as goal
 abbrev pub invariant-loop-left : goal.invariant-loop-left
 invariant-loop-left l =
     (length l.table ≡ length l.initial.table)
-    × ((m : Draft) → HeldTable l.initial.table n m → Underway l.text l.table l.place l.long l.left l.from (values_line (with_cell_or_plain l.place) (how_many l.place) l.initial.left m (drop l.at l.text)))
+    × ((m : Draft) → HeldTable l.initial.table l.length m → Underway l.text l.table l.place l.long l.left l.from (values_line (with_cell_or_plain l.place) (how_many l.place) l.initial.left m (drop l.at l.text)))
 
 abbrev pub decreases-loop-left : goal.decreases-loop-left
 decreases-loop-left l = l.left

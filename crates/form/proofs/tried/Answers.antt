@@ -13,53 +13,43 @@ use Rattle.form.proofs.TriedLaws.{Trying, Next, by-these, two-there, opcode-ther
 use borrow.Author.Rules.{rules}
 use Rattle.form.proofs.tried.Goals as goal
 
--- a turn, and its form
-abbrev line : tie.After-followed invariant-loop decreases-loop → tie.After-next-line invariant-loop decreases-loop
-line c = c.before.before.before.before.before
-
-abbrev round : tie.After-followed invariant-loop decreases-loop → tie.In-loop invariant-loop decreases-loop
-round c = (line c).before
-
-turn : (c : goal.In-loop-from) → Next (room_meant c.args.room) c.args.forms.now c.args.text.now c.args.at c.loop-from.from c.loop-from.best
-turn c = trying-next _ _ _ _ _ _ c.loop-from-test.true c.loop-from.invariant
-
-by_form : (c : goal.After-followed-row) →
-    followed_of (round c).before.before.before.before.before.args.text.now c.followed-row.result
-    ≡ follow most_words (room_meant (round c).before.before.before.before.before.args.room) (turn (round c)).form.words (blank_fields (turn (round c)).form) (drop (round c).before.before.before.before.before.args.at (round c).before.before.before.before.before.args.text.now)
-by_form c =
-    let n = turn (round c) in
-    let a = (round c).before.before.before.before.before.args in
-    by-these _ n.form _ _ _ _ _ c.followed-row.ensures.said
-    (c.part-words.ensures ∙ words-there n.form n.rest _ _ n.left n.none (line c).next-line.result (line c).next-line.ensures)
-    c.blank.ensures
-    (opcode-there n.form n.rest a.forms.now (round c).before.loop.from n.left)
-    (kind-there n.form n.rest a.forms.now (round c).before.loop.from n.left)
-
 pub loop-from-init : goal.loop-from-init
 loop-from-init c =
     let a = c.args in
     trying-none (room_meant a.room) a.forms.now a.text.now a.at c.requires c.past_blanks-best.result (left_by a.text.now a.at c.past_blanks-best.result _ c.past_blanks-best.ensures) (between_run _ _ _ is_blank c.past_blanks-best.ensures)
 
 pub overflow_sub-to : goal.overflow_sub-to
-overflow_sub-to c = let n = turn c.before in omega (arith, past_two n.form n.rest _ _ n.left n.none c.next_line-to.result c.next_line-to.ensures)
+overflow_sub-to c =
+    let n : Next (room_meant c.args.room) c.args.forms.now c.args.text.now c.args.at c.loop-from.from c.loop-from.best =
+        trying-next _ _ _ _ _ _ c.loop-from-test.true c.loop-from.invariant in
+    omega (arith, past_two n.form n.rest _ _ n.left n.none c.next_line-to.result c.next_line-to.ensures)
 
 pub overflow_add-from-in-loop-from-2 : goal.overflow_add-from-in-loop-from-2
 overflow_add-from-in-loop-from-2 c =
-    let n = turn c.before.before.before in
+    let n : Next (room_meant c.args.room) c.args.forms.now c.args.text.now c.args.at c.loop-from.from c.loop-from.best =
+        trying-next _ _ _ _ _ _ c.loop-from-test.true c.loop-from.invariant in
     omega (arith, two-there n.form n.rest c.args.forms.now c.loop-from.from n.left)
 
 pub bounds-forms-from-in-loop-from : goal.bounds-forms-from-in-loop-from
 bounds-forms-from-in-loop-from c =
-    let n = turn c.before.before.before.before in
+    let n : Next (room_meant c.args.room) c.args.forms.now c.args.text.now c.args.at c.loop-from.from c.loop-from.best =
+        trying-next _ _ _ _ _ _ c.loop-from-test.true c.loop-from.invariant in
     two-there n.form n.rest c.args.forms.now c.loop-from.from n.left
 
 pub returns-then-row : goal.returns-then-row
 returns-then-row c =
-    let n = turn (round c) in
-    let a = (round c).before.before.before.before.before.args in
+    let n : Next (room_meant c.args.room) c.args.forms.now c.args.text.now c.args.at c.loop-from.from c.loop-from.best =
+        trying-next _ _ _ _ _ _ c.loop-from-test.true c.loop-from.invariant in
+    let a = c.args in
+    let by_form : followed_of a.text.now c.followed-row.result ≡ follow most_words (room_meant a.room) n.form.words (blank_fields n.form) (drop a.at a.text.now) =
+        by-these _ n.form _ _ _ _ _ c.followed-row.ensures.said
+        (c.part-words.ensures ∙ words-there n.form n.rest _ _ n.left n.none c.next_line-to.result c.next_line-to.ensures)
+        c.blank.ensures
+        (opcode-there n.form n.rest a.forms.now c.loop-from.from n.left)
+        (kind-there n.form n.rest a.forms.now c.loop-from.from n.left) in
     record {
       follows = record {
-        said = said_fits a.text.now c.followed-row.result c.if-row.true ∙ tried-fits _ _ _ _ _ _ n _ _ (sym (said_fits a.text.now c.followed-row.result c.if-row.true) ∙ by_form c.before);
+        said = said_fits a.text.now c.followed-row.result c.if-row.true ∙ tried-fits _ _ _ _ _ _ n _ _ (sym (said_fits a.text.now c.followed-row.result c.if-row.true) ∙ by_form);
         between = c.followed-row.ensures.between;
       };
       none = λ f. absurd (true≢false (sym c.if-row.true ∙ f));
@@ -67,14 +57,22 @@ returns-then-row c =
 
 pub loop-from-smaller : goal.loop-from-smaller
 loop-from-smaller c =
-    let n = turn (round c) in
-    omega (arith, past_two n.form n.rest _ _ n.left n.none (line c).next-line.result (line c).next-line.ensures)
+    let n : Next (room_meant c.args.room) c.args.forms.now c.args.text.now c.args.at c.loop-from.from c.loop-from.best =
+        trying-next _ _ _ _ _ _ c.loop-from-test.true c.loop-from.invariant in
+    omega (arith, past_two n.form n.rest _ _ n.left n.none c.next_line-to.result c.next_line-to.ensures)
 
 pub loop-from-preserved : goal.loop-from-preserved
 loop-from-preserved c =
-    let n = turn (round c) in
-    let a = (round c).before.before.before.before.before.args in
-    tried-on (room_meant a.room) a.forms.now a.text.now a.at (round c).before.loop.from (round c).before.loop.best n (line c).next-line.result c.followed-row.result.at c.further-best.result (line c).next-line.ensures (sym (said-stuck a.text.now c.followed-row.result c.if-row.false) ∙ by_form c.before.before) c.followed-row.ensures.between c.further-best.ensures
+    let n : Next (room_meant c.args.room) c.args.forms.now c.args.text.now c.args.at c.loop-from.from c.loop-from.best =
+        trying-next _ _ _ _ _ _ c.loop-from-test.true c.loop-from.invariant in
+    let a = c.args in
+    let by_form : followed_of a.text.now c.followed-row.result ≡ follow most_words (room_meant a.room) n.form.words (blank_fields n.form) (drop a.at a.text.now) =
+        by-these _ n.form _ _ _ _ _ c.followed-row.ensures.said
+        (c.part-words.ensures ∙ words-there n.form n.rest _ _ n.left n.none c.next_line-to.result c.next_line-to.ensures)
+        c.blank.ensures
+        (opcode-there n.form n.rest a.forms.now c.loop-from.from n.left)
+        (kind-there n.form n.rest a.forms.now c.loop-from.from n.left) in
+    tried-on (room_meant a.room) a.forms.now a.text.now a.at c.loop-from.from c.loop-from.best n c.next_line-to.result c.followed-row.result.at c.further-best.result c.next_line-to.ensures (sym (said-stuck a.text.now c.followed-row.result c.if-row.false) ∙ by_form) c.followed-row.ensures.between c.further-best.ensures
 
 pub returns : goal.returns
 returns c =

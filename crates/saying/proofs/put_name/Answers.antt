@@ -10,19 +10,16 @@ use Rattle.saying.proofs.SayLaws.{name-none, name-some}
 use borrow.Author.Rules.{rules}
 use Rattle.saying.proofs.put_name.Goals as goal
 
--- no place or buffer is past the last
-low : (c : goal.After-slice_known-1) → c.args.at ≤ last
-low c = omega arith
-
-long : (c : goal.After-slice_known-1) → length c.args.page.now ≤ last
-long c = omega arith
-
 pub returns-then-name-eq0 : goal.returns-then-name-eq0
 returns-then-name-eq0 c = let a = c.args in puts-are _ _ _ _ _ _ (name-none a.name.now c.if-name-eq0.true) (puts_none _ _ (omega arith))
 
 pub returns : goal.returns
 unfolding bytes_of
 returns c =
+    let low : c.args.at ≤ last =
+        omega arith in
+    let long : length c.args.page.now ≤ last =
+        omega arith in
     let a = c.args in
-    let all = coming-all _ a.at (name_shown a.name.now) (low c.before.before.before.before.before.before.before.before.before.before.before.before) (long c.before.before.before.before.before.before.before.before.before.before.before.before) in
+    let all = coming-all _ a.at (name_shown a.name.now) low long in
     (coming-on _ _ _ _ _ _ _ _ _ _ (name-some a.name.now c.if-name-eq0.false) all c.put_bytes-behind.ensures).whole _ _ c.put_bytes.ensures

@@ -9,21 +9,18 @@ use Rattle.saying.specs.Sayings.{place_shown}
 use borrow.Author.Rules.{rules}
 use Rattle.saying.proofs.put_place.Goals as goal
 
--- no place or buffer is past the last
-low : (c : goal.After-slice_known-1) → c.args.at ≤ last
-low c = omega arith
-
-long : (c : goal.After-slice_known-1) → length c.args.page.now ≤ last
-long c = omega arith
-
 pub returns : goal.returns
 unfolding bytes_of
 returns c =
+    let low : c.args.at ≤ last =
+        omega arith in
+    let long : length c.args.page.now ≤ last =
+        omega arith in
     let a = c.args in
-    let all = coming-all _ a.at (place_shown a.name.now a.line a.column) (low c.before.before.before.before.before.before.before.before.before.before.before.before.before.before.before.before.before.before.before.before.before.before.before.before.before.before.before.before.before.before.before.before.before.before.before.before.before) (long c.before.before.before.before.before.before.before.before.before.before.before.before.before.before.before.before.before.before.before.before.before.before.before.before.before.before.before.before.before.before.before.before.before.before.before.before.before) in
+    let all = coming-all _ a.at (place_shown a.name.now a.line a.column) low long in
     let one = coming-on _ _ _ _ _ _ _ _ (bytes_of "answer 5: refused: ") _ refl all c.put_bytes-refused.ensures in
     let two = coming-on _ _ _ _ _ _ _ _ _ _ refl one c.put_name-named.ensures in
     let three = coming-on _ _ _ _ _ _ _ _ (bytes_of "line ") _ refl two c.put_bytes-of_line.ensures in
     let four = coming-on _ _ _ _ _ _ _ _ _ _ refl three c.put_number-line_put.ensures in
-    let five = coming-on _ _ _ _ _ _ _ _ (bytes_of ", c ") _ refl four c.put_bytes-of_column.ensures in
+    let five = coming-on _ _ _ _ _ _ _ _ (bytes_of ", column ") _ refl four c.put_bytes-of_column.ensures in
     (coming-on _ _ _ _ _ _ _ _ _ _ refl five c.put_number-column_put.ensures).whole _ _ c.put_bytes.ensures

@@ -12,13 +12,6 @@ use Rattle.saying.proofs.SayLaws.{what-missing, what-unclear, what-clear}
 use borrow.Author.Rules.{rules}
 use Rattle.saying.proofs.put_what.Goals as goal
 
--- no place or buffer is past the last
-low : (c : goal.After-slice_known-1) → c.args.at ≤ last
-low c = omega arith
-
-long : (c : goal.After-slice_known-1) → length c.args.page.now ≤ last
-long c = omega arith
-
 pub returns-then-ends_line : goal.returns-then-ends_line
 unfolding bytes_of
 returns-then-ends_line c =
@@ -35,11 +28,15 @@ returns-then-not-is_clear c =
 pub returns : goal.returns
 unfolding bytes_of
 returns c =
+    let low : c.args.at ≤ last =
+        omega arith in
+    let long : length c.args.page.now ≤ last =
+        omega arith in
     let a = c.args in
     let why = reason a.spot.row (token (past_blanks (drop a.spot.begin a.text.now))) (token (drop a.spot.before a.text.now)) (part a.spot.place c.token_end-end.result a.text.now) in
     let there = sym c.ends_line.ensures ∙ c.if-ends_line.false in
     let whole = what-clear a.text.now a.spot.row a.spot.begin a.spot.before a.spot.place there _ c.token_end-end.ensures _ c.part-word.ensures (sym c.is_clear.ensures ∙ not-false _ c.if-not-is_clear.false-raw) in
-    let all = coming-all _ a.at (what_shown a.text.now a.spot.row a.spot.begin a.spot.before a.spot.place) (low c.before.before.before.before.before.before.before.before.before.before.before.before.before.before.before.before.before.before.before.before.before.before.before.before.before.before.before.before.before) (long c.before.before.before.before.before.before.before.before.before.before.before.before.before.before.before.before.before.before.before.before.before.before.before.before.before.before.before.before.before) in
+    let all = coming-all _ a.at (what_shown a.text.now a.spot.row a.spot.begin a.spot.before a.spot.place) low long in
     let one = coming-on _ _ _ _ _ _ _ _ (bytes_of "`") _ whole all c.put_byte-quote.ensures in
     let two = coming-on _ _ _ _ _ _ _ _ _ _ refl one c.put_bytes-named.ensures in
     let three = coming-on _ _ _ _ _ _ _ _ (bytes_of "` cannot stand here") _ refl two c.put_bytes-said.ensures in

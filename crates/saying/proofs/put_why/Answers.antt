@@ -10,10 +10,6 @@ use Rattle.saying.proofs.SayLaws.{said, cell-said, why-by}
 use borrow.Author.Rules.{rules}
 use Rattle.saying.proofs.put_why.Goals as goal
 
--- no place is past the last
-low : (c : goal.After-slice_known-1) → c.args.at ≤ last
-low c = omega arith
-
 pub returns-in_default : goal.returns-in_default
 unfolding bytes_of
 returns-in_default c = rw (← c.number.ensures, c.in_default.is) (puts_none _ _ (omega arith))
@@ -48,9 +44,11 @@ returns-then-names_cell c =
 pub returns : goal.returns
 unfolding bytes_of
 returns c =
+    let low : c.args.at ≤ last =
+        omega arith in
     let a = c.args in
     let number = sym c.number.ensures ∙ ap found_of c.in-Value.is in
     let to_row = said a.text.now a.spot.before _ c.token_end-behind.ensures "jump" _ false c.is_word.ensures c.if-is_word.false in
     let of-thread = said a.text.now a.spot.before _ c.token_end-behind.ensures "join" _ false c.is_word-2.ensures c.if-is_word-2.false in
     let in_Cell = cell-said a.text.now a.spot.before _ c.token_end-behind.ensures _ false c.names_cell.ensures c.if-names_cell.false in
-    puts-are _ _ _ _ _ _ (ap bytes_of (why-by a.spot.row _ _ _ _ _ _ number to_row of-thread in_Cell)) (puts_none _ _ (low (goal.at.returns c).After-slice_known-1))
+    puts-are _ _ _ _ _ _ (ap bytes_of (why-by a.spot.row _ _ _ _ _ _ number to_row of-thread in_Cell)) (puts_none _ _ low)

@@ -10,10 +10,6 @@ use Rattle.writer.proofs.TextLaws.{plains-none, plains-some}
 use borrow.Author.Rules.{rules}
 use Rattle.writer.proofs.put_plains.Goals as goal
 
--- no buffer is longer
-long : (c : goal.After-slice_known-1) → length c.args.text.now ≤ last
-long c = omega arith
-
 pub bounds-table-1 : goal.bounds-table-1
 bounds-table-1 c = omega (arith, c.requires.header)
 
@@ -32,7 +28,9 @@ put_values-values-requires c =
 pub returns : goal.returns
 unfolding bytes_of
 returns c =
+    let long : length c.args.text.now ≤ last =
+        omega arith in
     let a = c.args in
-    let all = coming-all _ a.at (plains_shown a.table.now) (omega arith) (long c.before.before.before.before.before.before.before.before.before.before.before.before.before.before.before.before.before.before.before.before) in
+    let all = coming-all _ a.at (plains_shown a.table.now) (omega arith) long in
     let one = coming-on _ _ _ _ _ _ _ _ _ _ (plains-some a.table.now _ c.wide8-plains.ensures.same c.if-plains-eq0.false _ c.wide8-cells.ensures.same) all c.put_bytes-word.ensures in
     (coming-on _ _ _ _ _ _ _ _ _ _ refl one c.put_values-values.ensures).whole _ _ c.put_byte.ensures

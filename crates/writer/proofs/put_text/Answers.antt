@@ -10,15 +10,13 @@ use Rattle.writer.proofs.TextLaws.{text-whole}
 use borrow.Author.Rules.{rules}
 use Rattle.writer.proofs.put_text.Goals as goal
 
--- no buffer is longer
-long : (c : goal.After-slice_known-1) → length c.args.text.now ≤ last
-long c = omega arith
-
 pub returns : goal.returns
 unfolding bytes_of
 returns c =
+    let long : length c.args.text.now ≤ last =
+        omega arith in
     let a = c.args in
-    let all = coming-all _ 0 (written_text a.table.now a.condition.now) (omega arith) (long c.before.before.before.before.before.before.before.before.before.before.before.before.before.before.before.before.before.before.before.before.before.before.before.before.before.before.before.before.before.before) in
+    let all = coming-all _ 0 (written_text a.table.now a.condition.now) (omega arith) long in
     let one = coming-on _ _ _ _ _ _ _ _ _ _ (sym (text-whole a.table.now a.condition.now _ c.wide8.ensures.same)) all c.put_bytes-first.ensures in
     let two = coming-on _ _ _ _ _ _ _ _ _ _ refl one c.put_values-values.ensures in
     let three = coming-on _ _ _ _ _ _ _ _ _ _ refl two c.put_byte-feed.ensures in
