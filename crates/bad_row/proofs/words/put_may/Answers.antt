@@ -1,7 +1,6 @@
 use Rattle.rules.specs.Token.{bytes_of}
 use Rattle.bad_row.specs.Words.{put_may}
 use Rattle.bad_row.proofs.WordLaws.{may_none}
-use borrow.Author.Rules.{rules}
 use Rattle.bad_row.proofs.words.put_may.Goals as goal
 
 pub returns-in-AnyOpcode : goal.returns-in-AnyOpcode

@@ -2,7 +2,6 @@ use borrow.Enum.Refused.{opened}
 use Rattle.rules.specs.Token.{bytes_of}
 use Rattle.reasons.specs.Wrong.{may_be}
 use Rattle.bad_row.proofs.WordLaws.{object-named, named-last}
-use borrow.Author.Rules.{rules}
 use Rattle.bad_row.proofs.words.put_object.Goals as goal
 
 pub returns-in-AnyCell : goal.returns-in-AnyCell
