@@ -2,7 +2,6 @@ use borrow.Author.Tests.{le-ltb, lt-ltb}
 use Rattle.rules.specs.Token.{bytes_of}
 use Rattle.rules.specs.Table.{max_threads}
 use Rattle.bad_row.specs.Rows.{put_bad_row}
-use borrow.Author.Rules.{rules}
 use Rattle.bad_row.proofs.put.Goals as goal
 
 pub returns-then-t-ge-MAX_THREADS : goal.returns-then-t-ge-MAX_THREADS

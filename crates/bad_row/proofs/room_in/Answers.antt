@@ -1,4 +1,3 @@
-use borrow.Author.Rules.{rules}
 use Rattle.bad_row.proofs.room_in.Goals as goal
 
 pub returns : goal.returns

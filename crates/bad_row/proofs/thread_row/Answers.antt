@@ -1,4 +1,3 @@
-use borrow.Author.Rules.{rules}
 use Rattle.bad_row.proofs.thread_row.Goals as goal
 
 pub returns : goal.returns

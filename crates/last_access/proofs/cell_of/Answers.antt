@@ -3,7 +3,6 @@ use mathlib.Core.Path.{refl}
 use Rattle.last_access.specs.Access.{cell_in}
 use Rattle.steps.proofs.OpLaws.{op-as}
 use Rattle.last_access.proofs.OpLaws.{no_cell}
-use borrow.Author.Rules.{rules}
 use Rattle.last_access.proofs.cell_of.Goals as goal
 
 pub returns-in-Load : goal.returns-in-Load

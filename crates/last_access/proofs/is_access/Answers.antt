@@ -2,7 +2,6 @@ use Rattle.last_access.specs.Access.{is_access}
 use Rattle.last_access.proofs.AccessLaws.{access-none, access-made}
 use Rattle.steps.proofs.OpLaws.{says, refuses}
 use Rattle.steps.specs.Entries.{entry_read}
-use borrow.Author.Rules.{rules}
 use Rattle.last_access.proofs.is_access.Goals as goal
 
 pub returns-in_default : goal.returns-in_default

@@ -5,7 +5,6 @@ use Rattle.last_access.specs.Access.{accesses}
 use Rattle.last_access.specs.declared.AccessKind.TheVariants.{Exclusive}
 use Rattle.steps.proofs.OpLaws.{op-as}
 use Rattle.decode.proofs.NumberLaws.{all_but, no_number}
-use borrow.Author.Rules.{rules}
 use Rattle.last_access.proofs.is_exclusive.Goals as goal
 
 pub returns-in-WithMut : goal.returns-in-WithMut

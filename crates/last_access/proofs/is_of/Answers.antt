@@ -1,5 +1,4 @@
 use Rattle.last_access.proofs.AccessLaws.{kind-as}
-use borrow.Author.Rules.{rules}
 use Rattle.last_access.proofs.is_of.Goals as goal
 
 pub returns-in-Load : goal.returns-in-Load

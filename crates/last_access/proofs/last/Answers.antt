@@ -1,6 +1,5 @@
-use Prim.Native.Nat.{◌≤◌}
-use mathlib.Core.Path.{◌≡◌, refl, sym, ◌∙◌}
-use Rattle.last_access.specs.Access.{last_of, is_access, last_access_step}
+use mathlib.Core.Path.{refl, sym, ◌∙◌}
+use Rattle.last_access.specs.Access.{last_access_step}
 use Rattle.last_access.proofs.AccessLaws.{last_on, last_found, last_none}
 use borrow.Author.Rules.{rules}
 use Rattle.last_access.proofs.last.Goals as goal

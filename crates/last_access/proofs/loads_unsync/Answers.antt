@@ -5,7 +5,6 @@ use Rattle.last_access.specs.Access.{accesses}
 use Rattle.last_access.specs.declared.AccessKind.TheVariants.{UnsyncLoad}
 use Rattle.steps.proofs.OpLaws.{op-as}
 use Rattle.decode.proofs.NumberLaws.{all_but, no_number}
-use borrow.Author.Rules.{rules}
 use Rattle.last_access.proofs.loads_unsync.Goals as goal
 
 pub returns-in-UnsyncLoad : goal.returns-in-UnsyncLoad

@@ -3,7 +3,6 @@ use mathlib.Core.Path.{refl}
 use Rattle.last_access.specs.Access.{stores_after}
 use Rattle.steps.proofs.OpLaws.{op-as}
 use Rattle.last_access.proofs.OpLaws.{no_store}
-use borrow.Author.Rules.{rules}
 use Rattle.last_access.proofs.stores.Goals as goal
 
 pub returns-in-Store : goal.returns-in-Store

@@ -1,6 +1,5 @@
 use Rattle.last_access.specs.Access.{is_success}
 use Rattle.steps.proofs.OpLaws.{changed-as}
-use borrow.Author.Rules.{rules}
 use Rattle.last_access.proofs.succeeds.Goals as goal
 
 pub returns-in-Success : goal.returns-in-Success

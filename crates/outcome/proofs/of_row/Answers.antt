@@ -1,4 +1,3 @@
-use borrow.Enum.Refused.{opened}
 use mathlib.Core.Path.{refl, ◌∙◌}
 use Rattle.steps.proofs.OpLaws.{op-as}
 use Rattle.outcome.specs.Comes.{came_of}
@@ -85,4 +84,4 @@ returns-in-PlainWrite c =
     op-as (came_of g.held.now g.thread g.slot g.value) c.in-PlainWrite.is (refl)
 
 pub returns-in_default : goal.returns-in_default
-returns-in_default c = let g = c.args in no-came g.held.now g.thread g.slot g.value g.op (opened c.in_default.in_default-own.keys14)
+returns-in_default c = let g = c.args in no-came g.held.now g.thread g.slot g.value g.op c.in_default.in_default-own.keys14

@@ -1,9 +1,9 @@
-use Prim.Native.Nat.{suc, ◌≤◌, ◌-◌}
-use mathlib.Core.Path.{◌≡◌, sym, ◌∙◌}
+use Prim.Native.Nat.{suc}
+use mathlib.Core.Path.{sym, ◌∙◌}
 use native.Mathlib.Omega.{arith}
 use Rattle.rules.specs.Table.{max_rows}
-use Rattle.spin.specs.Loops.{repeats_in, period_of}
-use Rattle.spin.proofs.LoopLaws.{period_left, period-from, first_on, first_found, first-none}
+use Rattle.spin.specs.Loops.{repeats_in}
+use Rattle.spin.proofs.LoopLaws.{period-from, first_on, first_found, first-none}
 use borrow.Author.Rules.{rules}
 use Rattle.spin.proofs.period.Goals as goal
 

@@ -1,10 +1,8 @@
 use Prim.Native.Nat.{suc, ◌≤◌, ◌-◌}
-use mathlib.Core.Path.{◌≡◌, sym, ◌∙◌}
-use native.Mathlib.Omega.{arith}
+use mathlib.Core.Path.{◌≡◌}
 use Rattle.rules.specs.Table.{max_rows}
-use Rattle.spin.specs.Loops.{repeats_in, period_of}
-use Rattle.spin.proofs.LoopLaws.{period_left, period-from, first_on, first_found, first-none}
-use borrow.Author.Rules.{rules}
+use Rattle.spin.specs.Loops.{period_of}
+use Rattle.spin.proofs.LoopLaws.{period_left}
 use Rattle.spin.proofs.period.Given as goal
 
 abbrev pub invariant-loop-p : goal.invariant-loop-p

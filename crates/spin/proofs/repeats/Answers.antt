@@ -1,9 +1,7 @@
-use Prim.Native.Nat.{◌≤◌, ◌-◌}
-use mathlib.Core.Path.{◌≡◌, sym, ◌∙◌}
+use mathlib.Core.Path.{sym, ◌∙◌}
 use native.Mathlib.Omega.{arith}
 use borrow.Author.Tests.{not-true, not-false}
-use Rattle.spin.specs.Loops.{repeats_in}
-use Rattle.spin.proofs.LoopLaws.{repeats_left, repeats-few, repeats-from, repeats-on, repeats-not, repeats-all}
+use Rattle.spin.proofs.LoopLaws.{repeats-few, repeats-from, repeats-on, repeats-not, repeats-all}
 use borrow.Author.Rules.{rules}
 use Rattle.spin.proofs.repeats.Goals as goal
 

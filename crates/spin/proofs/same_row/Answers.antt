@@ -1,5 +1,4 @@
 use Rattle.spin.proofs.LoopLaws.{same_from}
-use borrow.Author.Rules.{rules}
 use Rattle.spin.proofs.same_row.Goals as goal
 
 pub returns : goal.returns

@@ -1,8 +1,6 @@
-use Prim.Native.Nat.{◌-◌}
-use mathlib.Core.Path.{◌≡◌, sym, ◌∙◌}
-use Rattle.spin.specs.Loops.{is_yield, yields_in}
-use Rattle.spin.proofs.LoopLaws.{yields_left, yields-from, first_on, first_found, first-none}
-use borrow.Author.Rules.{rules}
+use mathlib.Core.Path.{sym, ◌∙◌}
+use Rattle.spin.specs.Loops.{is_yield}
+use Rattle.spin.proofs.LoopLaws.{yields-from, first_on, first_found, first-none}
 use Rattle.spin.proofs.yields.Goals as goal
 
 pub loop-i-init : goal.loop-i-init

@@ -1,8 +1,7 @@
 use Prim.Native.Nat.{◌-◌}
-use mathlib.Core.Path.{◌≡◌, sym, ◌∙◌}
-use Rattle.spin.specs.Loops.{is_yield, yields_in}
-use Rattle.spin.proofs.LoopLaws.{yields_left, yields-from, first_on, first_found, first-none}
-use borrow.Author.Rules.{rules}
+use mathlib.Core.Path.{◌≡◌}
+use Rattle.spin.specs.Loops.{yields_in}
+use Rattle.spin.proofs.LoopLaws.{yields_left}
 use Rattle.spin.proofs.yields.Given as goal
 
 abbrev pub invariant-loop-i : goal.invariant-loop-i

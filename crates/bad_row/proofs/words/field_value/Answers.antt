@@ -1,5 +1,4 @@
 use Rattle.bad_row.specs.Words.{field_value}
-use borrow.Author.Rules.{rules}
 use Rattle.bad_row.proofs.words.field_value.Goals as goal
 
 pub returns-in-Opcode : goal.returns-in-Opcode

@@ -2,7 +2,6 @@ use borrow.Enum.Refused.{opened}
 use Rattle.rules.specs.Token.{bytes_of}
 use Rattle.bad_row.specs.Words.{put_value, put_wrong}
 use Rattle.bad_row.proofs.WordLaws.{may-used}
-use borrow.Author.Rules.{rules}
 use Rattle.bad_row.proofs.words.put.Goals as goal
 
 pub returns-in-ZeroByOpcode : goal.returns-in-ZeroByOpcode

@@ -1,5 +1,4 @@
 use Rattle.rules.specs.Token.{bytes_of}
-use borrow.Author.Rules.{rules}
 use Rattle.bad_row.proofs.words.put_field.Goals as goal
 
 pub returns-in-Opcode : goal.returns-in-Opcode

@@ -1,8 +1,6 @@
-use borrow.Enum.Refused.{opened}
 use Rattle.rules.specs.Token.{bytes_of}
 use Rattle.bad_row.specs.Words.{put_may}
 use Rattle.bad_row.proofs.WordLaws.{may_none}
-use borrow.Author.Rules.{rules}
 use Rattle.bad_row.proofs.words.put_may.Goals as goal
 
 pub returns-in-AnyOpcode : goal.returns-in-AnyOpcode
@@ -54,4 +52,4 @@ unfolding put_may bytes_of
 returns-in-OtherTarget c = rw c.in-OtherTarget.is c.fill-in-OtherTarget.ensures
 
 pub returns-in_default : goal.returns-in_default
-returns-in_default c = may_none _ _ _ (opened c.in_default.in_default-own.keys13)
+returns-in_default c = may_none _ _ _ c.in_default.in_default-own.keys13

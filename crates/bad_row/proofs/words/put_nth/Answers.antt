@@ -1,12 +1,8 @@
-use Prim.Native.Nat.{◌≤◌, ◌-◌}
-use mathlib.Core.Logic.{⊎_elim}
-use mathlib.Core.Path.{◌≡◌, ap}
+use mathlib.Core.Path.{ap}
 use native.Mathlib.Omega.{arith}
-use lib.ListN.{length, drop}
 use borrow.Author.Rules.{rules}
-use Rattle.page.specs.Pages.{page_of, put_text}
-use Rattle.bad_row.specs.Words.{part_past}
-use Rattle.bad_row.proofs.WordLaws.{part_left, part-whole, part-comma, part-byte, part-other, part_end}
+use Rattle.page.specs.Pages.{put_text}
+use Rattle.bad_row.proofs.WordLaws.{part-whole, part-comma, part-byte, part-other, part_end}
 use Rattle.bad_row.proofs.words.put_nth.Goals as goal
 use Rattle.bad_row.proofs.words.put_nth.Goals.{else-list-i-eq44+else-past-n, else-list-i-eq44+then-past-n, then-list-i-eq44}
 

@@ -1,12 +1,9 @@
 use Prim.Native.Nat.{◌≤◌, ◌-◌}
-use mathlib.Core.Logic.{⊎_elim}
-use mathlib.Core.Path.{◌≡◌, ap}
-use native.Mathlib.Omega.{arith}
+use mathlib.Core.Path.{◌≡◌}
 use lib.ListN.{length, drop}
-use borrow.Author.Rules.{rules}
 use Rattle.page.specs.Pages.{page_of, put_text}
 use Rattle.bad_row.specs.Words.{part_past}
-use Rattle.bad_row.proofs.WordLaws.{part_left, part-whole, part-comma, part-byte, part-other, part_end}
+use Rattle.bad_row.proofs.WordLaws.{part_left}
 use Rattle.bad_row.proofs.words.put_nth.Given as goal
 
 abbrev pub invariant-loop-i : goal.invariant-loop-i

@@ -1,6 +1,5 @@
 use Rattle.rules.specs.Token.{bytes_of}
 use Rattle.bad_row.specs.Words.{put_unused}
-use borrow.Author.Rules.{rules}
 use Rattle.bad_row.proofs.words.put_unused.Goals as goal
 
 pub returns : goal.returns
