@@ -7,7 +7,7 @@ use Rattle.race.proofs.put_where.Goals as goal
 
 pub returns-in-PlainRead : goal.returns-in-PlainRead
 unfolding put_where bytes_of
-returns-in-PlainRead c = rw (plain-yes _ (opened c.in-PlainRead.in-PlainRead-own.keys1)) c.fill.ensures
+returns-in-PlainRead c = rw (plain-yes _ c.in-PlainRead.in-PlainRead-own.keys1) c.fill.ensures
 
 pub returns-in_default : goal.returns-in_default
 unfolding put_where bytes_of
