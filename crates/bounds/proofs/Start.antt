@@ -15,7 +15,7 @@ use Rattle.rules.specs.Vector.{zeros}
 use Rattle.rules.specs.Seen.{unseens}
 use Rattle.rules.specs.Table.{threads_of, cells_of, plains_of}
 use Rattle.rules.specs.State.{State, Vector, vector, with_vector, vector_at, number, vectors_held, threads, cells, plains, history, none}
-use Rattle.rules.specs.State.{causality, mutated, rows_of, yields, last_yield, operation, phase, count, active_thread, rows_begun, exploring}
+use Rattle.rules.specs.State.{causality, mutated, rows_of, yields, last_yield, operation, phase, count, active_thread, rows_begun}
 use Rattle.rules.specs.Cell.{version, join_into, with_clocks}
 use Rattle.rules.specs.Plain.{plain_write_done}
 use Rattle.rules.specs.Machine

@@ -16,7 +16,7 @@ use Rattle.rules.specs.Event.{Point, nowhere, branch, Question, which_thread, wh
 use Rattle.rules.specs.Explorer.{seed_of, pushed, Limits, Ledger, all_marked, backtrack_from, first_marked, with_branch, Walk, Tick, execution}
 use Rattle.rules.specs.Explorer.{Verdict, exhausted, spent, unmet, stopped, Stop, next_ledger, empty, run}
 use Rattle.ledger.specs.History.{left_by, Course, executed, courses, Stops, Made, Told, Real}
-use Rattle.ledger.specs.Balance.{begun, opened, Balance, Balanced, Begun, AddedOpens, Quiet}
+use Rattle.ledger.specs.Balance.{begun, Balance, Balanced, Begun, AddedOpens, Quiet}
 use Rattle.ledger.proofs.Counts.{pendings-seed_of, open_in-added, stepped-open}
 use Rattle.ledger.proofs.Marks.{backtracked-open, backtracked-kept}
 use Rattle.ledger.proofs.Ledgers.{execution-keeps, execution-begun}

@@ -14,7 +14,7 @@ use Rattle.rules.specs.Table.{header_fine, threads_of, cells_of}
 use Rattle.rules.specs.State.{State, threads, cells}
 use Rattle.rules.specs.Machine.{Program, machine, final}
 use Rattle.rules.specs.Explorer.{Limits, Ledger, Walk, Tick, goes, over, faulted, tick, Execution, execution, After, after, stops_here, goes_on, empty}
-use Rattle.rules.specs.Explored.{Settings, settings_fine, program_of, limits_of}
+use Rattle.rules.specs.Explored.{program_of, limits_of}
 use Rattle.rules.proofs.LimitLaws.{operations-most, operations-fit}
 use Rattle.rules.proofs.MeasureStart.{start-ready}
 use Rattle.rules.proofs.MeasureAccepted.{good-header}

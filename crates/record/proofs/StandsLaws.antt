@@ -5,7 +5,7 @@
 --     five-states, stands-states   a schedule's states
 --     stands-states-put            others in their place
 --     seven-values, stands-pos, -len, -values, -moved      a load's values and position
-use Prim.Native.Nat.{ℕ, ◌-◌, ◌≤◌, ◌<◌}
+use Prim.Native.Nat.{ℕ, ◌≤◌, ◌<◌}
 use mathlib.Core.List.{List}
 use mathlib.Core.Bool.{true}
 use mathlib.Core.Path.{◌≡◌, refl, ap, sym, ◌∙◌}

@@ -1,6 +1,5 @@
 -- Where a schedule record that was found stands, and which thread of it. Assumes nothing.
 use Rattle.std.specs.Prelude.{ℕ, ◌<◌, ◌≤◌, ◌≡◌, List}
-use Rattle.rules.specs.Vector.{Whom, nobody, thread}
 use Rattle.rules.specs.Path.{first_in}
 use Rattle.record.specs.declared.schedule.ScheduleAt.{ScheduleAt}
 use Rattle.record.specs.declared.schedule.ScheduleAt.TheVariants.{At, None}

@@ -14,7 +14,6 @@ use lib.Dec.{ltb, leb, eqb}
 use lib.ListN.{length, get_or, drop}
 use lib.Seq.{get_or-drop}
 use borrow.Author.Tests.{eqb-true, ltb-true, ltb-false, eq-eqb, ne_eqb, not-true}
-use Rattle.rules.specs.Change as Change
 use Rattle.rules.specs.Change.{Change}
 use Rattle.rules.specs.Table.{Room, Row, Op, refused, only_if, is_fine, row_decoded, change_decoded, rmw_row, with_mut_row, is_register, is_load_order, is_store_order, is_fence_order, any_order, is_failure_order, unused}
 use Rattle.rules.specs.Token.{bytes_of}

@@ -1,5 +1,5 @@
 -- The worked texts hold of the definition: computed by the checker.
-use mathlib.Core.List.{List, [], map}
+use mathlib.Core.List.{[], map}
 use mathlib.Core.Path.{◌≡◌, refl}
 use Rattle.rules.specs.Condition as Condition
 use Rattle.rules.specs.Event as Event

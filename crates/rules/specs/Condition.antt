@@ -3,7 +3,7 @@
 --     compared            a comparison's sign
 --     condition_at         a condition at the beginning of these bytes: whether it holds, and what follows it
 --     is_condition, holds  whether all bytes are one condition, or none; and whether it holds
-use Rattle.std.specs.Prelude.{ℕ, zero, suc, ◌+◌, ◌*◌, List, [], ◌∷◌, Bool, true, false, cond, not, ◌&&◌, ◌||◌, ltb, leb, eqb, length, get_or, drop}
+use Rattle.std.specs.Prelude.{ℕ, zero, suc, List, [], ◌∷◌, Bool, true, false, cond, not, ◌&&◌, ◌||◌, ltb, leb, eqb, length, get_or, drop}
 use Rattle.rules.specs.Table.{u64_at, is_register}
 
 -- Bytes

@@ -2,7 +2,7 @@
 -- its end. A machine never reads the path: it asks, and is answered. The explorer and all that is said of its ledger are over any
 -- machine.
 use Rattle.std.specs.Prelude.{ℕ, zero, suc, ◌+◌, ◌/◌, ◌%◌, List, [], ◌∷◌, Bool, cond}
-use Rattle.rules.specs.Vector.{Whom, thread}
+use Rattle.rules.specs.Vector.{Whom}
 
 -- "In a run the first fault stops everything"
 pub data Fault : Type 0 where

@@ -5,7 +5,6 @@
 --     judged                 the whole table, and its first bad row
 --     start_value, row_at      a start value, and a row's fields by its number among all rows
 use Rattle.std.specs.Prelude.{ℕ, zero, suc, ◌+◌, ◌*◌, List, [], ◌∷◌, ◌++◌, Bool, true, false, cond, not, ◌&&◌, ◌||◌, ltb, leb, eqb, length, get_or, take, drop, replicate}
-use Rattle.rules.specs.Change as Change
 use Rattle.rules.specs.Change.{Change}
 use Rattle.rules.specs.State as State
 

@@ -8,7 +8,7 @@ use Prim.Native.String.{String}
 use Rattle.rules.specs.Vector.{equal}
 use Rattle.rules.specs.Table.{max_threads, max_cells, max_plains, max_values, max_rows, all_rows, size_of}
 use Rattle.rules.specs.Event.{little}
-use Rattle.rules.specs.Condition.{Read, bad, read, condition_at, is_sign, groups_deep, condition_bytes}
+use Rattle.rules.specs.Condition.{bad, read, condition_at, is_sign, groups_deep, condition_bytes}
 use Rattle.rules.specs.Token.{bytes_of, line_feed, is_between, is_empty, ends_line, past_blanks, token, past_token, next_line, content, Found, nothing, found, found_if, only, number_in, place_in}
 use Rattle.rules.specs.Form.{Followed, stuck, fits, row_in, fields_as_bytes}
 

@@ -1,12 +1,11 @@
 -- Worked texts: docs/GRAMMAR.md's example read and written again, and texts with the place at which each is refused. That both columns
 -- are equal is computed by the checker (proofs/WorkedTexts.antt).
-use Rattle.std.specs.Prelude.{ℕ, ◌^◌, List, [], ◌∷◌, ◌++◌, map, replicate}
+use Rattle.std.specs.Prelude.{ℕ, List, [], ◌∷◌, ◌++◌, replicate}
 use Prim.Native.String.{String}
 use Rattle.rules.specs.Event.{little}
 use Rattle.rules.specs.Condition.{equals, opens, closes, either, condition_bytes}
 use Rattle.rules.specs.Token.{bytes_of}
-use Rattle.rules.specs.Text.{TextRead, TextAnswer, refused, read_text, read_into, table_bytes}
-use Rattle.rules.specs.Writer.{written_text}
+use Rattle.rules.specs.Text.{TextAnswer, refused, read_into, table_bytes}
 use Rattle.rules.specs.Worked.{row, table, table_with}
 
 -- The example

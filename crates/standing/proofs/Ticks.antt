@@ -24,7 +24,7 @@ use Rattle.rules.proofs.MeasureRows.{pick, both_left, both_right, Names, OnCell,
 use Rattle.standing.specs.Standing.{Thread, FactsLeft, FactsHold, Schedules, under_way}
 use Rattle.standing.proofs.Facts.{acts-so, Facts, keep, begun_one, freed-facts, freed-none, opened, closed, holding}
 use Rattle.standing.proofs.Rows.{accepted-row}
-use Rattle.standing.proofs.Steps.{going, Good, moving, asking, stops_at, acts-good}
+use Rattle.standing.proofs.Steps.{Good, moving, asking, stops_at, acts-good}
 
 module _ (p : Program) (held : cells_of p.table ≤ cells) (few : threads_of p.table ≤ threads) (limited : p.operations ≤ largest) where
   -- A row has begun: thread t runs at row k, which is to act

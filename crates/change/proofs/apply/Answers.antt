@@ -1,4 +1,4 @@
-use Rattle.std.proofs.Common.{refl, ap, arith, rules}
+use Rattle.std.proofs.Common.{refl, ap, arith}
 use Rattle.rules.specs.Change.{applied, success}
 use Rattle.change.proofs.ChangeLaws.{meant, subtracted}
 use Rattle.change.proofs.apply.Goals as goal

@@ -1,4 +1,3 @@
-use Rattle.std.proofs.Common.{rules}
 use Rattle.change.proofs.ChangeLaws.{decremented-none, decremented-some}
 use Rattle.change.proofs.decrement.Goals as goal
 

@@ -1,4 +1,3 @@
-use Rattle.std.proofs.Common.{rules}
 use Rattle.change.proofs.ChangeLaws.{greater-other, greater-own}
 use Rattle.change.proofs.signed_greater.Goals as goal
 

@@ -1,4 +1,3 @@
-use Rattle.std.proofs.Common.{rules}
 use Rattle.change.proofs.ChangeLaws.{signed-less}
 use Rattle.change.proofs.signed_less.Goals as goal
 

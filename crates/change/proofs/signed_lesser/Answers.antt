@@ -1,4 +1,3 @@
-use Rattle.std.proofs.Common.{rules}
 use Rattle.change.proofs.ChangeLaws.{lesser-own, lesser-other}
 use Rattle.change.proofs.signed_lesser.Goals as goal
 

@@ -1,10 +1,8 @@
 use Prim.Native.Nat.{◌+◌, ◌^◌, ◌<◌}
 use mathlib.Core.Path.{◌≡◌}
-use native.Mathlib.Omega.{arith}
 use lib.ListN.{length}
 use Rattle.digits.specs.Shown.{shown}
-use Rattle.digits.proofs.ShownLaws.{ahead, at-most, count-one, count-on, count-end}
-use borrow.Author.Rules.{rules}
+use Rattle.digits.proofs.ShownLaws.{ahead}
 use Rattle.digits.proofs.count.Given as goal
 
 abbrev pub invariant-loop-rest : goal.invariant-loop-rest

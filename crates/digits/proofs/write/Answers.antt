@@ -1,9 +1,5 @@
-use Prim.Native.Nat.{◌≤◌}
-use mathlib.Core.Path.{◌≡◌}
 use native.Mathlib.Omega.{arith}
-use lib.Seq.{sets}
-use Rattle.digits.specs.Shown.{shown}
-use Rattle.digits.proofs.ShownLaws.{lowest, lowest-all, at-most, write-on, write-end}
+use Rattle.digits.proofs.ShownLaws.{lowest-all, at-most, write-on, write-end}
 use borrow.Author.Rules.{rules}
 use Rattle.digits.proofs.write.Goals as goal
 

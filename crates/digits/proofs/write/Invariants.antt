@@ -1,10 +1,8 @@
 use Prim.Native.Nat.{◌≤◌}
 use mathlib.Core.Path.{◌≡◌}
-use native.Mathlib.Omega.{arith}
 use lib.Seq.{sets}
 use Rattle.digits.specs.Shown.{shown}
-use Rattle.digits.proofs.ShownLaws.{lowest, lowest-all, at-most, write-on, write-end}
-use borrow.Author.Rules.{rules}
+use Rattle.digits.proofs.ShownLaws.{lowest}
 use Rattle.digits.proofs.write.Given as goal
 
 abbrev pub invariant-loop-i : goal.invariant-loop-i

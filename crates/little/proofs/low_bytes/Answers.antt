@@ -1,5 +1,4 @@
 use Rattle.rules.proofs.LittleLaws.{low-eight}
-use borrow.Author.Rules.{rules}
 use Rattle.little.proofs.low_bytes.Goals as goal
 
 pub returns : goal.returns

@@ -1,6 +1,5 @@
 use native.Mathlib.Omega.{arith}
 use Rattle.rules.specs.Table.{u64_at}
-use borrow.Author.Rules.{rules}
 use Rattle.little.proofs.u64_at.Goals as goal
 
 pub returns : goal.returns

@@ -1,4 +1,3 @@
-use borrow.Author.Rules.{rules}
 use borrow.Author.Tests.{not-true, not-false}
 use Rattle.record.proofs.OpenLaws.{open-not, open-schedule, open-load, open-spurious, open-other}
 use Rattle.record.proofs.open_at.Goals as goal

@@ -1,4 +1,3 @@
-use borrow.Author.Rules.{rules}
 use borrow.Author.Tests.{not-true, not-false}
 use Rattle.record.proofs.OpenLaws.{step-not, step-schedule, step-load, step-spurious, step_other}
 use Rattle.record.proofs.step_at.Goals as goal

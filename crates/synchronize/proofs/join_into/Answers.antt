@@ -1,4 +1,3 @@
-use borrow.Author.Rules.{rules}
 use mathlib.Core.Path.{ap}
 use lib.ListN.{set}
 use Rattle.synchronize.proofs.join_into.Goals as goal

@@ -1,5 +1,4 @@
-use borrow.Author.Rules.{rules}
-use mathlib.Core.Logic.{inl, inr, ⊎_elim}
+use mathlib.Core.Logic.{inl, inr}
 use Rattle.synchronize.proofs.SyncLaws.{store-alone, store-joins}
 use Rattle.synchronize.proofs.sync_store.Goals as goal
 use Rattle.synchronize.proofs.sync_store.Goals.{in-1-1, in_default+else-order-lt3+then-order-lt5}

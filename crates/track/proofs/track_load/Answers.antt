@@ -1,4 +1,3 @@
-use borrow.Author.Rules.{rules}
 use Rattle.rules.specs.Cell.{load_race, load_tracked}
 use Rattle.rules.specs.State.{loaded}
 use Rattle.track.proofs.TrackLaws.{answered, raced, clear}

@@ -1,4 +1,3 @@
-use borrow.Author.Rules.{rules}
 use Rattle.rules.specs.Cell.{store_race, store_tracked}
 use Rattle.rules.specs.State.{stored}
 use Rattle.track.proofs.TrackLaws.{answered, here, past, raced, clear}

@@ -1,4 +1,3 @@
-use borrow.Author.Rules.{rules}
 use Rattle.rules.specs.Cell.{unsync_load_race, unsync_load_tracked}
 use Rattle.rules.specs.State.{unsync_loaded}
 use Rattle.track.proofs.TrackLaws.{answered, here, past, raced, clear}

@@ -1,4 +1,3 @@
-use borrow.Author.Rules.{rules}
 use Rattle.rules.specs.Cell.{mut_race, mut_tracked}
 use Rattle.rules.specs.State.{mutated}
 use Rattle.track.proofs.TrackLaws.{answered, here, past, raced, clear}

@@ -1,4 +1,3 @@
-use borrow.Author.Rules.{rules}
 use Rattle.vv.proofs.Walks.{one-more, no_more}
 use Rattle.vv.proofs.one_more.Goals as goal
 

@@ -1,4 +1,3 @@
-use borrow.Author.Rules.{rules}
 use Rattle.layout.proofs.SlotLaws.{oldest-few, oldest-all}
 use Rattle.layout.proofs.slots.kth_oldest.Goals as goal
 

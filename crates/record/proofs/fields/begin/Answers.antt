@@ -1,4 +1,3 @@
-use borrow.Author.Rules.{rules}
 use Rattle.record.proofs.FieldLaws.{begun-by}
 use Rattle.record.proofs.fields.begin.Goals as goal
 

@@ -1,9 +1,7 @@
-use borrow.Author.Rules.{rules}
 use Prim.Native.Nat.{◌≤◌, ◌-◌, ◌*◌}
 use mathlib.Core.Path.{◌≡◌}
 use lib.ListN.{length, replicate}
 use lib.Seq.{paste}
-use Rattle.record.proofs.FieldLaws.{clear_none, clear-on, clear-all}
 use Rattle.record.proofs.fields.clear.Given as goal
 
 abbrev pub invariant-loop-k : goal.invariant-loop-k

@@ -1,4 +1,3 @@
-use borrow.Author.Rules.{rules}
 use Rattle.record.proofs.fields.is_kind.Goals as goal
 
 pub returns : goal.returns

@@ -1,4 +1,3 @@
-use borrow.Author.Rules.{rules}
 use Rattle.record.proofs.LoadLaws.{left-many, left-none, left-some}
 use Rattle.record.proofs.load.left.Goals as goal
 

@@ -1,4 +1,3 @@
-use borrow.Author.Rules.{rules}
 use mathlib.Core.Path.{◌∙◌}
 use Rattle.record.proofs.ChoiceLaws.{offered-many, offered-none, offered-bad, offered-some}
 use Rattle.record.proofs.load.offered.Goals as goal

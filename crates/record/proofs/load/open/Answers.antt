@@ -1,4 +1,3 @@
-use borrow.Author.Rules.{rules}
 use mathlib.Core.Path.{◌∙◌}
 use Rattle.record.proofs.LoadLaws.{left-of}
 use Rattle.record.proofs.load.open.Goals as goal

@@ -1,8 +1,6 @@
 use borrow.Author.Rules.{rules}
-use Prim.Native.Nat.{◌≤◌, ◌-◌, ◌*◌, ◌+◌}
 use mathlib.Core.Path.{◌≡◌, refl}
 use lib.ListN.{length}
-use lib.Seq.{paste}
 use Rattle.record.proofs.FieldLaws.{values-none, values-on, values-all}
 use Rattle.record.proofs.load.put_values.Goals as goal
 

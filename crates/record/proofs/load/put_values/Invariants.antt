@@ -1,9 +1,7 @@
-use borrow.Author.Rules.{rules}
 use Prim.Native.Nat.{◌≤◌, ◌-◌, ◌*◌, ◌+◌}
-use mathlib.Core.Path.{◌≡◌, refl}
+use mathlib.Core.Path.{◌≡◌}
 use lib.ListN.{length}
 use lib.Seq.{paste}
-use Rattle.record.proofs.FieldLaws.{values-none, values-on, values-all}
 use Rattle.record.proofs.load.put_values.Given as goal
 
 abbrev pub invariant-loop-i : goal.invariant-loop-i

@@ -1,10 +1,6 @@
 use borrow.Author.Rules.{rules}
-use Prim.Native.Nat.{◌≤◌, ◌-◌}
-use mathlib.Core.Path.{◌≡◌, refl, ◌∙◌}
-use lib.ListN.{drop}
+use mathlib.Core.Path.{refl, ◌∙◌}
 use Rattle.record.proofs.LoadLaws.{mask-on, mask-ends, mask-all}
-use Rattle.record.specs.Choices.{offers}
-use Rattle.record.specs.Fields.{values_at}
 use Rattle.record.proofs.load.with_mask.Goals as goal
 
 pub loop-i-init : goal.loop-i-init

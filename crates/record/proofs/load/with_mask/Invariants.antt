@@ -1,8 +1,6 @@
-use borrow.Author.Rules.{rules}
 use Prim.Native.Nat.{◌≤◌, ◌-◌}
-use mathlib.Core.Path.{◌≡◌, refl, ◌∙◌}
+use mathlib.Core.Path.{◌≡◌}
 use lib.ListN.{drop}
-use Rattle.record.proofs.LoadLaws.{mask-on, mask-ends, mask-all}
 use Rattle.record.specs.Choices.{offers}
 use Rattle.record.specs.Fields.{values_at}
 use Rattle.record.proofs.load.with_mask.Given as goal

@@ -1,4 +1,3 @@
-use borrow.Author.Rules.{rules}
 use Rattle.record.proofs.MarkLaws.{marks-none, marks-all, marks-one}
 use Rattle.record.proofs.schedule.backtrack.Goals as goal
 

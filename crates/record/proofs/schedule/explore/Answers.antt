@@ -1,4 +1,3 @@
-use borrow.Author.Rules.{rules}
 use Rattle.record.proofs.MarkLaws.{explore-here, explore-not}
 use Rattle.record.proofs.schedule.explore.Goals as goal
 

@@ -1,6 +1,5 @@
-use borrow.Author.Rules.{rules}
 use Rattle.record.specs.Fields.{states_at, with_states_at}
-use Rattle.record.proofs.MarkLaws.{explored_to, skips_to, all_none, skips-none, all-on, more-on, all_done}
+use Rattle.record.proofs.MarkLaws.{explored_to, skips_to}
 use Prim.Native.Nat.{◌≤◌, ◌-◌}
 use mathlib.Core.Path.{◌≡◌}
 use lib.ListN.{length}

@@ -1,10 +1,6 @@
 use borrow.Author.Rules.{rules}
-use Prim.Native.Nat.{◌≤◌, ◌-◌}
-use mathlib.Core.Path.{◌≡◌, ◌∙◌}
-use Rattle.rules.specs.Path.{first_in}
-use Rattle.record.specs.Places.{or_five}
-use Rattle.record.specs.Fields.{states_at}
-use Rattle.record.proofs.StatesLaws.{found, first-start, first-here, first_on, first-none}
+use mathlib.Core.Path.{◌∙◌}
+use Rattle.record.proofs.StatesLaws.{first-start, first-here, first_on, first-none}
 use Rattle.record.proofs.schedule.first_in.Goals as goal
 
 pub loop-thread-init : goal.loop-thread-init

@@ -1,10 +1,9 @@
-use borrow.Author.Rules.{rules}
 use Prim.Native.Nat.{◌≤◌, ◌-◌}
-use mathlib.Core.Path.{◌≡◌, ◌∙◌}
+use mathlib.Core.Path.{◌≡◌}
 use Rattle.rules.specs.Path.{first_in}
 use Rattle.record.specs.Places.{or_five}
 use Rattle.record.specs.Fields.{states_at}
-use Rattle.record.proofs.StatesLaws.{found, first-start, first-here, first_on, first-none}
+use Rattle.record.proofs.StatesLaws.{found}
 use Rattle.record.proofs.schedule.first_in.Given as goal
 
 abbrev pub invariant-loop-thread : goal.invariant-loop-thread

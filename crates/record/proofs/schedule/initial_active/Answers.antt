@@ -1,4 +1,3 @@
-use borrow.Author.Rules.{rules}
 use native.Mathlib.Omega.{arith}
 use Rattle.record.proofs.Places.{place-below}
 use Rattle.record.proofs.ThreadLaws.{initial-first, initial-other, initial-same}

@@ -1,11 +1,5 @@
 use borrow.Author.Rules.{rules}
 use native.Mathlib.Omega.{arith}
-use mathlib.Core.Logic.{⊎_elim}
-use Prim.Native.Nat.{◌≤◌, ◌-◌, ◌+◌}
-use mathlib.Core.Path.{◌≡◌}
-use lib.ListN.{drop}
-use Rattle.rules.specs.Path.{pendings}
-use Rattle.record.specs.Fields.{states_at}
 use Rattle.record.proofs.StatesLaws.{count-here, count-on, count-all}
 use Rattle.record.proofs.schedule.pending.Goals as goal
 use Rattle.record.proofs.schedule.pending.Goals.{else-field-eq-PENDING, then-field-eq-PENDING}

@@ -1,4 +1,3 @@
-use borrow.Author.Rules.{rules}
 use Rattle.record.proofs.ThreadLaws.{prev-put}
 use Rattle.record.proofs.schedule.put_prev.Goals as goal
 

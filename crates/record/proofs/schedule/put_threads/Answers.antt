@@ -1,8 +1,6 @@
 use borrow.Author.Rules.{rules}
 use mathlib.Core.Path.{◌≡◌, refl}
-use lib.Seq.{paste}
 use Rattle.record.proofs.ThreadLaws.{threads-none, threads-on, threads-all}
-use Prim.Native.Nat.{◌≤◌, ◌-◌, ◌+◌, ◌*◌}
 use lib.ListN.{length}
 use Rattle.record.proofs.schedule.put_threads.Goals as goal
 

@@ -1,4 +1,3 @@
-use borrow.Author.Rules.{rules}
 use Rattle.record.proofs.StepLaws.{turned_by, turned-nobody}
 use Rattle.record.proofs.schedule.step.Goals as goal
 

@@ -1,4 +1,3 @@
-use borrow.Author.Rules.{rules}
 use Rattle.record.proofs.ThreadLaws.{byte_low, byte-none}
 use Rattle.record.proofs.schedule.thread_byte.Goals as goal
 

@@ -1,4 +1,3 @@
-use borrow.Author.Rules.{rules}
 use Rattle.record.proofs.ThreadLaws.{toggled-kept, toggled-none, toggled-put}
 use Rattle.record.proofs.schedule.toggle_yield.Goals as goal
 

@@ -1,4 +1,3 @@
-use borrow.Author.Rules.{rules}
 use Rattle.record.proofs.StepLaws.{visited-by, visited-nobody}
 use Rattle.record.proofs.schedule.visit.Goals as goal
 

@@ -1,4 +1,3 @@
-use borrow.Author.Rules.{rules}
 use Rattle.record.proofs.StepLaws.{open-unset, open-set}
 use Rattle.record.proofs.spurious.open.Goals as goal
 

@@ -1,4 +1,3 @@
-use borrow.Author.Rules.{rules}
 use Rattle.record.proofs.StepLaws.{set-by, set-not}
 use Rattle.record.proofs.spurious.step.Goals as goal
 

@@ -1,10 +1,8 @@
 use borrow.Author.Rules.{rules}
 use native.Mathlib.Omega.{arith}
-use Prim.Native.Nat.{◌≤◌, ◌-◌}
 use mathlib.Core.Path.{◌≡◌, refl, sym, ◌∙◌}
 use lib.ListN.{length, length-set}
-use Rattle.rules.specs.Seen.{seen_slots}
-use Rattle.synchronize.proofs.SeenLaws.{answering, slots-on, slots-all}
+use Rattle.synchronize.proofs.SeenLaws.{slots-on, slots-all}
 use Rattle.synchronize.proofs.first_seen.seen_slots.Goals as goal
 
 pub loop-i-init : goal.loop-i-init
@@ -12,8 +10,7 @@ loop-i-init c = (search rules, search rules, refl)
 
 pub loop-i-preserved : goal.loop-i-preserved
 loop-i-preserved c =
-    let len : length c.args.marks ≡ 7 = search rules in
-    (
+    let len : length c.args.marks ≡ 7 = search rules in (
       search rules,
       simp length-set c.loop-i.invariant.1,
       slots-on _ _ _ c.loop-i.i (omega arith) (omega (arith, len)) _ c.is_seen_by_current.ensures ∙ c.loop-i.invariant.2,

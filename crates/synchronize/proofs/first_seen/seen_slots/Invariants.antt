@@ -1,10 +1,8 @@
-use borrow.Author.Rules.{rules}
-use native.Mathlib.Omega.{arith}
 use Prim.Native.Nat.{◌≤◌, ◌-◌}
-use mathlib.Core.Path.{◌≡◌, refl, sym, ◌∙◌}
-use lib.ListN.{length, length-set}
+use mathlib.Core.Path.{◌≡◌}
+use lib.ListN.{length}
 use Rattle.rules.specs.Seen.{seen_slots}
-use Rattle.synchronize.proofs.SeenLaws.{answering, slots-on, slots-all}
+use Rattle.synchronize.proofs.SeenLaws.{answering}
 use Rattle.synchronize.proofs.first_seen.seen_slots.Given as goal
 
 abbrev pub invariant-loop-i : goal.invariant-loop-i

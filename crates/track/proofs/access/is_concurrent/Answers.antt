@@ -1,4 +1,3 @@
-use borrow.Author.Rules.{rules}
 use mathlib.Core.List.{[]}
 use mathlib.Core.Bool.{true}
 use Rattle.track.proofs.LastAccessLaws.{conflict-none, conflict-asked}

@@ -1,6 +1,5 @@
 use borrow.Author.Rules.{rules}
 use Rattle.track.proofs.LastAccessLaws.{vector-load, vector-other}
-use mathlib.Core.Logic.{⊎_elim}
 use Rattle.track.proofs.access.last_dependent_version.Goals as goal
 use Rattle.track.proofs.access.last_dependent_version.Goals.{else-operation-eq-A_LOAD, then-operation-eq-A_LOAD}
 

@@ -1,6 +1,4 @@
-use borrow.Author.Rules.{rules}
 use mathlib.Core.Path.{◌≡◌}
-use mathlib.Core.Logic.{⊎_elim}
 use Rattle.rules.specs.State.{Marks, Values}
 use Rattle.layout.specs.Tables.{state}
 use Rattle.track.specs.LastAccess.{grown_by}

@@ -1,10 +1,8 @@
-use borrow.Author.Rules.{rules}
-use native.Mathlib.Omega.{arith}
 use Prim.Native.Nat.{◌≤◌, ◌-◌}
-use mathlib.Core.Path.{◌≡◌, sym, ap, ◌∙◌}
-use lib.ListN.{length, drop}
+use mathlib.Core.Path.{◌≡◌}
+use lib.ListN.{drop}
 use Rattle.rules.specs.Vector.{ahead}
-use Rattle.vv.proofs.Walks.{left-none, past, past-none, ahead-on, ahead-ends}
+use Rattle.vv.proofs.Walks.{past}
 use Rattle.vv.proofs.VersionVec.ahead.Given as goal
 
 abbrev pub invariant-loop-i : goal.invariant-loop-i

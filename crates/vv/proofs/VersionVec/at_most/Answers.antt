@@ -1,8 +1,7 @@
 use borrow.Author.Rules.{rules}
 use native.Mathlib.Omega.{arith}
-use Prim.Native.Nat.{◌≤◌, ◌-◌}
 use mathlib.Core.Path.{◌≡◌, refl, sym, ◌∙◌}
-use lib.ListN.{length, drop}
+use lib.ListN.{length}
 use Rattle.rules.specs.Vector.{at_most}
 use Rattle.vv.proofs.Walks.{left-none, at_most-on, at_most-ends}
 use Rattle.vv.proofs.VersionVec.at_most.Goals as goal
@@ -19,8 +18,7 @@ returns-then-self-i c =
 pub loop-i-preserved : goal.loop-i-preserved
 loop-i-preserved c =
     let len2 : length c.args.other.versions ≡ 5 = search rules in
-    let len1 : length c.args.self.versions ≡ 5 = search rules in
-    (
+    let len1 : length c.args.self.versions ≡ 5 = search rules in (
       search rules,
       at_most-on _ _ c.loop-i.i (omega (arith, len1)) (omega (arith, len2)) c.if-self-i.false ∙ c.loop-i.invariant.1,
     )

@@ -1,10 +1,7 @@
-use borrow.Author.Rules.{rules}
-use native.Mathlib.Omega.{arith}
 use Prim.Native.Nat.{◌≤◌, ◌-◌}
-use mathlib.Core.Path.{◌≡◌, refl, sym, ◌∙◌}
-use lib.ListN.{length, drop}
+use mathlib.Core.Path.{◌≡◌}
+use lib.ListN.{drop}
 use Rattle.rules.specs.Vector.{at_most}
-use Rattle.vv.proofs.Walks.{left-none, at_most-on, at_most-ends}
 use Rattle.vv.proofs.VersionVec.at_most.Given as goal
 
 abbrev pub invariant-loop-i : goal.invariant-loop-i

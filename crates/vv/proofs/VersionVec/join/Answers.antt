@@ -1,11 +1,9 @@
 use borrow.Author.Rules.{rules}
 use native.Mathlib.Omega.{arith}
-use Prim.Native.Nat.{◌≤◌, ◌-◌, ◌<◌}
+use Prim.Native.Nat.{◌<◌}
 use mathlib.Core.Path.{◌≡◌, refl, sym, ◌∙◌}
-use mathlib.Core.Logic.{⊎_elim}
 use lib.ListN.{length, length-set}
-use Rattle.rules.specs.Vector.{joined}
-use Rattle.vv.proofs.Walks.{joining, join-taken, join_kept, join-none}
+use Rattle.vv.proofs.Walks.{join-taken, join_kept, join-none}
 use Rattle.vv.proofs.VersionVec.join.Goals as goal
 use Rattle.vv.proofs.VersionVec.join.Goals.{else-self-i, then-self-i}
 

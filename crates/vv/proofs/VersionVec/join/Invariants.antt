@@ -1,11 +1,8 @@
-use borrow.Author.Rules.{rules}
-use native.Mathlib.Omega.{arith}
-use Prim.Native.Nat.{◌≤◌, ◌-◌, ◌<◌}
-use mathlib.Core.Path.{◌≡◌, refl, sym, ◌∙◌}
-use mathlib.Core.Logic.{⊎_elim}
-use lib.ListN.{length, length-set}
+use Prim.Native.Nat.{◌≤◌, ◌-◌}
+use mathlib.Core.Path.{◌≡◌}
+use lib.ListN.{length}
 use Rattle.rules.specs.Vector.{joined}
-use Rattle.vv.proofs.Walks.{joining, join-taken, join_kept, join-none}
+use Rattle.vv.proofs.Walks.{joining}
 use Rattle.vv.proofs.VersionVec.join.Given as goal
 
 abbrev pub invariant-loop-i : goal.invariant-loop-i

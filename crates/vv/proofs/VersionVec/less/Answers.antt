@@ -1,4 +1,3 @@
-use borrow.Author.Rules.{rules}
 use Rattle.vv.proofs.Walks.{less-told}
 use Rattle.vv.proofs.VersionVec.less.Goals as goal
 

@@ -1,10 +1,8 @@
 use borrow.Author.Rules.{rules}
 use native.Mathlib.Omega.{arith}
-use Prim.Native.Nat.{◌≤◌, ◌-◌}
 use mathlib.Core.Path.{◌≡◌, refl, sym, ◌∙◌}
-use lib.ListN.{length, drop}
-use Rattle.vv.specs.Compared.{ordering_of}
-use Rattle.vv.proofs.Walks.{after, compared-on, compared-ends, compared-none}
+use lib.ListN.{length}
+use Rattle.vv.proofs.Walks.{compared-on, compared-ends, compared-none}
 use Rattle.vv.proofs.VersionVec.partial_cmp.Goals as goal
 
 pub loop-i-init : goal.loop-i-init
@@ -19,8 +17,7 @@ returns-then-other-i c =
 pub loop-i-preserved : goal.loop-i-preserved
 loop-i-preserved c =
     let len2 : length c.args.other.versions ≡ 5 = search rules in
-    let len1 : length c.args.self.versions ≡ 5 = search rules in
-    (
+    let len1 : length c.args.self.versions ≡ 5 = search rules in (
       search rules,
       compared-on _ _ c.loop-i.i (omega (arith, len1)) (omega (arith, len2)) c.loop-i.same c.if-other-i.false ∙ c.loop-i.invariant.1,
     )

@@ -1,10 +1,8 @@
-use borrow.Author.Rules.{rules}
-use native.Mathlib.Omega.{arith}
 use Prim.Native.Nat.{◌≤◌, ◌-◌}
-use mathlib.Core.Path.{◌≡◌, refl, sym, ◌∙◌}
-use lib.ListN.{length, drop}
+use mathlib.Core.Path.{◌≡◌}
+use lib.ListN.{drop}
 use Rattle.vv.specs.Compared.{ordering_of}
-use Rattle.vv.proofs.Walks.{after, compared-on, compared-ends, compared-none}
+use Rattle.vv.proofs.Walks.{after}
 use Rattle.vv.proofs.VersionVec.partial_cmp.Given as goal
 
 abbrev pub invariant-loop-i : goal.invariant-loop-i

@@ -1,10 +1,8 @@
 use borrow.Author.Rules.{rules}
 use native.Mathlib.Omega.{arith}
-use Prim.Native.Nat.{◌≤◌, ◌-◌, ◌<◌}
-use mathlib.Core.Path.{◌≡◌, sym, ◌∙◌}
-use mathlib.Core.Logic.{⊎_elim}
+use mathlib.Core.Path.{◌≡◌, ◌∙◌}
 use lib.ListN.{length, length-set}
-use Rattle.vv.proofs.Walks.{raising, raise-none, raise-own, raise-on, raise-all}
+use Rattle.vv.proofs.Walks.{raise-none, raise-own, raise-on, raise-all}
 use Rattle.vv.proofs.VersionVec.raise.Goals as goal
 use Rattle.vv.proofs.VersionVec.raise.Goals.{else-i-thread, then-i-thread}
 
@@ -14,15 +12,14 @@ loop-i-init c =
     (search rules, len, raise-none _ c.args.thread)
 
 pub loop-i-preserved : goal.loop-i-preserved
-loop-i-preserved c =
-    (
-      search rules,
-      simp length-set c.loop-i.invariant.1,
-      elim c.if-i-thread.branch [
-      | then-i-thread w ↦ raise-own _ _ _ _ _ c.loop-i.invariant.2 w.if-i-thread.true (w.self-is ∙ w.one_more.ensures)
-      | else-i-thread w ↦ raise-on _ _ _ _ _ c.loop-i.invariant.2 w.if-i-thread.false w.self-is
-    ],
-    )
+loop-i-preserved c = (
+  search rules,
+  simp length-set c.loop-i.invariant.1,
+  elim c.if-i-thread.branch [
+    | then-i-thread w ↦ raise-own _ _ _ _ _ c.loop-i.invariant.2 w.if-i-thread.true (w.self-is ∙ w.one_more.ensures)
+    | else-i-thread w ↦ raise-on _ _ _ _ _ c.loop-i.invariant.2 w.if-i-thread.false w.self-is
+  ],
+)
 
 pub returns : goal.returns
 returns c =

@@ -1,10 +1,7 @@
-use borrow.Author.Rules.{rules}
-use native.Mathlib.Omega.{arith}
-use Prim.Native.Nat.{◌≤◌, ◌-◌, ◌<◌}
-use mathlib.Core.Path.{◌≡◌, sym, ◌∙◌}
-use mathlib.Core.Logic.{⊎_elim}
-use lib.ListN.{length, length-set}
-use Rattle.vv.proofs.Walks.{raising, raise-none, raise-own, raise-on, raise-all}
+use Prim.Native.Nat.{◌≤◌, ◌-◌}
+use mathlib.Core.Path.{◌≡◌}
+use lib.ListN.{length}
+use Rattle.vv.proofs.Walks.{raising}
 use Rattle.vv.proofs.VersionVec.raise.Given as goal
 
 abbrev pub invariant-loop-i : goal.invariant-loop-i

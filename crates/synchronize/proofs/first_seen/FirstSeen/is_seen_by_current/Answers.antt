@@ -1,9 +1,8 @@
 use borrow.Author.Rules.{rules}
 use native.Mathlib.Omega.{arith}
-use Prim.Native.Nat.{◌≤◌, ◌-◌}
 use mathlib.Core.Bool.{Bool, ◌||◌}
 use mathlib.Core.Path.{◌≡◌, refl, sym, ap, ◌∙◌}
-use lib.ListN.{length, drop}
+use lib.ListN.{length}
 use Rattle.vv.proofs.Walks.{left-none}
 use Rattle.rules.specs.Seen.{seen, seen_through}
 use Rattle.synchronize.proofs.SeenLaws.{seen-on, so-far}
@@ -15,8 +14,7 @@ loop-i-init c = (search rules, refl)
 pub loop-i-preserved : goal.loop-i-preserved
 loop-i-preserved c =
     let len2 : length c.args.causality ≡ 5 = search rules in
-    let len1 : length c.args.self.versions ≡ 5 = search rules in
-    (
+    let len1 : length c.args.self.versions ≡ 5 = search rules in (
       search rules,
       seen-on c.args.self.versions c.args.causality c.loop-i.i (omega (arith, len1)) (omega (arith, len2)) c.loop-i.seen _ (c.latest_known.ensures _) ∙ c.loop-i.invariant.1,
     )

@@ -1,12 +1,8 @@
-use borrow.Author.Rules.{rules}
-use native.Mathlib.Omega.{arith}
 use Prim.Native.Nat.{◌≤◌, ◌-◌}
-use mathlib.Core.Bool.{Bool, ◌||◌}
-use mathlib.Core.Path.{◌≡◌, refl, sym, ap, ◌∙◌}
-use lib.ListN.{length, drop}
-use Rattle.vv.proofs.Walks.{left-none}
-use Rattle.rules.specs.Seen.{seen, seen_through}
-use Rattle.synchronize.proofs.SeenLaws.{seen-on, so-far}
+use mathlib.Core.Bool.{◌||◌}
+use mathlib.Core.Path.{◌≡◌}
+use lib.ListN.{drop}
+use Rattle.rules.specs.Seen.{seen}
 use Rattle.synchronize.proofs.first_seen.FirstSeen.is_seen_by_current.Given as goal
 
 abbrev pub invariant-loop-i : goal.invariant-loop-i

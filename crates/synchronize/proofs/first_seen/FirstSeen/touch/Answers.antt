@@ -1,10 +1,9 @@
 use borrow.Author.Rules.{rules}
 use native.Mathlib.Omega.{arith}
-use Prim.Native.Nat.{◌≤◌, ◌-◌, ◌<◌}
+use Prim.Native.Nat.{◌<◌}
 use mathlib.Core.Path.{◌≡◌, ◌∙◌}
-use mathlib.Core.Logic.{⊎_elim}
 use lib.ListN.{length, length-set}
-use Rattle.synchronize.proofs.SeenLaws.{touching, touch-none, touch-own, touch-on, touch-all}
+use Rattle.synchronize.proofs.SeenLaws.{touch-none, touch-own, touch-on, touch-all}
 use Rattle.synchronize.proofs.first_seen.FirstSeen.touch.Goals as goal
 use Rattle.synchronize.proofs.first_seen.FirstSeen.touch.Goals.{else-i-thread, then-i-thread}
 
@@ -19,9 +18,9 @@ loop-i-preserved c =
       search rules,
       simp length-set c.loop-i.invariant.1,
       elim c.if-i-thread.branch [
-      | then-i-thread w ↦ touch-own _ _ _ _ c.loop-i.i c.loop-i.invariant.2 h _ w.if-i-thread.true w.self-is
-      | else-i-thread w ↦ touch-on _ _ _ _ c.loop-i.i c.loop-i.invariant.2 h _ w.if-i-thread.false w.self-is
-    ],
+        | then-i-thread w ↦ touch-own _ _ _ _ c.loop-i.i c.loop-i.invariant.2 h _ w.if-i-thread.true w.self-is
+        | else-i-thread w ↦ touch-on _ _ _ _ c.loop-i.i c.loop-i.invariant.2 h _ w.if-i-thread.false w.self-is
+      ],
     )
 
 pub returns : goal.returns

@@ -1,10 +1,7 @@
-use borrow.Author.Rules.{rules}
-use native.Mathlib.Omega.{arith}
-use Prim.Native.Nat.{◌≤◌, ◌-◌, ◌<◌}
-use mathlib.Core.Path.{◌≡◌, ◌∙◌}
-use mathlib.Core.Logic.{⊎_elim}
-use lib.ListN.{length, length-set}
-use Rattle.synchronize.proofs.SeenLaws.{touching, touch-none, touch-own, touch-on, touch-all}
+use Prim.Native.Nat.{◌≤◌, ◌-◌}
+use mathlib.Core.Path.{◌≡◌}
+use lib.ListN.{length}
+use Rattle.synchronize.proofs.SeenLaws.{touching}
 use Rattle.synchronize.proofs.first_seen.FirstSeen.touch.Given as goal
 
 abbrev pub invariant-loop-i : goal.invariant-loop-i
