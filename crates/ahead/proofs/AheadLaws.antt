@@ -1,5 +1,5 @@
 -- Counts of lines, and the place behind bytes. Assumes nothing.
-use Prim.Native.Nat.{ℕ, zero, suc, ◌+◌, ◌-◌, ◌≤◌, ◌<◌}
+use Prim.Native.Nat.{ℕ, suc, ◌+◌, ◌-◌, ◌≤◌, ◌<◌}
 use mathlib.Core.List.{List, [], ◌∷◌}
 use mathlib.Core.Bool.{Bool, true, false, cond, ◌||◌}
 use mathlib.Core.Path.{◌≡◌, refl, ap, sym, ◌∙◌}
@@ -12,7 +12,7 @@ use lib.Dec.{eqb}
 use lib.ListN.{length, get_or, take, drop, length-take, length-drop, drop_of_length-le}
 use lib.Seq.{drop-cons, get_or-take, take_all}
 use Rattle.rules.specs.Vector.{equal}
-use Rattle.rules.specs.Token.{bytes_of, line_feed, is_empty, ends_line, past_blanks, token, next_line, token_length}
+use Rattle.rules.specs.Token.{bytes_of, is_empty, ends_line, past_blanks, token, next_line, token_length}
 use Rattle.rules.specs.Text as rules
 use Rattle.rules.specs.Text.{rows_ahead, threads_ahead, place_behind, says, is_bare}
 use Rattle.token.specs.Places.{part}

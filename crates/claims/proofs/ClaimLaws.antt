@@ -2,16 +2,16 @@
 --     claim-out, claim-end, claim-stop      no unit is left, the text ends, or enough was read
 --     claim-none, claim-broken, claim-long, claim-on      what comes of a unit
 --     claims-ended, claims-with, going-with      an answer, and the next turn, by the claim before
-use Prim.Native.Nat.{ℕ, zero, suc, ◌+◌, ◌-◌, ◌≤◌, ◌<◌}
-use mathlib.Core.List.{List, [], ◌∷◌, ◌++◌}
+use Prim.Native.Nat.{ℕ, suc, ◌+◌, ◌-◌, ◌≤◌, ◌<◌}
+use mathlib.Core.List.{List, ◌++◌}
 use mathlib.Core.Bool.{Bool, true, false, true≢false, ◌||◌}
 use mathlib.Core.Path.{◌≡◌, refl, ap, sym, ◌∙◌}
 use native.Mathlib.Omega.{arith}
 use borrow.Author.Tests.{eq-eqb, ne_eqb, le-leb, lt-leb}
-use lib.Dec.{leb, eqb}
+use lib.Dec.{leb}
 use lib.ListN.{length, take, drop, length-take, length-drop}
 use lib.Seq.{take-paste, length-paste}
-use Rattle.rules.specs.Condition.{condition_bytes, Read, bad, read, condition_at, groups_deep, comparison_at}
+use Rattle.rules.specs.Condition.{condition_bytes}
 use Rattle.rules.specs.Token.{is_empty, content}
 use Rattle.rules.specs.Text.{unit_at, claimed, claimed_to, Claimed}
 use Rattle.rules.specs.Text as rules

@@ -9,7 +9,7 @@
 use Rattle.std.specs.Prelude.{ℕ, ◌+◌, ◌≤◌, ◌<◌, List, [], ◌∷◌, Bool, true, false, cond, not, ◌≡◌, eqb, length, take, drop}
 use Rattle.std.proofs.Math.Seq.{paste}
 use Rattle.rules.specs.Condition.{is_sign, condition_bytes, comparison_bytes}
-use Rattle.rules.specs.Token.{Found, nothing, found, only}
+use Rattle.rules.specs.Token.{nothing, found, only}
 use Rattle.rules.specs.Text as rules
 use Rattle.rules.specs.Text.{symbol_in, comparison_of}
 use Rattle.token.specs.Places.{part}

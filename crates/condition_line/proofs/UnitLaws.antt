@@ -13,12 +13,11 @@ use native.Mathlib.Numerals.{add-one}
 use native.Mathlib.Omega.{arith}
 use borrow.Author.Tests.{ne_eqb, leb-true}
 use lib.Dec.{leb, eqb}
-use lib.ListN.{length, get_or, drop, length-drop, drop_of_length-le, get_or-eq_default}
+use lib.ListN.{length, get_or, drop, length-drop, drop_of_length-le}
 use lib.Seq.{drop-cons, get_or-drop, drop-drop}
 use Rattle.rules.specs.Table.{u16_at, u32_at, u64_at}
 use Rattle.rules.specs.Condition.{is_sign, opens, closes}
 use Rattle.rules.specs.Token.{bytes_of, space}
-use Rattle.rules.specs.Text.{symbols}
 use Rattle.rules.specs.Writer.{shown, blank_before, units_shown, condition_shown}
 use Rattle.condition_line.specs.Units.{Units, word, comparison, symbol_shown, comparison_shown, unit_shown, unit_bytes}
 

@@ -5,14 +5,14 @@
 --     held-value, held-thread, held-row     one start value, thread or row more
 use Prim.Native.Nat.{ℕ, zero, suc, ◌+◌, ◌-◌, ◌*◌, ◌≤◌, ◌<◌}
 use mathlib.Core.List.{List, [], ◌∷◌, ◌++◌, append_assoc}
-use mathlib.Core.Bool.{Bool, true, false, cond}
+use mathlib.Core.Bool.{true, false, cond}
 use mathlib.Core.Path.{◌≡◌, refl, ap, sym, ◌∙◌}
 use native.Mathlib.Omega.{arith}
 use native.Mathlib.Decide.{dec_lt}
 use mathlib.Core.Logic.{◌≢◌, inl, inr}
 use lib.Dec.{eqb}
-use lib.ListN.{length, get_or, set, take, drop, replicate, length-append, length-set, length-replicate, get_or-replicate, get_or-append}
-use lib.Seq.{paste, take_all, take_at, drop_at, drop-append-add, get_or_at, set_at, get_or-set_same, get_or-set_other, set-append_left, ext_get_or, length-paste}
+use lib.ListN.{length, get_or, set, take, drop, replicate, length-append, length-set, length-replicate, get_or-append}
+use lib.Seq.{paste, take_all, take_at, drop-append-add, get_or_at, set_at, get_or-set_same, get_or-set_other, set-append_left, length-paste}
 use Rattle.rules.specs.Table.{max_rows, total}
 use Rattle.rules.specs.Event.{little}
 use Rattle.rules.specs.Form.{fields_as_bytes}

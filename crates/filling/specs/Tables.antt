@@ -5,7 +5,7 @@
 --     with_cell_or_plain                 and one more
 --     Grows                           from any table that it held, one step of the definition
 --     Blank                           zeros
-use Rattle.std.specs.Prelude.{ℕ, ◌+◌, ◌-◌, ◌*◌, ◌≤◌, ◌<◌, List, cond, ◌⊎◌, ◌≡◌, eqb, length, get_or, replicate}
+use Rattle.std.specs.Prelude.{ℕ, ◌+◌, ◌*◌, ◌≤◌, ◌<◌, List, cond, ◌⊎◌, ◌≡◌, eqb, length, get_or, replicate}
 use Rattle.rules.specs.Table.{max_threads, max_cells, max_plains, max_rows, header_bytes, value_bytes, row_bytes, total}
 use Rattle.rules.specs.Text.{Draft, with_cell, with_plain, table_of, filled, table_bytes}
 

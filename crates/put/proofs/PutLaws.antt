@@ -3,7 +3,7 @@
 --     puts-in, puts-past             a byte where there is room, and where there is none
 --     coming-all, coming-on          what is still to come, at first and behind a part of it
 --     come                           nothing more
-use Prim.Native.Nat.{ℕ, suc, ◌+◌, ◌-◌, ◌≤◌, ◌<◌}
+use Prim.Native.Nat.{ℕ, suc, ◌+◌, ◌≤◌, ◌<◌}
 use mathlib.Core.List.{List, [], ◌∷◌, ◌++◌}
 use mathlib.Core.Path.{◌≡◌, refl, ap, sym, ◌∙◌}
 use native.Mathlib.Omega.{arith}

@@ -1,14 +1,14 @@
 -- A text read into two buffers. Assumes nothing.
 --     no_table, no-condition      a buffer is too short
 --     read-refused, read_taken    a text that is read
-use Prim.Native.Nat.{ℕ, ◌-◌, ◌≤◌, ◌<◌}
+use Prim.Native.Nat.{ℕ, ◌≤◌, ◌<◌}
 use mathlib.Core.List.{List, []}
 use mathlib.Core.Bool.{Bool, true, false, ◌&&◌}
 use mathlib.Core.Path.{◌≡◌, refl, ap, sym, ◌∙◌, subst}
 use native.Mathlib.Omega.{arith}
 use borrow.Author.Tests.{le-leb, lt-leb}
 use lib.Dec.{leb}
-use lib.ListN.{length, drop, replicate}
+use lib.ListN.{length, drop}
 use Rattle.rules.specs.Condition.{condition_bytes}
 use Rattle.rules.specs.Text as rules
 use Rattle.rules.specs.Text.{TextRead, refused_at, accepted, read_text, read_into, filled, table_bytes, ReadInto}

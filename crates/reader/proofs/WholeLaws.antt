@@ -2,8 +2,8 @@
 --     Going, going_start      on the way, and before the first line
 --     step-..                 what comes of a line
 --     closes-..               a text's condition, where it ends
-use Prim.Native.Nat.{ℕ, zero, suc, ◌+◌, ◌-◌, ◌*◌, ◌≤◌, ◌<◌}
-use mathlib.Core.List.{List, [], ◌∷◌, ◌++◌}
+use Prim.Native.Nat.{ℕ, zero, suc, ◌+◌, ◌-◌, ◌≤◌, ◌<◌}
+use mathlib.Core.List.{List, []}
 use mathlib.Core.Bool.{Bool, true, false, cond}
 use mathlib.Core.Path.{◌≡◌, refl, ap, sym, ◌∙◌, subst}
 use native.Mathlib.Omega.{arith}
@@ -14,7 +14,7 @@ use Rattle.rules.specs.Condition.{condition_bytes}
 use Rattle.rules.specs.Text as rules
 use Rattle.rules.specs.Text.{Draft, nothing_made, table_of, filled, TextRead, refused_at, accepted, lines_from, lines_in, line_of, read_text, threads_ahead, table_bytes}
 use Rattle.token.specs.Places.{part}
-use Rattle.claims.specs.Units.{Concludes, concluded_of}
+use Rattle.claims.specs.Units.{Concludes}
 use Rattle.claims.specs.declared.Conclusion.{Conclusion}
 use Rattle.filling.specs.Tables.{HeldTable, Blank}
 use Rattle.filling.specs.Steps.{Lined, LineSteps}

@@ -1,5 +1,4 @@
 use Rattle.ahead.proofs.AheadLaws.{behind-feed, behind-on}
-use borrow.Author.Rules.{rules}
 use Rattle.ahead.proofs.behind.Goals as goal
 
 pub returns-then-byte-eq10 : goal.returns-then-byte-eq10

@@ -1,6 +1,5 @@
-use mathlib.Core.Path.{◌≡◌, sym, ◌∙◌}
+use mathlib.Core.Path.{sym, ◌∙◌}
 use Rattle.ahead.proofs.AheadLaws.{row-not, row_one}
-use borrow.Author.Rules.{rules}
 use Rattle.ahead.proofs.row_here.Goals as goal
 
 pub returns-then-ends_line : goal.returns-then-ends_line

@@ -1,10 +1,8 @@
-use Prim.Native.Nat.{◌+◌, ◌-◌, ◌≤◌}
 use mathlib.Core.Bool.{true, false}
-use mathlib.Core.Path.{◌≡◌, refl, sym, ◌∙◌}
+use mathlib.Core.Path.{◌≡◌}
 use native.Mathlib.Omega.{arith}
 use lib.ListN.{drop}
-use Rattle.rules.specs.Token.{past_blanks, next_line}
-use Rattle.rules.specs.Text.{rows_ahead}
+use Rattle.rules.specs.Token.{past_blanks}
 use Rattle.token.proofs.PlaceLaws.{left_by}
 use Rattle.ahead.proofs.AheadLaws.{says-thread, says-finally, rows_out, rows_end, rows-thread, rows-finally, rows_on}
 use borrow.Author.Rules.{rules}
@@ -16,21 +14,21 @@ loop-left-init c = (search rules, omega arith)
 pub returns-then-text-here : goal.returns-then-text-here
 returns-then-text-here c =
     let skipped : drop c.past_blanks-here.result c.args.text.now ≡ past_blanks (drop c.loop-left.from c.args.text.now) =
-        left_by c.args.text.now c.loop-left.from c.past_blanks-here.result _ c.past_blanks-here.ensures in
+    left_by c.args.text.now c.loop-left.from c.past_blanks-here.result _ c.past_blanks-here.ensures in
     let a = c.args in
     record { is = omega (arith, rows_end a.text.now c.loop-left.from c.loop-left.left c.past_blanks-here.result c.token_end-to.result skipped c.token_end-to.ensures c.loop-left-test.true c.if-text-here.true, c.loop-left.invariant.1); most = omega (arith, c.loop-left.invariant.0) }
 
 pub returns-then-is_word : goal.returns-then-is_word
 returns-then-is_word c =
     let skipped : drop c.past_blanks-here.result c.args.text.now ≡ past_blanks (drop c.loop-left.from c.args.text.now) =
-        left_by c.args.text.now c.loop-left.from c.past_blanks-here.result _ c.past_blanks-here.ensures in
+    left_by c.args.text.now c.loop-left.from c.past_blanks-here.result _ c.past_blanks-here.ensures in
     let a = c.args in
     record { is = omega (arith, rows-thread a.text.now c.loop-left.from c.loop-left.left c.past_blanks-here.result c.token_end-to.result skipped c.token_end-to.ensures c.loop-left-test.true c.if-text-here.false (says-thread a.text.now c.past_blanks-here.result c.token_end-to.result _ c.is_word.ensures true c.if-is_word.true), c.loop-left.invariant.1); most = omega (arith, c.loop-left.invariant.0) }
 
 pub returns-then-is_word-2 : goal.returns-then-is_word-2
 returns-then-is_word-2 c =
     let skipped : drop c.past_blanks-here.result c.args.text.now ≡ past_blanks (drop c.loop-left.from c.args.text.now) =
-        left_by c.args.text.now c.loop-left.from c.past_blanks-here.result _ c.past_blanks-here.ensures in
+    left_by c.args.text.now c.loop-left.from c.past_blanks-here.result _ c.past_blanks-here.ensures in
     let a = c.args in
     record { is = omega (arith, rows-finally a.text.now c.loop-left.from c.loop-left.left c.past_blanks-here.result c.token_end-to.result skipped c.token_end-to.ensures c.loop-left-test.true c.if-text-here.false (says-finally a.text.now c.past_blanks-here.result c.token_end-to.result _ c.is_word-in-loop-left.ensures true c.if-is_word-2.true), c.loop-left.invariant.1); most = omega (arith, c.loop-left.invariant.0) }
 
@@ -41,7 +39,7 @@ overflow_add-rows c =
 pub loop-left-preserved : goal.loop-left-preserved
 loop-left-preserved c =
     let skipped : drop c.past_blanks-here.result c.args.text.now ≡ past_blanks (drop c.loop-left.from c.args.text.now) =
-        left_by c.args.text.now c.loop-left.from c.past_blanks-here.result _ c.past_blanks-here.ensures in
+    left_by c.args.text.now c.loop-left.from c.past_blanks-here.result _ c.past_blanks-here.ensures in
     let a = c.args in
     let on = rows_on a.text.now c.loop-left.from c.loop-left.left c.past_blanks-here.result c.token_end-to.result skipped c.token_end-to.ensures c.loop-left-test.true c.if-text-here.false c.next_line-from.result (left_by a.text.now c.past_blanks-here.result c.next_line-from.result _ c.next_line-from.ensures) (says-thread a.text.now c.past_blanks-here.result c.token_end-to.result _ c.is_word.ensures false c.if-is_word.false) (says-finally a.text.now c.past_blanks-here.result c.token_end-to.result _ c.is_word-in-loop-left.ensures false c.if-is_word-2.false) in
     (omega (arith, c.row_here-rows.ensures.most, c.loop-left.invariant.0, c.loop-left-test.true), omega (arith, on, c.row_here-rows.ensures.is, c.loop-left.invariant.1))

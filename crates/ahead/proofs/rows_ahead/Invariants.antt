@@ -1,13 +1,7 @@
-use Prim.Native.Nat.{◌+◌, ◌-◌, ◌≤◌}
-use mathlib.Core.Bool.{true, false}
-use mathlib.Core.Path.{◌≡◌, refl, sym, ◌∙◌}
-use native.Mathlib.Omega.{arith}
+use Prim.Native.Nat.{◌+◌, ◌≤◌}
+use mathlib.Core.Path.{◌≡◌}
 use lib.ListN.{drop}
-use Rattle.rules.specs.Token.{past_blanks, next_line}
 use Rattle.rules.specs.Text.{rows_ahead}
-use Rattle.token.proofs.PlaceLaws.{left_by}
-use Rattle.ahead.proofs.AheadLaws.{says-thread, says-finally, rows_out, rows_end, rows-thread, rows-finally, rows_on}
-use borrow.Author.Rules.{rules}
 use Rattle.ahead.proofs.rows_ahead.Given as goal
 
 abbrev pub invariant-loop-left : goal.invariant-loop-left

@@ -1,6 +1,5 @@
 use mathlib.Core.Bool.{true, false}
 use Rattle.ahead.proofs.AheadLaws.{says-thread, thread-not, thread-one}
-use borrow.Author.Rules.{rules}
 use Rattle.ahead.proofs.thread_here.Goals as goal
 
 pub returns-then-is_word : goal.returns-then-is_word

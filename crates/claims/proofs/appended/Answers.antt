@@ -1,10 +1,8 @@
-use Prim.Native.Nat.{ℕ, ◌+◌, ◌≤◌, ◌-◌}
+use Prim.Native.Nat.{ℕ, ◌+◌}
 use mathlib.Core.Bool.{false}
 use mathlib.Core.List.{List}
-use mathlib.Core.Path.{◌≡◌, ap}
-use lib.ListN.{length}
-use lib.Seq.{paste, paste-zero}
-use Rattle.claims.specs.Units.{most_claimed}
+use mathlib.Core.Path.{ap}
+use lib.Seq.{paste-zero}
 use Rattle.claims.specs.declared.Claim.{Claim}
 use Rattle.rules.proofs.RecordLaws.{write-on, write-all}
 use borrow.Author.Rules.{rules}

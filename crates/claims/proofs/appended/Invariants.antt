@@ -1,13 +1,8 @@
-use Prim.Native.Nat.{ℕ, ◌+◌, ◌≤◌, ◌-◌}
-use mathlib.Core.Bool.{false}
-use mathlib.Core.List.{List}
-use mathlib.Core.Path.{◌≡◌, ap}
+use Prim.Native.Nat.{◌≤◌, ◌-◌}
+use mathlib.Core.Path.{◌≡◌}
 use lib.ListN.{length}
-use lib.Seq.{paste, paste-zero}
+use lib.Seq.{paste}
 use Rattle.claims.specs.Units.{most_claimed}
-use Rattle.claims.specs.declared.Claim.{Claim}
-use Rattle.rules.proofs.RecordLaws.{write-on, write-all}
-use borrow.Author.Rules.{rules}
 use Rattle.claims.proofs.appended.Given as goal
 
 abbrev pub invariant-loop-i : goal.invariant-loop-i

@@ -1,4 +1,3 @@
-use borrow.Author.Rules.{rules}
 use Rattle.claims.proofs.broken.Goals as goal
 
 pub returns : goal.returns

@@ -1,14 +1,7 @@
-use Prim.Native.Nat.{ℕ}
-use mathlib.Core.List.{List, []}
-use mathlib.Core.Bool.{true, false}
-use mathlib.Core.Path.{◌≡◌, refl, ◌∙◌}
-use native.Mathlib.Omega.{arith}
-use borrow.Author.Tests.{not-true, not-false}
-use lib.ListN.{length, take, drop}
-use lib.Seq.{length-take-le}
+use mathlib.Core.List.{[]}
+use lib.ListN.{drop}
 use Rattle.rules.specs.Text.{claimed}
-use Rattle.claims.proofs.ClaimLaws.{claim-out, claim-end, claim-stop, claim-none, claim-broken, claim-long, claim-on, claims-ended, claims-with, Going, going-with}
-use borrow.Author.Rules.{rules}
+use Rattle.claims.proofs.ClaimLaws.{Going}
 use Rattle.claims.proofs.claimed.Given as goal
 
 abbrev pub invariant-loop-left : goal.invariant-loop-left

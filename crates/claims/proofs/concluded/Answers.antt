@@ -1,7 +1,6 @@
-use mathlib.Core.Path.{◌≡◌, sym, ◌∙◌}
+use mathlib.Core.Path.{sym, ◌∙◌}
 use borrow.Author.Tests.{not-true, not-false}
 use Rattle.claims.proofs.ConcludeLaws.{bad-refused, ends-refused, broken-refused, ends-taken}
-use borrow.Author.Rules.{rules}
 use Rattle.claims.proofs.concluded.Goals as goal
 
 pub returns-then-stop-length : goal.returns-then-stop-length

@@ -1,6 +1,5 @@
 use mathlib.Core.Path.{refl, ap}
 use Rattle.rules.specs.Text.{Claimed}
-use borrow.Author.Rules.{rules}
 use Rattle.claims.proofs.refused.Goals as goal
 
 pub returns : goal.returns

@@ -1,7 +1,6 @@
-use mathlib.Core.Path.{◌≡◌, sym, ap, ◌∙◌}
+use mathlib.Core.Path.{sym, ap, ◌∙◌}
 use Rattle.token.specs.Finds.{found_of}
 use Rattle.claims.proofs.UnitLaws.{sign-none, sign-other, sign-here}
-use borrow.Author.Rules.{rules}
 use Rattle.claims.proofs.sign_behind.Goals as goal
 
 pub returns-in_default : goal.returns-in_default

@@ -5,7 +5,6 @@ use Rattle.rules.specs.Text.{symbol_in}
 use Rattle.token.specs.Places.{part}
 use Rattle.token.specs.Finds.{found_of}
 use Rattle.claims.proofs.UnitLaws.{symbol-most, symbol-none, symbol-sign, symbol-here}
-use borrow.Author.Rules.{rules}
 use Rattle.claims.proofs.symbol_at.Goals as goal
 
 pub returns-in_default : goal.returns-in_default
@@ -16,19 +15,19 @@ returns-in_default c =
 pub returns-then-symbol : goal.returns-then-symbol
 returns-then-symbol c =
     let value : symbol_in (part c.args.at c.args.to c.args.text.now) ≡ found c.in-Value.symbol =
-        sym c.symbol.ensures ∙ ap found_of c.in-Value.is in
+    sym c.symbol.ensures ∙ ap found_of c.in-Value.is in
     let a = c.args in
     symbol-sign a.text.now a.at a.to _ value _ c.none-then-symbol.ensures c.if-symbol.true
 
 pub overflow_cast-result : goal.overflow_cast-result
 overflow_cast-result c =
     let value : symbol_in (part c.args.at c.args.to c.args.text.now) ≡ found c.in-Value.symbol =
-        sym c.symbol.ensures ∙ ap found_of c.in-Value.is in
+    sym c.symbol.ensures ∙ ap found_of c.in-Value.is in
     omega (arith, symbol-most _ _ value)
 
 pub returns : goal.returns
 returns c =
     let value : symbol_in (part c.args.at c.args.to c.args.text.now) ≡ found c.in-Value.symbol =
-        sym c.symbol.ensures ∙ ap found_of c.in-Value.is in
+    sym c.symbol.ensures ∙ ap found_of c.in-Value.is in
     let a = c.args in
     symbol-here a.text.now a.at a.to _ value c.if-symbol.false

@@ -1,7 +1,6 @@
-use mathlib.Core.Path.{◌≡◌, sym, ap, ◌∙◌}
+use mathlib.Core.Path.{sym, ap, ◌∙◌}
 use Rattle.token.specs.Finds.{owned_of}
 use Rattle.claims.proofs.UnitLaws.{unit-symbol, unit-compared}
-use borrow.Author.Rules.{rules}
 use Rattle.claims.proofs.unit_at.Goals as goal
 
 pub returns-in_default : goal.returns-in_default

@@ -1,7 +1,6 @@
 use native.Mathlib.Omega.{arith}
 use Rattle.put.proofs.PutLaws.{puts_none, puts-are}
 use Rattle.condition_line.proofs.UnitLaws.{blank_none, blank-one}
-use borrow.Author.Rules.{rules}
 use Rattle.condition_line.proofs.put_blank.Goals as goal
 
 pub returns-then-opened-byte : goal.returns-then-opened-byte

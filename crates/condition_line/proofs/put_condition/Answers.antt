@@ -2,7 +2,6 @@ use native.Mathlib.Omega.{arith}
 use Rattle.rules.specs.Token.{bytes_of}
 use Rattle.put.proofs.PutLaws.{puts_none, puts_then, puts-are}
 use Rattle.condition_line.proofs.UnitLaws.{condition-none, condition-some}
-use borrow.Author.Rules.{rules}
 use Rattle.condition_line.proofs.put_condition.Goals as goal
 
 pub returns-then-condition-eq0 : goal.returns-then-condition-eq0

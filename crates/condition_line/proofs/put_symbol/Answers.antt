@@ -6,7 +6,6 @@ use Rattle.rules.specs.Token.{bytes_of}
 use Rattle.rules.specs.Text.{symbols}
 use Rattle.token.proofs.ListLaws.{symbols-line}
 use Rattle.put.proofs.PutLaws.{puts-are}
-use borrow.Author.Rules.{rules}
 use Rattle.condition_line.proofs.put_symbol.Goals as goal
 
 pub returns : goal.returns

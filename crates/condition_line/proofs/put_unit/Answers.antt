@@ -4,7 +4,6 @@ use native.Mathlib.Omega.{arith}
 use lib.ListN.{get_or, drop}
 use Rattle.put.proofs.PutLaws.{puts_then, puts-are}
 use Rattle.condition_line.proofs.UnitLaws.{sign-there, unit-sign, unit-word}
-use borrow.Author.Rules.{rules}
 use Rattle.condition_line.proofs.put_unit.Goals as goal
 
 pub put_comparison-requires : goal.put_comparison-requires

@@ -1,14 +1,8 @@
-use Prim.Native.Nat.{ℕ, ◌+◌}
 use mathlib.Core.Bool.{false}
-use mathlib.Core.Path.{◌≡◌, ap}
-use native.Mathlib.Omega.{arith}
-use lib.ListN.{length, get_or, drop}
+use lib.ListN.{length, drop}
 use Rattle.rules.specs.Writer.{units_shown}
 use Rattle.put.specs.Puts.{ToPut}
-use Rattle.put.proofs.PutLaws.{coming-all, coming-on, come}
-use Rattle.condition_line.specs.Units.{Units, unit_bytes}
-use Rattle.condition_line.proofs.UnitLaws.{units-within, units-on, units-next, units-end, units-out}
-use borrow.Author.Rules.{rules}
+use Rattle.condition_line.specs.Units.{Units}
 use Rattle.condition_line.proofs.put_units.Given as goal
 
 abbrev pub invariant-loop-left : goal.invariant-loop-left

@@ -1,7 +1,6 @@
 use mathlib.Core.Bool.{true, false}
 use mathlib.Core.Path.{sym, ◌∙◌}
 use Rattle.condition_line.proofs.UnitLaws.{bytes-sign}
-use borrow.Author.Rules.{rules}
 use Rattle.condition_line.proofs.unit_bytes.Goals as goal
 
 pub returns-then-is_sign : goal.returns-then-is_sign

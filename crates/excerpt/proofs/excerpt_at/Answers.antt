@@ -1,5 +1,4 @@
 use Rattle.excerpt.proofs.SeenLaws.{excerpt-is}
-use borrow.Author.Rules.{rules}
 use Rattle.excerpt.proofs.excerpt_at.Goals as goal
 
 pub returns : goal.returns

@@ -1,7 +1,6 @@
 use mathlib.Core.Path.{refl}
 use native.Mathlib.Omega.{arith}
 use Rattle.excerpt.proofs.LineLaws.{first-is}
-use borrow.Author.Rules.{rules}
 use Rattle.excerpt.proofs.first_shown.Goals as goal
 
 pub returns-then-place-lt-BEFORE : goal.returns-then-place-lt-BEFORE

@@ -1,4 +1,3 @@
-use native.Mathlib.Omega.{arith}
 use Rattle.excerpt.proofs.LineLaws.{feeds-past, feeds-feed, feeds-not, feeds-last, feeds-return}
 use borrow.Author.Rules.{rules}
 use Rattle.excerpt.proofs.is_feed.Goals as goal

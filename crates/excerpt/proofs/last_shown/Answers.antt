@@ -1,7 +1,6 @@
 use mathlib.Core.Path.{refl}
 use native.Mathlib.Omega.{arith}
 use Rattle.excerpt.proofs.LineLaws.{last_end, last-cut}
-use borrow.Author.Rules.{rules}
 use Rattle.excerpt.proofs.last_shown.Goals as goal
 
 pub returns-then-end-from : goal.returns-then-end-from

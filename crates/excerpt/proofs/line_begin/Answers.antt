@@ -1,10 +1,6 @@
-use Prim.Native.Nat.{◌+◌, ◌-◌}
-use mathlib.Core.Path.{◌≡◌, ◌∙◌}
+use mathlib.Core.Path.{◌∙◌}
 use native.Mathlib.Omega.{arith}
-use lib.ListN.{drop}
-use Rattle.excerpt.specs.Excerpts.{behind_lines}
 use Rattle.excerpt.proofs.LineLaws.{begin-on, begin-end}
-use borrow.Author.Rules.{rules}
 use Rattle.excerpt.proofs.line_begin.Goals as goal
 
 pub loop-left-preserved : goal.loop-left-preserved

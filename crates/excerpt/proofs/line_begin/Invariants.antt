@@ -1,10 +1,7 @@
 use Prim.Native.Nat.{◌+◌, ◌-◌}
-use mathlib.Core.Path.{◌≡◌, ◌∙◌}
-use native.Mathlib.Omega.{arith}
+use mathlib.Core.Path.{◌≡◌}
 use lib.ListN.{drop}
 use Rattle.excerpt.specs.Excerpts.{behind_lines}
-use Rattle.excerpt.proofs.LineLaws.{begin-on, begin-end}
-use borrow.Author.Rules.{rules}
 use Rattle.excerpt.proofs.line_begin.Given as goal
 
 abbrev pub invariant-loop-left : goal.invariant-loop-left

@@ -1,10 +1,6 @@
-use Prim.Native.Nat.{◌+◌, ◌-◌}
-use mathlib.Core.Path.{◌≡◌, sym, ◌∙◌}
+use mathlib.Core.Path.{sym, ◌∙◌}
 use native.Mathlib.Omega.{arith}
-use lib.ListN.{length, drop}
-use Rattle.excerpt.specs.Excerpts.{shown_length}
 use Rattle.excerpt.proofs.LineLaws.{shown-on, shown-stops, shown-past}
-use borrow.Author.Rules.{rules}
 use Rattle.excerpt.proofs.line_end.Goals as goal
 
 pub returns-then-is_feed : goal.returns-then-is_feed

@@ -1,10 +1,7 @@
 use Prim.Native.Nat.{◌+◌, ◌-◌}
-use mathlib.Core.Path.{◌≡◌, sym, ◌∙◌}
-use native.Mathlib.Omega.{arith}
+use mathlib.Core.Path.{◌≡◌}
 use lib.ListN.{length, drop}
 use Rattle.excerpt.specs.Excerpts.{shown_length}
-use Rattle.excerpt.proofs.LineLaws.{shown-on, shown-stops, shown-past}
-use borrow.Author.Rules.{rules}
 use Rattle.excerpt.proofs.line_end.Given as goal
 
 abbrev pub invariant-loop-to : goal.invariant-loop-to

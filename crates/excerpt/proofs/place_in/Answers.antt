@@ -1,7 +1,6 @@
 use mathlib.Core.Path.{refl}
 use native.Mathlib.Omega.{arith}
 use Rattle.excerpt.proofs.LineLaws.{place-there, place-past}
-use borrow.Author.Rules.{rules}
 use Rattle.excerpt.proofs.place_in.Goals as goal
 
 pub returns-then-column-eq0 : goal.returns-then-column-eq0

@@ -7,15 +7,14 @@ use Rattle.put.proofs.PutLaws.{coming-all, coming-on}
 use Rattle.saying.specs.Sayings.{what_shown}
 use Rattle.excerpt.specs.Excerpts.{refused_shown}
 use Rattle.excerpt.proofs.SeenLaws.{refused-whole}
-use borrow.Author.Rules.{rules}
 use Rattle.excerpt.proofs.put.Goals as goal
 
 pub returns : goal.returns
 returns c =
     let low : c.args.at ≤ last =
-        omega arith in
+    omega arith in
     let long : length c.args.page.now ≤ last =
-        omega arith in
+    omega arith in
     let shown = c.excerpt_at-shown.result in
     let a = c.args in
     let whole = refused-whole a.name.now a.text.now a.line a.column shown _ _ c.excerpt_at-shown.ensures c.rows_before-row.ensures c.token_before-before.ensures in

@@ -6,15 +6,14 @@ use Rattle.put.specs.Puts.{last}
 use Rattle.put.proofs.PutLaws.{coming-all, coming-on}
 use Rattle.excerpt.specs.Excerpts.{caret_shown}
 use Rattle.excerpt.proofs.SeenLaws.{caret-whole}
-use borrow.Author.Rules.{rules}
 use Rattle.excerpt.proofs.put_caret.Goals as goal
 
 pub returns : goal.returns
 returns c =
     let low : c.args.at ≤ last =
-        omega arith in
+    omega arith in
     let long : length c.args.page.now ≤ last =
-        omega arith in
+    omega arith in
     let a = c.args in
     let whole = caret-whole a.text.now a.shown.begin a.shown.place _ c.first_shown-from.ensures _ c.part.ensures in
     let all = coming-all _ a.at (caret_shown a.text.now a.shown.begin a.shown.place) low long in

@@ -6,15 +6,14 @@ use Rattle.put.specs.Puts.{last}
 use Rattle.put.proofs.PutLaws.{coming-all, coming-on}
 use Rattle.excerpt.specs.Excerpts.{line_shown}
 use Rattle.excerpt.proofs.SeenLaws.{line-whole}
-use borrow.Author.Rules.{rules}
 use Rattle.excerpt.proofs.put_line.Goals as goal
 
 pub returns : goal.returns
 returns c =
     let low : c.args.at ≤ last =
-        omega arith in
+    omega arith in
     let long : length c.args.page.now ≤ last =
-        omega arith in
+    omega arith in
     let a = c.args in
     let whole = line-whole a.text.now a.shown.begin a.shown.place _ c.first_shown-from.ensures a.shown.end _ _ c.last_shown-last.ensures c.part.ensures in
     let all = coming-all _ a.at (line_shown a.text.now a.shown.begin a.shown.place a.shown.end) low long in

@@ -1,12 +1,8 @@
 use Prim.Native.Nat.{◌-◌}
 use mathlib.Core.List.{map}
-use native.Mathlib.Omega.{arith}
 use lib.ListN.{length, drop}
 use Rattle.put.specs.Puts.{ToPut}
-use Rattle.put.proofs.PutLaws.{coming-all, coming-on, come}
 use Rattle.excerpt.specs.Excerpts.{seen_as}
-use Rattle.excerpt.proofs.SeenLaws.{mapped_next, mapped_end}
-use borrow.Author.Rules.{rules}
 use Rattle.excerpt.proofs.put_seen.Given as goal
 
 abbrev pub invariant-loop-i : goal.invariant-loop-i

@@ -1,8 +1,6 @@
-use Prim.Native.Nat.{◌+◌, ◌-◌, ◌≤◌}
-use mathlib.Core.Path.{◌≡◌, refl, ◌∙◌}
+use mathlib.Core.Path.{refl, ◌∙◌}
 use native.Mathlib.Omega.{arith}
 use lib.ListN.{drop}
-use Rattle.excerpt.specs.Excerpts.{rows_behind}
 use Rattle.excerpt.proofs.RowLaws.{line-adds, rows_on, rows_end}
 use borrow.Author.Rules.{rules}
 use Rattle.excerpt.proofs.rows_before.Goals as goal

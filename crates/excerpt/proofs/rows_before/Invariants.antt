@@ -1,10 +1,7 @@
 use Prim.Native.Nat.{◌+◌, ◌-◌, ◌≤◌}
-use mathlib.Core.Path.{◌≡◌, refl, ◌∙◌}
-use native.Mathlib.Omega.{arith}
+use mathlib.Core.Path.{◌≡◌}
 use lib.ListN.{drop}
 use Rattle.excerpt.specs.Excerpts.{rows_behind}
-use Rattle.excerpt.proofs.RowLaws.{line-adds, rows_on, rows_end}
-use borrow.Author.Rules.{rules}
 use Rattle.excerpt.proofs.rows_before.Given as goal
 
 abbrev pub invariant-loop-left : goal.invariant-loop-left

@@ -1,8 +1,5 @@
-use mathlib.Core.Path.{◌≡◌, refl, sym, ◌∙◌}
-use lib.ListN.{length}
-use Rattle.excerpt.specs.Excerpts.{token_before}
+use mathlib.Core.Path.{refl, sym, ◌∙◌}
 use Rattle.excerpt.proofs.BeforeLaws.{before-out, before_here, before_on}
-use borrow.Author.Rules.{rules}
 use Rattle.excerpt.proofs.token_before.Goals as goal
 
 pub loop-left-init : goal.loop-left-init

@@ -1,8 +1,6 @@
-use mathlib.Core.Path.{◌≡◌, refl, sym, ◌∙◌}
+use mathlib.Core.Path.{◌≡◌}
 use lib.ListN.{length}
 use Rattle.excerpt.specs.Excerpts.{token_before}
-use Rattle.excerpt.proofs.BeforeLaws.{before-out, before_here, before_on}
-use borrow.Author.Rules.{rules}
 use Rattle.excerpt.proofs.token_before.Given as goal
 
 abbrev pub invariant-loop-left : goal.invariant-loop-left

@@ -1,6 +1,5 @@
-use mathlib.Core.Path.{◌≡◌, sym, ◌∙◌}
+use mathlib.Core.Path.{sym, ◌∙◌}
 use Rattle.excerpt.proofs.RowLaws.{with-bare, with-thread, with_row}
-use borrow.Author.Rules.{rules}
 use Rattle.excerpt.proofs.with_line.Goals as goal
 
 pub returns-then-ends_line : goal.returns-then-ends_line

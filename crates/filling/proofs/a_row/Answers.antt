@@ -11,7 +11,6 @@ use Rattle.rules.proofs.LimitLaws.{rows_fit}
 use Rattle.filling.specs.Tables.{HeldTable}
 use Rattle.filling.proofs.HeldLaws.{held-threads, held-cells, held-plains, within, begun, count-there}
 use Rattle.filling.proofs.LineLaws.{row-early, row-full, row-stuck, row_fits, followed-stuck, followed-fits}
-use borrow.Author.Rules.{rules}
 use Rattle.filling.proofs.a_row.Goals as goal
 
 -- what a row may name, by the header

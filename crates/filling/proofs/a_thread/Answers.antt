@@ -1,12 +1,11 @@
 use Prim.Native.Nat.{ℕ}
-use mathlib.Core.Path.{◌≡◌, ap, ◌∙◌}
+use mathlib.Core.Path.{ap, ◌∙◌}
 use native.Mathlib.Omega.{arith}
 use lib.ListN.{drop}
 use Rattle.rules.specs.Text.{bare_then, with_thread, rows_ahead}
 use Rattle.token.proofs.PlaceLaws.{left_by}
 use Rattle.filling.proofs.HeldLaws.{held-threads}
 use Rattle.filling.proofs.LineLaws.{lined-bare, thread-refused, thread-begun}
-use borrow.Author.Rules.{rules}
 use Rattle.filling.proofs.a_thread.Goals as goal
 
 pub bounds-table-0 : goal.bounds-table-0

@@ -9,19 +9,19 @@ use Rattle.filling.proofs.add_row.Goals as goal
 pub append-requires : goal.append-requires
 append-requires c =
     let room : c.args.length + length c.row_bytes-bytes.result ≤ length c.args.table.now =
-        let nine : length c.args.fields ≡ 9 = search rules in
-        let a = c.args in
-        let p = c.requires in
-        omega (arith, ap length c.row_bytes-bytes.ensures ∙ length-row_bytes a.fields nine, row_room a.table.now a.length p.holds.made p.holds.held p.some p.fewer) in
+    let nine : length c.args.fields ≡ 9 = search rules in
+    let a = c.args in
+    let p = c.requires in
+    omega (arith, ap length c.row_bytes-bytes.ensures ∙ length-row_bytes a.fields nine, row_room a.table.now a.length p.holds.made p.holds.held p.some p.fewer) in
     room
 
 pub overflow_cast-thread : goal.overflow_cast-thread
 overflow_cast-thread c =
     let room : c.args.length + length c.row_bytes-bytes.result ≤ length c.args.table.now =
-        let nine : length c.args.fields ≡ 9 = search rules in
-        let a = c.args in
-        let p = c.requires in
-        omega (arith, ap length c.row_bytes-bytes.ensures ∙ length-row_bytes a.fields nine, row_room a.table.now a.length p.holds.made p.holds.held p.some p.fewer) in
+    let nine : length c.args.fields ≡ 9 = search rules in
+    let a = c.args in
+    let p = c.requires in
+    omega (arith, ap length c.row_bytes-bytes.ensures ∙ length-row_bytes a.fields nine, row_room a.table.now a.length p.holds.made p.holds.held p.some p.fewer) in
     let a = c.args in
     let p = c.requires in
     let h = p.holds.held in
@@ -30,10 +30,10 @@ overflow_cast-thread c =
 pub overflow_add-rows : goal.overflow_add-rows
 overflow_add-rows c =
     let room : c.args.length + length c.row_bytes-bytes.result ≤ length c.args.table.now =
-        let nine : length c.args.fields ≡ 9 = search rules in
-        let a = c.args in
-        let p = c.requires in
-        omega (arith, ap length c.row_bytes-bytes.ensures ∙ length-row_bytes a.fields nine, row_room a.table.now a.length p.holds.made p.holds.held p.some p.fewer) in
+    let nine : length c.args.fields ≡ 9 = search rules in
+    let a = c.args in
+    let p = c.requires in
+    omega (arith, ap length c.row_bytes-bytes.ensures ∙ length-row_bytes a.fields nine, row_room a.table.now a.length p.holds.made p.holds.held p.some p.fewer) in
     let a = c.args in
     let p = c.requires in
     let h = p.holds.held in
@@ -42,10 +42,10 @@ overflow_add-rows c =
 pub bounds-table-thread : goal.bounds-table-thread
 bounds-table-thread c =
     let room : c.args.length + length c.row_bytes-bytes.result ≤ length c.args.table.now =
-        let nine : length c.args.fields ≡ 9 = search rules in
-        let a = c.args in
-        let p = c.requires in
-        omega (arith, ap length c.row_bytes-bytes.ensures ∙ length-row_bytes a.fields nine, row_room a.table.now a.length p.holds.made p.holds.held p.some p.fewer) in
+    let nine : length c.args.fields ≡ 9 = search rules in
+    let a = c.args in
+    let p = c.requires in
+    omega (arith, ap length c.row_bytes-bytes.ensures ∙ length-row_bytes a.fields nine, row_room a.table.now a.length p.holds.made p.holds.held p.some p.fewer) in
     let a = c.args in
     let p = c.requires in
     let h = p.holds.held in
@@ -54,10 +54,10 @@ bounds-table-thread c =
 pub overflow_add-table : goal.overflow_add-table
 overflow_add-table c =
     let room : c.args.length + length c.row_bytes-bytes.result ≤ length c.args.table.now =
-        let nine : length c.args.fields ≡ 9 = search rules in
-        let a = c.args in
-        let p = c.requires in
-        omega (arith, ap length c.row_bytes-bytes.ensures ∙ length-row_bytes a.fields nine, row_room a.table.now a.length p.holds.made p.holds.held p.some p.fewer) in
+    let nine : length c.args.fields ≡ 9 = search rules in
+    let a = c.args in
+    let p = c.requires in
+    omega (arith, ap length c.row_bytes-bytes.ensures ∙ length-row_bytes a.fields nine, row_room a.table.now a.length p.holds.made p.holds.held p.some p.fewer) in
     let a = c.args in
     let p = c.requires in
     let h = p.holds.held in
@@ -66,10 +66,10 @@ overflow_add-table c =
 pub overflow_add-table-2 : goal.overflow_add-table-2
 overflow_add-table-2 c =
     let room : c.args.length + length c.row_bytes-bytes.result ≤ length c.args.table.now =
-        let nine : length c.args.fields ≡ 9 = search rules in
-        let a = c.args in
-        let p = c.requires in
-        omega (arith, ap length c.row_bytes-bytes.ensures ∙ length-row_bytes a.fields nine, row_room a.table.now a.length p.holds.made p.holds.held p.some p.fewer) in
+    let nine : length c.args.fields ≡ 9 = search rules in
+    let a = c.args in
+    let p = c.requires in
+    omega (arith, ap length c.row_bytes-bytes.ensures ∙ length-row_bytes a.fields nine, row_room a.table.now a.length p.holds.made p.holds.held p.some p.fewer) in
     let a = c.args in
     let p = c.requires in
     let h = p.holds.held in
@@ -78,10 +78,10 @@ overflow_add-table-2 c =
 pub bounds-table-thread-2 : goal.bounds-table-thread-2
 bounds-table-thread-2 c =
     let room : c.args.length + length c.row_bytes-bytes.result ≤ length c.args.table.now =
-        let nine : length c.args.fields ≡ 9 = search rules in
-        let a = c.args in
-        let p = c.requires in
-        omega (arith, ap length c.row_bytes-bytes.ensures ∙ length-row_bytes a.fields nine, row_room a.table.now a.length p.holds.made p.holds.held p.some p.fewer) in
+    let nine : length c.args.fields ≡ 9 = search rules in
+    let a = c.args in
+    let p = c.requires in
+    omega (arith, ap length c.row_bytes-bytes.ensures ∙ length-row_bytes a.fields nine, row_room a.table.now a.length p.holds.made p.holds.held p.some p.fewer) in
     let a = c.args in
     let p = c.requires in
     let h = p.holds.held in

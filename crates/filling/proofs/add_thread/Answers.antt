@@ -1,6 +1,5 @@
 use native.Mathlib.Omega.{arith}
 use Rattle.filling.proofs.HeldLaws.{held-threads, held-thread}
-use borrow.Author.Rules.{rules}
 use Rattle.filling.proofs.add_thread.Goals as goal
 
 pub returns : goal.returns

@@ -1,8 +1,6 @@
-use Prim.Native.Nat.{◌-◌, ◌≤◌}
-use mathlib.Core.Path.{◌≡◌}
 use native.Mathlib.Omega.{arith}
 use lib.ListN.{length}
-use lib.Seq.{paste, paste-zero}
+use lib.Seq.{paste-zero}
 use Rattle.rules.proofs.RecordLaws.{write-on, write-all}
 use borrow.Author.Rules.{rules}
 use Rattle.filling.proofs.append.Goals as goal

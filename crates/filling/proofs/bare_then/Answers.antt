@@ -1,7 +1,6 @@
-use mathlib.Core.Path.{◌≡◌, sym, ◌∙◌}
+use mathlib.Core.Path.{sym, ◌∙◌}
 use Rattle.token.proofs.PlaceLaws.{left_by}
 use Rattle.filling.proofs.LineLaws.{bare-on, bare-refused}
-use borrow.Author.Rules.{rules}
 use Rattle.filling.proofs.bare_then.Goals as goal
 
 pub returns-then-ends_line : goal.returns-then-ends_line

@@ -1,4 +1,3 @@
-use borrow.Author.Rules.{rules}
 use Rattle.filling.proofs.behind_values.Goals as goal
 
 pub returns : goal.returns

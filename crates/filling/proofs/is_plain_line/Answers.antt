@@ -1,7 +1,6 @@
 use mathlib.Core.Path.{◌∙◌}
 use Rattle.rules.specs.Token.{bytes_of}
 use Rattle.filling.proofs.OneLaws.{plains-begun, plains-twice, plains-word}
-use borrow.Author.Rules.{rules}
 use Rattle.filling.proofs.is_plain_line.Goals as goal
 
 pub returns-then-table-gt0 : goal.returns-then-table-gt0

@@ -1,8 +1,6 @@
-use mathlib.Core.Path.{◌≡◌, ap, sym}
+use mathlib.Core.Path.{ap, sym}
 use mathlib.Core.Bool.{Bool, cond}
 use borrow.Author.Tests.{lt-ltb, le-ltb}
-use borrow.Author.Rules.{rules}
-use Rattle.filling.specs.declared.Line.{Line}
 use Rattle.filling.specs.declared.Line.TheVariants.{Refused, Concludes}
 use Rattle.filling.proofs.the_condition.Goals as goal
 

@@ -1,13 +1,13 @@
 use mathlib.Core.Path.{◌≡◌, refl, ap, sym, ◌∙◌}
 use native.Mathlib.Omega.{arith}
-use lib.ListN.{length, get_or, drop}
+use lib.ListN.{get_or, drop}
 use Rattle.rules.specs.Token.{past_blanks}
-use Rattle.rules.specs.Text.{Line, Draft, values_line}
+use Rattle.rules.specs.Text.{Draft}
 use Rattle.token.specs.Finds.{found_of}
 use Rattle.token.proofs.PlaceLaws.{left_by}
 use Rattle.filling.specs.Tables.{HeldTable, how_many, with_cell_or_plain}
 use Rattle.filling.proofs.HeldLaws.{held-many, counts-low, more-many, within}
-use Rattle.filling.proofs.LineLaws.{Underway, lined-bare, values-out, values-found, values-bare, values-none}
+use Rattle.filling.proofs.LineLaws.{lined-bare, values-out, values-found, values-bare, values-none}
 use borrow.Author.Rules.{rules}
 use Rattle.filling.proofs.values_line.Goals as goal
 
@@ -31,33 +31,33 @@ bounds-table-place c =
 pub returns-then-table-place-eq0 : goal.returns-then-table-place-eq0
 returns-then-table-place-eq0 c =
     let many : (m : Draft) → HeldTable c.loop-left.table c.loop-left.long m → get_or c.loop-left.table c.args.values.place 0 ≡ how_many c.args.values.place m =
-        λ m held. held-many c.loop-left.table c.loop-left.long m held c.args.values.place c.requires.1 in
+    λ m held. held-many c.loop-left.table c.loop-left.long m held c.args.values.place c.requires.1 in
     let skipped : drop c.past_blanks-here.result c.args.text.now ≡ past_blanks (drop c.loop-left.from c.args.text.now) =
-        left_by c.args.text.now c.loop-left.from c.past_blanks-here.result _ c.past_blanks-here.ensures in
+    left_by c.args.text.now c.loop-left.from c.past_blanks-here.result _ c.past_blanks-here.ensures in
     record {
-  is = λ m held.
-      let a = c.args in
-      let w = c.loop-left.invariant.1 m held in
-      sym w.same ∙ values-none (with_cell_or_plain a.values.place) (how_many a.values.place) a.text.now c.loop-left.from c.loop-left.left w.made c.past_blanks-here.result c.token_end-to.result skipped c.token_end-to.ensures c.loop-left-test.true (sym c.number.ensures ∙ ap found_of c.in_default.is) (omega (arith, c.if-table-place-eq0.true, many w.made w.held));
-}
+      is = λ m held.
+          let a = c.args in
+          let w = c.loop-left.invariant.1 m held in
+          sym w.same ∙ values-none (with_cell_or_plain a.values.place) (how_many a.values.place) a.text.now c.loop-left.from c.loop-left.left w.made c.past_blanks-here.result c.token_end-to.result skipped c.token_end-to.ensures c.loop-left-test.true (sym c.number.ensures ∙ ap found_of c.in_default.is) (omega (arith, c.if-table-place-eq0.true, many w.made w.held));
+    }
 
 pub returns-in_default : goal.returns-in_default
 returns-in_default c =
     let many : (m : Draft) → HeldTable c.loop-left.table c.loop-left.long m → get_or c.loop-left.table c.args.values.place 0 ≡ how_many c.args.values.place m =
-        λ m held. held-many c.loop-left.table c.loop-left.long m held c.args.values.place c.requires.1 in
+    λ m held. held-many c.loop-left.table c.loop-left.long m held c.args.values.place c.requires.1 in
     let skipped : drop c.past_blanks-here.result c.args.text.now ≡ past_blanks (drop c.loop-left.from c.args.text.now) =
-        left_by c.args.text.now c.loop-left.from c.past_blanks-here.result _ c.past_blanks-here.ensures in
+    left_by c.args.text.now c.loop-left.from c.past_blanks-here.result _ c.past_blanks-here.ensures in
     record {
-  is = λ m held.
-      let a = c.args in
-      let w = c.loop-left.invariant.1 m held in
-      lined-bare a.text.now c.loop-left.from 0 c.loop-left.long c.behind_values.result c.behind_values.ensures c.loop-left.table a.length w.made w.held _ (values-bare (with_cell_or_plain a.values.place) (how_many a.values.place) a.text.now c.loop-left.from c.loop-left.left w.made c.past_blanks-here.result c.token_end-to.result skipped c.token_end-to.ensures c.loop-left-test.true (sym c.number.ensures ∙ ap found_of c.in_default.is) (omega (arith, c.if-table-place-eq0.false, many w.made w.held)) ∙ w.same);
-}
+      is = λ m held.
+          let a = c.args in
+          let w = c.loop-left.invariant.1 m held in
+          lined-bare a.text.now c.loop-left.from 0 c.loop-left.long c.behind_values.result c.behind_values.ensures c.loop-left.table a.length w.made w.held _ (values-bare (with_cell_or_plain a.values.place) (how_many a.values.place) a.text.now c.loop-left.from c.loop-left.left w.made c.past_blanks-here.result c.token_end-to.result skipped c.token_end-to.ensures c.loop-left-test.true (sym c.number.ensures ∙ ap found_of c.in_default.is) (omega (arith, c.if-table-place-eq0.false, many w.made w.held)) ∙ w.same);
+    }
 
 pub add_value-requires : goal.add_value-requires
 add_value-requires c =
     let many : (m : Draft) → HeldTable c.loop-left.table c.loop-left.long m → get_or c.loop-left.table c.args.values.place 0 ≡ how_many c.args.values.place m =
-        λ m held. held-many c.loop-left.table c.loop-left.long m held c.args.values.place c.requires.1 in
+    λ m held. held-many c.loop-left.table c.loop-left.long m held c.args.values.place c.requires.1 in
     let w = c.loop-left.invariant.1 c.requires.0.made c.requires.0.held in
     (record { made = w.made; held = w.held }, c.requires.1, omega (arith, many w.made w.held, w.count, c.loop-left-test.true))
 
@@ -69,7 +69,7 @@ overflow_add-long c =
 pub loop-left-preserved : goal.loop-left-preserved
 loop-left-preserved c =
     let skipped : drop c.past_blanks-here.result c.args.text.now ≡ past_blanks (drop c.loop-left.from c.args.text.now) =
-        left_by c.args.text.now c.loop-left.from c.past_blanks-here.result _ c.past_blanks-here.ensures in
+    left_by c.args.text.now c.loop-left.from c.past_blanks-here.result _ c.past_blanks-here.ensures in
     let a = c.args in (
       search rules,
       λ m held.

@@ -2,7 +2,6 @@ use mathlib.Core.Path.{ap, sym, ◌∙◌}
 use Rattle.rules.specs.Form.{fits}
 use Rattle.token.proofs.PlaceLaws.{left_by, between-here, between-line}
 use Rattle.form.proofs.RowLaws.{follows_stuck}
-use borrow.Author.Rules.{rules}
 use Rattle.form.proofs.ended.Goals as goal
 
 pub returns-then-ends_line : goal.returns-then-ends_line

@@ -1,6 +1,5 @@
 use mathlib.Core.Path.{◌∙◌}
 use Rattle.form.proofs.LetterLaws.{field-long, field-one}
-use borrow.Author.Rules.{rules}
 use Rattle.form.proofs.field_in.Goals as goal
 
 pub returns-then-piece-ne1 : goal.returns-then-piece-ne1

@@ -2,7 +2,6 @@ use mathlib.Core.Path.{ap, sym}
 use mathlib.Core.Logic.{inl, inr, ⊎_elim}
 use Rattle.rules.specs.Form.{field_of}
 use Rattle.form.proofs.LetterLaws.{field-none}
-use borrow.Author.Rules.{rules}
 use Rattle.form.proofs.field_of.Goals as goal
 
 pub returns-in-82 : goal.returns-in-82

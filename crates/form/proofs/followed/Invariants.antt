@@ -1,16 +1,8 @@
-use Prim.Native.Nat.{ℕ, ◌-◌}
-use mathlib.Core.List.{List}
-use mathlib.Core.Path.{◌≡◌, refl, ap, sym, ◌∙◌}
+use mathlib.Core.Path.{◌≡◌}
 use lib.ListN.{drop}
-use Rattle.rules.specs.Token.{is_blank, past_blanks}
-use Rattle.rules.specs.Form.{value_of, with_field, follow, most_words}
-use Rattle.token.specs.Places.{part, Between}
-use Rattle.token.specs.Finds.{found_of}
-use Rattle.token.proofs.PlaceLaws.{left_by, between-here, between-on, between_run, between-token}
+use Rattle.rules.specs.Form.{follow, most_words}
+use Rattle.token.specs.Places.{Between}
 use Rattle.decode.specs.Ops.{room_meant}
-use Rattle.form.proofs.FollowLaws.{ended, follow-out, follow-ended, follow-stuck, follow-on}
-use Rattle.form.proofs.RowLaws.{follows_stuck, follows_on}
-use borrow.Author.Rules.{rules}
 use Rattle.form.proofs.followed.Given as goal
 
 abbrev pub invariant-loop-left : goal.invariant-loop-left

@@ -1,6 +1,5 @@
 use native.Mathlib.Omega.{arith}
 use borrow.Author.Tests.{lt-ltb, le-ltb}
-use borrow.Author.Rules.{rules}
 use Rattle.form.proofs.further.Goals as goal
 
 pub returns-then-one-other : goal.returns-then-one-other

@@ -1,6 +1,5 @@
 use mathlib.Core.Path.{◌∙◌}
 use Rattle.form.proofs.LetterLaws.{kind-register, kind-plain, kind-number, kind-order}
-use borrow.Author.Rules.{rules}
 use Rattle.form.proofs.kind_in.Goals as goal
 
 pub returns-then-letter-eq82 : goal.returns-then-letter-eq82

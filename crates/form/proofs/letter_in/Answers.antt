@@ -4,7 +4,6 @@ use Rattle.rules.specs.Token.{found_if}
 use Rattle.token.specs.Finds.{found_of}
 use Rattle.decode.specs.Ops.{room_meant}
 use Rattle.form.proofs.LetterLaws.{letter-by}
-use borrow.Author.Rules.{rules}
 use Rattle.form.proofs.letter_in.Goals as goal
 
 pub returns-in_default : goal.returns-in_default

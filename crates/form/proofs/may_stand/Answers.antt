@@ -5,7 +5,6 @@ use Rattle.rules.specs.Table.{is_load_order, is_store_order, is_fence_order}
 use Rattle.decode.specs.Ops.{room_meant}
 use Rattle.form.specs.Letters.{may_stand}
 use Rattle.form.proofs.LetterLaws.{may-stand-any, as_load, as_store, as-fence}
-use borrow.Author.Rules.{rules}
 use Rattle.form.proofs.may_stand.Goals as goal
 
 pub returns-in-67 : goal.returns-in-67

@@ -2,7 +2,6 @@ use Prim.Native.Nat.{ℕ}
 use mathlib.Core.Path.{◌∙◌, ap}
 use lib.ListN.{set}
 use Rattle.form.proofs.LetterLaws.{with-letter, with-word}
-use borrow.Author.Rules.{rules}
 use Rattle.form.proofs.with_field.Goals as goal
 
 pub returns-then-field-lt-FIELDS : goal.returns-then-field-lt-FIELDS

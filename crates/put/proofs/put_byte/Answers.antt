@@ -1,6 +1,5 @@
 use native.Mathlib.Omega.{arith}
 use Rattle.put.proofs.PutLaws.{puts-in, puts-past, puts-last}
-use borrow.Author.Rules.{rules}
 use Rattle.put.proofs.put_byte.Goals as goal
 
 pub returns-then-at-text : goal.returns-then-at-text

@@ -1,9 +1,6 @@
-use Prim.Native.Nat.{◌-◌}
 use native.Mathlib.Omega.{arith}
-use lib.ListN.{length, drop, drop_of_length-le}
-use Rattle.put.specs.Puts.{ToPut}
+use lib.ListN.{drop_of_length-le}
 use Rattle.put.proofs.PutLaws.{byte_next, coming-all, coming-on, come}
-use borrow.Author.Rules.{rules}
 use Rattle.put.proofs.put_bytes.Goals as goal
 
 pub loop-i-init : goal.loop-i-init

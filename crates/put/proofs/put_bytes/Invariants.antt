@@ -1,9 +1,6 @@
 use Prim.Native.Nat.{◌-◌}
-use native.Mathlib.Omega.{arith}
-use lib.ListN.{length, drop, drop_of_length-le}
+use lib.ListN.{length, drop}
 use Rattle.put.specs.Puts.{ToPut}
-use Rattle.put.proofs.PutLaws.{byte_next, coming-all, coming-on, come}
-use borrow.Author.Rules.{rules}
 use Rattle.put.proofs.put_bytes.Given as goal
 
 abbrev pub invariant-loop-i : goal.invariant-loop-i

@@ -5,7 +5,6 @@ use lib.ListN.{get_or}
 use Rattle.rules.specs.Token.{bytes_of}
 use Rattle.token.proofs.ListLaws.{orders-line}
 use Rattle.put.proofs.PutLaws.{puts-are}
-use borrow.Author.Rules.{rules}
 use Rattle.put.proofs.put_order.Goals as goal
 
 pub returns : goal.returns

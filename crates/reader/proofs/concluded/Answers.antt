@@ -1,9 +1,8 @@
-use mathlib.Core.Path.{◌≡◌, sym}
+use mathlib.Core.Path.{sym}
 use native.Mathlib.Omega.{arith}
 use borrow.Author.Tests.{not-true, not-false}
 use Rattle.filling.proofs.HeldLaws.{held-threads}
 use Rattle.reader.proofs.WholeLaws.{piece-most, closes-refused, closes-taken}
-use borrow.Author.Rules.{rules}
 use Rattle.reader.proofs.concluded.Goals as goal
 
 pub bounds-table-0 : goal.bounds-table-0

@@ -1,10 +1,7 @@
-use mathlib.Core.Path.{◌≡◌, refl, sym, ◌∙◌, subst}
-use native.Mathlib.Omega.{arith}
-use lib.ListN.{length}
+use mathlib.Core.Path.{refl, sym, subst}
 use Rattle.rules.specs.Condition.{condition_bytes}
-use Rattle.rules.specs.Text.{read_text}
 use Rattle.filling.specs.Tables.{Blank}
-use Rattle.reader.proofs.WholeLaws.{Going, going_start, going-out, step-goes, step-refused, step-ended, step-made, answered-by}
+use Rattle.reader.proofs.WholeLaws.{going_start, going-out, step-goes, step-refused, step-ended, step-made, answered-by}
 use borrow.Author.Rules.{rules}
 use Rattle.reader.proofs.lines_from.Goals as goal
 

@@ -2,7 +2,6 @@ use native.Mathlib.Omega.{arith}
 use Rattle.rules.specs.Condition.{condition_bytes}
 use Rattle.rules.specs.Text.{table_bytes}
 use Rattle.reader.proofs.ReadLaws.{no_table, no-condition, cleared-blank, said-refused, read-refused, read_taken}
-use borrow.Author.Rules.{rules}
 use Rattle.reader.proofs.read.Goals as goal
 
 pub returns-then-table-lt-TABLE_BYTES : goal.returns-then-table-lt-TABLE_BYTES

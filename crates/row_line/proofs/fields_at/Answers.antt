@@ -1,6 +1,5 @@
 use mathlib.Core.Path.{ap}
 use Rattle.rules.specs.Writer.{fields_of}
-use borrow.Author.Rules.{rules}
 use Rattle.row_line.proofs.fields_at.Goals as goal
 
 pub returns : goal.returns

@@ -1,7 +1,6 @@
 use native.Mathlib.Omega.{arith}
 use Rattle.put.proofs.PutLaws.{puts_then, puts-are}
 use Rattle.row_line.proofs.LineLaws.{piece-self, piece-register, piece-plain, piece-order, piece-number}
-use borrow.Author.Rules.{rules}
 use Rattle.row_line.proofs.put_piece.Goals as goal
 
 pub returns-then-field-ge-FIELDS : goal.returns-then-field-ge-FIELDS

@@ -5,7 +5,6 @@ use mathlib.Core.Path.{refl}
 use Rattle.rules.specs.Token.{bytes_of}
 use Rattle.rules.specs.Form.{forms}
 use Rattle.form.specs.Lines.{coded}
-use borrow.Author.Rules.{rules}
 use Rattle.row_line.proofs.put_row.Goals as goal
 
 pub put_form-behind-requires : goal.put_form-behind-requires

@@ -1,11 +1,7 @@
 use Prim.Native.Nat.{◌-◌}
-use native.Mathlib.Omega.{arith}
 use lib.ListN.{length, drop}
 use Rattle.rules.specs.Writer.{form_shown}
 use Rattle.put.specs.Puts.{ToPut}
-use Rattle.put.proofs.PutLaws.{coming-all, coming-on, come}
-use Rattle.row_line.proofs.LineLaws.{words-next, words-end}
-use borrow.Author.Rules.{rules}
 use Rattle.row_line.proofs.put_words.Given as goal
 
 abbrev pub invariant-loop-i : goal.invariant-loop-i

@@ -1,5 +1,4 @@
 use Rattle.saying.proofs.SayLaws.{clear_none, clear-long, clear_first}
-use borrow.Author.Rules.{rules}
 use Rattle.saying.proofs.is_clear.Goals as goal
 
 pub returns-then-word-eq0 : goal.returns-then-word-eq0

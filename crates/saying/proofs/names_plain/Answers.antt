@@ -1,6 +1,5 @@
 use Rattle.rules.specs.Token.{bytes_of}
 use Rattle.saying.proofs.SayLaws.{plain-named}
-use borrow.Author.Rules.{rules}
 use Rattle.saying.proofs.names_plain.Goals as goal
 
 pub returns : goal.returns

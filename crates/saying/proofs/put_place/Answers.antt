@@ -6,16 +6,15 @@ use Rattle.rules.specs.Token.{bytes_of}
 use Rattle.put.specs.Puts.{last}
 use Rattle.put.proofs.PutLaws.{coming-all, coming-on}
 use Rattle.saying.specs.Sayings.{place_shown}
-use borrow.Author.Rules.{rules}
 use Rattle.saying.proofs.put_place.Goals as goal
 
 pub returns : goal.returns
 unfolding bytes_of
 returns c =
     let low : c.args.at ≤ last =
-        omega arith in
+    omega arith in
     let long : length c.args.page.now ≤ last =
-        omega arith in
+    omega arith in
     let a = c.args in
     let all = coming-all _ a.at (place_shown a.name.now a.line a.column) low long in
     let one = coming-on _ _ _ _ _ _ _ _ (bytes_of "answer 5: refused: ") _ refl all c.put_bytes-refused.ensures in

@@ -3,7 +3,6 @@ use mathlib.Core.Bool.{true, false}
 use Rattle.rules.specs.Token.{bytes_of}
 use Rattle.put.proofs.PutLaws.{puts-are}
 use Rattle.saying.proofs.SayLaws.{reason-by}
-use borrow.Author.Rules.{rules}
 use Rattle.saying.proofs.put_reason.Goals as goal
 
 pub returns-then-names_plain : goal.returns-then-names_plain

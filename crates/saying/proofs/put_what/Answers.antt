@@ -9,7 +9,6 @@ use Rattle.put.specs.Puts.{last}
 use Rattle.put.proofs.PutLaws.{puts-are, coming-all, coming-on}
 use Rattle.saying.specs.Sayings.{reason, what_shown}
 use Rattle.saying.proofs.SayLaws.{what-missing, what-unclear, what-clear}
-use borrow.Author.Rules.{rules}
 use Rattle.saying.proofs.put_what.Goals as goal
 
 pub returns-then-ends_line : goal.returns-then-ends_line
@@ -29,9 +28,9 @@ pub returns : goal.returns
 unfolding bytes_of
 returns c =
     let low : c.args.at ≤ last =
-        omega arith in
+    omega arith in
     let long : length c.args.page.now ≤ last =
-        omega arith in
+    omega arith in
     let a = c.args in
     let why = reason a.spot.row (token (past_blanks (drop a.spot.begin a.text.now))) (token (drop a.spot.before a.text.now)) (part a.spot.place c.token_end-end.result a.text.now) in
     let there = sym c.ends_line.ensures ∙ c.if-ends_line.false in

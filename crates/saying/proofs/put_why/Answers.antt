@@ -7,7 +7,6 @@ use Rattle.token.specs.Finds.{found_of}
 use Rattle.put.specs.Puts.{last}
 use Rattle.put.proofs.PutLaws.{puts_none, puts-are}
 use Rattle.saying.proofs.SayLaws.{said, cell-said, why-by}
-use borrow.Author.Rules.{rules}
 use Rattle.saying.proofs.put_why.Goals as goal
 
 pub returns-in_default : goal.returns-in_default
@@ -45,7 +44,7 @@ pub returns : goal.returns
 unfolding bytes_of
 returns c =
     let low : c.args.at ≤ last =
-        omega arith in
+    omega arith in
     let a = c.args in
     let number = sym c.number.ensures ∙ ap found_of c.in-Value.is in
     let to_row = said a.text.now a.spot.before _ c.token_end-behind.ensures "jump" _ false c.is_word.ensures c.if-is_word.false in

@@ -1,7 +1,4 @@
-use mathlib.Core.Path.{ap, sym, ◌∙◌}
 use Rattle.rules.specs.Token.{bytes_of}
-use Rattle.token.specs.Finds.{found_of}
-use borrow.Author.Rules.{rules}
 use Rattle.saying.proofs.put_why_no_plain.Goals as goal
 
 pub returns-in-Value : goal.returns-in-Value

@@ -2,7 +2,6 @@ use mathlib.Core.Path.{ap}
 use Rattle.rules.specs.Token.{bytes_of}
 use Rattle.put.proofs.PutLaws.{puts-are}
 use Rattle.saying.proofs.SayLaws.{row-own, row-none}
-use borrow.Author.Rules.{rules}
 use Rattle.saying.proofs.put_why_no_row.Goals as goal
 
 pub returns-then-target-row : goal.returns-then-target-row

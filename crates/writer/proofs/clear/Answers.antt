@@ -1,7 +1,4 @@
-use Prim.Native.Nat.{◌-◌}
-use lib.ListN.{length}
-use Rattle.writer.proofs.TextLaws.{Clearing, clear_none, clear-on, clear-all}
-use borrow.Author.Rules.{rules}
+use Rattle.writer.proofs.TextLaws.{clear_none, clear-on, clear-all}
 use Rattle.writer.proofs.clear.Goals as goal
 
 pub loop-i-init : goal.loop-i-init

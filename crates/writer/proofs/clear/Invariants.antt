@@ -1,7 +1,6 @@
 use Prim.Native.Nat.{◌-◌}
 use lib.ListN.{length}
-use Rattle.writer.proofs.TextLaws.{Clearing, clear_none, clear-on, clear-all}
-use borrow.Author.Rules.{rules}
+use Rattle.writer.proofs.TextLaws.{Clearing}
 use Rattle.writer.proofs.clear.Given as goal
 
 abbrev pub invariant-loop-i : goal.invariant-loop-i

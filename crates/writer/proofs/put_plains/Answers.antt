@@ -7,7 +7,6 @@ use Rattle.rules.specs.Writer.{plains_shown}
 use Rattle.put.specs.Puts.{last}
 use Rattle.put.proofs.PutLaws.{puts_none, puts-are, coming-all, coming-on}
 use Rattle.writer.proofs.TextLaws.{plains-none, plains-some}
-use borrow.Author.Rules.{rules}
 use Rattle.writer.proofs.put_plains.Goals as goal
 
 pub bounds-table-1 : goal.bounds-table-1
@@ -29,7 +28,7 @@ pub returns : goal.returns
 unfolding bytes_of
 returns c =
     let long : length c.args.text.now ≤ last =
-        omega arith in
+    omega arith in
     let a = c.args in
     let all = coming-all _ a.at (plains_shown a.table.now) (omega arith) long in
     let one = coming-on _ _ _ _ _ _ _ _ _ _ (plains-some a.table.now _ c.wide8-plains.ensures.same c.if-plains-eq0.false _ c.wide8-cells.ensures.same) all c.put_bytes-word.ensures in

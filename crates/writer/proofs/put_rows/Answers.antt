@@ -1,11 +1,6 @@
-use Prim.Native.Nat.{◌+◌}
-use mathlib.Core.Path.{◌≡◌}
 use native.Mathlib.Omega.{arith}
-use Rattle.rules.specs.Writer.{rows_shown}
-use Rattle.put.specs.Puts.{ToPut}
 use Rattle.put.proofs.PutLaws.{coming-all, coming-on, come}
 use Rattle.writer.proofs.TextLaws.{rows_out, rows_next}
-use borrow.Author.Rules.{rules}
 use Rattle.writer.proofs.put_rows.Goals as goal
 
 pub bounds-table-1 : goal.bounds-table-1

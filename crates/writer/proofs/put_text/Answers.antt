@@ -7,14 +7,13 @@ use Rattle.rules.specs.Writer.{written_text}
 use Rattle.put.specs.Puts.{last}
 use Rattle.put.proofs.PutLaws.{coming-all, coming-on}
 use Rattle.writer.proofs.TextLaws.{text-whole}
-use borrow.Author.Rules.{rules}
 use Rattle.writer.proofs.put_text.Goals as goal
 
 pub returns : goal.returns
 unfolding bytes_of
 returns c =
     let long : length c.args.text.now ≤ last =
-        omega arith in
+    omega arith in
     let a = c.args in
     let all = coming-all _ 0 (written_text a.table.now a.condition.now) (omega arith) long in
     let one = coming-on _ _ _ _ _ _ _ _ _ _ (sym (text-whole a.table.now a.condition.now _ c.wide8.ensures.same)) all c.put_bytes-first.ensures in

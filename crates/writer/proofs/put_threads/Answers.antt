@@ -1,13 +1,8 @@
-use Prim.Native.Nat.{◌+◌, ◌≤◌}
 use mathlib.Core.Path.{refl, ◌∙◌}
 use native.Mathlib.Omega.{arith}
-use Rattle.rules.specs.Table.{threads_of}
 use Rattle.rules.specs.Token.{bytes_of}
-use Rattle.rules.specs.Writer.{threads_shown}
-use Rattle.put.specs.Puts.{ToPut}
 use Rattle.put.proofs.PutLaws.{coming-all, coming-on, come}
 use Rattle.writer.proofs.TextLaws.{threads-out, threads-next, shape-count, shape-first}
-use borrow.Author.Rules.{rules}
 use Rattle.writer.proofs.put_threads.Goals as goal
 
 pub bounds-table-0 : goal.bounds-table-0

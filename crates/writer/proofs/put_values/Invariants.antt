@@ -1,12 +1,7 @@
-use Prim.Native.Nat.{ℕ, ◌+◌, ◌-◌}
-use mathlib.Core.List.{◌++◌}
-use mathlib.Core.Path.{◌≡◌, ap, sym}
-use native.Mathlib.Omega.{arith}
-use Rattle.rules.specs.Writer.{shown, values_shown}
+use Prim.Native.Nat.{◌+◌}
+use mathlib.Core.Path.{◌≡◌}
+use Rattle.rules.specs.Writer.{values_shown}
 use Rattle.put.specs.Puts.{ToPut}
-use Rattle.put.proofs.PutLaws.{coming-all, coming-on, come}
-use Rattle.writer.proofs.TextLaws.{values-out, values-next}
-use borrow.Author.Rules.{rules}
 use Rattle.writer.proofs.put_values.Given as goal
 
 abbrev pub invariant-loop-left : goal.invariant-loop-left

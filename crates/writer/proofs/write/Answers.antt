@@ -1,7 +1,6 @@
 use mathlib.Core.Path.{ap, sym, ◌∙◌}
 use Rattle.table.specs.Answers.{judged_of}
 use Rattle.writer.proofs.IntoLaws.{into-header, into-row}
-use borrow.Author.Rules.{rules}
 use Rattle.writer.proofs.write.Goals as goal
 
 pub write_fit-requires : goal.write_fit-requires
