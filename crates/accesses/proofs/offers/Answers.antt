@@ -1,5 +1,4 @@
 use borrow.Enum.Refused.{opened}
-use borrow.Author.Rules.{rules}
 use Rattle.accesses.proofs.OpLaws.{row_within, load-within, rmw-within, offers-none, offers-load, offers-rmw, offers-other}
 use borrow.Author.Rules.{scaled_Fits}
 use lib.Dec.{lit<}

@@ -1,5 +1,4 @@
 use mathlib.Core.Path.{refl}
-use borrow.Author.Rules.{rules}
 use Rattle.accesses.proofs.AccessLaws.{reads_as}
 use Rattle.accesses.proofs.plain_read_row.Goals as goal
 

@@ -1,5 +1,4 @@
 use mathlib.Core.Path.{ap}
-use borrow.Author.Rules.{rules}
 use Rattle.track.specs.Tracked.{race_meant}
 use Rattle.accesses.proofs.AccessLaws.{write-raced, write_done}
 use Rattle.accesses.proofs.plain_write_row.Goals as goal

@@ -1,4 +1,3 @@
-use borrow.Author.Rules.{rules}
 use Rattle.accesses.proofs.AccessLaws.{put-raced, put-done}
 use Rattle.accesses.proofs.put_value.Goals as goal
 

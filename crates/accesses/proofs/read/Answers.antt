@@ -1,5 +1,4 @@
 use borrow.Enum.Refused.{opened}
-use borrow.Author.Rules.{rules}
 use Rattle.accesses.proofs.OpLaws.{load-within, rmw-within, others, load-done, rmw-done}
 use Rattle.accesses.proofs.read.Goals as goal
 

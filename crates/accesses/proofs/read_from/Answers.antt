@@ -1,4 +1,3 @@
-use borrow.Author.Rules.{rules}
 use Rattle.accesses.proofs.OpLaws.{row_within, of-within, from-refused, from_nothing, from-dead, from-live}
 use borrow.Author.Tests.{not-true, not-false}
 use Rattle.accesses.proofs.read_from.Goals as goal

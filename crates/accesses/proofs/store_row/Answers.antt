@@ -1,4 +1,3 @@
-use borrow.Author.Rules.{rules}
 use Rattle.accesses.proofs.AccessLaws.{store-raced, store-done}
 use Rattle.track.proofs.TrackLaws.{answered}
 use Rattle.accesses.proofs.store_row.Goals as goal

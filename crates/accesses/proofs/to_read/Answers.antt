@@ -1,5 +1,4 @@
 use borrow.Enum.Refused.{opened}
-use borrow.Author.Rules.{rules}
 use Rattle.accesses.proofs.OpLaws.{load_read, rmw-read, other-read}
 use Rattle.accesses.proofs.to_read.Goals as goal
 

@@ -1,4 +1,3 @@
-use borrow.Author.Rules.{rules}
 use Rattle.accesses.proofs.AccessLaws.{reads_as}
 use Rattle.accesses.proofs.unsync_load_row.Goals as goal
 

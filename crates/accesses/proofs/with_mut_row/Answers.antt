@@ -1,4 +1,3 @@
-use borrow.Author.Rules.{rules}
 use Rattle.accesses.proofs.AccessLaws.{mut-raced, mut-done}
 use Rattle.accesses.proofs.with_mut_row.Goals as goal
 

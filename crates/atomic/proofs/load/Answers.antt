@@ -1,4 +1,3 @@
-use borrow.Author.Rules.{rules}
 use Rattle.atomic.proofs.AccessLaws.{load-raced, load-done}
 use Rattle.track.proofs.TrackLaws.{answered}
 use Rattle.atomic.proofs.load.Goals as goal

@@ -1,4 +1,3 @@
-use borrow.Author.Rules.{rules}
 use Rattle.change.specs.Changes.{change_meant}
 use Rattle.atomic.proofs.AccessLaws.{changing, rmw-raced, rmw-failed, rmw-succeeded}
 use Rattle.track.proofs.TrackLaws.{answered}

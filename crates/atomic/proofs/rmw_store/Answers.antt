@@ -1,4 +1,3 @@
-use borrow.Author.Rules.{rules}
 use Rattle.atomic.proofs.AccessLaws.{then-raced, then-stored}
 use Rattle.rules.specs.State.{store_at}
 use Rattle.track.proofs.TrackLaws.{answered}

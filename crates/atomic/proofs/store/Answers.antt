@@ -1,4 +1,3 @@
-use borrow.Author.Rules.{rules}
 use Rattle.atomic.proofs.AccessLaws.{stored}
 use Rattle.atomic.proofs.store.Goals as goal
 

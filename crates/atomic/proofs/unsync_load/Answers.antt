@@ -1,4 +1,3 @@
-use borrow.Author.Rules.{rules}
 use Rattle.track.proofs.TrackLaws.{answered}
 use Rattle.atomic.proofs.NewestLaws.{newest-at, unsync-raced, unsync-done}
 use Rattle.atomic.proofs.unsync_load.Goals as goal

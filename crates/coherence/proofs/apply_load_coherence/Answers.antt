@@ -1,9 +1,6 @@
 use borrow.Author.Rules.{rules}
-use mathlib.Core.Path.{◌≡◌, refl, ◌∙◌}
-use mathlib.Core.Logic.{⊎_elim}
-use Prim.Native.Nat.{◌≤◌, ◌-◌}
-use Rattle.rules.specs.State.{marks_of}
-use Rattle.rules.specs.Cell.{coherent_from, live_in, order_of}
+use mathlib.Core.Path.{refl, ◌∙◌}
+use Prim.Native.Nat.{◌-◌}
 use Rattle.coherence.proofs.OrderLaws.{cohere-start, cohere-all, cohere-done, cohere-own, cohere-seen, cohere-before, cohere-unknown}
 use Rattle.coherence.proofs.apply_load_coherence.Goals as goal
 use Rattle.coherence.proofs.apply_load_coherence.Goals.{else-i-slot, then-i-slot+else-is_seen+else-is_before, then-i-slot+then-is_seen, then-is_seen-via-else-is_seen+then-is_before, then-is_seen-via-then-is_seen}

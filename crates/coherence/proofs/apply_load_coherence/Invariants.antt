@@ -1,10 +1,7 @@
-use borrow.Author.Rules.{rules}
-use mathlib.Core.Path.{◌≡◌, refl, ◌∙◌}
-use mathlib.Core.Logic.{⊎_elim}
+use mathlib.Core.Path.{◌≡◌}
 use Prim.Native.Nat.{◌≤◌, ◌-◌}
 use Rattle.rules.specs.State.{marks_of}
 use Rattle.rules.specs.Cell.{coherent_from, live_in, order_of}
-use Rattle.coherence.proofs.OrderLaws.{cohere-start, cohere-all, cohere-done, cohere-own, cohere-seen, cohere-before, cohere-unknown}
 use Rattle.coherence.proofs.apply_load_coherence.Given as goal
 
 abbrev pub invariant-loop-i : goal.invariant-loop-i

@@ -1,9 +1,6 @@
 use borrow.Author.Rules.{rules}
-use mathlib.Core.Path.{◌≡◌, ◌∙◌}
-use mathlib.Core.Logic.{⊎_elim}
-use Prim.Native.Nat.{◌≤◌, ◌-◌}
-use Rattle.rules.specs.Cell.{store_order_from, store_order}
-use Rattle.rules.specs.State.{marks_of}
+use mathlib.Core.Path.{◌∙◌}
+use Prim.Native.Nat.{◌-◌}
 use Rattle.coherence.proofs.OrderLaws.{store-start, store-all, store-seen, store-unseen}
 use Rattle.coherence.proofs.store_order.Goals as goal
 use Rattle.coherence.proofs.store_order.Goals.{else-is_seen, then-is_seen}

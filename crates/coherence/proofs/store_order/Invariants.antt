@@ -1,10 +1,7 @@
-use borrow.Author.Rules.{rules}
-use mathlib.Core.Path.{◌≡◌, ◌∙◌}
-use mathlib.Core.Logic.{⊎_elim}
+use mathlib.Core.Path.{◌≡◌}
 use Prim.Native.Nat.{◌≤◌, ◌-◌}
 use Rattle.rules.specs.Cell.{store_order_from, store_order}
 use Rattle.rules.specs.State.{marks_of}
-use Rattle.coherence.proofs.OrderLaws.{store-start, store-all, store-seen, store-unseen}
 use Rattle.coherence.proofs.store_order.Given as goal
 
 abbrev pub invariant-loop-slot : goal.invariant-loop-slot

@@ -1,4 +1,3 @@
-use borrow.Author.Rules.{rules}
 use Rattle.coherence.proofs.TouchLaws.{touch-again, touch-first}
 use Rattle.coherence.proofs.touch.Goals as goal
 

@@ -1,10 +1,9 @@
-use Prim.Native.Nat.{◌+◌, ◌≤◌, ◌-◌}
+use Prim.Native.Nat.{◌+◌, ◌-◌}
 use native.Mathlib.Omega.{arith}
-use mathlib.Core.Path.{◌≡◌, refl, sym, ◌∙◌}
+use mathlib.Core.Path.{◌≡◌, sym, ◌∙◌}
 use borrow.Author.Rules.{rules}
-use lib.ListN.{length, drop}
-use Rattle.decimal.specs.Decimal.{with_digits, number_spelled}
-use Rattle.decimal.specs.declared.Parsed.TheVariants.{Number, Bad}
+use lib.ListN.{drop}
+use Rattle.decimal.specs.declared.Parsed.TheVariants.{Bad}
 use Rattle.decimal.proofs.Laws.{empty, behind-all, behind-next, behind-bad, behind-end}
 use Rattle.decimal.proofs.number.Goals as goal
 

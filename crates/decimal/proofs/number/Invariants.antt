@@ -1,11 +1,8 @@
-use Prim.Native.Nat.{◌+◌, ◌≤◌, ◌-◌}
-use native.Mathlib.Omega.{arith}
-use mathlib.Core.Path.{◌≡◌, refl, sym, ◌∙◌}
-use borrow.Author.Rules.{rules}
+use Prim.Native.Nat.{◌≤◌, ◌-◌}
+use mathlib.Core.Path.{◌≡◌}
 use lib.ListN.{length, drop}
 use Rattle.decimal.specs.Decimal.{with_digits, number_spelled}
-use Rattle.decimal.specs.declared.Parsed.TheVariants.{Number, Bad}
-use Rattle.decimal.proofs.Laws.{empty, behind-all, behind-next, behind-bad, behind-end}
+use Rattle.decimal.specs.declared.Parsed.TheVariants.{Number}
 use Rattle.decimal.proofs.number.Given as goal
 
 abbrev pub invariant-loop-i : goal.invariant-loop-i

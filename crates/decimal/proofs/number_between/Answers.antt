@@ -1,4 +1,3 @@
-use borrow.Author.Rules.{rules}
 use Rattle.decimal.proofs.Laws.{no_number, within, too_small, too-great}
 use Rattle.decimal.proofs.number_between.Goals as goal
 

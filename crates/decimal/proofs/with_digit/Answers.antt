@@ -1,4 +1,3 @@
-use borrow.Author.Rules.{rules}
 use native.Mathlib.Omega.{arith}
 use Rattle.decimal.proofs.Laws.{below-digits, above-digits, too_large, one-more}
 use Rattle.decimal.proofs.with_digit.Goals as goal

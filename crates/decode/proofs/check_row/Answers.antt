@@ -1,6 +1,5 @@
 use Rattle.decode.specs.Ops.{row_meant}
 use Rattle.decode.proofs.RowLaws.{check-made}
-use borrow.Author.Rules.{rules}
 use Rattle.decode.proofs.check_row.Goals as goal
 
 pub returns : goal.returns

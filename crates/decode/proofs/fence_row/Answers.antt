@@ -1,6 +1,5 @@
 use Rattle.decode.specs.Ops.{row_meant}
 use Rattle.decode.proofs.RowLaws.{fence-made}
-use borrow.Author.Rules.{rules}
 use Rattle.decode.proofs.fence_row.Goals as goal
 
 pub returns : goal.returns

@@ -1,7 +1,6 @@
 use Rattle.decode.proofs.RowLaws.{meant, fine, rmw-judged, rmw-refused}
 use mathlib.Core.Path.{refl}
 use Rattle.decode.specs.Ops.{row_meant}
-use borrow.Author.Rules.{rules}
 use Rattle.decode.proofs.is_rmw.Goals as goal
 
 pub returns-in_default : goal.returns-in_default

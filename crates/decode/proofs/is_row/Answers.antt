@@ -2,7 +2,6 @@ use Rattle.decode.proofs.RowLaws.{arm, rmw-arm, with-mut-arm, beyond, none_below
 use Rattle.decode.specs.Ops.{row_meant, room_meant}
 use Rattle.rules.specs.Table.{row_decoded}
 use mathlib.Core.Path.{refl}
-use borrow.Author.Rules.{rules}
 use Rattle.decode.proofs.is_row.Goals as goal
 
 pub returns-in-0 : goal.returns-in-0

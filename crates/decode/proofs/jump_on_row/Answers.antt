@@ -1,6 +1,5 @@
 use Rattle.decode.specs.Ops.{op_of, row_meant}
 use Rattle.decode.proofs.RowLaws.{jump-on-made}
-use borrow.Author.Rules.{rules}
 use Rattle.decode.proofs.jump_on_row.Goals as goal
 
 pub returns : goal.returns

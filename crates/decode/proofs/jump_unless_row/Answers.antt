@@ -1,4 +1,3 @@
-use borrow.Author.Rules.{rules}
 use Rattle.decode.proofs.jump_unless_row.Goals as goal
 
 pub returns : goal.returns

@@ -1,6 +1,5 @@
 use mathlib.Core.Path.{refl}
 use Rattle.decode.proofs.RowLaws.{told}
-use borrow.Author.Rules.{rules}
 use Rattle.decode.proofs.opcode.Goals as goal
 
 pub returns-in-Load : goal.returns-in-Load

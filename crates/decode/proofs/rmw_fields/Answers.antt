@@ -1,6 +1,5 @@
 use Rattle.decode.proofs.RowLaws.{fields_told}
 use Rattle.decode.specs.Ops.{row_meant}
-use borrow.Author.Rules.{rules}
 use Rattle.decode.proofs.rmw_fields.Goals as goal
 
 pub returns : goal.returns

@@ -1,6 +1,5 @@
 use Rattle.decode.proofs.RowLaws.{meant, rmw-made, rmw-refused}
 use Rattle.decode.specs.Ops.{row_meant}
-use borrow.Author.Rules.{rules}
 use Rattle.decode.proofs.rmw_row.Goals as goal
 
 pub returns-in_default : goal.returns-in_default

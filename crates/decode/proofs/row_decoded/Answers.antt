@@ -1,7 +1,6 @@
 use Rattle.decode.proofs.RowLaws.{arm, rmw-arm, with-mut-arm, beyond, none_below}
 use Rattle.decode.specs.Ops.{row_meant, room_meant}
 use Rattle.rules.specs.Table.{row_decoded}
-use borrow.Author.Rules.{rules}
 use Rattle.decode.proofs.row_decoded.Goals as goal
 
 pub returns-in-0 : goal.returns-in-0

@@ -1,6 +1,5 @@
 use Rattle.decode.specs.Ops.{row_meant}
 use Rattle.decode.proofs.RowLaws.{store-register-made}
-use borrow.Author.Rules.{rules}
 use Rattle.decode.proofs.store_register_row.Goals as goal
 
 pub returns : goal.returns

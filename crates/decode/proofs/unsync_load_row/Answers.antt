@@ -1,6 +1,5 @@
 use Rattle.decode.specs.Ops.{row_meant}
 use Rattle.decode.proofs.RowLaws.{unsync-load-made}
-use borrow.Author.Rules.{rules}
 use Rattle.decode.proofs.unsync_load_row.Goals as goal
 
 pub returns : goal.returns

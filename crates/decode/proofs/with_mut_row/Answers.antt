@@ -1,6 +1,5 @@
 use Rattle.decode.proofs.RowLaws.{meant, with-mut-made, with-mut-refused}
 use Rattle.decode.specs.Ops.{row_meant}
-use borrow.Author.Rules.{rules}
 use Rattle.decode.proofs.with_mut_row.Goals as goal
 
 pub returns-in_default : goal.returns-in_default

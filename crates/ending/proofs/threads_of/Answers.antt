@@ -1,5 +1,4 @@
 use Rattle.ending.proofs.JudgeLaws.{no_threads}
-use borrow.Author.Rules.{rules}
 use Rattle.ending.proofs.threads_of.Goals as goal
 
 pub returns-then-table-eq0 : goal.returns-then-table-eq0

@@ -4,7 +4,6 @@ use Rattle.rules.specs.Machine.{acts_as}
 use Rattle.layout.specs.Tables.{state}
 use Rattle.execution.proofs.ActLaws.{op-within, act-as, asks-as}
 use Rattle.execution.proofs.StoreLaws.{storing-of}
-use borrow.Author.Rules.{rules}
 use Rattle.execution.proofs.act.Goals as goal
 
 pub join_row-requires : goal.join_row-requires

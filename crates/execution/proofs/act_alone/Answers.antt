@@ -2,7 +2,6 @@ use borrow.Enum.Refused.{opened}
 use Rattle.rules.specs.Machine.{acts_as}
 use Rattle.layout.specs.Tables.{state}
 use Rattle.execution.proofs.ActLaws.{op-within, asks-bit, alone-as, jumps-from, unless-from, checks-from}
-use borrow.Author.Rules.{rules}
 use Rattle.execution.proofs.act_alone.Goals as goal
 
 pub register_of-requires : goal.register_of-requires

@@ -1,7 +1,6 @@
 use native.Mathlib.Omega.{arith}
 use Rattle.layout.specs.Tables.{state}
 use Rattle.execution.proofs.StoreLaws.{of-within, stores_as, unsync-of}
-use borrow.Author.Rules.{rules}
 use Rattle.execution.proofs.act_store.Goals as goal
 
 pub store_row-requires : goal.store_row-requires

@@ -2,7 +2,6 @@ use borrow.Enum.Refused.{opened}
 use Rattle.rules.specs.Machine.{acts_as}
 use Rattle.layout.specs.Tables.{state}
 use Rattle.execution.proofs.ActLaws.{op-within, alone_of, alone-as}
-use borrow.Author.Rules.{rules}
 use Rattle.execution.proofs.act_unsync.Goals as goal
 
 pub unsync_load_row-requires : goal.unsync_load_row-requires

@@ -2,7 +2,6 @@ use Rattle.rules.specs.Table.{opcode_in}
 use Rattle.layout.specs.Tables.{state}
 use Rattle.decode.specs.Ops.{decoded_of}
 use Rattle.execution.proofs.ActLaws.{slot-within, answers-as}
-use borrow.Author.Rules.{rules}
 use Rattle.execution.proofs.answered.Goals as goal
 
 pub read_from-requires : goal.read_from-requires

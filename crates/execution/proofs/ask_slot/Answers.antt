@@ -1,7 +1,6 @@
 use mathlib.Core.Path.{ap}
 use Rattle.rules.specs.State.{State}
 use Rattle.rules.specs.Machine.{asks_slot}
-use borrow.Author.Rules.{rules}
 use Rattle.execution.proofs.ask_slot.Goals as goal
 
 pub returns : goal.returns

@@ -1,14 +1,12 @@
 use borrow.Enum.Refused.{opened}
 use native.Mathlib.Omega.{arith}
-use mathlib.Core.List.{[]}
 use mathlib.Core.Path.{ap, sym, ◌∙◌}
-use mathlib.Core.Logic.{⊎_elim, inl, inr}
+use mathlib.Core.Logic.{inl, inr}
 use Rattle.rules.specs.Event.{offers}
 use Rattle.rules.specs.State.{Numbers}
 use Rattle.layout.specs.Tables.{state}
 use Rattle.decode.specs.Ops.{op_of}
 use Rattle.execution.proofs.TickLaws.{row_within, begun-other, begun-acts, next-ended, next-refused, next-begins, next-acts}
-use borrow.Author.Rules.{rules}
 use Rattle.execution.proofs.next.Goals as goal
 use Rattle.execution.proofs.next.Goals.{else-to_begin, else-to_begin-2, then-to_begin+else-shape-thread, then-to_begin-2+in-Moves}
 

@@ -1,5 +1,4 @@
 use borrow.Enum.Refused.{opened}
-use borrow.Author.Rules.{rules}
 use Rattle.execution.proofs.ActLaws.{op-within}
 use Rattle.execution.proofs.StoreLaws.{operand-stored, register-stored, nothing_stored}
 use Rattle.execution.proofs.to_store.Goals as goal

@@ -1,4 +1,3 @@
-use borrow.Author.Rules.{rules}
 use Rattle.rules.specs.Cell.{fenced, fence_released}
 use Rattle.fence.proofs.FenceLaws.{fence-as, fence-none}
 use Rattle.fence.proofs.fence.Goals as goal

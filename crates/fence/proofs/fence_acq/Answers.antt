@@ -1,8 +1,7 @@
 use borrow.Author.Rules.{rules}
-use mathlib.Core.Path.{◌≡◌, sym, ◌∙◌}
-use Rattle.rules.specs.Cell.{cells_acquired, fence_acquired}
+use mathlib.Core.Path.{sym, ◌∙◌}
 use Rattle.fence.proofs.FenceLaws.{cells-start, cells-on, cells-end}
-use Prim.Native.Nat.{◌≤◌, ◌-◌}
+use Prim.Native.Nat.{◌-◌}
 use Rattle.fence.proofs.fence_acq.Goals as goal
 
 pub loop-cell-init : goal.loop-cell-init

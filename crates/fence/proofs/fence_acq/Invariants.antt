@@ -1,7 +1,5 @@
-use borrow.Author.Rules.{rules}
-use mathlib.Core.Path.{◌≡◌, sym, ◌∙◌}
+use mathlib.Core.Path.{◌≡◌}
 use Rattle.rules.specs.Cell.{cells_acquired, fence_acquired}
-use Rattle.fence.proofs.FenceLaws.{cells-start, cells-on, cells-end}
 use Prim.Native.Nat.{◌≤◌, ◌-◌}
 use Rattle.fence.proofs.fence_acq.Given as goal
 

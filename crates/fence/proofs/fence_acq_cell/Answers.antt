@@ -1,10 +1,8 @@
 use borrow.Author.Rules.{rules}
-use mathlib.Core.Path.{◌≡◌, sym, ◌∙◌}
-use mathlib.Core.Logic.{⊎_elim}
-use Rattle.rules.specs.Cell.{acquired_from, cell_acquired}
+use mathlib.Core.Path.{sym, ◌∙◌}
 use Rattle.rules.specs.State.{marks_of}
 use Rattle.fence.proofs.FenceLaws.{stores-start, stores-seen, stores-unseen, stores-end}
-use Prim.Native.Nat.{◌≤◌, ◌-◌}
+use Prim.Native.Nat.{◌-◌}
 use Rattle.fence.proofs.fence_acq_cell.Goals as goal
 use Rattle.fence.proofs.fence_acq_cell.Goals.{else-is_seen, then-is_seen}
 

@@ -1,9 +1,6 @@
-use borrow.Author.Rules.{rules}
-use mathlib.Core.Path.{◌≡◌, sym, ◌∙◌}
-use mathlib.Core.Logic.{⊎_elim}
+use mathlib.Core.Path.{◌≡◌}
 use Rattle.rules.specs.Cell.{acquired_from, cell_acquired}
 use Rattle.rules.specs.State.{marks_of}
-use Rattle.fence.proofs.FenceLaws.{stores-start, stores-seen, stores-unseen, stores-end}
 use Prim.Native.Nat.{◌≤◌, ◌-◌}
 use Rattle.fence.proofs.fence_acq_cell.Given as goal
 

@@ -1,4 +1,3 @@
-use borrow.Author.Rules.{rules}
 use Rattle.fence.proofs.FenceLaws.{then-released}
 use Rattle.fence.proofs.fence_acqrel.Goals as goal
 

@@ -1,4 +1,3 @@
-use borrow.Author.Rules.{rules}
 use Rattle.fence.proofs.FenceLaws.{then-both}
 use Rattle.fence.proofs.fence_seqcst.Goals as goal
 

@@ -1,6 +1,5 @@
 use mathlib.Core.Path.{sym, ◌∙◌}
 use Rattle.into.proofs.ListedLaws.{refuses-list, goes-on}
-use borrow.Author.Rules.{rules}
 use Rattle.into.proofs.explore_counted.Goals as goal
 
 pub returns-then-miscounted : goal.returns-then-miscounted

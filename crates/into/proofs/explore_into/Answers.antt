@@ -1,4 +1,4 @@
-use Rattle.std.proofs.Common.{◌≡◌, ◌∙◌, ap, List, cond, eqb, length, rules}
+use Rattle.std.proofs.Common.{◌∙◌, ap, List, cond, eqb, length}
 use mathlib.Core.Bool.{◌&&◌}
 use Rattle.report.specs.declared.Summary.{Summary}
 use Rattle.settings.specs.Given.{settings_of}

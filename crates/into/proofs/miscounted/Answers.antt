@@ -1,6 +1,5 @@
 use Rattle.settings.specs.Given.{settings_of}
 use Rattle.into.proofs.ListedLaws.{miscounts-made}
-use borrow.Author.Rules.{rules}
 use Rattle.into.proofs.miscounted.Goals as goal
 
 pub returns : goal.returns

@@ -1,5 +1,4 @@
 use Rattle.into.proofs.ListedLaws.{refusal-made}
-use borrow.Author.Rules.{rules}
 use Rattle.into.proofs.ran.Goals as goal
 
 pub returns : goal.returns

@@ -1,6 +1,5 @@
 use mathlib.Core.Path.{refl}
 use Rattle.iteration.proofs.ExecuteLaws.{started, executed}
-use borrow.Author.Rules.{rules}
 use Rattle.iteration.proofs.execute.Goals as goal
 
 pub returns : goal.returns

@@ -1,12 +1,7 @@
 use borrow.Enum.Refused.{opened}
-use Prim.Native.Nat.{◌≤◌, ◌*◌, ◌-◌}
-use mathlib.Core.Path.{◌≡◌, refl}
-use lib.ListN.{length}
+use Prim.Native.Nat.{◌-◌}
 use native.Mathlib.Omega.{arith}
-use Rattle.meeting.specs.Stands.{lent}
-use Rattle.iteration.specs.Executes.{Ticking}
 use Rattle.iteration.proofs.WalkedLaws.{ticking-none, ticking-more, walks-ended, walks-spent}
-use borrow.Author.Rules.{rules}
 use Rattle.iteration.proofs.walked.Goals as goal
 
 pub loop-init : goal.loop-init

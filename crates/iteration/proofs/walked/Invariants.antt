@@ -1,11 +1,6 @@
-use Prim.Native.Nat.{◌≤◌, ◌*◌, ◌-◌}
-use mathlib.Core.Path.{◌≡◌, refl}
-use lib.ListN.{length}
-use native.Mathlib.Omega.{arith}
+use Prim.Native.Nat.{◌≤◌, ◌-◌}
 use Rattle.meeting.specs.Stands.{lent}
 use Rattle.iteration.specs.Executes.{Ticking}
-use Rattle.iteration.proofs.WalkedLaws.{ticking-none, ticking-more, walks-ended, walks-spent}
-use borrow.Author.Rules.{rules}
 use Rattle.iteration.proofs.walked.Given as goal
 
 abbrev pub invariant-loop : goal.invariant-loop

@@ -1,5 +1,4 @@
-use Rattle.std.proofs.Common.{◌≡◌, ◌∙◌, length, sym, true, rules, eqb}
-use mathlib.Core.Bool.{◌&&◌}
+use Rattle.std.proofs.Common.{◌≡◌, length, rules}
 use Rattle.list.proofs.Lists.{copied, both}
 use Rattle.list.proofs.copy_into.Goals as goal
 

@@ -1,4 +1,3 @@
-use borrow.Author.Rules.{rules}
 use Rattle.matches.proofs.OfferLaws.{all-seq-cst}
 use Rattle.matches.proofs.all_seq_cst.Goals as goal
 

@@ -1,4 +1,3 @@
-use borrow.Author.Rules.{rules}
 use Rattle.matches.proofs.OfferLaws.{compared-told}
 use Rattle.matches.proofs.compare_orders.Goals as goal
 

@@ -1,9 +1,7 @@
 use borrow.Author.Rules.{rules}
-use mathlib.Core.Path.{◌≡◌, sym, ◌∙◌}
-use mathlib.Core.Logic.{inl, inr, ⊎_elim}
-use Prim.Native.Nat.{◌≤◌, ◌-◌}
-use Rattle.rules.specs.Cell.{fate_from, live_in}
-use Rattle.matches.specs.Offers.{drops}
+use mathlib.Core.Path.{sym, ◌∙◌}
+use mathlib.Core.Logic.{inl, inr}
+use Prim.Native.Nat.{◌-◌}
 use Rattle.matches.proofs.OfferLaws.{fate-all, fate-none, fate-own, fate-told, fate-dropped, fate-below, drops-some, drops-none}
 use Rattle.matches.proofs.load_fate.Goals as goal
 use Rattle.matches.proofs.load_fate.Goals.{else-j-i, then-j-i+in-Less+else-seen-j+else-before_yield+else-all_seq_cst, then-j-i+in-Neither, then-seen-j-via-else-seen-j+else-before_yield+then-all_seq_cst, then-seen-j-via-else-seen-j+then-before_yield, then-seen-j-via-then-seen-j}

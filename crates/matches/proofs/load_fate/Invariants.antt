@@ -1,10 +1,7 @@
-use borrow.Author.Rules.{rules}
-use mathlib.Core.Path.{◌≡◌, sym, ◌∙◌}
-use mathlib.Core.Logic.{inl, inr, ⊎_elim}
+use mathlib.Core.Path.{◌≡◌}
 use Prim.Native.Nat.{◌≤◌, ◌-◌}
 use Rattle.rules.specs.Cell.{fate_from, live_in}
 use Rattle.matches.specs.Offers.{drops}
-use Rattle.matches.proofs.OfferLaws.{fate-all, fate-none, fate-own, fate-told, fate-dropped, fate-below, drops-some, drops-none}
 use Rattle.matches.proofs.load_fate.Given as goal
 
 abbrev pub invariant-loop-j : goal.invariant-loop-j

@@ -1,10 +1,9 @@
 use borrow.Author.Rules.{rules}
 use mathlib.Core.Path.{◌≡◌, ◌∙◌}
-use Prim.Native.Nat.{◌≤◌, ◌-◌}
-use Rattle.rules.specs.Cell.{live_in, load_fate, matched_from, matched_load}
-use Rattle.matches.specs.Offers.{fate_of, offered}
-use Rattle.matches.proofs.OfferLaws.{fate-load, offering, offer-all, offer-none, offer-kept, offer-dropped, offer-equal}
-use mathlib.Core.Logic.{⊎_elim}
+use Prim.Native.Nat.{◌-◌}
+use Rattle.rules.specs.Cell.{load_fate, matched_load}
+use Rattle.matches.specs.Offers.{fate_of}
+use Rattle.matches.proofs.OfferLaws.{fate-load, offer-all, offer-none, offer-kept, offer-dropped, offer-equal}
 use Rattle.matches.proofs.match_load_to_stores.Goals as goal
 use Rattle.matches.proofs.match_load_to_stores.Goals.{in-Dropped, in-Kept}
 
@@ -16,7 +15,7 @@ unfolding matched_load
 returns-in-Equal c =
     let fated : let args = c.args in
     fate_of c.load_fate.result ≡ load_fate args.clocks.now args.marks args.numbers.now args.access.thread args.access.cell args.access.order c.loop-i.i =
-        let args = c.args in
+    let args = c.args in
     c.load_fate.ensures
     ∙ fate-load args.clocks.now args.marks args.numbers.now args.access.thread args.access.cell args.access.order c.loop-i.i _ _ c.seen_slots-seen.ensures c.is_seen_before_yield-before_yield.ensures in
     offer-equal _ _ _ _ _ _ c.loop-i.invariant.2 c.loop-i-test.true _ fated c.in-Equal.is
@@ -25,7 +24,7 @@ pub loop-i-preserved : goal.loop-i-preserved
 loop-i-preserved c =
     let fated : let args = c.args in
     fate_of c.load_fate.result ≡ load_fate args.clocks.now args.marks args.numbers.now args.access.thread args.access.cell args.access.order c.loop-i.i =
-        let args = c.args in
+    let args = c.args in
     c.load_fate.ensures
     ∙ fate-load args.clocks.now args.marks args.numbers.now args.access.thread args.access.cell args.access.order c.loop-i.i _ _ c.seen_slots-seen.ensures c.is_seen_before_yield-before_yield.ensures in
     let h = c.loop-i-test.true in

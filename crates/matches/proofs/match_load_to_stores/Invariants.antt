@@ -1,10 +1,8 @@
-use borrow.Author.Rules.{rules}
-use mathlib.Core.Path.{◌≡◌, ◌∙◌}
+use mathlib.Core.Path.{◌≡◌}
 use Prim.Native.Nat.{◌≤◌, ◌-◌}
-use Rattle.rules.specs.Cell.{live_in, load_fate, matched_from, matched_load}
-use Rattle.matches.specs.Offers.{fate_of, offered}
-use Rattle.matches.proofs.OfferLaws.{fate-load, offering, offer-all, offer-none, offer-kept, offer-dropped, offer-equal}
-use mathlib.Core.Logic.{⊎_elim}
+use Rattle.rules.specs.Cell.{live_in, load_fate, matched_from}
+use Rattle.matches.specs.Offers.{offered}
+use Rattle.matches.proofs.OfferLaws.{offering}
 use Rattle.matches.proofs.match_load_to_stores.Given as goal
 
 abbrev pub invariant-loop-i : goal.invariant-loop-i

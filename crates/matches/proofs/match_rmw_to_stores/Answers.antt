@@ -1,10 +1,7 @@
 use borrow.Author.Rules.{rules}
-use mathlib.Core.Path.{◌≡◌}
-use Prim.Native.Nat.{◌≤◌, ◌-◌}
-use Rattle.rules.specs.Cell.{live_in, matched_from, matched_rmw, rmw_fate}
-use Rattle.matches.specs.Offers.{offered}
-use Rattle.matches.proofs.OfferLaws.{offering, offer-all, offer-none, offer-kept, offer-dropped, offer-equal}
-use mathlib.Core.Logic.{⊎_elim}
+use Prim.Native.Nat.{◌-◌}
+use Rattle.rules.specs.Cell.{matched_rmw, rmw_fate}
+use Rattle.matches.proofs.OfferLaws.{offer-all, offer-none, offer-kept, offer-dropped, offer-equal}
 use Rattle.matches.proofs.match_rmw_to_stores.Goals as goal
 use Rattle.matches.proofs.match_rmw_to_stores.Goals.{in-Dropped, in-Kept}
 

@@ -1,10 +1,8 @@
-use borrow.Author.Rules.{rules}
 use mathlib.Core.Path.{◌≡◌}
 use Prim.Native.Nat.{◌≤◌, ◌-◌}
-use Rattle.rules.specs.Cell.{live_in, matched_from, matched_rmw, rmw_fate}
+use Rattle.rules.specs.Cell.{live_in, matched_from, rmw_fate}
 use Rattle.matches.specs.Offers.{offered}
-use Rattle.matches.proofs.OfferLaws.{offering, offer-all, offer-none, offer-kept, offer-dropped, offer-equal}
-use mathlib.Core.Logic.{⊎_elim}
+use Rattle.matches.proofs.OfferLaws.{offering}
 use Rattle.matches.proofs.match_rmw_to_stores.Given as goal
 
 abbrev pub invariant-loop-i : goal.invariant-loop-i

@@ -1,10 +1,7 @@
-use borrow.Author.Rules.{rules}
 use mathlib.Core.Bool.{Bool, true}
 use mathlib.Core.Path.{◌≡◌}
-use mathlib.Core.Logic.{⊎_elim}
 use Prim.Native.Nat.{ℕ, ◌≤◌, ◌-◌}
-use Rattle.rules.specs.Cell.{fate_from, live_in, rmw_fate}
-use Rattle.matches.proofs.OfferLaws.{fate-all, fate-none, fate-own, fate-told}
+use Rattle.rules.specs.Cell.{fate_from, live_in}
 use Rattle.matches.proofs.rmw_fate.Given as goal
 
 -- any store that is met above drops it

@@ -1,7 +1,6 @@
 use Rattle.meeting.proofs.BranchLaws.{thread-reaches, bit-reaches, slot-reaches}
 use native.Mathlib.Omega.{arith}
 use Rattle.meeting.proofs.MetLaws.{pushes-few, pushes-met, pushes-thread-few, pushes-thread-met}
-use borrow.Author.Rules.{rules}
 use Rattle.meeting.proofs.add.Goals as goal
 
 pub added-requires : goal.added-requires

@@ -3,7 +3,6 @@ use Rattle.meeting.proofs.MetLaws.{faulted-met}
 use Rattle.meeting.proofs.BranchLaws.{offers-reaches, equal-reaches}
 use native.Mathlib.Omega.{arith}
 use Rattle.meeting.proofs.MetLaws.{pushes-few, pushes-met}
-use borrow.Author.Rules.{rules}
 use Rattle.meeting.proofs.add_load.Goals as goal
 
 pub returns-in_default : goal.returns-in_default

@@ -1,7 +1,6 @@
 use mathlib.Core.Path.{refl}
 use Rattle.meeting.proofs.ReplyLaws.{thread-chosen, thread-nobody, thread-unexpected, slot_read, slot-unexpected, bit-said, bit-unexpected}
 use Rattle.meeting.proofs.MetLaws.{reads-within}
-use borrow.Author.Rules.{rules}
 use Rattle.meeting.proofs.answer.Goals as goal
 
 pub returns-in-Thread-branch_thread : goal.returns-in-Thread-branch_thread

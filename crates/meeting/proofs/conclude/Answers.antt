@@ -1,7 +1,5 @@
-use borrow.Enum.Refused.{opened}
 use mathlib.Core.Path.{refl}
 use Rattle.meeting.proofs.ComesLaws.{conclude-moves, conclude-done, conclude-asks, conclude-ends, conclude-stops}
-use borrow.Author.Rules.{rules}
 use Rattle.meeting.proofs.conclude.Goals as goal
 
 pub returns-in-Moves : goal.returns-in-Moves

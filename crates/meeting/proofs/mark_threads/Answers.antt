@@ -1,8 +1,4 @@
-use Prim.Native.Nat.{◌≤◌, ◌*◌, ◌-◌}
-use mathlib.Core.Logic.{⊎_elim}
-use mathlib.Core.Path.{◌≡◌}
-use lib.ListN.{length}
-use Rattle.meeting.specs.Branches.{MarksBelow}
+use Prim.Native.Nat.{◌-◌}
 use Rattle.meeting.proofs.MarkedLaws.{thread-nowhere, thread-marked, below_none, turn-marked, turn-same, below_all}
 use borrow.Author.Rules.{rules}
 use Rattle.meeting.proofs.mark_threads.Goals as goal

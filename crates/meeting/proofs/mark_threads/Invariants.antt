@@ -1,10 +1,7 @@
 use Prim.Native.Nat.{◌≤◌, ◌*◌, ◌-◌}
-use mathlib.Core.Logic.{⊎_elim}
 use mathlib.Core.Path.{◌≡◌}
 use lib.ListN.{length}
 use Rattle.meeting.specs.Branches.{MarksBelow}
-use Rattle.meeting.proofs.MarkedLaws.{thread-nowhere, thread-marked, below_none, turn-marked, turn-same, below_all}
-use borrow.Author.Rules.{rules}
 use Rattle.meeting.proofs.mark_threads.Given as goal
 
 abbrev pub invariant-loop-t : goal.invariant-loop-t

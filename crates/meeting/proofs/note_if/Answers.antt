@@ -1,5 +1,4 @@
 use Rattle.meeting.proofs.ComesLaws.{complete-noted, complete-not}
-use borrow.Author.Rules.{rules}
 use Rattle.meeting.proofs.note_if.Goals as goal
 
 pub returns-then-yielded : goal.returns-then-yielded

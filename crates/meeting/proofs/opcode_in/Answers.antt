@@ -1,6 +1,5 @@
 use mathlib.Core.Path.{◌∙◌}
 use Rattle.meeting.proofs.ComesLaws.{opcode-of, opcode-refused}
-use borrow.Author.Rules.{rules}
 use Rattle.meeting.proofs.opcode_in.Goals as goal
 
 pub returns-in-Row : goal.returns-in-Row

@@ -1,6 +1,5 @@
 use Rattle.meeting.proofs.BranchLaws.{reach-there, reach-adds}
 use Rattle.meeting.proofs.MetLaws.{goes-met}
-use borrow.Author.Rules.{rules}
 use Rattle.meeting.proofs.reach.Goals as goal
 
 pub returns-then-cursor : goal.returns-then-cursor

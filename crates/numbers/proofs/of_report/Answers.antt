@@ -1,6 +1,5 @@
 use Rattle.numbers.proofs.NumberLaws.{numbers-made}
 use mathlib.Core.Path.{◌∙◌}
-use borrow.Author.Rules.{rules}
 use Rattle.numbers.proofs.of_report.Goals as goal
 
 pub returns : goal.returns

@@ -2,9 +2,6 @@ use mathlib.Core.Path.{◌≡◌, refl}
 use lib.ListN.{length}
 use Rattle.numbers.proofs.NumberLaws.{twenty}
 use borrow.Author.Rules.{rules}
-use Rattle.numbers.proofs.summaries.Reads as reads
-use Rattle.numbers.proofs.summaries.Lts as lts
-use Rattle.numbers.proofs.summary.Reads as summary-reads
 use Rattle.numbers.proofs.summaries.Goals as goal
 
 pub returns : goal.returns

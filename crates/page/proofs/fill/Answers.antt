@@ -1,8 +1,5 @@
-use Prim.Native.Nat.{◌≤◌, ◌-◌}
-use mathlib.Core.Logic.{⊎_elim}
-use mathlib.Core.Path.{◌≡◌, refl}
-use lib.ListN.{length, drop}
-use Rattle.page.specs.Pages.{page_of, put_filled}
+use Prim.Native.Nat.{◌-◌}
+use mathlib.Core.Path.{refl}
 use Rattle.page.proofs.PageLaws.{fill-number, fill-byte, fill_end}
 use borrow.Author.Rules.{rules}
 use Rattle.page.proofs.fill.Goals as goal

@@ -1,10 +1,7 @@
 use Prim.Native.Nat.{◌≤◌, ◌-◌}
-use mathlib.Core.Logic.{⊎_elim}
-use mathlib.Core.Path.{◌≡◌, refl}
+use mathlib.Core.Path.{◌≡◌}
 use lib.ListN.{length, drop}
 use Rattle.page.specs.Pages.{page_of, put_filled}
-use Rattle.page.proofs.PageLaws.{fill-number, fill-byte, fill_end}
-use borrow.Author.Rules.{rules}
 use Rattle.page.proofs.fill.Given as goal
 
 abbrev pub invariant-loop-i : goal.invariant-loop-i

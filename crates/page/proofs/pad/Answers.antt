@@ -1,7 +1,5 @@
 use Prim.Native.Nat.{◌-◌}
-use mathlib.Core.Path.{◌≡◌, refl}
-use borrow.Author.Rules.{rules}
-use Rattle.page.specs.Pages.{page_of, padded}
+use mathlib.Core.Path.{refl}
 use Rattle.page.proofs.PageLaws.{pad-on, pad-full, pad-end}
 use Rattle.page.proofs.pad.Goals as goal
 

@@ -1,8 +1,6 @@
 use Prim.Native.Nat.{◌-◌}
-use mathlib.Core.Path.{◌≡◌, refl}
-use borrow.Author.Rules.{rules}
+use mathlib.Core.Path.{◌≡◌}
 use Rattle.page.specs.Pages.{page_of, padded}
-use Rattle.page.proofs.PageLaws.{pad-on, pad-full, pad-end}
 use Rattle.page.proofs.pad.Given as goal
 
 abbrev pub invariant-loop-to : goal.invariant-loop-to

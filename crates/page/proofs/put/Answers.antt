@@ -1,7 +1,5 @@
-use Prim.Native.Nat.{◌≤◌, ◌-◌}
-use mathlib.Core.Path.{◌≡◌, refl, sym, ◌∙◌}
-use lib.ListN.{length, drop}
-use Rattle.page.specs.Pages.{page_of, put_text}
+use Prim.Native.Nat.{◌-◌}
+use mathlib.Core.Path.{refl, sym, ◌∙◌}
 use Rattle.page.proofs.PageLaws.{text-on, text-full, text-end}
 use borrow.Author.Rules.{rules}
 use Rattle.page.proofs.put.Goals as goal

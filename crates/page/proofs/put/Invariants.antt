@@ -1,9 +1,7 @@
 use Prim.Native.Nat.{◌≤◌, ◌-◌}
-use mathlib.Core.Path.{◌≡◌, refl, sym, ◌∙◌}
+use mathlib.Core.Path.{◌≡◌}
 use lib.ListN.{length, drop}
 use Rattle.page.specs.Pages.{page_of, put_text}
-use Rattle.page.proofs.PageLaws.{text-on, text-full, text-end}
-use borrow.Author.Rules.{rules}
 use Rattle.page.proofs.put.Given as goal
 
 abbrev pub invariant-loop-i : goal.invariant-loop-i

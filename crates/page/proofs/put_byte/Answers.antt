@@ -1,6 +1,5 @@
 use mathlib.Core.Path.{sym}
 use Rattle.page.proofs.PageLaws.{byte_fits, byte-lost, one_number, one_byte}
-use borrow.Author.Rules.{rules}
 use Rattle.page.proofs.put_byte.Goals as goal
 
 pub returns-then-byte-eq35 : goal.returns-then-byte-eq35

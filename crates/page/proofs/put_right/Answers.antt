@@ -1,5 +1,4 @@
 use Rattle.page.proofs.PageLaws.{right-at}
-use borrow.Author.Rules.{rules}
 use Rattle.page.proofs.put_right.Goals as goal
 
 pub returns : goal.returns

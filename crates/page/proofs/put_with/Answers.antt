@@ -1,7 +1,6 @@
 use mathlib.Core.Path.{ap, ◌∙◌}
 use Rattle.digits.specs.Shown.{shown}
 use Rattle.page.specs.Pages.{Page, put_text}
-use borrow.Author.Rules.{rules}
 use Rattle.page.proofs.put_with.Goals as goal
 
 pub returns : goal.returns

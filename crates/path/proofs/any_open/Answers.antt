@@ -1,7 +1,5 @@
 use borrow.Author.Rules.{rules}
-use Rattle.path.proofs.OpenWalks.{Below, any-start, any_here, any-on, any_none}
-use Prim.Native.Nat.{◌*◌, ◌≤◌}
-use lib.ListN.{length}
+use Rattle.path.proofs.OpenWalks.{any-start, any_here, any-on, any_none}
 use Rattle.path.proofs.any_open.Goals as goal
 
 pub loop-last-init : goal.loop-last-init

@@ -1,5 +1,4 @@
-use borrow.Author.Rules.{rules}
-use Rattle.path.proofs.OpenWalks.{Below, any-start, any_here, any-on, any_none}
+use Rattle.path.proofs.OpenWalks.{Below}
 use Prim.Native.Nat.{◌*◌, ◌≤◌}
 use lib.ListN.{length}
 use Rattle.path.proofs.any_open.Given as goal

@@ -1,4 +1,3 @@
-use borrow.Author.Rules.{rules}
 use Rattle.path.proofs.MarkLaws.{marks-by, bound_by}
 use Rattle.path.proofs.backtrack_at.Goals as goal
 

@@ -1,4 +1,3 @@
-use borrow.Author.Rules.{rules}
 use borrow.Author.Tests.{not-true, not-false}
 use Rattle.path.proofs.ChoiceLaws.{load-not, load_is}
 use Rattle.path.proofs.branch_load.Goals as goal

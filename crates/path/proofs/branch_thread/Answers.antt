@@ -1,4 +1,3 @@
-use borrow.Author.Rules.{rules}
 use borrow.Author.Tests.{not-true, not-false}
 use Rattle.path.proofs.ChoiceLaws.{chosen-other, chosen-thread, chosen-nobody}
 use Rattle.path.proofs.branch_thread.Goals as goal

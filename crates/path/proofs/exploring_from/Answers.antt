@@ -1,12 +1,7 @@
 use borrow.Author.Rules.{rules}
-use mathlib.Core.Path.{◌≡◌, ap, sym, ◌∙◌}
+use mathlib.Core.Path.{ap, sym, ◌∙◌}
 use Rattle.path.specs.Walks.{schedule_at_as}
-use Rattle.path.specs.Holds.{Holds}
-use Rattle.rules.specs.Path.{Branch, exploring_below}
-use mathlib.Core.List.{List}
 use Rattle.path.proofs.WalkLaws.{look-start, look-other, look-quiet, look-here, look_none}
-use Prim.Native.Nat.{◌≤◌, ◌+◌, ◌*◌}
-use lib.ListN.{length}
 use Rattle.path.proofs.exploring_from.Goals as goal
 
 pub loop-at-init : goal.loop-at-init

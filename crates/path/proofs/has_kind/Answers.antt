@@ -1,4 +1,3 @@
-use borrow.Author.Rules.{rules}
 use Rattle.path.proofs.KindLaws.{kind-no, kind-by}
 use Rattle.path.proofs.has_kind.Goals as goal
 

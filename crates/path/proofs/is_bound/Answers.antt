@@ -1,4 +1,3 @@
-use borrow.Author.Rules.{rules}
 use Rattle.path.proofs.MarkLaws.{bound-off, bound-on}
 use Rattle.path.proofs.is_bound.Goals as goal
 

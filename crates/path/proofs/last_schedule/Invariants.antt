@@ -1,12 +1,8 @@
-use borrow.Author.Rules.{rules}
-use native.Mathlib.Omega.{arith}
 use lib.ListN.{length, take}
-use mathlib.Core.Path.{◌≡◌, ap, sym, ◌∙◌}
-use Rattle.path.specs.Walks.{schedule_at_as}
+use mathlib.Core.Path.{◌≡◌}
 use Rattle.path.specs.Holds.{Holds}
 use Rattle.rules.specs.Path.{Branch, last_schedule}
 use mathlib.Core.List.{List}
-use Rattle.path.proofs.WalkLaws.{last-all, last_on, last-at, last_none}
 use Prim.Native.Nat.{◌≤◌}
 use Rattle.path.proofs.last_schedule.Given as goal
 

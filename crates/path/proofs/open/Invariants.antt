@@ -1,6 +1,4 @@
-use borrow.Author.Rules.{rules}
-use Rattle.path.proofs.OpenWalks.{Summed, sum-start, sum-on, sum-all}
-use native.Mathlib.Omega.{arith}
+use Rattle.path.proofs.OpenWalks.{Summed}
 use Prim.Native.Nat.{◌≤◌, ◌*◌, ◌-◌}
 use Rattle.path.proofs.open.Given as goal
 

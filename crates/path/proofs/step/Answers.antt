@@ -1,8 +1,5 @@
 use borrow.Author.Rules.{rules}
-use Rattle.path.proofs.OpenWalks.{StillLeft, step_start, step-here, step-on, step-none}
-use Prim.Native.Nat.{◌*◌, ◌≤◌}
-use mathlib.Core.Path.{◌≡◌}
-use lib.ListN.{length}
+use Rattle.path.proofs.OpenWalks.{step_start, step-here, step-on, step-none}
 use Rattle.path.proofs.step.Goals as goal
 
 pub loop-left-init : goal.loop-left-init

@@ -1,5 +1,4 @@
-use borrow.Author.Rules.{rules}
-use Rattle.path.proofs.OpenWalks.{StillLeft, step_start, step-here, step-on, step-none}
+use Rattle.path.proofs.OpenWalks.{StillLeft}
 use Prim.Native.Nat.{◌*◌, ◌≤◌}
 use mathlib.Core.Path.{◌≡◌}
 use lib.ListN.{length}

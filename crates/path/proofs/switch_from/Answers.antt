@@ -1,8 +1,7 @@
 use borrow.Author.Rules.{rules}
-use Rattle.path.proofs.WalkLaws.{Walks, walk_none, walk_first, walk-nowhere, walk_here, walk-quiet, walk_same}
+use Rattle.path.proofs.WalkLaws.{walk_none, walk_first, walk-nowhere, walk_here, walk-quiet, walk_same}
 use native.Mathlib.Omega.{arith}
 use Rattle.record.proofs.Places.{place-below}
-use Prim.Native.Nat.{◌≤◌}
 use Rattle.path.proofs.switch_from.Goals as goal
 
 pub loop-prev-init : goal.loop-prev-init

@@ -1,7 +1,4 @@
-use borrow.Author.Rules.{rules}
-use Rattle.path.proofs.WalkLaws.{Walks, walk_none, walk_first, walk-nowhere, walk_here, walk-quiet, walk_same}
-use native.Mathlib.Omega.{arith}
-use Rattle.record.proofs.Places.{place-below}
+use Rattle.path.proofs.WalkLaws.{Walks}
 use Prim.Native.Nat.{◌≤◌}
 use Rattle.path.proofs.switch_from.Given as goal
 

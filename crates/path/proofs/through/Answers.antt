@@ -1,4 +1,3 @@
-use borrow.Author.Rules.{rules}
 use Rattle.path.proofs.WalkLaws.{through-all, through-some}
 use Rattle.path.proofs.through.Goals as goal
 

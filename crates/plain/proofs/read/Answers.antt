@@ -1,4 +1,3 @@
-use borrow.Author.Rules.{rules}
 use Rattle.track.proofs.TrackLaws.{answered}
 use Rattle.plain.proofs.PlainLaws.{read-raced, read_done}
 use Rattle.plain.proofs.read.Goals as goal

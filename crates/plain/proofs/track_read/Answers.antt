@@ -1,4 +1,3 @@
-use borrow.Author.Rules.{rules}
 use Rattle.rules.specs.Plain.{plain_read_race, plain_read_tracked}
 use Rattle.rules.specs.State.{read_access}
 use Rattle.track.proofs.TrackLaws.{answered, raced, clear}

@@ -1,4 +1,3 @@
-use borrow.Author.Rules.{rules}
 use Rattle.rules.specs.Plain.{plain_write_race, plain_write_tracked}
 use Rattle.rules.specs.State.{write_access}
 use Rattle.track.proofs.TrackLaws.{answered, here, past, raced, clear}

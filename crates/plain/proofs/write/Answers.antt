@@ -1,4 +1,3 @@
-use borrow.Author.Rules.{rules}
 use Rattle.track.proofs.TrackLaws.{answered}
 use Rattle.plain.proofs.PlainLaws.{write-raced, write_done}
 use Rattle.plain.proofs.write.Goals as goal

@@ -1,7 +1,6 @@
 use borrow.Enum.Refused.{opened}
 use Rattle.report.proofs.CaseLaws.{no_place, placed, placeless}
 use mathlib.Core.Path.{◌∙◌}
-use borrow.Author.Rules.{rules}
 use Rattle.report.proofs.at_fault.Goals as goal
 
 pub returns-then-names_place : goal.returns-then-names_place

@@ -1,6 +1,5 @@
 use Rattle.layout.specs.Tables.{state}
 use Rattle.report.proofs.RecordLaws.{finished-so}
-use borrow.Author.Rules.{rules}
 use Rattle.report.proofs.finished.Goals as goal
 
 pub returns : goal.returns

@@ -1,6 +1,5 @@
 use mathlib.Core.Path.{ap}
 use lib.Dec.{leb}
-use borrow.Author.Rules.{rules}
 use Rattle.report.proofs.names_place.Goals as goal
 
 pub returns : goal.returns

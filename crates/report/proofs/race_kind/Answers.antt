@@ -1,6 +1,5 @@
 use borrow.Enum.Refused.{opened}
 use Rattle.report.proofs.CaseLaws.{no-fault, raceless, raced}
-use borrow.Author.Rules.{rules}
 use Rattle.report.proofs.race_kind.Goals as goal
 
 pub returns-in_default : goal.returns-in_default

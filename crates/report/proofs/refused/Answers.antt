@@ -1,5 +1,4 @@
 use Rattle.report.proofs.RecordLaws.{refused-so}
-use borrow.Author.Rules.{rules}
 use Rattle.report.proofs.refused.Goals as goal
 
 pub returns : goal.returns

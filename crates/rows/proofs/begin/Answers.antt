@@ -2,7 +2,6 @@ use native.Mathlib.Omega.{arith}
 use Rattle.layout.specs.Tables.{state}
 use Rattle.decode.specs.Ops.{op_of}
 use Rattle.rows.proofs.RowLaws.{sets-none, sets-one, sets-within, begun-not, begun-bare, begun-asking}
-use borrow.Author.Rules.{rules}
 use Rattle.rows.proofs.begin.Goals as goal
 
 pub returns-then-limit-numbers : goal.returns-then-limit-numbers

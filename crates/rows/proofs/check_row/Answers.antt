@@ -1,6 +1,5 @@
 use Rattle.layout.specs.Tables.{state}
 use Rattle.rows.proofs.RowLaws.{checks-not, checks-on}
-use borrow.Author.Rules.{rules}
 use Rattle.rows.proofs.check_row.Goals as goal
 
 pub returns-then-not-holds : goal.returns-then-not-holds

@@ -1,7 +1,5 @@
-use mathlib.Core.Logic.{⊎_elim}
 use Rattle.layout.specs.Tables.{state}
 use Rattle.rows.proofs.RowLaws.{flag_true, flag-false, explores-skipping, explores-not, explores-other}
-use borrow.Author.Rules.{rules}
 use Rattle.rows.proofs.explore_row.Goals as goal
 use Rattle.rows.proofs.explore_row.Goals.{else-on, then-on}
 

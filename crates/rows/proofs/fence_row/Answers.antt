@@ -1,5 +1,4 @@
 use Rattle.rows.proofs.RowLaws.{fences-as}
-use borrow.Author.Rules.{rules}
 use Rattle.rows.proofs.fence_row.Goals as goal
 
 pub returns : goal.returns

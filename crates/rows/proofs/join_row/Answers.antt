@@ -1,6 +1,5 @@
 use Rattle.layout.specs.Tables.{state}
 use Rattle.rows.proofs.RowLaws.{joins-through, joins-blocked}
-use borrow.Author.Rules.{rules}
 use Rattle.rows.proofs.join_row.Goals as goal
 
 pub returns-then-is_ended : goal.returns-then-is_ended

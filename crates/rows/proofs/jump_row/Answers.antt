@@ -1,6 +1,5 @@
 use Rattle.layout.specs.Tables.{state}
 use Rattle.rows.proofs.RowLaws.{jumps-on, jumps-far}
-use borrow.Author.Rules.{rules}
 use Rattle.rows.proofs.jump_row.Goals as goal
 
 pub returns-then-not-taken : goal.returns-then-not-taken

@@ -1,7 +1,6 @@
 use borrow.Enum.Refused.{opened}
 use mathlib.Core.Path.{refl}
 use Rattle.rows.proofs.RowLaws.{pends-none, pends-as}
-use borrow.Author.Rules.{rules}
 use Rattle.rows.proofs.pending_of.Goals as goal
 
 pub returns-in-Load : goal.returns-in-Load

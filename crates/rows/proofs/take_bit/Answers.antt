@@ -2,7 +2,6 @@ use borrow.Enum.Refused.{opened}
 use native.Mathlib.Omega.{arith}
 use Prim.Native.Nat.{◌+◌}
 use mathlib.Core.Bool.{cond}
-use mathlib.Core.Logic.{⊎_elim}
 use lib.ListN.{set}
 use Rattle.layout.specs.Tables.{state}
 use Rattle.rows.proofs.RowLaws.{flag_true, flag-false, bit-refused, bit-other, bit-within, bit-taken}

@@ -1,6 +1,5 @@
 use Rattle.layout.specs.Tables.{state}
 use Rattle.rows.proofs.RowLaws.{yields-as}
-use borrow.Author.Rules.{rules}
 use Rattle.rows.proofs.yield_row.Goals as goal
 
 pub returns : goal.returns

@@ -1,6 +1,4 @@
-use mathlib.Core.List.{[]}
 use mathlib.Core.Path.{◌∙◌}
-use mathlib.Core.Logic.{⊎_elim}
 use Rattle.rules.specs.State.{with_number, active_thread}
 use Rattle.layout.specs.Tables.{state}
 use Rattle.scheduling.proofs.ScheduleLaws.{means-none, means-on, access-none, access-on, left_as, switched-as}

@@ -1,10 +1,7 @@
 use Rattle.scheduling.specs.Schedules.{or_five}
-use Prim.Native.Nat.{ℕ, ◌≤◌, ◌-◌}
-use mathlib.Core.Path.{◌≡◌, refl, ap, sym, ◌∙◌}
-use mathlib.Core.Logic.{◌≢◌, ⊎_elim}
-use Rattle.rules.specs.Machine.{fewest_from}
+use Prim.Native.Nat.{ℕ, ◌-◌}
+use mathlib.Core.Path.{refl, ap, sym, ◌∙◌}
 use Rattle.rules.specs.State.{number, yields}
-use Rattle.rules.specs.Vector.{nobody}
 use Rattle.scheduling.proofs.ScheduleLaws.{whom_of, fewest-not, fewest-first, fewest-fewer, fewest-as-many, fewest-end}
 use borrow.Author.Rules.{rules}
 use Rattle.scheduling.proofs.fewest_yields.Goals as goal

@@ -1,12 +1,10 @@
-use Rattle.scheduling.specs.Schedules.{or_five}
-use Prim.Native.Nat.{ℕ, ◌≤◌, ◌-◌}
-use mathlib.Core.Path.{◌≡◌, refl, ap, sym, ◌∙◌}
-use mathlib.Core.Logic.{◌≢◌, ⊎_elim}
+use Prim.Native.Nat.{◌≤◌, ◌-◌}
+use mathlib.Core.Path.{◌≡◌}
+use mathlib.Core.Logic.{◌≢◌}
 use Rattle.rules.specs.Machine.{fewest_from}
 use Rattle.rules.specs.State.{number, yields}
 use Rattle.rules.specs.Vector.{nobody}
-use Rattle.scheduling.proofs.ScheduleLaws.{whom_of, fewest-not, fewest-first, fewest-fewer, fewest-as-many, fewest-end}
-use borrow.Author.Rules.{rules}
+use Rattle.scheduling.proofs.ScheduleLaws.{whom_of}
 use Rattle.scheduling.proofs.fewest_yields.Given as goal
 
 abbrev pub invariant-loop-t : goal.invariant-loop-t

@@ -1,6 +1,4 @@
-use mathlib.Core.Logic.{⊎_elim}
 use Rattle.scheduling.proofs.ScheduleLaws.{initial-active, initial-not, initial-away}
-use borrow.Author.Rules.{rules}
 use Rattle.scheduling.proofs.initial.Goals as goal
 use Rattle.scheduling.proofs.initial.Goals.{else-active-lt-MAX_THREADS, then-active-lt-MAX_THREADS+else-numbers-active-eq-RUNNABLE}
 

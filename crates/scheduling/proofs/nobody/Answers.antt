@@ -1,6 +1,5 @@
 use Rattle.layout.specs.Tables.{state}
 use Rattle.scheduling.proofs.ScheduleLaws.{nobody-ends, nobody-impossible, nobody-deadlock}
-use borrow.Author.Rules.{rules}
 use Rattle.scheduling.proofs.nobody.Goals as goal
 
 pub returns-then-all_ended : goal.returns-then-all_ended

@@ -1,5 +1,4 @@
 use Rattle.scheduling.proofs.ScheduleLaws.{operation-away, operation-none, operation-some}
-use borrow.Author.Rules.{rules}
 use Rattle.scheduling.proofs.pending_operation.Goals as goal
 
 pub returns-then-action-eq-NO_OPERATION : goal.returns-then-action-eq-NO_OPERATION

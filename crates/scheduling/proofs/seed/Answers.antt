@@ -1,7 +1,7 @@
-use Prim.Native.Nat.{◌≤◌, ◌-◌, ◌<◌}
-use mathlib.Core.Path.{◌≡◌, refl, ◌∙◌}
+use Prim.Native.Nat.{◌-◌, ◌<◌}
+use mathlib.Core.Path.{refl, ◌∙◌}
 use native.Mathlib.Omega.{arith}
-use lib.ListN.{length, take, length-set}
+use lib.ListN.{length-set}
 use Rattle.thread.proofs.FillLaws.{fill_on, fill-all}
 use Rattle.scheduling.proofs.SeedLaws.{seeded, seed-at, seed-length}
 use borrow.Author.Rules.{rules}

@@ -1,10 +1,7 @@
-use Prim.Native.Nat.{◌≤◌, ◌-◌, ◌<◌}
-use mathlib.Core.Path.{◌≡◌, refl, ◌∙◌}
-use native.Mathlib.Omega.{arith}
-use lib.ListN.{length, take, length-set}
-use Rattle.thread.proofs.FillLaws.{fill_on, fill-all}
-use Rattle.scheduling.proofs.SeedLaws.{seeded, seed-at, seed-length}
-use borrow.Author.Rules.{rules}
+use Prim.Native.Nat.{◌≤◌, ◌-◌}
+use mathlib.Core.Path.{◌≡◌}
+use lib.ListN.{length, take}
+use Rattle.scheduling.proofs.SeedLaws.{seeded}
 use Rattle.scheduling.proofs.seed.Given as goal
 
 abbrev pub invariant-loop-t : goal.invariant-loop-t

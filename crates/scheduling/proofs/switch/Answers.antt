@@ -1,6 +1,5 @@
 use Rattle.layout.specs.Tables.{state}
 use Rattle.scheduling.proofs.ScheduleLaws.{chosen-impossible, chosen-moves, runs-within}
-use borrow.Author.Rules.{rules}
 use Rattle.scheduling.proofs.switch.Goals as goal
 
 pub returns-then-not-can_run : goal.returns-then-not-can_run

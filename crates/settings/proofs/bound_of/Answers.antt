@@ -1,6 +1,5 @@
 use native.Mathlib.Omega.{arith}
 use Rattle.settings.proofs.TestLaws.{bound-none, bound_some}
-use borrow.Author.Rules.{rules}
 use Rattle.settings.proofs.bound_of.Goals as goal
 
 pub returns-then-given-gt-MAX_BOUND : goal.returns-then-given-gt-MAX_BOUND

@@ -1,5 +1,4 @@
 use Rattle.settings.proofs.TestLaws.{holds-both, holds_not}
-use borrow.Author.Rules.{rules}
 use Rattle.settings.proofs.holds_exactly.Goals as goal
 
 pub returns-then-bytes-eq0 : goal.returns-then-bytes-eq0

@@ -1,6 +1,5 @@
 use Rattle.settings.specs.Given.{settings_of}
 use Rattle.settings.proofs.TestLaws.{settings-made}
-use borrow.Author.Rules.{rules}
 use Rattle.settings.proofs.settings_fine.Goals as goal
 
 pub returns : goal.returns

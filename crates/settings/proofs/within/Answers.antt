@@ -1,5 +1,4 @@
 use Rattle.settings.proofs.TestLaws.{within_both, within-not}
-use borrow.Author.Rules.{rules}
 use Rattle.settings.proofs.within.Goals as goal
 
 pub returns-then-n-ge1 : goal.returns-then-n-ge1

@@ -1,6 +1,4 @@
-use mathlib.Core.Logic.{⊎_elim}
 use Rattle.start.proofs.StartLaws.{blank-as, flag-set, flag-clear}
-use borrow.Author.Rules.{rules}
 use Rattle.start.proofs.clear.Goals as goal
 use Rattle.start.proofs.clear.Goals.{else-exploring, then-exploring}
 

@@ -1,6 +1,6 @@
-use Prim.Native.Nat.{◌≤◌, ◌-◌}
-use mathlib.Core.Path.{◌≡◌, refl, ◌∙◌}
-use Rattle.rules.specs.Machine.{for_threads, no_access}
+use Prim.Native.Nat.{◌-◌}
+use mathlib.Core.Path.{refl, ◌∙◌}
+use Rattle.rules.specs.Machine.{no_access}
 use Rattle.thread.proofs.ThreadLaws.{for-on, for-end}
 use borrow.Author.Rules.{rules}
 use Rattle.start.proofs.clear_branches.Goals as goal

@@ -1,8 +1,6 @@
 use Prim.Native.Nat.{◌≤◌, ◌-◌}
-use mathlib.Core.Path.{◌≡◌, refl, ◌∙◌}
+use mathlib.Core.Path.{◌≡◌}
 use Rattle.rules.specs.Machine.{for_threads, no_access}
-use Rattle.thread.proofs.ThreadLaws.{for-on, for-end}
-use borrow.Author.Rules.{rules}
 use Rattle.start.proofs.clear_branches.Given as goal
 
 abbrev pub invariant-loop-cell : goal.invariant-loop-cell

@@ -1,6 +1,6 @@
-use Prim.Native.Nat.{◌≤◌, ◌-◌}
-use mathlib.Core.Path.{◌≡◌, refl, ◌∙◌}
-use Rattle.rules.specs.Machine.{for_threads, no_yield}
+use Prim.Native.Nat.{◌-◌}
+use mathlib.Core.Path.{refl, ◌∙◌}
+use Rattle.rules.specs.Machine.{no_yield}
 use Rattle.thread.proofs.ThreadLaws.{for-on, for-end}
 use borrow.Author.Rules.{rules}
 use Rattle.start.proofs.clear_yields.Goals as goal

@@ -1,8 +1,6 @@
 use Prim.Native.Nat.{◌≤◌, ◌-◌}
-use mathlib.Core.Path.{◌≡◌, refl, ◌∙◌}
+use mathlib.Core.Path.{◌≡◌}
 use Rattle.rules.specs.Machine.{for_threads, no_yield}
-use Rattle.thread.proofs.ThreadLaws.{for-on, for-end}
-use borrow.Author.Rules.{rules}
 use Rattle.start.proofs.clear_yields.Given as goal
 
 abbrev pub invariant-loop-t : goal.invariant-loop-t

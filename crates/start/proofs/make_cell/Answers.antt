@@ -1,5 +1,4 @@
 use Rattle.start.proofs.StartLaws.{cell_as}
-use borrow.Author.Rules.{rules}
 use Rattle.start.proofs.make_cell.Goals as goal
 
 pub returns : goal.returns

@@ -1,5 +1,5 @@
-use Prim.Native.Nat.{◌≤◌, ◌-◌}
-use mathlib.Core.Path.{◌≡◌, ◌∙◌}
+use Prim.Native.Nat.{◌-◌}
+use mathlib.Core.Path.{◌∙◌}
 use Rattle.rules.specs.Machine.{cell_made, cells_made}
 use Rattle.layout.specs.Tables.{state}
 use Rattle.start.proofs.StartLaws.{making-start, making-on, making-end, cells_stay, cells-go}

@@ -1,9 +1,7 @@
 use Prim.Native.Nat.{◌≤◌, ◌-◌}
-use mathlib.Core.Path.{◌≡◌, ◌∙◌}
-use Rattle.rules.specs.Machine.{cell_made, cells_made}
+use mathlib.Core.Path.{◌≡◌}
+use Rattle.rules.specs.Machine.{cells_made}
 use Rattle.layout.specs.Tables.{state}
-use Rattle.start.proofs.StartLaws.{making-start, making-on, making-end, cells_stay, cells-go}
-use borrow.Author.Rules.{rules}
 use Rattle.start.proofs.make_cells.Given as goal
 
 abbrev pub invariant-loop-cell : goal.invariant-loop-cell

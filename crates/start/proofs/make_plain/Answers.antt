@@ -1,5 +1,4 @@
 use Rattle.start.proofs.StartLaws.{plain-as}
-use borrow.Author.Rules.{rules}
 use Rattle.start.proofs.make_plain.Goals as goal
 
 pub returns : goal.returns

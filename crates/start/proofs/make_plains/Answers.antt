@@ -1,7 +1,5 @@
-use Prim.Native.Nat.{◌≤◌, ◌-◌}
-use mathlib.Core.Path.{◌≡◌, ◌∙◌}
-use Rattle.rules.specs.State.{Marks, Numbers}
-use Rattle.rules.specs.Table.{cells_of}
+use Prim.Native.Nat.{◌-◌}
+use mathlib.Core.Path.{◌∙◌}
 use Rattle.rules.specs.Machine.{plain_made, plains_made}
 use Rattle.layout.specs.Tables.{state}
 use Rattle.start.proofs.StartLaws.{making-start, making-on, making-end, plains-stay, plains-go}

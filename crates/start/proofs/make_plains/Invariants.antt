@@ -1,11 +1,9 @@
 use Prim.Native.Nat.{◌≤◌, ◌-◌}
-use mathlib.Core.Path.{◌≡◌, ◌∙◌}
+use mathlib.Core.Path.{◌≡◌}
 use Rattle.rules.specs.State.{Marks, Numbers}
 use Rattle.rules.specs.Table.{cells_of}
-use Rattle.rules.specs.Machine.{plain_made, plains_made}
+use Rattle.rules.specs.Machine.{plains_made}
 use Rattle.layout.specs.Tables.{state}
-use Rattle.start.proofs.StartLaws.{making-start, making-on, making-end, plains-stay, plains-go}
-use borrow.Author.Rules.{rules}
 use Rattle.start.proofs.make_plains.Given as goal
 
 abbrev pub invariant-loop-plain : goal.invariant-loop-plain

@@ -1,7 +1,6 @@
 use mathlib.Core.Path.{sym, ◌∙◌}
 use Rattle.layout.specs.Tables.{state}
 use Rattle.start.proofs.StartLaws.{start-as}
-use borrow.Author.Rules.{rules}
 use Rattle.start.proofs.start.Goals as goal
 
 pub returns : goal.returns

@@ -1,8 +1,5 @@
-use Prim.Native.Nat.{◌≤◌, ◌-◌}
-use mathlib.Core.Path.{◌≡◌, ◌∙◌}
-use Rattle.rules.specs.State.{Marks, Values}
-use Rattle.rules.specs.Machine.{threads_started}
-use Rattle.layout.specs.Tables.{state}
+use Prim.Native.Nat.{◌-◌}
+use mathlib.Core.Path.{◌∙◌}
 use Rattle.start.proofs.StartLaws.{threads-start, threads-on, threads_end}
 use borrow.Author.Rules.{rules}
 use Rattle.start.proofs.start_threads.Goals as goal

@@ -1,10 +1,8 @@
 use Prim.Native.Nat.{◌≤◌, ◌-◌}
-use mathlib.Core.Path.{◌≡◌, ◌∙◌}
+use mathlib.Core.Path.{◌≡◌}
 use Rattle.rules.specs.State.{Marks, Values}
 use Rattle.rules.specs.Machine.{threads_started}
 use Rattle.layout.specs.Tables.{state}
-use Rattle.start.proofs.StartLaws.{threads-start, threads-on, threads_end}
-use borrow.Author.Rules.{rules}
 use Rattle.start.proofs.start_threads.Given as goal
 
 abbrev pub invariant-loop-t : goal.invariant-loop-t

@@ -1,7 +1,6 @@
 use mathlib.Core.Path.{refl}
 use Rattle.steps.specs.Entries.{byte_at}
 use Rattle.steps.proofs.EntryLaws.{there, not_there}
-use borrow.Author.Rules.{rules}
 use Rattle.steps.proofs.byte.Goals as goal
 
 pub returns-then-i-trace : goal.returns-then-i-trace

@@ -1,8 +1,7 @@
-use Prim.Native.Nat.{◌≤◌, ◌-◌}
-use mathlib.Core.Path.{◌≡◌, sym, ◌∙◌}
+use Prim.Native.Nat.{◌-◌}
+use mathlib.Core.Path.{sym, ◌∙◌}
 use borrow.Author.Tests.{not-true, not-false}
-use Rattle.steps.specs.Entries.{room, entries}
-use Rattle.steps.proofs.EntryLaws.{entries_left, entries-all, entries-on, entries-found, entries_none}
+use Rattle.steps.proofs.EntryLaws.{entries-all, entries-on, entries-found, entries_none}
 use borrow.Author.Rules.{rules}
 use Rattle.steps.proofs.count.Goals as goal
 

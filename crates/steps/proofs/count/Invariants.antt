@@ -1,9 +1,7 @@
 use Prim.Native.Nat.{◌≤◌, ◌-◌}
-use mathlib.Core.Path.{◌≡◌, sym, ◌∙◌}
-use borrow.Author.Tests.{not-true, not-false}
+use mathlib.Core.Path.{◌≡◌}
 use Rattle.steps.specs.Entries.{room, entries}
-use Rattle.steps.proofs.EntryLaws.{entries_left, entries-all, entries-on, entries-found, entries_none}
-use borrow.Author.Rules.{rules}
+use Rattle.steps.proofs.EntryLaws.{entries_left}
 use Rattle.steps.proofs.count.Given as goal
 
 abbrev pub invariant-loop-i : goal.invariant-loop-i

@@ -1,5 +1,4 @@
 use Rattle.steps.proofs.EntryLaws.{entry_found}
-use borrow.Author.Rules.{rules}
 use Rattle.steps.proofs.is_entry.Goals as goal
 
 pub returns : goal.returns

@@ -1,5 +1,4 @@
 use Rattle.steps.proofs.EntryLaws.{operation-there, operation-none}
-use borrow.Author.Rules.{rules}
 use Rattle.steps.proofs.operation.Goals as goal
 
 pub returns-then-i-trace : goal.returns-then-i-trace

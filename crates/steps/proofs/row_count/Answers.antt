@@ -1,5 +1,4 @@
 use Rattle.steps.proofs.RowLaws.{count_at, count_past, count_none}
-use borrow.Author.Rules.{rules}
 use Rattle.steps.proofs.row_count.Goals as goal
 
 pub returns-then-t-table : goal.returns-then-t-table

@@ -1,5 +1,4 @@
 use Rattle.steps.proofs.RowLaws.{row-said, row-none}
-use borrow.Author.Rules.{rules}
 use Rattle.steps.proofs.row_of.Goals as goal
 
 pub returns-then-t-ge-MAX_THREADS : goal.returns-then-t-ge-MAX_THREADS

@@ -1,5 +1,4 @@
 use Rattle.steps.proofs.EntryLaws.{there, not_there}
-use borrow.Author.Rules.{rules}
 use Rattle.steps.proofs.value.Goals as goal
 
 pub returns-then-i-trace : goal.returns-then-i-trace

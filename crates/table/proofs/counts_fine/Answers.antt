@@ -1,9 +1,9 @@
-use Prim.Native.Nat.{◌≤◌, ◌-◌, ◌+◌}
+use Prim.Native.Nat.{◌-◌, ◌+◌}
 use mathlib.Core.Path.{◌≡◌, refl, sym, ◌∙◌}
 use mathlib.Core.Bool.{true, false}
-use lib.ListN.{drop, get_or}
+use lib.ListN.{get_or}
 use borrow.Author.Tests.{not-true, not-false}
-use Rattle.rules.specs.Table.{max_threads, counts_of, count_fine, counts_fine}
+use Rattle.rules.specs.Table.{count_fine}
 use Rattle.table.proofs.Walks.{counts-on, counts_end, counts-none}
 use borrow.Author.Rules.{rules}
 use Rattle.table.proofs.counts_fine.Goals as goal

@@ -1,11 +1,7 @@
-use Prim.Native.Nat.{◌≤◌, ◌-◌, ◌+◌}
-use mathlib.Core.Path.{◌≡◌, refl, sym, ◌∙◌}
-use mathlib.Core.Bool.{true, false}
-use lib.ListN.{drop, get_or}
-use borrow.Author.Tests.{not-true, not-false}
-use Rattle.rules.specs.Table.{max_threads, counts_of, count_fine, counts_fine}
-use Rattle.table.proofs.Walks.{counts-on, counts_end, counts-none}
-use borrow.Author.Rules.{rules}
+use Prim.Native.Nat.{◌≤◌, ◌-◌}
+use mathlib.Core.Path.{◌≡◌}
+use lib.ListN.{drop}
+use Rattle.rules.specs.Table.{max_threads, counts_of, counts_fine}
 use Rattle.table.proofs.counts_fine.Given as goal
 
 abbrev pub invariant-loop-thread : goal.invariant-loop-thread

@@ -1,8 +1,7 @@
-use Prim.Native.Nat.{◌≤◌, ◌-◌}
-use mathlib.Core.Path.{◌≡◌, sym, ◌∙◌}
+use Prim.Native.Nat.{◌-◌}
+use mathlib.Core.Path.{sym, ◌∙◌}
 use borrow.Author.Tests.{not-true, not-false}
-use Rattle.rules.specs.Table.{first_bad}
-use Rattle.table.proofs.Walks.{bad_left, bad-all, fine-in, first_on, first_found, first-none}
+use Rattle.table.proofs.Walks.{bad-all, fine-in, first_on, first_found, first-none}
 use borrow.Author.Rules.{rules}
 use Rattle.table.proofs.first_bad.Goals as goal
 

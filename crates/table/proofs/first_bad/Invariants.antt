@@ -1,9 +1,7 @@
 use Prim.Native.Nat.{◌≤◌, ◌-◌}
-use mathlib.Core.Path.{◌≡◌, sym, ◌∙◌}
-use borrow.Author.Tests.{not-true, not-false}
+use mathlib.Core.Path.{◌≡◌}
 use Rattle.rules.specs.Table.{first_bad}
-use Rattle.table.proofs.Walks.{bad_left, bad-all, fine-in, first_on, first_found, first-none}
-use borrow.Author.Rules.{rules}
+use Rattle.table.proofs.Walks.{bad_left}
 use Rattle.table.proofs.first_bad.Given as goal
 
 abbrev pub invariant-loop-i : goal.invariant-loop-i

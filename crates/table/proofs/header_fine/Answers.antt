@@ -1,5 +1,4 @@
 use Rattle.table.proofs.Header.{header-short, header_made}
-use borrow.Author.Rules.{rules}
 use Rattle.table.proofs.header_fine.Goals as goal
 
 pub returns-then-table-lt-HEADER_BYTES : goal.returns-then-table-lt-HEADER_BYTES

@@ -1,6 +1,5 @@
-use borrow.Author.Rules.{rules}
 use mathlib.Core.Path.{ap, refl, ◌∙◌}
-use Rattle.rules.specs.Table.{Row, row_decoded, is_fine}
+use Rattle.rules.specs.Table.{Row, row_decoded}
 use Rattle.decode.proofs.RowLaws.{fine}
 use Rattle.decode.specs.Ops.{room_meant}
 use Rattle.table.proofs.Places.{op-nowhere, op-there}

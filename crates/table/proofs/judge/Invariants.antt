@@ -1,13 +1,7 @@
-use native.Mathlib.Omega.{arith}
 use Prim.Native.Nat.{◌≤◌, ◌-◌, ◌*◌}
-use mathlib.Core.Path.{◌≡◌, refl, sym, ◌∙◌}
-use mathlib.Core.Bool.{true}
-use lib.ListN.{length, drop}
-use borrow.Author.Tests.{not-true, not-false}
-use Rattle.rules.specs.Table.{max_threads, header_bytes, header_fine, counts_of, rows_judged, judged}
-use Rattle.table.proofs.Header.{header-long}
-use Rattle.table.proofs.Walks.{threads-on, threads-bad, threads-none, judged-bad, judged-rows}
-use borrow.Author.Rules.{rules}
+use mathlib.Core.Path.{◌≡◌}
+use lib.ListN.{drop}
+use Rattle.rules.specs.Table.{max_threads, counts_of, rows_judged}
 use Rattle.table.proofs.judge.Given as goal
 
 abbrev pub invariant-loop-thread : goal.invariant-loop-thread

@@ -1,4 +1,3 @@
-use borrow.Author.Rules.{rules}
 use mathlib.Core.Path.{ap, ◌∙◌}
 use Rattle.rules.specs.Table.{Row, row_decoded}
 use Rattle.decode.specs.Ops.{room_meant}

@@ -1,4 +1,3 @@
-use borrow.Author.Rules.{rules}
 use Rattle.table.proofs.Places.{place-held, place_short, place-past, place-filled, place-crowded, place_none}
 use Rattle.table.proofs.place_of.Goals as goal
 

@@ -1,5 +1,4 @@
 use Rattle.table.proofs.Places.{room-made}
-use borrow.Author.Rules.{rules}
 use Rattle.table.proofs.room_of.Goals as goal
 
 pub returns : goal.returns

@@ -1,6 +1,5 @@
 use mathlib.Core.Path.{◌∙◌}
 use Rattle.table.proofs.Places.{row-held, row-short, row-past, row-many}
-use borrow.Author.Rules.{rules}
 use Rattle.table.proofs.row_at.Goals as goal
 
 pub returns-then-at-table : goal.returns-then-at-table

@@ -1,5 +1,4 @@
 use Rattle.table.proofs.Within.{op-moved}
-use borrow.Author.Rules.{rules}
 use Rattle.table.proofs.row_of.Goals as goal
 
 pub returns : goal.returns

@@ -1,5 +1,4 @@
 use Rattle.table.proofs.Header.{shape-short, shape-made}
-use borrow.Author.Rules.{rules}
 use Rattle.table.proofs.shape.Goals as goal
 
 pub returns-then-table-lt-HEADER_BYTES : goal.returns-then-table-lt-HEADER_BYTES

@@ -1,6 +1,5 @@
 use mathlib.Core.Path.{◌∙◌}
 use Rattle.table.proofs.Places.{value-held, value-short, value_none}
-use borrow.Author.Rules.{rules}
 use Rattle.table.proofs.start_value.Goals as goal
 
 pub returns-then-at-table : goal.returns-then-at-table

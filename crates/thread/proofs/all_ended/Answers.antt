@@ -1,7 +1,5 @@
-use mathlib.Core.Logic.{⊎_elim}
-use mathlib.Core.Path.{◌≡◌, ◌∙◌}
-use Prim.Native.Nat.{◌≤◌, ◌-◌}
-use Rattle.rules.specs.Machine.{all_over}
+use mathlib.Core.Path.{◌∙◌}
+use Prim.Native.Nat.{◌-◌}
 use Rattle.thread.proofs.ThreadLaws.{over-not, over-ended, over-absent, over-end}
 use borrow.Author.Rules.{rules}
 use Rattle.thread.proofs.all_ended.Goals as goal

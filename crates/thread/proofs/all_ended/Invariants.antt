@@ -1,9 +1,6 @@
-use mathlib.Core.Logic.{⊎_elim}
-use mathlib.Core.Path.{◌≡◌, ◌∙◌}
+use mathlib.Core.Path.{◌≡◌}
 use Prim.Native.Nat.{◌≤◌, ◌-◌}
 use Rattle.rules.specs.Machine.{all_over}
-use Rattle.thread.proofs.ThreadLaws.{over-not, over-ended, over-absent, over-end}
-use borrow.Author.Rules.{rules}
 use Rattle.thread.proofs.all_ended.Given as goal
 
 abbrev pub invariant-loop-t : goal.invariant-loop-t

@@ -1,5 +1,4 @@
 use Rattle.thread.proofs.ThreadLaws.{run_none, run-some}
-use borrow.Author.Rules.{rules}
 use Rattle.thread.proofs.can_run.Goals as goal
 
 pub returns-then-thread-ge-MAX_THREADS : goal.returns-then-thread-ge-MAX_THREADS

@@ -1,9 +1,6 @@
-use mathlib.Core.Logic.{⊎_elim}
-use mathlib.Core.Path.{◌≡◌, ◌∙◌}
+use mathlib.Core.Path.{◌≡◌}
 use Prim.Native.Nat.{◌≤◌, ◌-◌}
 use Rattle.rules.specs.Machine.{for_threads, freed}
-use Rattle.thread.proofs.ThreadLaws.{for-on, for-end, freed-one, freed-other, freed-away, ended-as}
-use borrow.Author.Rules.{rules}
 use Rattle.thread.proofs.end.Given as goal
 
 abbrev pub invariant-loop-t : goal.invariant-loop-t

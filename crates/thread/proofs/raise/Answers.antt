@@ -3,7 +3,6 @@ use mathlib.Core.Path.{ap}
 use lib.ListN.{set}
 use Prim.Native.Nat.{ℕ, ◌+◌}
 use Rattle.layout.specs.Tables.{state}
-use borrow.Author.Rules.{rules}
 use Rattle.thread.proofs.raise.Goals as goal
 
 pub returns : goal.returns

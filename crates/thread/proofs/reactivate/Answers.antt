@@ -1,7 +1,6 @@
-use mathlib.Core.Logic.{⊎_elim}
-use mathlib.Core.Path.{◌≡◌, ◌∙◌}
-use Prim.Native.Nat.{◌≤◌, ◌-◌}
-use Rattle.rules.specs.Machine.{for_threads, awake, others_awake}
+use mathlib.Core.Path.{◌∙◌}
+use Prim.Native.Nat.{◌-◌}
+use Rattle.rules.specs.Machine.{awake, others_awake}
 use Rattle.thread.proofs.ThreadLaws.{for-on, for-end, awake-one, awake-none, awake-chosen}
 use borrow.Author.Rules.{rules}
 use Rattle.thread.proofs.reactivate.Goals as goal

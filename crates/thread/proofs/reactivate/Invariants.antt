@@ -1,9 +1,6 @@
-use mathlib.Core.Logic.{⊎_elim}
-use mathlib.Core.Path.{◌≡◌, ◌∙◌}
+use mathlib.Core.Path.{◌≡◌}
 use Prim.Native.Nat.{◌≤◌, ◌-◌}
-use Rattle.rules.specs.Machine.{for_threads, awake, others_awake}
-use Rattle.thread.proofs.ThreadLaws.{for-on, for-end, awake-one, awake-none, awake-chosen}
-use borrow.Author.Rules.{rules}
+use Rattle.rules.specs.Machine.{for_threads, awake}
 use Rattle.thread.proofs.reactivate.Given as goal
 
 abbrev pub invariant-loop-t : goal.invariant-loop-t

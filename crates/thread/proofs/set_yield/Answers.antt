@@ -1,5 +1,4 @@
 use Rattle.thread.proofs.ThreadLaws.{yielded-as}
-use borrow.Author.Rules.{rules}
 use Rattle.thread.proofs.set_yield.Goals as goal
 
 pub returns : goal.returns

@@ -1,6 +1,5 @@
-use mathlib.Core.Path.{◌≡◌, ◌∙◌}
-use Prim.Native.Nat.{◌≤◌, ◌-◌}
-use Rattle.rules.specs.Machine.{some_can_run}
+use mathlib.Core.Path.{◌∙◌}
+use Prim.Native.Nat.{◌-◌}
 use Rattle.thread.proofs.ThreadLaws.{some-here, some-on, some_end}
 use borrow.Author.Rules.{rules}
 use Rattle.thread.proofs.some_can_run.Goals as goal

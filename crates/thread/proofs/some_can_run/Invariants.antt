@@ -1,8 +1,6 @@
-use mathlib.Core.Path.{◌≡◌, ◌∙◌}
+use mathlib.Core.Path.{◌≡◌}
 use Prim.Native.Nat.{◌≤◌, ◌-◌}
 use Rattle.rules.specs.Machine.{some_can_run}
-use Rattle.thread.proofs.ThreadLaws.{some-here, some-on, some_end}
-use borrow.Author.Rules.{rules}
 use Rattle.thread.proofs.some_can_run.Given as goal
 
 abbrev pub invariant-loop-t : goal.invariant-loop-t

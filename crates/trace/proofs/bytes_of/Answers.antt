@@ -1,6 +1,5 @@
 use Rattle.trace.specs.Entries.{entry_of}
 use Rattle.trace.proofs.TraceLaws.{entry-bytes}
-use borrow.Author.Rules.{rules}
 use Rattle.trace.proofs.bytes_of.Goals as goal
 
 pub returns : goal.returns

@@ -1,6 +1,6 @@
 use Prim.Native.Nat.{◌-◌}
 use borrow.Author.Tests.{ltb-true, ltb-false}
-use Rattle.trace.proofs.TraceLaws.{Clearing, clear_none, clear-on, clear-all, clear-past}
+use Rattle.trace.proofs.TraceLaws.{clear_none, clear-on, clear-all, clear-past}
 use borrow.Author.Rules.{rules}
 use Rattle.trace.proofs.clear.Goals as goal
 

@@ -1,7 +1,5 @@
 use Prim.Native.Nat.{◌-◌}
-use borrow.Author.Tests.{ltb-true, ltb-false}
-use Rattle.trace.proofs.TraceLaws.{Clearing, clear_none, clear-on, clear-all, clear-past}
-use borrow.Author.Rules.{rules}
+use Rattle.trace.proofs.TraceLaws.{Clearing}
 use Rattle.trace.proofs.clear.Given as goal
 
 abbrev pub invariant-loop-i : goal.invariant-loop-i

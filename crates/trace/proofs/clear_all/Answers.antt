@@ -1,5 +1,4 @@
 use Rattle.trace.proofs.ZeroLaws.{all-zeros}
-use borrow.Author.Rules.{rules}
 use Rattle.trace.proofs.clear_all.Goals as goal
 
 pub returns : goal.returns

@@ -1,6 +1,5 @@
 use Rattle.trace.specs.Entries.{entry_of}
 use Rattle.trace.proofs.TraceLaws.{note-none, note-one}
-use borrow.Author.Rules.{rules}
 use Rattle.trace.proofs.note.Goals as goal
 
 pub returns-then-trace-entries : goal.returns-then-trace-entries

@@ -1,10 +1,7 @@
 use Prim.Native.Nat.{◌≤◌, ◌-◌}
 use mathlib.Core.Path.{◌≡◌}
 use lib.ListN.{length}
-use lib.Seq.{paste, paste-zero}
-use native.Mathlib.Omega.{arith}
-use Rattle.rules.proofs.RecordLaws.{write-on, write-all}
-use borrow.Author.Rules.{rules}
+use lib.Seq.{paste}
 use Rattle.trace.proofs.write.Given as goal
 
 abbrev pub invariant-loop-i : goal.invariant-loop-i

@@ -2,7 +2,6 @@ use borrow.Enum.Refused.{opened}
 use Rattle.walk.proofs.MeetLaws.{meet_stays, meet-unexpected, meet-answered}
 use native.Mathlib.Omega.{arith}
 use Rattle.walk.proofs.WalkLaws.{says-within}
-use borrow.Author.Rules.{rules}
 use Rattle.walk.proofs.meet.Goals as goal
 
 pub returns-in_default : goal.returns-in_default

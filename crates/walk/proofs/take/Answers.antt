@@ -1,7 +1,6 @@
 use borrow.Enum.Refused.{opened}
 use Rattle.walk.proofs.TakeLaws.{take-concludes, take-stays, take_meets}
 use native.Mathlib.Omega.{arith}
-use borrow.Author.Rules.{rules}
 use Rattle.walk.proofs.take.Goals as goal
 
 pub returns-in_default : goal.returns-in_default

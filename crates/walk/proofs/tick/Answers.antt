@@ -1,6 +1,5 @@
 use Prim.Native.Nat.{ℕ, ◌≤◌}
 use mathlib.Core.Path.{refl, subst}
-use borrow.Author.Rules.{rules}
 use Rattle.walk.proofs.WholeLaws.{tick-nobody, tick-someone}
 use Rattle.walk.proofs.tick.Goals as goal
 

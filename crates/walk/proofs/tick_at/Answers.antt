@@ -1,5 +1,4 @@
 use Rattle.walk.proofs.TickLaws.{tick-takes}
-use borrow.Author.Rules.{rules}
 use Rattle.walk.proofs.tick_at.Goals as goal
 
 pub returns : goal.returns

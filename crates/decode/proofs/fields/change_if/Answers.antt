@@ -1,4 +1,3 @@
-use borrow.Author.Rules.{rules}
 use Rattle.decode.proofs.fields.change_if.Goals as goal
 
 pub returns-then-fine : goal.returns-then-fine

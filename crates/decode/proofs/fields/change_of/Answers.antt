@@ -1,7 +1,6 @@
 use mathlib.Core.Path.{refl}
 use Rattle.rules.specs.Table.{change_decoded}
 use Rattle.decode.proofs.RowLaws.{change-arm, change-beyond, none_below}
-use borrow.Author.Rules.{rules}
 use Rattle.decode.proofs.fields.change_of.Goals as goal
 
 pub returns-in-0 : goal.returns-in-0

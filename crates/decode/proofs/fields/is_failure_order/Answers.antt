@@ -1,4 +1,3 @@
-use borrow.Author.Rules.{rules}
 use Rattle.decode.proofs.fields.is_failure_order.Goals as goal
 
 pub returns-then-kind : goal.returns-then-kind

@@ -1,15 +1,8 @@
 use Prim.Native.Nat.{◌-◌}
-use mathlib.Core.Path.{◌≡◌, refl, ap}
+use mathlib.Core.Path.{◌≡◌}
 use lib.ListN.{length}
-use native.Mathlib.Omega.{arith}
-use Rattle.meeting.specs.declared.Cursor.{Cursor}
-use Rattle.iteration.proofs.ReadyLaws.{ready-shape}
 use Rattle.settings.specs.Given.{settings_of}
 use Rattle.explorer.specs.Runs.{Running}
-use Rattle.explorer.proofs.ReadyLaws.{ready-executions, ready-operations}
-use Rattle.explorer.proofs.RunLaws.{greater-within}
-use Rattle.explorer.proofs.EndLaws.{running_none, running_more, ran_out, ran-cleared}
-use borrow.Author.Rules.{rules}
 use Rattle.explorer.proofs.run.executions.Given as goal
 
 abbrev pub invariant-loop-answer : goal.invariant-loop-answer

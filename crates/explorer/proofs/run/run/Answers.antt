@@ -2,7 +2,6 @@ use native.Mathlib.Omega.{arith}
 use Rattle.settings.specs.Given.{settings_of}
 use Rattle.trace.proofs.ZeroLaws.{zero-at}
 use Rattle.explorer.proofs.EndLaws.{ready-kept, ran-cleared}
-use borrow.Author.Rules.{rules}
 use Rattle.explorer.proofs.run.run.Goals as goal
 
 pub executions-requires : goal.executions-requires

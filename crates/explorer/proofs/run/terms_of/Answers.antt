@@ -1,6 +1,5 @@
 use mathlib.Core.Path.{refl}
 use native.Mathlib.Omega.{arith}
-use borrow.Author.Rules.{rules}
 use Rattle.explorer.proofs.run.terms_of.Goals as goal
 
 pub returns : goal.returns

@@ -1,6 +1,5 @@
 use Rattle.report.proofs.RecordLaws.{of-five}
 use Rattle.layout.specs.Tables.{state}
-use borrow.Author.Rules.{rules}
 use Rattle.report.proofs.threads.summaries.Goals as goal
 
 pub returns : goal.returns

@@ -1,6 +1,5 @@
 use Rattle.report.proofs.RecordLaws.{summary-absent, summary-present}
 use mathlib.Core.Path.{refl}
-use borrow.Author.Rules.{rules}
 use Rattle.report.proofs.threads.summary.Goals as goal
 
 pub returns-then-state-eq-ABSENT : goal.returns-then-state-eq-ABSENT

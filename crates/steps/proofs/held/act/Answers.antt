@@ -1,7 +1,6 @@
 use borrow.Enum.Refused.{opened}
 use Rattle.steps.specs.Holds.{acted}
 use Rattle.steps.proofs.OpLaws.{op-as, op-in, no-act}
-use borrow.Author.Rules.{rules}
 use Rattle.steps.proofs.held.act.Goals as goal
 
 pub put-requires : goal.put-requires

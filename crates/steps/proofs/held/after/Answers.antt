@@ -1,5 +1,4 @@
-use Prim.Native.Nat.{◌≤◌, ◌-◌}
-use mathlib.Core.Path.{◌≡◌}
+use Prim.Native.Nat.{◌-◌}
 use Rattle.steps.specs.Holds.{held_after}
 use Rattle.steps.proofs.HoldLaws.{after_on, after-all}
 use borrow.Author.Rules.{rules}

@@ -1,8 +1,6 @@
 use Prim.Native.Nat.{◌≤◌, ◌-◌}
 use mathlib.Core.Path.{◌≡◌}
 use Rattle.steps.specs.Holds.{held_after}
-use Rattle.steps.proofs.HoldLaws.{after_on, after-all}
-use borrow.Author.Rules.{rules}
 use Rattle.steps.proofs.held.after.Given as goal
 
 abbrev pub invariant-loop-i : goal.invariant-loop-i

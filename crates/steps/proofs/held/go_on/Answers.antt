@@ -2,7 +2,6 @@ use mathlib.Core.Path.{refl}
 use borrow.Author.Tests.{lt-ltb}
 use Rattle.steps.specs.Holds as holds
 use Rattle.steps.proofs.HoldLaws.{puts}
-use borrow.Author.Rules.{rules}
 use Rattle.steps.proofs.held.go_on.Goals as goal
 
 pub returns : goal.returns

@@ -3,7 +3,6 @@ use mathlib.Core.Path.{refl}
 use Rattle.steps.specs.Holds.{next_of}
 use Rattle.steps.proofs.HoldLaws.{jump-from}
 use Rattle.steps.proofs.OpLaws.{op-as, op-in, no_jump}
-use borrow.Author.Rules.{rules}
 use Rattle.steps.proofs.held.next_of.Goals as goal
 
 pub register_of-requires : goal.register_of-requires

@@ -2,7 +2,6 @@ use native.Mathlib.Omega.{arith}
 use borrow.Author.Tests.{lt-ltb, le-ltb}
 use Rattle.steps.specs.Holds as holds
 use Rattle.steps.proofs.HoldLaws.{reads, reads_none}
-use borrow.Author.Rules.{rules}
 use Rattle.steps.proofs.held.next_row.Goals as goal
 
 pub returns-then-t-lt-MAX_THREADS : goal.returns-then-t-lt-MAX_THREADS

@@ -1,5 +1,4 @@
 use borrow.Author.Tests.{lt-ltb, le-ltb}
-use borrow.Author.Rules.{rules}
 use Rattle.steps.proofs.held.one_more.Goals as goal
 
 pub returns-then-count : goal.returns-then-count

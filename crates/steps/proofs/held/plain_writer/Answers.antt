@@ -2,7 +2,6 @@ use mathlib.Core.Path.{refl}
 use borrow.Author.Tests.{lt-ltb, le-ltb}
 use Rattle.steps.specs.Holds as holds
 use Rattle.steps.proofs.HoldLaws.{reads, reads_none}
-use borrow.Author.Rules.{rules}
 use Rattle.steps.proofs.held.plain_writer.Goals as goal
 
 pub returns-then-plain-lt-MAX_PLAINS : goal.returns-then-plain-lt-MAX_PLAINS

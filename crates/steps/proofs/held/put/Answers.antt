@@ -2,7 +2,6 @@ use mathlib.Core.Path.{ap}
 use Prim.Native.Nat.{ℕ, ◌+◌}
 use Rattle.steps.specs.Holds as holds
 use Rattle.steps.proofs.HoldLaws.{puts, both}
-use borrow.Author.Rules.{rules}
 use Rattle.steps.proofs.held.put.Goals as goal
 
 pub returns : goal.returns

@@ -3,7 +3,6 @@ use mathlib.Core.Path.{ap, ◌∙◌}
 use native.Mathlib.Omega.{arith}
 use Rattle.steps.specs.Holds as holds
 use Rattle.steps.proofs.HoldLaws.{reads_none, not_first, not-second}
-use borrow.Author.Rules.{rules}
 use Rattle.steps.proofs.held.register.Goals as goal
 
 pub returns-then-register-lt-REGISTERS : goal.returns-then-register-lt-REGISTERS

@@ -2,7 +2,6 @@ use mathlib.Core.Path.{refl, ◌∙◌}
 use Rattle.steps.specs.Holds.{rmw_left, rmw_held}
 use Rattle.steps.proofs.HoldLaws.{left-from}
 use Rattle.steps.proofs.OpLaws.{changed-as}
-use borrow.Author.Rules.{rules}
 use Rattle.steps.proofs.held.rmw.Goals as goal
 
 pub returns-in-Success : goal.returns-in-Success

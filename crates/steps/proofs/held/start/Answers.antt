@@ -1,7 +1,6 @@
 use mathlib.Core.Path.{refl}
 use Rattle.steps.specs.Holds.{held_at_start}
 use Rattle.steps.proofs.HoldLaws.{cell-from}
-use borrow.Author.Rules.{rules}
 use Rattle.steps.proofs.held.start.Goals as goal
 
 pub returns : goal.returns

@@ -1,5 +1,4 @@
 use Rattle.steps.proofs.HoldLaws.{stored_at}
-use borrow.Author.Rules.{rules}
 use Rattle.steps.proofs.held.store.Goals as goal
 
 pub returns : goal.returns

@@ -3,7 +3,6 @@ use native.Mathlib.Omega.{arith}
 use Rattle.steps.proofs.EntryLaws.{operation-within, operation-in}
 use Rattle.steps.proofs.HoldLaws.{taken_none, taken_made}
 use Rattle.steps.proofs.OpLaws.{says, refuses}
-use borrow.Author.Rules.{rules}
 use Rattle.steps.proofs.held.take.Goals as goal
 
 pub returns-in_default : goal.returns-in_default

@@ -3,7 +3,6 @@ use borrow.Author.Tests.{lt-ltb}
 use Rattle.steps.specs.Holds.{newest_value, exclusive_left, exclusive_held}
 use Rattle.steps.proofs.HoldLaws.{reads, left-from}
 use Rattle.steps.proofs.OpLaws.{changed-as}
-use borrow.Author.Rules.{rules}
 use Rattle.steps.proofs.held.with_mut.Goals as goal
 
 pub returns-in-Success : goal.returns-in-Success

@@ -1,5 +1,4 @@
 use Rattle.steps.proofs.HoldLaws.{over-at}
-use borrow.Author.Rules.{rules}
 use Rattle.steps.proofs.held.write_over.Goals as goal
 
 pub returns : goal.returns

@@ -1,7 +1,6 @@
 use native.Mathlib.Omega.{arith}
 use Rattle.steps.specs.Holds as holds
 use Rattle.steps.proofs.HoldLaws.{reads, reads_none, both, not_first, not-second}
-use borrow.Author.Rules.{rules}
 use Rattle.steps.proofs.held.writer.Goals as goal
 
 pub returns-then-s-lt-MAX_ATOMIC_HISTORY : goal.returns-then-s-lt-MAX_ATOMIC_HISTORY

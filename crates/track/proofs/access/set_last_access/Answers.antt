@@ -11,7 +11,7 @@ returns-then-operation-ne-A_LOAD c =
     let grew : (marks : Marks) (values : Values) →
     let args = c.args in
     c.raise-schedule.result.versions ≡ grown_by (state args.clocks.now marks values args.numbers.now) args.thread args.operation.action args.operation.cell =
-        λ marks values. let args = c.args in
+    λ marks values. let args = c.args in
     let st = state args.clocks.now marks values args.numbers.now in
     elim c.if-last_dependent_branch.branch [
       | then-last_dependent_branch w ↦ grown-joined st args.thread args.operation.action args.operation.cell _ _ _ c.last_dependent_branch.ensures c.raise-schedule.ensures w.if-last_dependent_branch.true _ w.last_dependent_version-version.ensures (rw w.schedule-is w.join-schedule.ensures)
@@ -24,7 +24,7 @@ returns-else-operation-ne-A_LOAD c =
     let grew : (marks : Marks) (values : Values) →
     let args = c.args in
     c.raise-schedule.result.versions ≡ grown_by (state args.clocks.now marks values args.numbers.now) args.thread args.operation.action args.operation.cell =
-        λ marks values. let args = c.args in
+    λ marks values. let args = c.args in
     let st = state args.clocks.now marks values args.numbers.now in
     elim c.if-last_dependent_branch.branch [
       | then-last_dependent_branch w ↦ grown-joined st args.thread args.operation.action args.operation.cell _ _ _ c.last_dependent_branch.ensures c.raise-schedule.ensures w.if-last_dependent_branch.true _ w.last_dependent_version-version.ensures (rw w.schedule-is w.join-schedule.ensures)
