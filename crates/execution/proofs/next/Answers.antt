@@ -1,3 +1,4 @@
+use mathlib.Core.List.{[]}
 use borrow.Enum.Refused.{opened}
 use native.Mathlib.Omega.{arith}
 use mathlib.Core.Path.{ap, sym, ◌∙◌}

@@ -1,3 +1,4 @@
+use mathlib.Core.List.{[]}
 use mathlib.Core.Path.{◌∙◌}
 use Rattle.rules.specs.State.{with_number, active_thread}
 use Rattle.layout.specs.Tables.{state}

@@ -1,3 +1,4 @@
+use mathlib.Core.List.{[]}
 use Rattle.layout.specs.Tables.{state}
 use Rattle.scheduling.proofs.ScheduleLaws.{means-none, means-on, conflict-none, conflict-apart, conflict-there}
 use borrow.Author.Rules.{rules}

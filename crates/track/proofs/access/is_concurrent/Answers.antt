@@ -1,3 +1,4 @@
+use mathlib.Core.List.{[]}
 use mathlib.Core.Bool.{true}
 use Rattle.track.proofs.LastAccessLaws.{conflict-none, conflict-asked}
 use Rattle.track.proofs.access.is_concurrent.Goals as goal
