@@ -2,16 +2,14 @@
 --     nothing_put           no bytes put
 --     long-none, short-never, words-cut     a line that is too long, one that is too short, the words of any other
 --     said-none, said-some  of a thread that no table has, and of one that there may be
-use Prim.Native.Nat.{ℕ, suc, ◌+◌, ◌-◌, ◌≤◌, ◌<◌}
+use Prim.Native.Nat.{ℕ, ◌+◌, ◌-◌, ◌≤◌, ◌<◌}
 use mathlib.Core.List.{List, [], ◌∷◌, ◌++◌, append_assoc}
-use mathlib.Core.Bool.{cond}
-use mathlib.Core.Path.{◌≡◌, refl, ap, sym, ◌∙◌}
+use mathlib.Core.Path.{◌≡◌, refl, ap, ◌∙◌}
 use native.Mathlib.Omega.{arith}
 use native.Mathlib.Decide.{dec_le}
-use native.Mathlib.Nat.{add-zero}
 use borrow.Author.Tests.{le-leb, lt-leb, lt-ltb, le-ltb}
 use lib.ListN.{length, get_or, take, drop, length-append}
-use lib.Seq.{sets, sets-eq, take_at, take_all}
+use lib.Seq.{sets-eq, take_at}
 use Rattle.rules.specs.Table.{Row, row_at, shape_of}
 use Rattle.rules.specs.Form.{forms}
 use Rattle.rules.specs.Writer.{form_in, form_shown, fields_of, row_shown}

@@ -2,7 +2,7 @@
 --     next_from     the place of the next comparison
 --     part_at       the comparison that begins at a place, and whether it is true
 --     claim_shown   a condition's line
-use Rattle.std.specs.Prelude.{ℕ, ◌+◌, ◌-◌, List, [], Bool, true, false, cond, not, ◌&&◌, leb, length, get_or}
+use Rattle.std.specs.Prelude.{ℕ, ◌+◌, ◌-◌, List, [], Bool, true, cond, not, ◌&&◌, leb, length, get_or}
 use Rattle.rules.specs.Table.{u64_at, first_not}
 use Rattle.rules.specs.Condition.{is_sign, compared, comparison_bytes, is_condition}
 use Rattle.rules.specs.Writer.{condition_shown}

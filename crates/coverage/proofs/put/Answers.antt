@@ -1,5 +1,4 @@
 use Rattle.coverage.specs.Says.{put_covered}
-use borrow.Author.Rules.{rules}
 use Rattle.coverage.proofs.put.Goals as goal
 
 pub returns : goal.returns

@@ -1,7 +1,6 @@
 use borrow.Author.Tests.{eq-eqb, ne_eqb}
 use Rattle.rules.specs.Token.{bytes_of}
 use Rattle.coverage.specs.Says.{put_bounded}
-use borrow.Author.Rules.{rules}
 use Rattle.coverage.proofs.put_bounded.Goals as goal
 
 pub returns-in_default : goal.returns-in_default

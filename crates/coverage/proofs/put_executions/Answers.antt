@@ -1,7 +1,6 @@
 use borrow.Author.Tests.{eq-eqb, ne_eqb}
 use Rattle.rules.specs.Token.{bytes_of}
 use Rattle.coverage.specs.Says.{put_executions}
-use borrow.Author.Rules.{rules}
 use Rattle.coverage.proofs.put_executions.Goals as goal
 
 pub returns-then-begun-eq1 : goal.returns-then-begun-eq1

@@ -1,6 +1,5 @@
 use Rattle.rules.specs.Token.{bytes_of}
 use Rattle.coverage.specs.Says.{put_explored}
-use borrow.Author.Rules.{rules}
 use Rattle.coverage.proofs.put_explored.Goals as goal
 
 pub returns-in_default : goal.returns-in_default

@@ -1,6 +1,5 @@
 use Rattle.rules.specs.Token.{bytes_of}
 use Rattle.coverage.specs.Says.{put_first}
-use borrow.Author.Rules.{rules}
 use Rattle.coverage.proofs.put_first.Goals as goal
 
 pub returns : goal.returns

@@ -1,8 +1,4 @@
-use Prim.Native.Nat.{◌≤◌, ◌-◌}
-use mathlib.Core.Path.{◌≡◌, refl}
-use Rattle.rules.specs.Table.{max_cells}
-use Rattle.page.specs.Pages.{page_of}
-use Rattle.coverage.specs.Says.{put_old_stores}
+use mathlib.Core.Path.{refl}
 use Rattle.coverage.proofs.SaysLaws.{old-on, old-none}
 use borrow.Author.Rules.{rules}
 use Rattle.coverage.proofs.put_old_stores.Goals as goal

@@ -1,10 +1,8 @@
 use Prim.Native.Nat.{◌≤◌, ◌-◌}
-use mathlib.Core.Path.{◌≡◌, refl}
+use mathlib.Core.Path.{◌≡◌}
 use Rattle.rules.specs.Table.{max_cells}
 use Rattle.page.specs.Pages.{page_of}
 use Rattle.coverage.specs.Says.{put_old_stores}
-use Rattle.coverage.proofs.SaysLaws.{old-on, old-none}
-use borrow.Author.Rules.{rules}
 use Rattle.coverage.proofs.put_old_stores.Given as goal
 
 abbrev pub invariant-loop-cell : goal.invariant-loop-cell

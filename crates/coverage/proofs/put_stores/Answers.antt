@@ -1,7 +1,6 @@
 use borrow.Author.Tests.{lt-ltb, le-ltb}
 use Rattle.rules.specs.Token.{bytes_of}
 use Rattle.coverage.specs.Says.{put_stores}
-use borrow.Author.Rules.{rules}
 use Rattle.coverage.proofs.put_stores.Goals as goal
 
 pub returns-then-stores-lt-KEPT : goal.returns-then-stores-lt-KEPT

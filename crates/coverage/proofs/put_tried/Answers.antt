@@ -1,5 +1,4 @@
 use Rattle.coverage.specs.Says.{put_tried}
-use borrow.Author.Rules.{rules}
 use Rattle.coverage.proofs.put_tried.Goals as goal
 
 pub returns-then-settings : goal.returns-then-settings

@@ -1,5 +1,4 @@
 use Rattle.limit.specs.Limits.{put_limit}
-use borrow.Author.Rules.{rules}
 use Rattle.limit.proofs.put.Goals as goal
 
 pub returns : goal.returns

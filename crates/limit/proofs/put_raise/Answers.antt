@@ -1,7 +1,6 @@
 use borrow.Author.Tests.{lt-ltb, le-ltb}
 use Rattle.rules.specs.Token.{bytes_of}
 use Rattle.limit.specs.Limits.{put_raise}
-use borrow.Author.Rules.{rules}
 use Rattle.limit.proofs.put_raise.Goals as goal
 
 pub returns-then-given-most : goal.returns-then-given-most

@@ -1,7 +1,6 @@
 use borrow.Author.Tests.{ne_eqb}
 use Rattle.rules.specs.Token.{bytes_of}
 use Rattle.limit.specs.Limits.{put_reached}
-use borrow.Author.Rules.{rules}
 use Rattle.limit.proofs.put_reached.Goals as goal
 
 pub returns-in-1 : goal.returns-in-1

@@ -1,6 +1,5 @@
 use Rattle.rules.specs.Token.{bytes_of}
 use Rattle.limit.specs.Limits.{put_spent}
-use borrow.Author.Rules.{rules}
 use Rattle.limit.proofs.put_spent.Goals as goal
 
 pub returns : goal.returns

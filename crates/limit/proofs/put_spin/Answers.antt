@@ -1,7 +1,6 @@
 use borrow.Author.Tests.{eq-eqb, ne_eqb}
 use Rattle.rules.specs.Token.{bytes_of}
 use Rattle.limit.specs.Limits.{put_spin}
-use borrow.Author.Rules.{rules}
 use Rattle.limit.proofs.put_spin.Goals as goal
 
 pub returns-then-p-eq0 : goal.returns-then-p-eq0

@@ -1,6 +1,5 @@
 use Rattle.steps.proofs.OpLaws.{changed-as}
 use Rattle.outcome.specs.Comes.{change_came}
-use borrow.Author.Rules.{rules}
 use Rattle.outcome.proofs.of_change.Goals as goal
 
 pub returns-in_default : goal.returns-in_default

@@ -2,7 +2,6 @@ use mathlib.Core.Path.{refl, ◌∙◌}
 use Rattle.steps.proofs.OpLaws.{op-as}
 use Rattle.outcome.specs.Comes.{came_of}
 use Rattle.outcome.proofs.CameLaws.{no-came, read_as, change-as, left_as, if-as, unless-as}
-use borrow.Author.Rules.{rules}
 use Rattle.outcome.proofs.of_row.Goals as goal
 
 pub returns-in-Load : goal.returns-in-Load

@@ -1,6 +1,5 @@
 use Rattle.steps.proofs.OpLaws.{says, refuses}
 use Rattle.outcome.proofs.CameLaws.{came-none, came-some}
-use borrow.Author.Rules.{rules}
 use Rattle.outcome.proofs.of_step.Goals as goal
 
 pub returns-in_default : goal.returns-in_default

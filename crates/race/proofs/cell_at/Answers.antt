@@ -1,7 +1,6 @@
 use mathlib.Core.Path.{ap, sym, ◌∙◌}
 use Rattle.steps.proofs.OpLaws.{says, refuses}
 use Rattle.race.specs.Races.{cell_named, cell_at}
-use borrow.Author.Rules.{rules}
 use Rattle.race.proofs.cell_at.Goals as goal
 
 pub returns-in_default : goal.returns-in_default

@@ -1,5 +1,4 @@
 use Rattle.race.specs.Races.{put_race}
-use borrow.Author.Rules.{rules}
 use Rattle.race.proofs.put.Goals as goal
 
 pub returns : goal.returns

@@ -1,5 +1,4 @@
 use Rattle.race.specs.Races.{put_before}
-use borrow.Author.Rules.{rules}
 use Rattle.race.proofs.put_before.Goals as goal
 
 pub returns : goal.returns

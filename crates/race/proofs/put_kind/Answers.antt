@@ -1,5 +1,4 @@
 use Rattle.rules.specs.Token.{bytes_of}
-use borrow.Author.Rules.{rules}
 use Rattle.race.proofs.put_kind.Goals as goal
 
 pub returns-in-Load : goal.returns-in-Load

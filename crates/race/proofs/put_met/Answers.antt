@@ -1,6 +1,5 @@
 use Rattle.rules.specs.Token.{bytes_of}
 use Rattle.race.specs.Races.{put_met}
-use borrow.Author.Rules.{rules}
 use Rattle.race.proofs.put_met.Goals as goal
 
 pub returns : goal.returns

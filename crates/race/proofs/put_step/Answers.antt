@@ -1,7 +1,6 @@
 use borrow.Author.Tests.{eq-eqb, ne_eqb}
 use Rattle.rules.specs.Token.{bytes_of}
 use Rattle.race.specs.Races.{put_step}
-use borrow.Author.Rules.{rules}
 use Rattle.race.proofs.put_step.Goals as goal
 
 pub returns-then-step-eq0 : goal.returns-then-step-eq0

@@ -2,7 +2,6 @@ use borrow.Enum.Refused.{opened}
 use Rattle.rules.specs.Token.{bytes_of}
 use Rattle.race.specs.Races.{put_where}
 use Rattle.race.proofs.RaceLaws.{plain-yes, plain-no}
-use borrow.Author.Rules.{rules}
 use Rattle.race.proofs.put_where.Goals as goal
 
 pub returns-in-PlainRead : goal.returns-in-PlainRead

@@ -2,7 +2,6 @@ use borrow.Enum.Refused.{opened}
 use borrow.Author.Tests.{eq-eqb, ne_eqb}
 use Rattle.refusal.specs.Refusals.{put_refusal}
 use Rattle.refusal.proofs.RefusalLaws.{unnamed}
-use borrow.Author.Rules.{rules}
 use Rattle.refusal.proofs.put.Goals as goal
 
 pub returns-then-site-ne-NO_PLACE : goal.returns-then-site-ne-NO_PLACE

@@ -1,7 +1,6 @@
 use mathlib.Core.Path.{ap, ◌∙◌}
 use native.Mathlib.Omega.{arith}
 use Rattle.page.specs.Pages.{put_text}
-use borrow.Author.Rules.{rules}
 use Rattle.row_text.proofs.RowLaws.{nothing_put, said-none, said-some}
 use Rattle.row_text.proofs.put.Goals as goal
 

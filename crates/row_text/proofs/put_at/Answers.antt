@@ -1,7 +1,6 @@
 use mathlib.Core.Path.{refl, ap, ◌∙◌}
 use native.Mathlib.Omega.{arith}
 use Rattle.page.specs.Pages.{put_text}
-use borrow.Author.Rules.{rules}
 use Rattle.row_text.proofs.RowLaws.{nothing_put, long-none, short-never, words-cut}
 use Rattle.row_text.proofs.put_at.Goals as goal
 

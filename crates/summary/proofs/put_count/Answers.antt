@@ -1,6 +1,5 @@
 use Rattle.rules.specs.Token.{bytes_of}
 use Rattle.summary.proofs.SummaryLaws.{count-put}
-use borrow.Author.Rules.{rules}
 use Rattle.summary.proofs.put_count.Goals as goal
 
 pub returns : goal.returns

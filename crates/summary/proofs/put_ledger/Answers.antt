@@ -1,6 +1,5 @@
 use Rattle.rules.specs.Token.{bytes_of}
 use Rattle.summary.specs.Summaries.{put_ledger}
-use borrow.Author.Rules.{rules}
 use Rattle.summary.proofs.put_ledger.Goals as goal
 
 pub returns : goal.returns

@@ -1,5 +1,4 @@
 use Rattle.rules.specs.Token.{bytes_of}
-use borrow.Author.Rules.{rules}
 use Rattle.summary.proofs.put_legend.Goals as goal
 
 pub returns : goal.returns

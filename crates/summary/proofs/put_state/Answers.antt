@@ -1,7 +1,6 @@
 use Rattle.rules.specs.Token.{bytes_of}
 use borrow.Author.Tests.{ne_eqb}
 use Rattle.summary.specs.Summaries.{put_state}
-use borrow.Author.Rules.{rules}
 use Rattle.summary.proofs.put_state.Goals as goal
 
 pub returns-in-1 : goal.returns-in-1

@@ -1,7 +1,6 @@
 use Rattle.rules.specs.Token.{bytes_of}
 use Rattle.summary.specs.Summaries.{put_thread}
 use Rattle.summary.proofs.SummaryLaws.{thread-put}
-use borrow.Author.Rules.{rules}
 use Rattle.summary.proofs.put_thread.Goals as goal
 
 pub returns-then-end-eq-ABSENT : goal.returns-then-end-eq-ABSENT

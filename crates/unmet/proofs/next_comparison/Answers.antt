@@ -1,9 +1,5 @@
-use Prim.Native.Nat.{◌-◌}
-use mathlib.Core.Path.{◌≡◌, sym, ◌∙◌}
-use lib.ListN.{length}
-use Rattle.unmet.specs.Parts.{next_from}
-use Rattle.unmet.proofs.PartLaws.{next_left, next-all, next-on, next-found, next-none}
-use borrow.Author.Rules.{rules}
+use mathlib.Core.Path.{sym, ◌∙◌}
+use Rattle.unmet.proofs.PartLaws.{next-all, next-on, next-found, next-none}
 use Rattle.unmet.proofs.next_comparison.Goals as goal
 
 pub loop-i-init : goal.loop-i-init

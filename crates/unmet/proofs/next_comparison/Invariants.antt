@@ -1,9 +1,8 @@
 use Prim.Native.Nat.{◌-◌}
-use mathlib.Core.Path.{◌≡◌, sym, ◌∙◌}
+use mathlib.Core.Path.{◌≡◌}
 use lib.ListN.{length}
 use Rattle.unmet.specs.Parts.{next_from}
-use Rattle.unmet.proofs.PartLaws.{next_left, next-all, next-on, next-found, next-none}
-use borrow.Author.Rules.{rules}
+use Rattle.unmet.proofs.PartLaws.{next_left}
 use Rattle.unmet.proofs.next_comparison.Given as goal
 
 abbrev pub invariant-loop-i : goal.invariant-loop-i

@@ -1,6 +1,5 @@
 use native.Mathlib.Omega.{arith}
 use Rattle.unmet.proofs.PartLaws.{part_none, part-some}
-use borrow.Author.Rules.{rules}
 use Rattle.unmet.proofs.part_at.Goals as goal
 
 pub returns-then-condition-lt-COMPARISON : goal.returns-then-condition-lt-COMPARISON

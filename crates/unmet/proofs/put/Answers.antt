@@ -3,7 +3,6 @@ use native.Mathlib.Omega.{arith}
 use Rattle.put.proofs.PutLaws.{puts-are}
 use Rattle.condition_line.proofs.FineLaws.{fine-claim}
 use Rattle.unmet.proofs.PartLaws.{claim-is, claim-none, claim-many}
-use borrow.Author.Rules.{rules}
 use Rattle.unmet.proofs.put.Goals as goal
 
 pub put_condition-requires : goal.put_condition-requires

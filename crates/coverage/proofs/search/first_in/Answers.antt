@@ -1,10 +1,7 @@
-use Prim.Native.Nat.{◌≤◌, ◌-◌}
 use mathlib.Core.Bool.{true, false}
-use mathlib.Core.Path.{◌≡◌, sym, ◌∙◌}
-use Rattle.rules.specs.Table.{first_not}
+use mathlib.Core.Path.{sym, ◌∙◌}
 use Rattle.table.proofs.Walks.{first_on, first_found, first-none}
-use Rattle.coverage.specs.Covered.{first_in_thread}
-use Rattle.coverage.proofs.SearchLaws.{stays, first-all, told}
+use Rattle.coverage.proofs.SearchLaws.{first-all, told}
 use borrow.Author.Rules.{rules}
 use Rattle.coverage.proofs.search.first_in.Goals as goal
 

@@ -1,11 +1,8 @@
 use Prim.Native.Nat.{◌≤◌, ◌-◌}
-use mathlib.Core.Bool.{true, false}
-use mathlib.Core.Path.{◌≡◌, sym, ◌∙◌}
+use mathlib.Core.Path.{◌≡◌}
 use Rattle.rules.specs.Table.{first_not}
-use Rattle.table.proofs.Walks.{first_on, first_found, first-none}
 use Rattle.coverage.specs.Covered.{first_in_thread}
-use Rattle.coverage.proofs.SearchLaws.{stays, first-all, told}
-use borrow.Author.Rules.{rules}
+use Rattle.coverage.proofs.SearchLaws.{stays}
 use Rattle.coverage.proofs.search.first_in.Given as goal
 
 abbrev pub invariant-loop-row : goal.invariant-loop-row

@@ -2,8 +2,6 @@ use Prim.Native.Nat.{◌≤◌, ◌-◌}
 use mathlib.Core.Path.{◌≡◌}
 use Rattle.rules.specs.Table.{max_threads}
 use Rattle.coverage.specs.Covered.{first_from, first_switch}
-use Rattle.coverage.proofs.SearchLaws.{from_all, from_on, from_found, from-none}
-use borrow.Author.Rules.{rules}
 use Rattle.coverage.proofs.search.first_switch.Given as goal
 
 abbrev pub invariant-loop-thread : goal.invariant-loop-thread

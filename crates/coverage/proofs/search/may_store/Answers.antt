@@ -1,7 +1,6 @@
 use borrow.Enum.Refused.{opened}
 use mathlib.Core.Path.{refl}
 use Rattle.coverage.proofs.SearchLaws.{stores_as, stores-else}
-use borrow.Author.Rules.{rules}
 use Rattle.coverage.proofs.search.may_store.Goals as goal
 
 pub returns-in-Store : goal.returns-in-Store

@@ -1,7 +1,3 @@
-use Prim.Native.Nat.{◌+◌, ◌*◌, ◌≤◌, ◌-◌}
-use mathlib.Core.Path.{◌≡◌}
-use Rattle.rules.specs.Table.{max_threads}
-use Rattle.coverage.specs.Covered.{summed, stores_in, store_count}
 use Rattle.coverage.proofs.SearchLaws.{stores-all, sum-on, sum-none}
 use borrow.Author.Rules.{rules}
 use Rattle.coverage.proofs.search.stores.Goals as goal

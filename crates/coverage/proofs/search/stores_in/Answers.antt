@@ -1,9 +1,6 @@
-use Prim.Native.Nat.{◌+◌, ◌≤◌, ◌-◌}
-use mathlib.Core.Path.{◌≡◌}
 use native.Mathlib.Omega.{arith}
 use Rattle.decode.specs.Ops.{decoded_of}
-use Rattle.coverage.specs.Covered.{summed, stores_in}
-use Rattle.coverage.proofs.SearchLaws.{storing, stored, few, sum-on, sum-none, sum-all}
+use Rattle.coverage.proofs.SearchLaws.{stored, few, sum-on, sum-none, sum-all}
 use borrow.Author.Rules.{rules}
 use Rattle.coverage.proofs.search.stores_in.Goals as goal
 

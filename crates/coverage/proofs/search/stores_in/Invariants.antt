@@ -1,10 +1,7 @@
 use Prim.Native.Nat.{◌+◌, ◌≤◌, ◌-◌}
 use mathlib.Core.Path.{◌≡◌}
-use native.Mathlib.Omega.{arith}
-use Rattle.decode.specs.Ops.{decoded_of}
 use Rattle.coverage.specs.Covered.{summed, stores_in}
-use Rattle.coverage.proofs.SearchLaws.{storing, stored, few, sum-on, sum-none, sum-all}
-use borrow.Author.Rules.{rules}
+use Rattle.coverage.proofs.SearchLaws.{storing}
 use Rattle.coverage.proofs.search.stores_in.Given as goal
 
 abbrev pub invariant-loop-row : goal.invariant-loop-row

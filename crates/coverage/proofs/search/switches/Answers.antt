@@ -1,7 +1,6 @@
 use borrow.Enum.Refused.{opened}
 use mathlib.Core.Path.{refl}
 use Rattle.coverage.proofs.SearchLaws.{switches-none, switches_on, switches-off, switches-else}
-use borrow.Author.Rules.{rules}
 use Rattle.coverage.proofs.search.switches.Goals as goal
 
 pub returns-in_default : goal.returns-in_default

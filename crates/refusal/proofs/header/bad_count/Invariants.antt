@@ -1,11 +1,8 @@
 use Prim.Native.Nat.{◌≤◌, ◌-◌}
-use mathlib.Core.Path.{◌≡◌, refl, sym, ◌∙◌}
-use borrow.Author.Tests.{not-true, not-false}
+use mathlib.Core.Path.{◌≡◌}
 use Rattle.rules.specs.Table.{max_threads, first_not}
-use Rattle.table.proofs.Walks.{first_on, first_found, first-none}
 use Rattle.refusal.specs.Headers.{bad_count}
-use Rattle.refusal.proofs.RefusalLaws.{fine_at, told}
-use borrow.Author.Rules.{rules}
+use Rattle.refusal.proofs.RefusalLaws.{fine_at}
 use Rattle.refusal.proofs.header.bad_count.Given as goal
 
 abbrev pub invariant-loop-thread : goal.invariant-loop-thread

@@ -2,7 +2,6 @@ use borrow.Author.Tests.{lt-ltb, le-ltb, not-true, not-false}
 use Rattle.rules.specs.Token.{bytes_of}
 use Rattle.rules.specs.Table.{header_bytes}
 use Rattle.refusal.specs.Headers.{put_header}
-use borrow.Author.Rules.{rules}
 use Rattle.refusal.proofs.header.put.Goals as goal
 
 pub returns-then-table-lt-HEADER_BYTES : goal.returns-then-table-lt-HEADER_BYTES

@@ -2,7 +2,6 @@ use borrow.Author.Tests.{lt-ltb, le-ltb}
 use Rattle.rules.specs.Token.{bytes_of}
 use Rattle.rules.specs.Table.{max_threads, max_plains}
 use Rattle.refusal.specs.Headers.{put_behind}
-use borrow.Author.Rules.{rules}
 use Rattle.refusal.proofs.header.put_behind.Goals as goal
 
 pub returns-then-thread-lt-MAX_THREADS : goal.returns-then-thread-lt-MAX_THREADS

@@ -1,7 +1,6 @@
 use borrow.Author.Tests.{lt-ltb, le-ltb}
 use Rattle.rules.specs.Token.{bytes_of}
 use Rattle.refusal.specs.Headers.{put_rows}
-use borrow.Author.Rules.{rules}
 use Rattle.refusal.proofs.header.put_rows.Goals as goal
 
 pub returns-then-thread-threads : goal.returns-then-thread-threads

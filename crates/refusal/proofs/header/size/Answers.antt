@@ -1,5 +1,4 @@
 use Rattle.table.proofs.Header.{rows_all}
-use borrow.Author.Rules.{rules}
 use Rattle.refusal.proofs.header.size.Goals as goal
 
 pub returns : goal.returns
