@@ -6,7 +6,7 @@
 --     wrong-0 .. wrong-8           the first of the tests that fails
 use Prim.Native.Nat.{ℕ}
 use mathlib.Core.Bool.{Bool, true, false, cond, ◌||◌}
-use mathlib.Core.Path.{◌≡◌, refl, ap, sym, ◌∙◌}
+use mathlib.Core.Path.{◌≡◌, ap, sym, ◌∙◌}
 use lib.Dec.{ltb, eqb}
 use Rattle.rules.specs.Table.{Row, Room, row_decoded, is_fine}
 use Rattle.reasons.specs.declared.Field.{Field}

@@ -1,6 +1,5 @@
 use Rattle.rules.specs.Token.{bytes_of}
 use Rattle.finally.specs.Finals.{put_finally}
-use borrow.Author.Rules.{rules}
 use Rattle.finally.proofs.put.Goals as goal
 
 pub returns : goal.returns

@@ -1,10 +1,6 @@
-use Prim.Native.Nat.{◌≤◌}
-use mathlib.Core.Path.{◌≡◌, ap}
+use mathlib.Core.Path.{ap}
 use native.Mathlib.Omega.{arith}
-use lib.ListN.{length}
 use borrow.Author.Rules.{rules}
-use Rattle.page.specs.Pages.{page_of}
-use Rattle.unmet.specs.Parts.{next_from}
 use Rattle.finally.specs.Finals.{put_parts}
 use Rattle.finally.proofs.FinalLaws.{parts-on, parts_out, parts-end}
 use Rattle.finally.proofs.put_parts.Goals as goal

@@ -1,5 +1,4 @@
 use Rattle.rules.specs.Token.{bytes_of}
-use borrow.Author.Rules.{rules}
 use Rattle.finally.proofs.put_truth.Goals as goal
 
 pub returns-then-holds : goal.returns-then-holds

@@ -1,7 +1,6 @@
 use mathlib.Core.Path.{refl, ap, sym, ◌∙◌}
 use lib.ListN.{length}
 use Rattle.page.specs.Pages.{put_text}
-use borrow.Author.Rules.{rules}
 use Rattle.finally.proofs.FinalLaws.{at-end, never-past, whole-cut}
 use Rattle.finally.proofs.put_whole.Goals as goal
 

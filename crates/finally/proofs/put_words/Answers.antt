@@ -1,7 +1,6 @@
 use mathlib.Core.Path.{refl, ap, ◌∙◌}
 use native.Mathlib.Omega.{arith}
 use Rattle.page.specs.Pages.{put_text}
-use borrow.Author.Rules.{rules}
 use Rattle.finally.proofs.FinalLaws.{nothing_put, never-past, words-cut, words-none}
 use Rattle.finally.proofs.put_words.Goals as goal
 

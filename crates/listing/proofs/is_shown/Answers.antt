@@ -1,5 +1,4 @@
 use Rattle.listing.proofs.StepLaws.{shown-first, shown-last, shown-past}
-use borrow.Author.Rules.{rules}
 use Rattle.listing.proofs.is_shown.Goals as goal
 
 pub returns-then-i-lt-SHOWN : goal.returns-then-i-lt-SHOWN

@@ -1,6 +1,5 @@
 use Rattle.rules.specs.Token.{bytes_of}
 use Rattle.listing.proofs.StepLaws.{between-some, between_none}
-use borrow.Author.Rules.{rules}
 use Rattle.listing.proofs.put_between.Goals as goal
 
 pub returns-then-n : goal.returns-then-n

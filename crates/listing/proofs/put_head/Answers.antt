@@ -1,6 +1,5 @@
 use Rattle.rules.specs.Token.{bytes_of}
 use Rattle.listing.proofs.StepLaws.{head-put}
-use borrow.Author.Rules.{rules}
 use Rattle.listing.proofs.put_head.Goals as goal
 
 pub returns : goal.returns

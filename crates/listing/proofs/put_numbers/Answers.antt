@@ -1,5 +1,4 @@
 use Rattle.listing.proofs.StepLaws.{numbers-put}
-use borrow.Author.Rules.{rules}
 use Rattle.listing.proofs.put_numbers.Goals as goal
 
 pub returns : goal.returns

@@ -1,6 +1,5 @@
 use Rattle.rules.specs.Token.{bytes_of}
 use Rattle.listing.proofs.StepLaws.{offer-first, offer-next}
-use borrow.Author.Rules.{rules}
 use Rattle.listing.proofs.put_offer.Goals as goal
 
 pub returns-then-first : goal.returns-then-first

@@ -1,9 +1,5 @@
-use Prim.Native.Nat.{◌≤◌, ◌-◌}
-use mathlib.Core.Logic.{⊎_elim}
-use mathlib.Core.Path.{◌≡◌, refl}
+use mathlib.Core.Path.{refl}
 use Rattle.rules.specs.Token.{bytes_of}
-use Rattle.page.specs.Pages.{page_of}
-use Rattle.listing.specs.Steps.{slots_in, put_each, put_offers}
 use Rattle.listing.proofs.StepLaws.{each-put, each-skipped, each_none, each-end}
 use borrow.Author.Rules.{rules}
 use Rattle.listing.proofs.put_offers.Goals as goal

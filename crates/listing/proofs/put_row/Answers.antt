@@ -1,5 +1,4 @@
 use Rattle.listing.proofs.StepLaws.{row_put}
-use borrow.Author.Rules.{rules}
 use Rattle.listing.proofs.put_row.Goals as goal
 
 pub returns : goal.returns

@@ -1,6 +1,5 @@
 use Rattle.rules.specs.Token.{bytes_of}
 use Rattle.listing.proofs.StepLaws.{slot-none, slot-some}
-use borrow.Author.Rules.{rules}
 use Rattle.listing.proofs.put_slot.Goals as goal
 
 pub returns-then-slot-eq-NO_SLOT : goal.returns-then-slot-eq-NO_SLOT

@@ -1,5 +1,4 @@
 use Rattle.listing.proofs.StepLaws.{slots-put}
-use borrow.Author.Rules.{rules}
 use Rattle.listing.proofs.put_slots.Goals as goal
 
 pub returns : goal.returns

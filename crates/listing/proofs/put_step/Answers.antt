@@ -1,6 +1,5 @@
 use Rattle.rules.specs.Token.{bytes_of}
 use Rattle.listing.proofs.StepLaws.{step-put}
-use borrow.Author.Rules.{rules}
 use Rattle.listing.proofs.put_step.Goals as goal
 
 pub returns : goal.returns

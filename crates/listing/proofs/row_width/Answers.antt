@@ -1,5 +1,4 @@
 use Rattle.listing.proofs.StepLaws.{row-long}
-use borrow.Author.Rules.{rules}
 use Rattle.listing.proofs.row_width.Goals as goal
 
 pub returns : goal.returns

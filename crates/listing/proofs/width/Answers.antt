@@ -1,6 +1,4 @@
-use Prim.Native.Nat.{◌≤◌, ◌-◌}
-use mathlib.Core.Logic.{⊎_elim}
-use mathlib.Core.Path.{◌≡◌, refl}
+use mathlib.Core.Path.{refl}
 use Rattle.listing.specs.Steps.{widest}
 use Rattle.listing.proofs.StepLaws.{widest-more, widest-same, widest-all}
 use borrow.Author.Rules.{rules}

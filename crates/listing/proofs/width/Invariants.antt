@@ -1,9 +1,6 @@
 use Prim.Native.Nat.{◌≤◌, ◌-◌}
-use mathlib.Core.Logic.{⊎_elim}
-use mathlib.Core.Path.{◌≡◌, refl}
+use mathlib.Core.Path.{◌≡◌}
 use Rattle.listing.specs.Steps.{widest}
-use Rattle.listing.proofs.StepLaws.{widest-more, widest-same, widest-all}
-use borrow.Author.Rules.{rules}
 use Rattle.listing.proofs.width.Given as goal
 
 abbrev pub invariant-loop-i : goal.invariant-loop-i

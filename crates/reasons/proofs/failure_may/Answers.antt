@@ -1,5 +1,4 @@
 use Rattle.reasons.proofs.FieldLaws.{failure-made}
-use borrow.Author.Rules.{rules}
 use Rattle.reasons.proofs.failure_may.Goals as goal
 
 pub returns : goal.returns

@@ -1,5 +1,4 @@
 use Rattle.reasons.proofs.FieldLaws.{fields-as}
-use borrow.Author.Rules.{rules}
 use Rattle.reasons.proofs.first_fields.Goals as goal
 
 pub returns : goal.returns

@@ -1,5 +1,4 @@
 use Rattle.reasons.proofs.FieldLaws.{fit-as}
-use borrow.Author.Rules.{rules}
 use Rattle.reasons.proofs.is_fit.Goals as goal
 
 pub returns : goal.returns

@@ -1,5 +1,4 @@
 use Rattle.reasons.specs.Wrong.{is_opcode}
-use borrow.Author.Rules.{rules}
 use Rattle.reasons.proofs.is_opcode.Goals as goal
 
 pub returns : goal.returns

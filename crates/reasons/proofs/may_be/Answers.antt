@@ -1,7 +1,6 @@
 use mathlib.Core.Path.{refl}
 use Rattle.reasons.specs.Wrong.{may_be}
 use Rattle.reasons.proofs.FieldLaws.{test-as, told}
-use borrow.Author.Rules.{rules}
 use Rattle.reasons.proofs.may_be.Goals as goal
 
 pub returns-in-Opcode : goal.returns-in-Opcode

@@ -1,7 +1,6 @@
 use mathlib.Core.Bool.{true, false}
 use mathlib.Core.Path.{refl, sym}
 use Rattle.reasons.proofs.FieldLaws.{test-as}
-use borrow.Author.Rules.{rules}
 use Rattle.reasons.proofs.may_if.Goals as goal
 
 pub returns-then-test : goal.returns-then-test

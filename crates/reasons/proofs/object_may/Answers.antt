@@ -1,5 +1,4 @@
 use Rattle.reasons.proofs.FieldLaws.{object-made}
-use borrow.Author.Rules.{rules}
 use Rattle.reasons.proofs.object_may.Goals as goal
 
 pub returns : goal.returns

@@ -1,5 +1,4 @@
 use Rattle.reasons.proofs.FieldLaws.{order-made}
-use borrow.Author.Rules.{rules}
 use Rattle.reasons.proofs.order_may.Goals as goal
 
 pub returns : goal.returns

@@ -1,5 +1,4 @@
 use Rattle.reasons.proofs.FieldLaws.{target-made}
-use borrow.Author.Rules.{rules}
 use Rattle.reasons.proofs.target_may.Goals as goal
 
 pub returns : goal.returns

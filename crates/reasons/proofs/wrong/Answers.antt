@@ -1,7 +1,6 @@
 use mathlib.Core.Path.{sym, ◌∙◌}
 use borrow.Author.Tests.{not-true, not-false}
 use Rattle.reasons.proofs.FieldLaws.{wrong-0, wrong-1, wrong-2, wrong-3, wrong-4, wrong-5, wrong-6, wrong-7, wrong-8}
-use borrow.Author.Rules.{rules}
 use Rattle.reasons.proofs.wrong.Goals as goal
 
 pub returns-then-not-is_opcode : goal.returns-then-not-is_opcode

@@ -1,6 +1,5 @@
 use Rattle.rules.specs.Token.{bytes_of}
 use Rattle.stop.specs.Stops.{put_how}
-use borrow.Author.Rules.{rules}
 use Rattle.stop.proofs.put_how.Goals as goal
 
 pub returns-then-limited : goal.returns-then-limited

@@ -1,7 +1,6 @@
 use Rattle.rules.specs.Token.{bytes_of}
 use borrow.Author.Tests.{le-leb, lt-leb, lt-ltb, le-ltb}
 use Rattle.stop.specs.Stops.{put_place}
-use borrow.Author.Rules.{rules}
 use Rattle.stop.proofs.put_place.Goals as goal
 
 pub returns-then-site : goal.returns-then-site

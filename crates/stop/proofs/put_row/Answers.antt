@@ -1,7 +1,6 @@
 use Rattle.rules.specs.Token.{bytes_of}
 use borrow.Author.Tests.{le-leb, lt-leb}
 use Rattle.stop.specs.Stops.{put_row}
-use borrow.Author.Rules.{rules}
 use Rattle.stop.proofs.put_row.Goals as goal
 
 pub returns-then-row_count-row : goal.returns-then-row_count-row

@@ -1,7 +1,6 @@
 use Rattle.rules.specs.Token.{bytes_of}
 use borrow.Author.Tests.{ne_eqb}
 use Rattle.stop.specs.Stops.{put_waits}
-use borrow.Author.Rules.{rules}
 use Rattle.stop.proofs.put_waits.Goals as goal
 
 pub returns-then-state-ne-BLOCKED : goal.returns-then-state-ne-BLOCKED

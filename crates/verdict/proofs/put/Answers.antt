@@ -1,5 +1,4 @@
 use Rattle.verdict.proofs.VerdictLaws.{verdict-limit, verdict-refused, verdict-passed, verdict-race, verdict-check, verdict-finally, verdict-failed}
-use borrow.Author.Rules.{rules}
 use Rattle.verdict.proofs.put.Goals as goal
 
 pub returns-then-is_limit : goal.returns-then-is_limit

@@ -1,6 +1,4 @@
 use Rattle.rules.specs.Token.{bytes_of}
-use Rattle.verdict.specs.Verdicts.{put_check}
-use borrow.Author.Rules.{rules}
 use Rattle.verdict.proofs.put_check.Goals as goal
 
 pub returns : goal.returns

@@ -1,7 +1,6 @@
 use Rattle.rules.specs.Token.{bytes_of}
 use Rattle.verdict.specs.Verdicts.{put_failed}
 use Rattle.verdict.proofs.VerdictLaws.{failed-else}
-use borrow.Author.Rules.{rules}
 use Rattle.verdict.proofs.put_failed.Goals as goal
 
 pub returns-in-10 : goal.returns-in-10

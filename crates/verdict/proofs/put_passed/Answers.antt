@@ -1,7 +1,6 @@
 use Rattle.rules.specs.Token.{bytes_of}
 use borrow.Author.Tests.{ne_eqb}
 use Rattle.verdict.specs.Verdicts.{put_passed}
-use borrow.Author.Rules.{rules}
 use Rattle.verdict.proofs.put_passed.Goals as goal
 
 pub returns-then-condition-eq0 : goal.returns-then-condition-eq0

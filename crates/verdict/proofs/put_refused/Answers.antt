@@ -1,7 +1,6 @@
 use Rattle.rules.specs.Token.{bytes_of}
 use Rattle.verdict.specs.Verdicts.{put_refused}
 use Rattle.verdict.proofs.VerdictLaws.{refused-else}
-use borrow.Author.Rules.{rules}
 use Rattle.verdict.proofs.put_refused.Goals as goal
 
 pub returns-in-2 : goal.returns-in-2

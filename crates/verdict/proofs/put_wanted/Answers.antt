@@ -1,7 +1,6 @@
 use borrow.Enum.Refused.{opened}
 use Rattle.rules.specs.Token.{bytes_of}
 use Rattle.verdict.proofs.VerdictLaws.{wants-refused, wants-else, wants-check}
-use borrow.Author.Rules.{rules}
 use Rattle.verdict.proofs.put_wanted.Goals as goal
 
 pub returns-in_default : goal.returns-in_default

@@ -1,6 +1,5 @@
 use Rattle.rules.specs.Token.{bytes_of}
 use Rattle.listing.specs.Words.{put_came}
-use borrow.Author.Rules.{rules}
 use Rattle.listing.proofs.came.put.Goals as goal
 
 pub returns-in-Nothing : goal.returns-in-Nothing

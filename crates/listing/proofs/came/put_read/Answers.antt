@@ -1,7 +1,6 @@
 use borrow.Author.Tests.{eq-eqb, ne_eqb}
 use Rattle.rules.specs.Token.{bytes_of}
 use Rattle.listing.specs.Words.{put_read}
-use borrow.Author.Rules.{rules}
 use Rattle.listing.proofs.came.put_read.Goals as goal
 
 pub returns-then-writer-eq0 : goal.returns-then-writer-eq0

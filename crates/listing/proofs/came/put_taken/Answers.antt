@@ -1,6 +1,5 @@
 use Rattle.rules.specs.Token.{bytes_of}
 use Rattle.listing.specs.Words.{put_taken}
-use borrow.Author.Rules.{rules}
 use Rattle.listing.proofs.came.put_taken.Goals as goal
 
 pub returns-then-taken : goal.returns-then-taken
