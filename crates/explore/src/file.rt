@@ -35,10 +35,13 @@ pub fn too_long(errors: &impl Print, name: &[u8]) -> io::Result<()> {
     println!(errors; ": more than {FILE_BYTES} bytes, which no text or table may have")
 }
 
-// Says why the file cannot be read.
+// Says why the file cannot be read: the words of the system, without the number that stands in brackets behind.
 fn unreadable(errors: &impl Print, name: &[u8], why: Error) -> io::Result<()> {
-    let mut text = [0u8; WHY_ROOM];
-    let n = put_why(&mut text, why);
+    let mut to = Cursor::new([0u8; WHY_ROOM]);
+    let _ = write!(to, "{why}");
+    let end = to.position() as usize;
+    let text = to.into_inner();
+    let n = words(token::part(&text, 0, end));
     errors.write_all(b"explore: ")?;
     errors.write_all(name)?;
     errors.write_all(b": ")?;
@@ -48,14 +51,6 @@ fn unreadable(errors: &impl Print, name: &[u8], why: Error) -> io::Result<()> {
 
 // More than the words of an error take.
 const WHY_ROOM: usize = 256;
-
-// Puts why a call of the system failed, without its number, which stands in brackets behind.
-fn put_why(text: &mut [u8; WHY_ROOM], why: Error) -> usize {
-    let mut to = Cursor::new(&mut text[..]);
-    let _ = write!(to, "{why}");
-    let n = to.position() as usize;
-    words(token::part(text, 0, n))
-}
 
 // How many bytes stand before the first ` (`.
 fn words(text: &[u8]) -> usize {
