@@ -4,10 +4,11 @@
 
 use condition::CONDITION_BYTES;
 use file::Got;
-use libc::{STDERR_FILENO, STDOUT_FILENO};
-use options::{Asked, Options, Task};
+use options::{Asked, Options, Task, WORD_ROOM};
 use reader::{TABLE_BYTES, TextAnswer};
 use source::ROOM;
+use std::io;
+use std::rt::{Env, Files};
 
 mod file;
 mod options;
@@ -17,74 +18,74 @@ mod writing;
 // One byte more than a condition has at most: what is longer is then none.
 const CONDITION_ROOM: usize = CONDITION_BYTES + 1;
 
-fn main() {
-    let asked = options::read();
+fn main(rt: HostRuntime) -> io::Result<()> {
+    let errors = rt.stderr();
+    let asked = options::read(&rt, &errors)?;
     match asked {
-        Asked::For(options) => answer(options),
-        Asked::Usage => usage(STDOUT_FILENO),
-        Asked::Refused => usage(STDERR_FILENO),
+        Asked::For(options) => answer(&rt, &errors, options),
+        Asked::Usage => usage(&rt.stdout()),
+        Asked::Refused => usage(&errors),
     }
 }
 
 // Writes how to call the program.
-fn usage(fd: i32) {
-    io::write_all(
-        fd,
+fn usage(to: &impl Print) -> io::Result<()> {
+    to.write_all(
         b"usage: explore FILE [--branches B] [--operations L] [--executions N] [--bound K] [--not-exploring] [--all-rows]\n",
-    );
-    io::write_all(
-        fd,
-        b"       explore FILE --to-text | --to-table | --to-condition\n",
-    );
-    io::write_all(
-        fd,
-        b"FILE is a text (docs/GRAMMAR.md) or a table (docs/FORMAT.md) of at most ",
-    );
-    io::print_decimal(fd, source::FILE_BYTES as u64);
-    io::write_all(
-        fd,
-        b" bytes; beside a table, --condition FILE has the bytes of a final condition\n",
-    );
+    )?;
+    to.write_all(b"       explore FILE --to-text | --to-table | --to-condition\n")?;
+    to.write_all(b"FILE is a text (docs/GRAMMAR.md) or a table (docs/FORMAT.md) of at most ")?;
+    to.print(source::FILE_BYTES)?;
+    to.write_all(b" bytes; beside a table, --condition FILE has the bytes of a final condition\n")
 }
 
 // Reads the file that is named, and does what is asked; where it cannot be read, one line has said why.
-fn answer(options: Options) {
-    let mut name = io::buffer();
-    let length = os::arg(options.file, &mut name);
+fn answer(
+    rt: &(impl Files + Env + Print + Eprint),
+    errors: &impl Print,
+    options: Options,
+) -> io::Result<()> {
+    let mut name = [0u8; WORD_ROOM];
+    let length = rt.arg(options.file, &mut name).unwrap_or(0);
     let mut bytes = [0u8; ROOM];
-    let Got::Bytes(n) = file::read(token::part(&name, 0, length), &mut bytes) else {
-        return;
+    let Got::Bytes(n) = file::read(rt, errors, token::part(&name, 0, length), &mut bytes)? else {
+        return Ok(());
     };
     if n == ROOM {
-        file::too_long(token::part(&name, 0, length));
-        return;
+        return file::too_long(errors, token::part(&name, 0, length));
     }
     take(
+        rt,
+        errors,
         token::part(&name, 0, length),
         token::part(&bytes, 0, n),
         options,
-    );
+    )
 }
 
 // A table as it is; a text once it is read.
-fn take(name: &[u8], bytes: &[u8], options: Options) {
+fn take(
+    rt: &(impl Files + Env + Print + Eprint),
+    errors: &impl Print,
+    name: &[u8],
+    bytes: &[u8],
+    options: Options,
+) -> io::Result<()> {
     if source::is_table(bytes) {
-        beside(bytes, options);
-        return;
+        return beside(rt, errors, bytes, options);
     }
     if options.condition != 0 {
-        io::write_all(
-            STDERR_FILENO,
+        return errors.write_all(
             b"explore: --condition is for a table; a text has its own, behind `finally`\n",
         );
-        return;
     }
     let mut table = [0u8; TABLE_BYTES];
     let mut condition = [0u8; CONDITION_BYTES];
     match reader::read(bytes, &mut table, &mut condition) {
-        TextAnswer::NoRoom => {}
-        TextAnswer::Refused(line, column) => tell::print_refusal(name, bytes, line, column),
+        TextAnswer::NoRoom => Ok(()),
+        TextAnswer::Refused(line, column) => tell::print_refusal(rt, name, bytes, line, column),
         TextAnswer::Taken(n, claimed) => perform(
+            rt,
             token::part(&table, 0, n),
             token::part(&condition, 0, claimed),
             options,
@@ -93,27 +94,36 @@ fn take(name: &[u8], bytes: &[u8], options: Options) {
 }
 
 // A table, with the condition in the file that is named for it, if one is.
-fn beside(table: &[u8], options: Options) {
+fn beside(
+    rt: &(impl Files + Env + Print + Eprint),
+    errors: &impl Print,
+    table: &[u8],
+    options: Options,
+) -> io::Result<()> {
     if options.condition == 0 {
-        perform(table, b"", options);
-        return;
+        return perform(rt, table, b"", options);
     }
-    let mut word = io::buffer();
-    let length = os::arg(options.condition, &mut word);
+    let mut word = [0u8; WORD_ROOM];
+    let length = rt.arg(options.condition, &mut word).unwrap_or(0);
     let mut condition = [0u8; CONDITION_ROOM];
     let name = token::part(&word, options.behind, length);
-    let Got::Bytes(n) = file::read(name, &mut condition) else {
-        return;
+    let Got::Bytes(n) = file::read(rt, errors, name, &mut condition)? else {
+        return Ok(());
     };
-    perform(table, token::part(&condition, 0, n), options);
+    perform(rt, table, token::part(&condition, 0, n), options)
 }
 
 // Does what is asked with the program.
-fn perform(table: &[u8], condition: &[u8], options: Options) {
+fn perform(
+    rt: &(impl Print + Eprint),
+    table: &[u8],
+    condition: &[u8],
+    options: Options,
+) -> io::Result<()> {
     let task = options.task;
     let settings = options.settings;
     match task {
-        Task::Explore => run::run(table, condition, settings, options.whole),
-        _ => writing::write(table, condition, settings, task),
+        Task::Explore => run::run(rt, table, condition, settings, options.whole),
+        _ => writing::write(rt, table, condition, settings, task),
     }
 }

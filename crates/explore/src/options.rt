@@ -1,8 +1,13 @@
 // The words of the command line: the file's name, what is asked of it, and the settings.
 use decimal::Parsed;
-use libc::STDERR_FILENO;
 use path::Bound;
 use settings::{MAX_BOUND, MAX_BRANCHES, MAX_EXECUTIONS, MAX_OPERATIONS, Settings, bound_of};
+use std::env::FillError;
+use std::io;
+use std::rt::Env;
+
+// The longest word, and the buffer's size.
+pub const WORD_ROOM: usize = 4096;
 
 // An option that takes a number or a name, which is the next word.
 #[derive(Clone, Copy)]
@@ -68,75 +73,92 @@ impl Options {
 }
 
 // Reads every word behind the program's name.
-pub fn read() -> Asked {
-    let count = os::arg_count();
+pub fn read(rt: &impl Env, errors: &impl Print) -> io::Result<Asked> {
     let mut options = Options::new();
-    let mut i = 1;
-    while i < count {
-        let asked = read_word(options, i);
-        let Asked::For(more) = asked else {
-            return asked;
-        };
-        options = more;
-        i += 1;
+    for i in 1..usize::MAX {
+        match read_word(rt, errors, options, i)? {
+            None => break,
+            Some(Asked::For(more)) => options = more,
+            Some(asked) => return Ok(asked),
+        }
     }
-    complete(options)
+    complete(errors, options)
 }
 
 // Whether nothing is missing.
-fn complete(options: Options) -> Asked {
+fn complete(errors: &impl Print, options: Options) -> io::Result<Asked> {
     let awaited = options.awaited;
     let Awaited::Nothing = awaited else {
-        return no_number(awaited);
+        return no_number(errors, awaited);
     };
     if options.file == 0 {
-        return refuse(b"FILE is missing", b"");
+        return refuse(errors, b"FILE is missing", b"");
     }
-    Asked::For(options)
+    Ok(Asked::For(options))
 }
 
-// Takes the word at a place.
-fn read_word(options: Options, place: usize) -> Asked {
-    let mut word = io::buffer();
-    let length = os::arg(place, &mut word);
-    if os::errno() != 0 {
-        return refuse(b"an argument is too long", b"");
+// Takes the word at a place, if there is one.
+fn read_word(
+    rt: &impl Env,
+    errors: &impl Print,
+    options: Options,
+    place: usize,
+) -> io::Result<Option<Asked>> {
+    let mut word = [0u8; WORD_ROOM];
+    match rt.arg(place, &mut word) {
+        Ok(length) => Ok(Some(take(errors, &word[..length], options, place)?)),
+        Err(FillError::TooLong) => Ok(Some(refuse(errors, b"an argument is too long", b"")?)),
+        Err(FillError::NotPresent) => Ok(None),
     }
-    take(&word[..length], options, place)
 }
 
 // Takes a word: what is awaited, or a free word.
-fn take(word: &[u8], options: Options, place: usize) -> Asked {
+fn take(errors: &impl Print, word: &[u8], options: Options, place: usize) -> io::Result<Asked> {
     let awaited = options.awaited;
     let Awaited::Nothing = awaited else {
-        return take_awaited(word, options, place, 0);
+        return take_awaited(errors, word, options, place, 0);
     };
     if is_option(word) {
-        return take_option(word, options, place);
+        return take_option(errors, word, options, place);
     }
-    take_file(word, options, place)
+    take_file(errors, word, options, place)
 }
 
 // What the option that awaits something takes; it stands behind so many bytes of the word at this place.
-fn take_awaited(word: &[u8], options: Options, place: usize, behind: usize) -> Asked {
+fn take_awaited(
+    errors: &impl Print,
+    word: &[u8],
+    options: Options,
+    place: usize,
+    behind: usize,
+) -> io::Result<Asked> {
     let awaited = options.awaited;
     match awaited {
-        Awaited::Nothing => refuse(b"only an option that takes something has a `=`", b""),
-        Awaited::Branches => take_branches(word, options),
-        Awaited::Operations => take_operations(word, options),
-        Awaited::Executions => take_executions(word, options),
-        Awaited::Bound => take_bound(word, options),
-        Awaited::Condition => take_condition(options, place, behind),
+        Awaited::Nothing => refuse(
+            errors,
+            b"only an option that takes something has a `=`",
+            b"",
+        ),
+        Awaited::Branches => take_branches(errors, word, options),
+        Awaited::Operations => take_operations(errors, word, options),
+        Awaited::Executions => take_executions(errors, word, options),
+        Awaited::Bound => take_bound(errors, word, options),
+        Awaited::Condition => Ok(take_condition(options, place, behind)),
     }
 }
 
 // The file's name.
-fn take_file(word: &[u8], mut options: Options, place: usize) -> Asked {
+fn take_file(
+    errors: &impl Print,
+    word: &[u8],
+    mut options: Options,
+    place: usize,
+) -> io::Result<Asked> {
     if options.file != 0 {
-        return refuse(b"more than one FILE: ", word);
+        return refuse(errors, b"more than one FILE: ", word);
     }
     options.file = place;
-    Asked::For(options)
+    Ok(Asked::For(options))
 }
 
 // The name of the condition's file.
@@ -148,16 +170,21 @@ fn take_condition(options: Options, place: usize, behind: usize) -> Asked {
 }
 
 // An option, which may have what it takes behind a `=`.
-fn take_option(word: &[u8], options: Options, place: usize) -> Asked {
+fn take_option(
+    errors: &impl Print,
+    word: &[u8],
+    options: Options,
+    place: usize,
+) -> io::Result<Asked> {
     let end = equals(word);
     if word.len() <= end {
-        return named(word, options);
+        return named(errors, word, options);
     }
-    let asked = named(&word[0..end], options);
+    let asked = named(errors, &word[0..end], options)?;
     let Asked::For(next) = asked else {
-        return asked;
+        return Ok(asked);
     };
-    take_awaited(&word[end + 1..], next, place, end + 1)
+    take_awaited(errors, &word[end + 1..], next, place, end + 1)
 }
 
 // Where a word has its first `=`, or its length.
@@ -173,49 +200,49 @@ fn equals(word: &[u8]) -> usize {
 }
 
 // The option of this name.
-fn named(word: &[u8], mut options: Options) -> Asked {
+fn named(errors: &impl Print, word: &[u8], mut options: Options) -> io::Result<Asked> {
     if same(word, b"--help") || same(word, b"-h") {
-        return Asked::Usage;
+        return Ok(Asked::Usage);
     }
     if same(word, b"--not-exploring") {
         let mut settings = options.settings;
         settings.exploring = false;
-        return Asked::For(setting(options, settings));
+        return Ok(Asked::For(setting(options, settings)));
     }
     if same(word, b"--all-rows") {
         options.whole = true;
-        return Asked::For(options);
+        return Ok(Asked::For(options));
     }
     if same(word, b"--to-text") {
-        return Asked::For(asking(options, Task::ToText));
+        return Ok(Asked::For(asking(options, Task::ToText)));
     }
     if same(word, b"--to-table") {
-        return Asked::For(asking(options, Task::ToTable));
+        return Ok(Asked::For(asking(options, Task::ToTable)));
     }
     if same(word, b"--to-condition") {
-        return Asked::For(asking(options, Task::ToCondition));
+        return Ok(Asked::For(asking(options, Task::ToCondition)));
     }
-    named_with(word, options)
+    named_with(errors, word, options)
 }
 
 // The option of this name, of those that take something.
-fn named_with(word: &[u8], options: Options) -> Asked {
+fn named_with(errors: &impl Print, word: &[u8], options: Options) -> io::Result<Asked> {
     if same(word, b"--branches") {
-        return Asked::For(awaiting(options, Awaited::Branches));
+        return Ok(Asked::For(awaiting(options, Awaited::Branches)));
     }
     if same(word, b"--operations") {
-        return Asked::For(awaiting(options, Awaited::Operations));
+        return Ok(Asked::For(awaiting(options, Awaited::Operations)));
     }
     if same(word, b"--executions") {
-        return Asked::For(awaiting(options, Awaited::Executions));
+        return Ok(Asked::For(awaiting(options, Awaited::Executions)));
     }
     if same(word, b"--bound") {
-        return Asked::For(awaiting(options, Awaited::Bound));
+        return Ok(Asked::For(awaiting(options, Awaited::Bound)));
     }
     if same(word, b"--condition") {
-        return Asked::For(awaiting(options, Awaited::Condition));
+        return Ok(Asked::For(awaiting(options, Awaited::Condition)));
     }
-    refuse(b"unknown option ", word)
+    refuse(errors, b"unknown option ", word)
 }
 
 // The options as they are, with this awaited next.
@@ -251,43 +278,43 @@ fn with(options: Options, settings: Settings, task: Task, awaited: Awaited) -> O
 }
 
 // The number of `--branches`.
-fn take_branches(word: &[u8], options: Options) -> Asked {
+fn take_branches(errors: &impl Print, word: &[u8], options: Options) -> io::Result<Asked> {
     let Parsed::Number(n) = decimal::number_between(word, 1, MAX_BRANCHES) else {
-        return no_number(Awaited::Branches);
+        return no_number(errors, Awaited::Branches);
     };
     let mut settings = options.settings;
     settings.branches = n;
-    Asked::For(setting(options, settings))
+    Ok(Asked::For(setting(options, settings)))
 }
 
 // The number of `--operations`.
-fn take_operations(word: &[u8], options: Options) -> Asked {
+fn take_operations(errors: &impl Print, word: &[u8], options: Options) -> io::Result<Asked> {
     let Parsed::Number(n) = decimal::number_between(word, 1, MAX_OPERATIONS) else {
-        return no_number(Awaited::Operations);
+        return no_number(errors, Awaited::Operations);
     };
     let mut settings = options.settings;
     settings.operations = n;
-    Asked::For(setting(options, settings))
+    Ok(Asked::For(setting(options, settings)))
 }
 
 // The number of `--executions`.
-fn take_executions(word: &[u8], options: Options) -> Asked {
+fn take_executions(errors: &impl Print, word: &[u8], options: Options) -> io::Result<Asked> {
     let Parsed::Number(n) = decimal::number_between(word, 1, MAX_EXECUTIONS) else {
-        return no_number(Awaited::Executions);
+        return no_number(errors, Awaited::Executions);
     };
     let mut settings = options.settings;
     settings.executions = n;
-    Asked::For(setting(options, settings))
+    Ok(Asked::For(setting(options, settings)))
 }
 
 // The number of `--bound`.
-fn take_bound(word: &[u8], options: Options) -> Asked {
+fn take_bound(errors: &impl Print, word: &[u8], options: Options) -> io::Result<Asked> {
     let Parsed::Number(n) = decimal::number_between(word, 0, MAX_BOUND) else {
-        return no_number(Awaited::Bound);
+        return no_number(errors, Awaited::Bound);
     };
     let settings = options.settings;
     let settings = with_bound(settings, bound_of(n));
-    Asked::For(setting(options, settings))
+    Ok(Asked::For(setting(options, settings)))
 }
 
 // The settings with another bound, which is an enum, so the struct is made anew.
@@ -325,34 +352,34 @@ pub fn same(a: &[u8], b: &[u8]) -> bool {
 }
 
 // Names what is wrong, in one line on standard error, with the word that it is about.
-fn refuse(what: &[u8], word: &[u8]) -> Asked {
-    io::write_all(STDERR_FILENO, b"explore: ");
-    io::write_all(STDERR_FILENO, what);
-    io::write_all(STDERR_FILENO, word);
-    io::write_all(STDERR_FILENO, b"\n");
-    Asked::Refused
+fn refuse(errors: &impl Print, what: &[u8], word: &[u8]) -> io::Result<Asked> {
+    errors.write_all(b"explore: ")?;
+    errors.write_all(what)?;
+    errors.write_all(word)?;
+    errors.write_all(b"\n")?;
+    Ok(Asked::Refused)
 }
 
 // What an option takes is missing; or it is no number, or one out of range.
-fn no_number(awaited: Awaited) -> Asked {
+fn no_number(errors: &impl Print, awaited: Awaited) -> io::Result<Asked> {
     match awaited {
-        Awaited::Branches => out_of_range(b"--branches", 1, MAX_BRANCHES),
-        Awaited::Operations => out_of_range(b"--operations", 1, MAX_OPERATIONS),
-        Awaited::Executions => out_of_range(b"--executions", 1, MAX_EXECUTIONS),
-        Awaited::Bound => out_of_range(b"--bound", 0, MAX_BOUND),
-        Awaited::Condition => refuse(b"--condition takes a file", b""),
-        Awaited::Nothing => Asked::Refused,
+        Awaited::Branches => out_of_range(errors, b"--branches", 1, MAX_BRANCHES),
+        Awaited::Operations => out_of_range(errors, b"--operations", 1, MAX_OPERATIONS),
+        Awaited::Executions => out_of_range(errors, b"--executions", 1, MAX_EXECUTIONS),
+        Awaited::Bound => out_of_range(errors, b"--bound", 0, MAX_BOUND),
+        Awaited::Condition => refuse(errors, b"--condition takes a file", b""),
+        Awaited::Nothing => Ok(Asked::Refused),
     }
 }
 
 // Names the numbers that an option takes.
-fn out_of_range(option: &[u8], least: u64, most: u64) -> Asked {
-    io::write_all(STDERR_FILENO, b"explore: ");
-    io::write_all(STDERR_FILENO, option);
-    io::write_all(STDERR_FILENO, b" takes a number from ");
-    io::print_decimal(STDERR_FILENO, least);
-    io::write_all(STDERR_FILENO, b" to ");
-    io::print_decimal(STDERR_FILENO, most);
-    io::write_all(STDERR_FILENO, b"\n");
-    Asked::Refused
+fn out_of_range(errors: &impl Print, option: &[u8], least: u64, most: u64) -> io::Result<Asked> {
+    errors.write_all(b"explore: ")?;
+    errors.write_all(option)?;
+    errors.write_all(b" takes a number from ")?;
+    errors.print(least)?;
+    errors.write_all(b" to ")?;
+    errors.print(most)?;
+    errors.write_all(b"\n")?;
+    Ok(Asked::Refused)
 }

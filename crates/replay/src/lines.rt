@@ -2,7 +2,8 @@
 use crate::fields::MAX_U64;
 use crate::tally::Tally;
 use crate::{compare, tally};
-use libc::STDIN_FILENO;
+use std::io;
+use std::io::Read;
 
 // The longest line, and the buffer's size: where it is full, a line is longer.
 pub const LONGEST_LINE: usize = 262144;
@@ -26,39 +27,44 @@ enum More {
 
 // Replays every line of the input. Nothing says that an input ends, so the reads are counted down from a number that no
 // input reaches.
-pub fn replay(text: &mut [u8], path: &mut [u8], trace: &mut [u8]) -> Tally {
+pub fn replay<R: Read>(
+    rt: &(impl Print + Eprint),
+    input: &mut R,
+    text: &mut [u8],
+    path: &mut [u8],
+    trace: &mut [u8],
+) -> io::Result<Tally> {
     let mut now = tally::nothing();
     let mut kept = 0;
     let mut reads = MAX_U64;
     while 0 < reads {
-        match read_more(text, kept) {
+        match read_more(input, text, kept) {
             More::To(to) => {
-                let lines = whole_lines(front(text, to), path, trace, now);
+                let lines = whole_lines(rt, front(text, to), path, trace, now)?;
                 now = lines.tally;
                 kept = move_to_front(text, lines.end, to);
             }
-            More::Ended => return last_line(text, path, trace, kept, now),
-            More::Failed => return now.unreadable(),
+            More::Ended => return last_line(rt, text, path, trace, kept, now),
+            More::Failed => return now.unreadable(rt),
         }
         reads -= 1;
     }
-    now
+    Ok(now)
 }
 
 // Reads once, behind the first `kept` bytes. Where those fill the buffer, no more is read, as at the input's end.
-fn read_more(text: &mut [u8], kept: usize) -> More {
+fn read_more<R: Read>(input: &mut R, text: &mut [u8], kept: usize) -> More {
     if text.len() <= kept {
         return More::Ended;
     }
     let room = &mut text[kept..];
-    let got = libc::read(STDIN_FILENO, room);
-    if got < 0 {
+    let Ok(got) = input.read(room) else {
         return More::Failed;
-    }
+    };
     if got == 0 {
         return More::Ended;
     }
-    More::To(kept + io::count(got, room))
+    More::To(kept + got)
 }
 
 // The first `n` bytes, or all if there are fewer.
@@ -70,48 +76,67 @@ fn front(text: &[u8], n: usize) -> &[u8] {
 }
 
 // The line behind which the input ended, if there is one. If the buffer is full, it is the start of a longer one.
-fn last_line(text: &[u8], path: &mut [u8], trace: &mut [u8], kept: usize, now: Tally) -> Tally {
+fn last_line(
+    rt: &(impl Print + Eprint),
+    text: &[u8],
+    path: &mut [u8],
+    trace: &mut [u8],
+    kept: usize,
+    now: Tally,
+) -> io::Result<Tally> {
     if text.len() <= kept {
-        return now.too_long();
+        return now.too_long(rt);
     }
     if kept == 0 {
-        return now;
+        return Ok(now);
     }
-    line(front(text, kept), path, trace, now)
+    line(rt, front(text, kept), path, trace, now)
 }
 
 // Replays each line of a text that has its end.
-fn whole_lines(text: &[u8], path: &mut [u8], trace: &mut [u8], before: Tally) -> Replayed {
+fn whole_lines(
+    rt: &(impl Print + Eprint),
+    text: &[u8],
+    path: &mut [u8],
+    trace: &mut [u8],
+    before: Tally,
+) -> io::Result<Replayed> {
     let mut now = before;
     let mut from = 0;
     let mut i = 0;
     while i < text.len() {
         if text[i] == b'\n' {
-            now = line(&text[from..i], path, trace, now);
+            now = line(rt, &text[from..i], path, trace, now)?;
             from = i + 1;
         }
         i += 1;
     }
-    Replayed {
+    Ok(Replayed {
         end: from,
         tally: now,
-    }
+    })
 }
 
 // Replays one line, unless it is empty or a comment, or a line before it was no case.
-fn line(text: &[u8], path: &mut [u8], trace: &mut [u8], before: Tally) -> Tally {
+fn line(
+    rt: &(impl Print + Eprint),
+    text: &[u8],
+    path: &mut [u8],
+    trace: &mut [u8],
+    before: Tally,
+) -> io::Result<Tally> {
     if before.stopped {
-        return before;
+        return Ok(before);
     }
     let now = before.next_line();
     if text.len() == 0 {
-        return now;
+        return Ok(now);
     }
     if text[0] == b'#' {
-        return now;
+        return Ok(now);
     }
     let outcome = compare::replay_line(text, path, trace);
-    now.with(text, outcome)
+    now.with(rt, text, outcome)
 }
 
 // Moves the bytes from `from` up to `to` to the front; answers how many they are.

@@ -4,6 +4,7 @@
 
 use buffers::BUFFER_ROOM;
 use lines::LINE_ROOM;
+use std::io;
 
 mod buffers;
 mod case;
@@ -12,10 +13,10 @@ mod fields;
 mod lines;
 mod tally;
 
-fn main() {
+fn main(rt: HostRuntime) -> io::Result<()> {
     let mut text = [0u8; LINE_ROOM];
     let mut path = [0u8; BUFFER_ROOM];
     let mut trace = [0u8; BUFFER_ROOM];
-    let found = lines::replay(&mut text, &mut path, &mut trace);
-    tally::print(found);
+    let found = lines::replay(&rt, &mut rt.stdin(), &mut text, &mut path, &mut trace)?;
+    tally::print(&rt, found)
 }

@@ -2,8 +2,8 @@
 use crate::compare::Agreement;
 use crate::fields::{FIELDS, MAX_U64};
 use crate::lines::LONGEST_LINE;
-use libc::{STDERR_FILENO, STDOUT_FILENO};
 use numbers::{BEFORE_SUMMARIES, SUMMARY, places};
+use std::io;
 
 // The most cases whose first difference is shown.
 const SHOWN: u64 = 20;
@@ -41,17 +41,22 @@ impl Tally {
     }
 
     // Counts a case, and says what differs first if it does not agree.
-    pub fn with(mut self, line: &[u8], outcome: Agreement) -> Self {
+    pub fn with(
+        mut self,
+        rt: &(impl Print + Eprint),
+        line: &[u8],
+        outcome: Agreement,
+    ) -> io::Result<Self> {
         match outcome {
             Agreement::Count(count) => {
-                say_line(self.lines);
-                say_count(count);
-                return self.stop();
+                say_line(rt, self.lines)?;
+                say_count(rt, count)?;
+                return Ok(self.stop());
             }
             Agreement::Field(field) => {
-                say_line(self.lines);
-                say_field(field);
-                return self.stop();
+                say_line(rt, self.lines)?;
+                say_field(rt, field)?;
+                return Ok(self.stop());
             }
             Agreement::Agrees => {
                 self.agree = one_more(self.agree);
@@ -61,13 +66,13 @@ impl Tally {
             }
             _ => {
                 if self.differ < SHOWN {
-                    show(line, outcome);
+                    show(rt, line, outcome)?;
                 }
                 self.differ = one_more(self.differ);
             }
         }
         self.cases = one_more(self.cases);
-        self
+        Ok(self)
     }
 
     // Nothing more is replayed, and no tally is given.
@@ -77,22 +82,20 @@ impl Tally {
     }
 
     // A line does not fit the buffer.
-    pub fn too_long(self) -> Self {
+    pub fn too_long(self, rt: &impl Eprint) -> io::Result<Self> {
         if self.stopped {
-            return self;
+            return Ok(self);
         }
         let now = self.next_line();
-        say_line(now.lines);
-        io::write_all(STDERR_FILENO, b"it is longer than ");
-        io::print_decimal(STDERR_FILENO, LONGEST_LINE as u64);
-        io::write_all(STDERR_FILENO, b" bytes\n");
-        now.stop()
+        say_line(rt, now.lines)?;
+        eprintln!(rt; "it is longer than {LONGEST_LINE} bytes")?;
+        Ok(now.stop())
     }
 
     // The input cannot be read.
-    pub fn unreadable(self) -> Self {
-        io::write_all(STDERR_FILENO, b"standard input cannot be read\n");
-        self.stop()
+    pub fn unreadable(self, rt: &impl Eprint) -> io::Result<Self> {
+        eprintln!(rt; "standard input cannot be read")?;
+        Ok(self.stop())
     }
 }
 
@@ -105,117 +108,101 @@ fn one_more(n: u64) -> u64 {
 }
 
 // The last line of the output. A line that is no case has been named already, and then there is no tally.
-pub fn print(tally: Tally) {
+pub fn print(rt: &impl Print, tally: Tally) -> io::Result<()> {
     if tally.stopped {
-        return;
+        return Ok(());
     }
-    io::print_decimal(STDOUT_FILENO, tally.cases);
-    io::write_all(STDOUT_FILENO, b" cases, ");
-    io::print_decimal(STDOUT_FILENO, tally.agree);
-    io::write_all(STDOUT_FILENO, b" agree");
+    let cases = tally.cases;
+    let agree = tally.agree;
+    print!(rt; "{cases} cases, {agree} agree")?;
     if 0 < tally.unread {
-        io::write_all(STDOUT_FILENO, b", ");
-        io::print_decimal(STDOUT_FILENO, tally.unread);
-        io::write_all(STDOUT_FILENO, b" ask for longer buffers");
+        let unread = tally.unread;
+        print!(rt; ", {unread} ask for longer buffers")?;
     }
-    io::write_all(STDOUT_FILENO, b"\n");
+    println!(rt)
 }
 
 // The line that is no case, on standard error. What is wrong with it follows.
-fn say_line(line: u64) {
-    io::write_all(STDERR_FILENO, b"line ");
-    io::print_decimal(STDERR_FILENO, line);
-    io::write_all(STDERR_FILENO, b": ");
+fn say_line(rt: &impl Eprint, line: u64) -> io::Result<()> {
+    eprint!(rt; "line {line}: ")
 }
 
 // It has another number of fields.
-fn say_count(count: usize) {
-    io::write_all(STDERR_FILENO, b"an answered case has ");
-    io::print_decimal(STDERR_FILENO, FIELDS as u64);
-    io::write_all(STDERR_FILENO, b" fields, or ");
-    io::print_decimal(STDERR_FILENO, FIELDS as u64 + 1);
-    io::write_all(STDERR_FILENO, b" with a condition, and this line ");
+fn say_count(rt: &impl Eprint, count: usize) -> io::Result<()> {
+    let most = FIELDS as u64 + 1;
+    eprint!(rt;
+        "an answered case has {FIELDS} fields, or {most} with a condition, and this line "
+    )?;
     if FIELDS < count {
-        io::write_all(STDERR_FILENO, b"more\n");
-        return;
+        return eprintln!(rt; "more");
     }
-    io::print_decimal(STDERR_FILENO, count as u64);
-    io::write_all(STDERR_FILENO, b"\n");
+    eprintln!(rt; "{count}")
 }
 
 // A field of it has the wrong form.
-fn say_field(field: usize) {
-    io::write_all(STDERR_FILENO, b"field ");
-    io::print_decimal(STDERR_FILENO, (field % (FIELDS + 1) + 1) as u64);
-    io::write_all(STDERR_FILENO, b" is not what an answered case has there\n");
+fn say_field(rt: &impl Eprint, field: usize) -> io::Result<()> {
+    let number = field % (FIELDS + 1) + 1;
+    eprintln!(rt; "field {number} is not what an answered case has there")
 }
 
 // One line for a case that does not agree: its name, and what differs first.
-fn show(line: &[u8], outcome: Agreement) {
-    io::write_all(STDOUT_FILENO, name(line));
-    io::write_all(STDOUT_FILENO, b": ");
+fn show(rt: &impl Print, line: &[u8], outcome: Agreement) -> io::Result<()> {
+    rt.write_all(name(line))?;
+    print!(rt; ": ")?;
     match outcome {
         Agreement::Number {
             place,
             given,
             listed,
         } => {
-            show_number(place);
-            show_both(given, listed);
+            show_number(rt, place)?;
+            show_both(rt, given, listed)
         }
         Agreement::Path { at, given, listed } => {
-            io::write_all(STDOUT_FILENO, b"byte ");
-            io::print_decimal(STDOUT_FILENO, at as u64);
-            io::write_all(STDOUT_FILENO, b" of the path");
-            show_both(given, listed);
+            print!(rt; "byte {at} of the path")?;
+            show_both(rt, given, listed)
         }
         Agreement::Trace { at, given, listed } => {
-            io::write_all(STDOUT_FILENO, b"byte ");
-            io::print_decimal(STDOUT_FILENO, at as u64);
-            io::write_all(STDOUT_FILENO, b" of the trace");
-            show_both(given, listed);
+            print!(rt; "byte {at} of the trace")?;
+            show_both(rt, given, listed)
         }
-        _ => {}
+        _ => Ok(()),
     }
 }
 
 // The number or byte that was given, and the one that the list has.
-fn show_both(given: u64, listed: u64) {
-    io::write_all(STDOUT_FILENO, b" is ");
-    io::print_decimal(STDOUT_FILENO, given);
-    io::write_all(STDOUT_FILENO, b", the list says ");
-    io::print_decimal(STDOUT_FILENO, listed);
-    io::write_all(STDOUT_FILENO, b"\n");
+fn show_both(rt: &impl Print, given: u64, listed: u64) -> io::Result<()> {
+    println!(rt; " is {given}, the list says {listed}")
 }
 
 // The name of a report's number.
-fn show_number(place: usize) -> bool {
+fn show_number(rt: &impl Print, place: usize) -> io::Result<()> {
     match place {
-        places::ANSWER => io::write_all(STDOUT_FILENO, b"the answer"),
-        places::BEGUN => io::write_all(STDOUT_FILENO, b"executions begun"),
-        places::OPENED => io::write_all(STDOUT_FILENO, b"choices opened"),
-        places::STILL_OPEN => io::write_all(STDOUT_FILENO, b"choices open"),
-        places::ROWS => io::write_all(STDOUT_FILENO, b"rows begun"),
-        places::THREAD => io::write_all(STDOUT_FILENO, b"the thread at fault"),
-        places::ROW => io::write_all(STDOUT_FILENO, b"the row at fault"),
-        places::KIND => io::write_all(STDOUT_FILENO, b"the race kind"),
-        places::OTHER => io::write_all(STDOUT_FILENO, b"the other thread"),
-        _ => show_summary(place),
+        places::ANSWER => print!(rt; "the answer"),
+        places::BEGUN => print!(rt; "executions begun"),
+        places::OPENED => print!(rt; "choices opened"),
+        places::STILL_OPEN => print!(rt; "choices open"),
+        places::ROWS => print!(rt; "rows begun"),
+        places::THREAD => print!(rt; "the thread at fault"),
+        places::ROW => print!(rt; "the row at fault"),
+        places::KIND => print!(rt; "the race kind"),
+        places::OTHER => print!(rt; "the other thread"),
+        _ => show_summary(rt, place),
     }
 }
 
 // The name of a number of a thread's summary.
-fn show_summary(place: usize) -> bool {
+fn show_summary(rt: &impl Print, place: usize) -> io::Result<()> {
     if place < BEFORE_SUMMARIES {
-        return false;
+        return Ok(());
     }
-    io::write_all(STDOUT_FILENO, b"thread ");
-    io::print_decimal(STDOUT_FILENO, ((place - BEFORE_SUMMARIES) / SUMMARY) as u64);
+    let thread = (place - BEFORE_SUMMARIES) / SUMMARY;
+    print!(rt; "thread {thread}")?;
     match (place - BEFORE_SUMMARIES) % SUMMARY {
-        places::STATE => io::write_all(STDOUT_FILENO, b"'s state"),
-        places::THREAD_ROWS => io::write_all(STDOUT_FILENO, b"'s rows begun"),
-        places::YIELDS => io::write_all(STDOUT_FILENO, b"'s yields"),
-        _ => io::write_all(STDOUT_FILENO, b"'s own version"),
+        places::STATE => print!(rt; "'s state"),
+        places::THREAD_ROWS => print!(rt; "'s rows begun"),
+        places::YIELDS => print!(rt; "'s yields"),
+        _ => print!(rt; "'s own version"),
     }
 }
 

@@ -5,6 +5,7 @@
 use page::{PAGE_BYTES, Page};
 use report::{Counts, Report, answers};
 use settings::Settings;
+use std::io;
 
 mod last;
 mod out;
@@ -13,16 +14,17 @@ mod threads;
 // Prints all of a report; where nothing began, only what is wrong. The execution of a run that a limit ended is shortened,
 // unless it is wanted whole.
 pub fn print_report(
+    rt: &impl Print,
     table: &[u8],
     condition: &[u8],
     trace: &[u8],
     settings: Settings,
     whole: bool,
     report: Report,
-) {
+) -> io::Result<()> {
     let mut page = [0u8; PAGE_BYTES];
     let to = verdict::put(&mut page, 0, table, condition, trace, settings, report);
-    out::write(&page, to);
+    out::write(rt, &page, to)?;
     if 0 < report.begun {
         let threads = report.threads;
         let counts = Counts {
@@ -30,48 +32,63 @@ pub fn print_report(
             opened: report.opened,
             still_open: report.still_open,
         };
-        put_counts(&mut page, counts, report.rows);
-        threads::summaries(&mut page, threads);
-        ran(&mut page, table, trace, whole, report);
+        put_counts(rt, &mut page, counts, report.rows)?;
+        threads::summaries(rt, &mut page, threads)?;
+        ran(rt, &mut page, table, trace, whole, report)?;
         let to = summary::put_legend(&mut page, 0);
-        out::write(&page, to);
+        out::write(rt, &page, to)?;
     }
+    Ok(())
 }
 
 // Writes the last execution, and where it stopped.
-fn ran(page: &mut Page, table: &[u8], trace: &[u8], whole: bool, report: Report) {
+fn ran(
+    rt: &impl Print,
+    page: &mut Page,
+    table: &[u8],
+    trace: &[u8],
+    whole: bool,
+    report: Report,
+) -> io::Result<()> {
     let answer = report.answer;
     let number = report::number(answer);
     let threads = report.threads;
     let is_limit = limit::is_limit(number);
-    last::execution(page, table, trace, whole || !is_limit);
+    last::execution(rt, page, table, trace, whole || !is_limit)?;
     let to = stop::put_place(page, 0, table, report::at_fault(answer), is_limit);
-    out::write(page, to);
+    out::write(rt, page, to)?;
     if number == answers::DEADLOCK {
-        threads::waiting(page, table, trace, threads);
+        threads::waiting(rt, page, table, trace, threads)?;
     }
+    Ok(())
 }
 
 // Prints that a text is refused at a line and column, with that line of it. The name of its file comes first, where there is one.
-pub fn print_refusal(name: &[u8], text: &[u8], line: usize, column: usize) {
+pub fn print_refusal(
+    rt: &impl Print,
+    name: &[u8],
+    text: &[u8],
+    line: usize,
+    column: usize,
+) -> io::Result<()> {
     let mut page = [0u8; PAGE_BYTES];
     let to = excerpt::put(&mut page, 0, name, text, line, column);
-    out::write(&page, to);
+    out::write(rt, &page, to)
 }
 
 // Writes the four counts and the ledger.
-fn put_counts(page: &mut Page, counts: Counts, rows: u64) {
-    out::line(b"");
-    count(page, b"executions begun", counts.begun);
-    count(page, b"choices opened", counts.opened);
-    count(page, b"choices open", counts.still_open);
-    count(page, b"rows begun", rows);
+fn put_counts(rt: &impl Print, page: &mut Page, counts: Counts, rows: u64) -> io::Result<()> {
+    out::line(rt, b"")?;
+    count(rt, page, b"executions begun", counts.begun)?;
+    count(rt, page, b"choices opened", counts.opened)?;
+    count(rt, page, b"choices open", counts.still_open)?;
+    count(rt, page, b"rows begun", rows)?;
     let to = summary::put_ledger(page, 0, counts);
-    out::write(page, to);
+    out::write(rt, page, to)
 }
 
 // Writes one count.
-fn count(page: &mut Page, name: &[u8], n: u64) {
+fn count(rt: &impl Print, page: &mut Page, name: &[u8], n: u64) -> io::Result<()> {
     let to = summary::put_count(page, 0, name, n);
-    out::write(page, to);
+    out::write(rt, page, to)
 }

@@ -1,17 +1,18 @@
 // Pages and lines, written to standard output.
-use libc::STDOUT_FILENO;
 use page::Page;
+use std::io;
 
 // Writes so many bytes of a page.
-pub fn write(page: &Page, to: usize) {
+pub fn write(rt: &impl Print, page: &Page, to: usize) -> io::Result<()> {
     let text: &[u8] = page;
     if to <= text.len() {
-        io::write_all(STDOUT_FILENO, &text[0..to]);
+        rt.write_all(&text[0..to])?;
     }
+    Ok(())
 }
 
 // Writes a line that is one text.
-pub fn line(text: &[u8]) {
-    io::write_all(STDOUT_FILENO, text);
-    io::write_all(STDOUT_FILENO, b"\n");
+pub fn line(rt: &impl Print, text: &[u8]) -> io::Result<()> {
+    rt.write_all(text)?;
+    rt.write_all(b"\n")
 }
