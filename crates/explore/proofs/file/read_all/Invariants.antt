@@ -1,7 +1,6 @@
 use Prim.Native.Nat.{◌+◌, ◌≤◌, ◌-◌}
 use lib.ListN.{length}
 use mathlib.Core.Path.{◌≡◌}
-use borrow.Author.Rules.{rules}
 use Rattle.explore.proofs.file.read_all.Given as goal
 
 abbrev pub invariant-loop-reads : goal.invariant-loop-reads

@@ -1,7 +1,5 @@
-use mathlib.Core.Logic.{⊎_elim}
 use Prim.Native.Nat.{◌≤◌, ◌-◌}
 use lib.ListN.{length}
-use borrow.Author.Rules.{rules}
 use Rattle.replay.proofs.fields.split.Given as goal
 
 abbrev pub invariant-loop-i : goal.invariant-loop-i

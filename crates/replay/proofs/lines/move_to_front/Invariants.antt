@@ -1,7 +1,6 @@
 use Prim.Native.Nat.{◌≤◌, ◌-◌}
 use lib.ListN.{length}
 use mathlib.Core.Path.{◌≡◌}
-use borrow.Author.Rules.{rules}
 use Rattle.replay.proofs.lines.move_to_front.Given as goal
 
 abbrev pub invariant-loop-next : goal.invariant-loop-next

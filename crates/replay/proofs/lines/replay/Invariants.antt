@@ -1,6 +1,5 @@
 use lib.ListN.{length}
 use mathlib.Core.Path.{◌≡◌}
-use borrow.Author.Rules.{rules}
 use Rattle.replay.proofs.lines.replay.Given as goal
 
 abbrev pub invariant-loop-reads : goal.invariant-loop-reads

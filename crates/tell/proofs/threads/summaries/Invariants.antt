@@ -1,5 +1,4 @@
 use Prim.Native.Nat.{◌≤◌, ◌-◌}
-use borrow.Author.Rules.{rules}
 use Rattle.tell.proofs.threads.summaries.Given as goal
 
 abbrev pub invariant-loop-t : goal.invariant-loop-t
