@@ -30,8 +30,7 @@ use Rattle.change.specs.Changes.{change_meant}
 use Rattle.decode.specs.Ops.{op_of, decoded_of, InRange, OpWithin}
 use Rattle.decode.specs.declared.Op.{Op}
 use Rattle.decode.specs.declared.Op.TheVariants as code
-use Rattle.decode.specs.declared.Decoded.{Decoded}
-use Rattle.decode.specs.declared.Decoded.TheVariants.{Refused, Row as Says}
+use Rattle.std.specs.Prelude.{Option, Some, None}
 use Rattle.decode.specs.contracts.Op.{the_type}
 use Rattle.decode.proofs.NumberLaws.{all_but, by_number}
 use Rattle.accesses.specs.Reads.{read_done, reading_of, ReadWithin, Means}
@@ -40,8 +39,8 @@ use Rattle.accesses.specs.declared.Reading.TheVariants.{Nothing, Of}
 
 -- What is named is in range
 
-pub row_within : (row : Decoded) (op : Op) → row ≡ Says op → OpWithin row → InRange (op_of op)
-row_within row op e h = subst (λ (d : Decoded). OpWithin d) e h
+pub row_within : (row : Option Op) (op : Op) → row ≡ Some op → OpWithin row → InRange (op_of op)
+row_within row op e h = subst (λ (d : Option Op). OpWithin d) e h
 
 pub load-within : (op : Op) (c o r : ℕ) → op ≡ code.Load o c r → InRange (op_of op) → (c < 4) × (r < 4)
 load-within op c o r e h = subst (λ (p : Op). InRange (op_of p)) e h
@@ -104,14 +103,14 @@ module _ (clocks : Clocks) (marks : Marks) (values : Values) (numbers : Numbers)
   unfolding slots_from
   none = refl
 
-  pub offers-none : (row : Decoded) → row ≡ Refused → slots 0 dst ≡ offered (matched_for (state clocks marks values numbers) t (decoded_of row)) dst
-  offers-none row e = none ∙ sym (ap (λ (d : Decoded). offered (matched_for (state clocks marks values numbers) t (decoded_of d)) dst) e)
+  pub offers-none : (row : Option Op) → row ≡ None → slots 0 dst ≡ offered (matched_for (state clocks marks values numbers) t (decoded_of row)) dst
+  offers-none row e = none ∙ sym (ap (λ (d : Option Op). offered (matched_for (state clocks marks values numbers) t (decoded_of d)) dst) e)
 
-  module _ (row : Decoded) (op : Op) (says : row ≡ Says op) where
+  module _ (row : Option Op) (op : Op) (says : row ≡ Some op) where
     -- of the row, what there is of its opcode
     there : (x : Scan) → x ≡ offered (matched_for (state clocks marks values numbers) t (Table.decoded (op_of op))) dst →
         x ≡ offered (matched_for (state clocks marks values numbers) t (decoded_of row)) dst
-    there x f = f ∙ sym (ap (λ (d : Decoded). offered (matched_for (state clocks marks values numbers) t (decoded_of d)) dst) says)
+    there x f = f ∙ sym (ap (λ (d : Option Op). offered (matched_for (state clocks marks values numbers) t (decoded_of d)) dst) says)
 
     pub offers-load : (c o r : ℕ) → op ≡ code.Load o c r → (x : Scan) →
         x ≡ offered (matched_load clocks (marks_of marks c) numbers t c o) dst →
@@ -149,15 +148,15 @@ module _ (st : State) (t k slot mask : ℕ) where
       by-role (takes_bit r) e is = refl
       by-role otherwise e is = refl
 
-  pub from-refused : (row : Decoded) → row ≡ Refused → stops st Event.impossible ≡ read_from st t k slot mask (role_in (decoded_of row))
+  pub from-refused : (row : Option Op) → row ≡ None → stops st Event.impossible ≡ read_from st t k slot mask (role_in (decoded_of row))
   unfolding read_from
-  from-refused row e = sym (ap (λ (d : Decoded). read_from st t k slot mask (role_in (decoded_of d))) e)
+  from-refused row e = sym (ap (λ (d : Option Op). read_from st t k slot mask (role_in (decoded_of d))) e)
 
-  module _ (row : Decoded) (op : Op) (says : row ≡ Says op) (r : Reading) (is : r ≡ reading_of (role_of (op_of op))) where
+  module _ (row : Option Op) (op : Op) (says : row ≡ Some op) (r : Reading) (is : r ≡ reading_of (role_of (op_of op))) where
     -- of the row, by what was found that it reads
     by-found : (found : Reading) → r ≡ found → read_from st t k slot mask (role_in (decoded_of row)) ≡ reading_from found st t k slot mask (op_of op)
     by-found found e =
-        ap (λ (d : Decoded). read_from st t k slot mask (role_in (decoded_of d))) says
+        ap (λ (d : Option Op). read_from st t k slot mask (role_in (decoded_of d))) says
         ∙ by-reading (op_of op)
         ∙ ap (λ (x : Reading). reading_from x st t k slot mask (op_of op)) (sym is ∙ e)
 
@@ -172,5 +171,5 @@ module _ (st : State) (t k slot mask : ℕ) where
           move ≡ reads x t k (opcode_in (decoded_of row)) register slot mask → move ≡ read_from st t k slot mask (role_in (decoded_of row))
       from-live f x g move p =
           let q : move ≡ reads x t k (opcode_of (op_of op)) register slot mask =
-          subst (λ (d : Decoded). move ≡ reads x t k (opcode_in (decoded_of d)) register slot mask) says p in
+          subst (λ (d : Option Op). move ≡ reads x t k (opcode_in (decoded_of d)) register slot mask) says p in
           rw (by-found (Of cell register) e, ← live, f, ← g) q

@@ -19,7 +19,7 @@ ghost use Rattle.accesses.specs.Reads.{Means, read_done};
 
 use atomic::{AccessResult, Mutated};
 use change::Change;
-use decode::{Decoded, Op};
+use decode::Op;
 use event::{Fault, Here, Moved, NO_SLOT, Site};
 use layout::of_cell::COUNT;
 use layout::of_store::VALUE;
@@ -177,7 +177,7 @@ pub fn offers(
 {
     let site = here.site;
     let row = here.row;
-    let Decoded::Row(op) = row else {
+    let Some(op) = row else {
         return Matched::Offers(0);
     };
     match op {
@@ -209,7 +209,7 @@ pub fn read_from(
 {
     let site = here.site;
     let row = here.row;
-    let Decoded::Row(op) = row else {
+    let Some(op) = row else {
         return Moved::Stops(Fault::Impossible);
     };
     let Reading::Of { cell, register } = to_read(op) else {

@@ -19,8 +19,7 @@ use Rattle.decode.specs.contracts.Op as Op
 use Rattle.decode.proofs.NumberLaws.{all_but, by_number, no_number}
 use Rattle.decode.specs.declared.Op.{Op}
 use Rattle.decode.specs.declared.Op.TheVariants as code
-use Rattle.decode.specs.declared.Decoded.{Decoded}
-use Rattle.decode.specs.declared.Decoded.TheVariants.{Refused, Row as Says}
+use Rattle.std.specs.Prelude.{Option, Some, None}
 use Rattle.decode.specs.Ops.{op_of, decoded_of}
 use Rattle.coverage.specs.Covered.{count_of, row_op, switches, first_in_thread, first_from, first_switch, stores_pending, stores_to, one_if, summed, stores_in, store_count}
 use Rattle.coverage.specs.declared.search.Switch.{Switch}
@@ -123,17 +122,17 @@ stores-none op cell k = by-role (role_of (op_of op)) (role.told (op_of op))
     by-role (takes_bit r) e = refl
     by-role otherwise e = refl
 
-pub stores_as : (row : Decoded) (op m : Op) (cell r : ℕ) (b : Bool) → row ≡ Says op → op ≡ m → r ≡ one_if b →
+pub stores_as : (row : Option Op) (op m : Op) (cell r : ℕ) (b : Bool) → row ≡ Some op → op ≡ m → r ≡ one_if b →
     b ≡ stores_to cell (rules.decoded (op_of m)) → r ≡ one_if (stores_to cell (decoded_of row))
 stores_as row op m cell r b p q e s = rw (p, q) (e ∙ ap one_if s)
 
-pub stores-else : (row : Decoded) (op : Op) (cell : ℕ) → row ≡ Says op → OneOf others (tag_of Op.the_type op) →
+pub stores-else : (row : Option Op) (op : Op) (cell : ℕ) → row ≡ Some op → OneOf others (tag_of Op.the_type op) →
     0 ≡ one_if (stores_to cell (decoded_of row))
 stores-else row op cell p k = rw (p, stores-none op cell k)
 
 -- Which rows switch
 
-pub switches-none : (on : Bool) (row : Decoded) → row ≡ Refused → false ≡ switches on (decoded_of row)
+pub switches-none : (on : Bool) (row : Option Op) → row ≡ None → false ≡ switches on (decoded_of row)
 switches-none true row p = rw p
 switches-none false row p = rw p
 
@@ -143,7 +142,7 @@ switches-each : (said : Bool → Bool) (d : rules.Decoded rules.Op) → said tru
 switches-each said d p q true = p
 switches-each said d p q false = q
 
-module _ (on : Bool) (row : Decoded) (op : Op) (p : row ≡ Says op) where
+module _ (on : Bool) (row : Option Op) (op : Op) (p : row ≡ Some op) where
   pub switches_on : op ≡ code.ExploreState → on ≡ switches on (decoded_of row)
   switches_on q = rw (p, q) (switches-each (λ (b : Bool). b) _ refl refl on)
 
@@ -162,6 +161,6 @@ never false op k = neither (no_number still op k 13 tt) (no_number still op k 15
     neither : {a b : Bool} → false ≡ a → false ≡ b → false ≡ (a || b)
     neither p q = rw (← p, ← q)
 
-pub switches-else : (on : Bool) (row : Decoded) (op : Op) → row ≡ Says op → OneOf still (tag_of Op.the_type op) →
+pub switches-else : (on : Bool) (row : Option Op) (op : Op) → row ≡ Some op → OneOf still (tag_of Op.the_type op) →
     false ≡ switches on (decoded_of row)
 switches-else on row op p k = rw p (never on op k)

@@ -4,7 +4,7 @@ ghost use Rattle.decode.specs.Ops.{decoded_of};
 ghost use Rattle.coverage.specs.Covered.{first_switch, first_in_thread, store_count, stores_in, one_if, stores_to};
 ghost use Rattle.coverage.specs.Covered.{switches as switches_to};
 
-use decode::{Decoded, Op};
+use decode::Op;
 use layout::{MAX_THREADS, wide16};
 use table::{COUNTS, Shape};
 
@@ -48,10 +48,10 @@ fn first_in(table: &[u8], shape: &Shape, thread: usize, on: bool) -> usize
 }
 
 // Whether a row switches exploring on, or off.
-fn switches(row: Decoded, on: bool) -> bool
+fn switches(row: Option<Op>, on: bool) -> bool
     ensures { result ≡ switches_to on (decoded_of row) }
 {
-    let Decoded::Row(op) = row else {
+    let Some(op) = row else {
         return false;
     };
     match op {
@@ -92,10 +92,10 @@ fn stores_in(table: &[u8], shape: &Shape, thread: usize, cell: u64) -> u64
 }
 
 // 1 where a row may store to this cell, else 0.
-fn may_store(row: Decoded, cell: u64) -> u64
+fn may_store(row: Option<Op>, cell: u64) -> u64
     ensures { result ≡ one_if (stores_to cell (decoded_of row)) }
 {
-    let Decoded::Row(op) = row else {
+    let Some(op) = row else {
         return 0;
     };
     match op {

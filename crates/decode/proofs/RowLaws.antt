@@ -7,14 +7,15 @@
 use Prim.Native.Nat.{ℕ, zero, suc, ◌≤◌, ◌<◌, zero-le}
 use native.Mathlib.Omega.{arith}
 use mathlib.Core.Bool.{Bool, true, false, not, ◌&&◌, and_assoc, and-true}
-use mathlib.Core.List.{[], ◌∷◌}
 use mathlib.Core.Path.{◌≡◌, refl, ◌∙◌}
 use lib.Dec.{ltb, leb, eqb}
 use borrow.Author.Tests.{ne_eqb}
+use Rattle.std.specs.Prelude.{Option, Some, None, is_some}
 use Rattle.rules.specs.Change as rules
+use Rattle.change.specs.declared.Change as change
+use Rattle.change.specs.Changes.{change_meant}
 use Rattle.decode.specs.declared.Op as code
-use Rattle.decode.specs.declared.fields.ChangeDecoded.{ChangeDecoded}
-use Rattle.decode.specs.Ops.{op_of, change_decoded_of}
+use Rattle.decode.specs.Ops.{op_of, decoded_of, change_decoded_of}
 use Rattle.rules.specs.Table.{Row, Room, Op, Decoded, refused, decoded, only_if, row_decoded, change_decoded, load_row, store_row, store_register_row, rmw_row, fence_row, unsync_load_row, with_mut_row, opcode_of, is_fine, bare_row, join_row, jump_row, jump_on_row, check_row, spurious_row, plain_read_row, plain_write_row, any_order, is_load_order, is_store_order, is_fence_order, is_failure_order, is_register, load, store, store_register, rmw, fence, unsync_load, with_mut, join, jump, check, spurious, plain_read, plain_write}
 
 -- what the last arm of a match knows of x, that it is none of the numbers below n, in the form that a match hands over
@@ -78,8 +79,12 @@ module _ (kind a b : ℕ) where
 pub fine : {b : Bool} {d e : Decoded Op} → b ≡ is_fine d → d ≡ e → b ≡ is_fine e
 fine h e = rw (← e) h
 
+pub some-fine : {b : Bool} (d : Option code.Op) {e : Decoded Op} → b ≡ is_some d → decoded_of d ≡ e → b ≡ is_fine e
+some-fine None h e = rw (← e) h
+some-fine (Some op) h e = rw (← e) h
+
 -- what was taken apart: a change, an op
-pub meant : {x y : ChangeDecoded} {d : Decoded rules.Change} → x ≡ y → change_decoded_of x ≡ d → change_decoded_of y ≡ d
+pub meant : {x y : Option change.Change} {d : Decoded rules.Change} → x ≡ y → change_decoded_of x ≡ d → change_decoded_of y ≡ d
 meant e f = rw (← e) f
 
 pub told : {x y : code.Op} (n : ℕ) → x ≡ y → n ≡ opcode_of (op_of y) → n ≡ opcode_of (op_of x)
@@ -131,10 +136,12 @@ fine-only : (b : Bool) (x : Op) → b ≡ is_fine (only_if b x)
 fine-only true x = refl
 fine-only false x = refl
 
-pub rmw-judged : (cells : ℕ) (r : Row) {t : Bool} {w : Decoded rules.Change} {change : rules.Change} →
-    decoded change ≡ w → t ≡ rmw_fields cells r → t ≡ is_fine (rmw_row cells r w)
-rmw-judged cells r {t} {w} {change} e h =
-    h ∙ fine-only (rmw_fields cells r) (rmw r.object r.order r.failure change r.register) ∙ rw (← e) (simp (and_assoc, and-true))
+pub rmw-judged : (cells : ℕ) (r : Row) {s t : Bool} {w : Decoded rules.Change} (change : Option change.Change) →
+    s ≡ is_some change → change_decoded_of change ≡ w → t ≡ rmw_fields cells r → s && t ≡ is_fine (rmw_row cells r w)
+rmw-judged cells r None e f h = rw (e, ← f)
+rmw-judged cells r {s} {t} {w} (Some change) e f h =
+    rw e
+    (h ∙ fine-only (rmw_fields cells r) (rmw r.object r.order r.failure (change_meant change) r.register) ∙ rw (← f) (simp (and_assoc, and-true)))
 
 pub rmw-refused : (cells : ℕ) (r : Row) {w : Decoded rules.Change} → refused ≡ w → refused ≡ rmw_row cells r w
 rmw-refused cells r w = rw (← w)

@@ -1,14 +1,11 @@
 -- What the rows of this crate stand for in the definition, and what a row that is decoded names. Assumes nothing.
-use Rattle.std.specs.Prelude.{ℕ, ◌<◌}
+use Rattle.std.specs.Prelude.{◌<◌, Option, Some, None}
 use Rattle.rules.specs.Table as rules
 use Rattle.rules.specs.Change as changes
+use Rattle.change.specs.declared.Change.{Change}
 use Rattle.change.specs.Changes.{change_meant}
 use Rattle.decode.specs.declared.Op.{Op}
 use Rattle.decode.specs.declared.Op.TheVariants as code
-use Rattle.decode.specs.declared.Decoded.{Decoded}
-use Rattle.decode.specs.declared.Decoded.TheVariants.{Refused, Row as Says}
-use Rattle.decode.specs.declared.fields.ChangeDecoded.{ChangeDecoded}
-use Rattle.decode.specs.declared.fields.ChangeDecoded.TheVariants as decodes
 use Rattle.decode.specs.declared.Row.{Row}
 use Rattle.decode.specs.declared.Room.{Room}
 
@@ -33,13 +30,13 @@ op_of (code.Spurious register) = rules.spurious register
 op_of (code.PlainRead plain register) = rules.plain_read plain register
 op_of (code.PlainWrite plain value) = rules.plain_write plain value
 
-abbrev pub decoded_of : Decoded → rules.Decoded rules.Op
-decoded_of Refused = rules.refused
-decoded_of (Says op) = rules.decoded (op_of op)
+abbrev pub decoded_of : Option Op → rules.Decoded rules.Op
+decoded_of None = rules.refused
+decoded_of (Some op) = rules.decoded (op_of op)
 
-abbrev pub change_decoded_of : ChangeDecoded → rules.Decoded changes.Change
-change_decoded_of decodes.Refused = rules.refused
-change_decoded_of (decodes.Change change) = rules.decoded (change_meant change)
+abbrev pub change_decoded_of : Option Change → rules.Decoded changes.Change
+change_decoded_of None = rules.refused
+change_decoded_of (Some change) = rules.decoded (change_meant change)
 
 abbrev pub row_meant : Row → rules.Row
 row_meant r = record {
@@ -83,5 +80,5 @@ abbrev pub AllInRange : rules.Decoded rules.Op → Type 0
 AllInRange rules.refused = Unit
 AllInRange (rules.decoded op) = InRange op
 
-abbrev pub OpWithin : Decoded → Type 0
+abbrev pub OpWithin : Option Op → Type 0
 OpWithin r = AllInRange (decoded_of r)

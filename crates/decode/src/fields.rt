@@ -12,15 +12,8 @@ use change::Change;
 use layout::REGISTERS;
 use layout::order::{ACQ_REL, ACQUIRE, RELAXED, RELEASE, SEQ_CST};
 
-// A row's change with its operands, or that the row has none.
-#[derive(Clone, Copy)]
-pub enum ChangeDecoded {
-    Refused,
-    Change(Change),
-}
-
 // The change of this kind. All but the last use operand a; only compare and write uses operand b.
-pub fn change_of(kind: u8, a: u64, b: u64) -> ChangeDecoded
+pub fn change_of(kind: u8, a: u64, b: u64) -> Option<Change>
     ensures { change_decoded_of result ≡ rules.change_decoded kind a b }
 {
     match kind {
@@ -35,20 +28,20 @@ pub fn change_of(kind: u8, a: u64, b: u64) -> ChangeDecoded
         MIN => change_if(b == 0, Change::Min(a)),
         SIGNED_MAX => change_if(b == 0, Change::SignedMax(a)),
         SIGNED_MIN => change_if(b == 0, Change::SignedMin(a)),
-        COMPARE => ChangeDecoded::Change(Change::Compare(a, b)),
+        COMPARE => Some(Change::Compare(a, b)),
         DECREMENT => change_if((a == 0) & (b == 0), Change::Decrement),
-        13..=255 => ChangeDecoded::Refused,
+        13..=255 => None,
     }
 }
 
 // The change, where the operands that it does not use are zero.
-fn change_if(fine: bool, change: Change) -> ChangeDecoded
+fn change_if(fine: bool, change: Change) -> Option<Change>
     ensures { change_decoded_of result ≡ rules.only_if fine (change_meant change) }
 {
     if fine {
-        return ChangeDecoded::Change(change);
+        return Some(change);
     }
-    ChangeDecoded::Refused
+    None
 }
 
 // Whether a cell or a thread exists, where there are this many.

@@ -12,8 +12,7 @@ pub mod opcodes;
 
 use change::Change;
 use fields::{
-    ChangeDecoded, change_of, is_failure_order, is_register, leads_on, named, no_change,
-    no_operands, reached,
+    change_of, is_failure_order, is_register, leads_on, named, no_change, no_operands, reached,
 };
 pub use fields::{is_fence_order, is_load_order, is_store_order};
 use layout::order::SEQ_CST;
@@ -98,13 +97,6 @@ pub enum Op {
     },
 }
 
-// What a row says, or that it is refused.
-#[derive(Clone, Copy)]
-pub enum Decoded {
-    Refused,
-    Row(Op),
-}
-
 // What a row may name: so many threads, cells and plain cells, and the rows of its thread, which a jump may lead to; and the row's
 // own number, which a jump without a test may not have as its target.
 #[derive(Clone, Copy)]
@@ -131,7 +123,7 @@ pub struct Row {
 }
 
 // What this row does, in this room. Opcodes stand here as document 01 numbers them, and from 19 on all are refused.
-pub fn row_decoded(row: Row, room: Room) -> Decoded
+pub fn row_decoded(row: Row, room: Room) -> Option<Op>
     ensures { decoded_of result ≡ rules.row_decoded (room_meant room) (row_meant row) }
 {
     let opcode = row.opcode;
@@ -155,7 +147,7 @@ pub fn row_decoded(row: Row, room: Room) -> Decoded
         16 => spurious_row(row),
         17 => plain_read_row(row, room.plains),
         18 => plain_write_row(row, room.plains),
-        19..=255 => Decoded::Refused,
+        19..=255 => None,
     }
 }
 
@@ -166,40 +158,31 @@ pub fn is_row(row: Row, room: Room) -> bool
 {
     let opcode = row.opcode;
     match opcode {
-        LOAD => is_decoded(load_row(row, room.cells)),
-        STORE => is_decoded(store_row(row, room.cells)),
-        STORE_REGISTER => is_decoded(store_register_row(row, room.cells)),
+        LOAD => load_row(row, room.cells).is_some(),
+        STORE => store_row(row, room.cells).is_some(),
+        STORE_REGISTER => store_register_row(row, room.cells).is_some(),
         RMW => is_rmw(row, room.cells),
-        FENCE => is_decoded(fence_row(row)),
-        UNSYNC_LOAD => is_decoded(unsync_load_row(row, room.cells)),
-        WITH_MUT => is_decoded(with_mut_row(row, room.cells)),
-        YIELD => is_decoded(bare_row(row, Op::Yield)),
-        JOIN => is_decoded(join_row(row, room.threads)),
-        JUMP => is_decoded(jump_row(row, room.rows, room.row)),
-        JUMP_IF => is_decoded(jump_if_row(row, room.rows)),
-        JUMP_UNLESS => is_decoded(jump_unless_row(row, room.rows)),
-        CHECK => is_decoded(check_row(row)),
-        CRITICAL => is_decoded(bare_row(row, Op::Critical)),
-        EXPLORE_STATE => is_decoded(bare_row(row, Op::ExploreState)),
-        SKIP_BRANCH => is_decoded(bare_row(row, Op::SkipBranch)),
-        SPURIOUS => is_decoded(spurious_row(row)),
-        PLAIN_READ => is_decoded(plain_read_row(row, room.plains)),
-        PLAIN_WRITE => is_decoded(plain_write_row(row, room.plains)),
+        FENCE => fence_row(row).is_some(),
+        UNSYNC_LOAD => unsync_load_row(row, room.cells).is_some(),
+        WITH_MUT => with_mut_row(row, room.cells).is_some(),
+        YIELD => bare_row(row, Op::Yield).is_some(),
+        JOIN => join_row(row, room.threads).is_some(),
+        JUMP => jump_row(row, room.rows, room.row).is_some(),
+        JUMP_IF => jump_if_row(row, room.rows).is_some(),
+        JUMP_UNLESS => jump_unless_row(row, room.rows).is_some(),
+        CHECK => check_row(row).is_some(),
+        CRITICAL => bare_row(row, Op::Critical).is_some(),
+        EXPLORE_STATE => bare_row(row, Op::ExploreState).is_some(),
+        SKIP_BRANCH => bare_row(row, Op::SkipBranch).is_some(),
+        SPURIOUS => spurious_row(row).is_some(),
+        PLAIN_READ => plain_read_row(row, room.plains).is_some(),
+        PLAIN_WRITE => plain_write_row(row, room.plains).is_some(),
         19..=255 => false,
     }
 }
 
-fn is_decoded(decoded: Decoded) -> bool
-    ensures { result ≡ rules.is_fine (decoded_of decoded) }
-{
-    match decoded {
-        Decoded::Row(_) => true,
-        Decoded::Refused => false,
-    }
-}
-
 // A load uses cell, order and the register that it loads into.
-fn load_row(row: Row, cells: usize) -> Decoded
+fn load_row(row: Row, cells: usize) -> Option<Op>
     ensures { decoded_of result ≡ rules.load_row cells (row_meant row) }
 {
     let cell = wide8(row.object);
@@ -220,7 +203,7 @@ fn load_row(row: Row, cells: usize) -> Decoded
 }
 
 // A store of operand a uses cell and order beside it.
-fn store_row(row: Row, cells: usize) -> Decoded
+fn store_row(row: Row, cells: usize) -> Option<Op>
     ensures { decoded_of result ≡ rules.store_row cells (row_meant row) }
 {
     only_if(
@@ -239,7 +222,7 @@ fn store_row(row: Row, cells: usize) -> Decoded
 }
 
 // A store of a register uses cell and order beside it.
-fn store_register_row(row: Row, cells: usize) -> Decoded
+fn store_register_row(row: Row, cells: usize) -> Option<Op>
     ensures { decoded_of result ≡ rules.store_register_row cells (row_meant row) }
 {
     only_if(
@@ -258,12 +241,10 @@ fn store_register_row(row: Row, cells: usize) -> Decoded
 }
 
 // An RMW uses cell, order, change kind and register, and what its change uses.
-fn rmw_row(row: Row, cells: usize) -> Decoded
+fn rmw_row(row: Row, cells: usize) -> Option<Op>
     ensures { decoded_of result ≡ rules.rmw_row cells (row_meant row) (rules.change_decoded row.kind row.a row.b) }
 {
-    let ChangeDecoded::Change(change) = change_of(row.kind, row.a, row.b) else {
-        return Decoded::Refused;
-    };
+    let change = change_of(row.kind, row.a, row.b)?;
     only_if(
         rmw_fields(row, cells),
         Op::Rmw {
@@ -281,10 +262,7 @@ fn rmw_row(row: Row, cells: usize) -> Decoded
 fn is_rmw(row: Row, cells: usize) -> bool
     ensures { result ≡ rules.is_fine (rules.rmw_row cells (row_meant row) (rules.change_decoded row.kind row.a row.b)) }
 {
-    let ChangeDecoded::Change(_) = change_of(row.kind, row.a, row.b) else {
-        return false;
-    };
-    rmw_fields(row, cells)
+    change_of(row.kind, row.a, row.b).is_some() & rmw_fields(row, cells)
 }
 
 // Whether the fields beside its change are those of an RMW.
@@ -299,7 +277,7 @@ fn rmw_fields(row: Row, cells: usize) -> bool
 }
 
 // A fence uses the order.
-fn fence_row(row: Row) -> Decoded
+fn fence_row(row: Row) -> Option<Op>
     ensures { decoded_of result ≡ rules.fence_row (row_meant row) }
 {
     only_if(
@@ -314,7 +292,7 @@ fn fence_row(row: Row) -> Decoded
 }
 
 // An unsynchronised load uses cell and register.
-fn unsync_load_row(row: Row, cells: usize) -> Decoded
+fn unsync_load_row(row: Row, cells: usize) -> Option<Op>
     ensures { decoded_of result ≡ rules.unsync_load_row cells (row_meant row) }
 {
     only_if(
@@ -332,12 +310,10 @@ fn unsync_load_row(row: Row, cells: usize) -> Decoded
 }
 
 // An exclusive change uses cell, change kind and register, and the operands of its change.
-fn with_mut_row(row: Row, cells: usize) -> Decoded
+fn with_mut_row(row: Row, cells: usize) -> Option<Op>
     ensures { decoded_of result ≡ rules.with_mut_row cells (row_meant row) (rules.change_decoded row.kind row.a row.b) }
 {
-    let ChangeDecoded::Change(change) = change_of(row.kind, row.a, row.b) else {
-        return Decoded::Refused;
-    };
+    let change = change_of(row.kind, row.a, row.b)?;
     only_if(
         named(row.object, cells)
             & is_register(row.register)
@@ -353,7 +329,7 @@ fn with_mut_row(row: Row, cells: usize) -> Decoded
 }
 
 // A yield, and the three that steer exploring, use nothing.
-fn bare_row(row: Row, op: Op) -> Decoded
+fn bare_row(row: Row, op: Op) -> Option<Op>
     ensures { decoded_of result ≡ rules.bare_row (op_of op) (row_meant row) }
 {
     only_if(
@@ -368,7 +344,7 @@ fn bare_row(row: Row, op: Op) -> Decoded
 }
 
 // A join uses the thread.
-fn join_row(row: Row, threads: usize) -> Decoded
+fn join_row(row: Row, threads: usize) -> Option<Op>
     ensures { decoded_of result ≡ rules.join_row threads (row_meant row) }
 {
     only_if(
@@ -385,7 +361,7 @@ fn join_row(row: Row, threads: usize) -> Decoded
 }
 
 // A jump uses the target, which may be the row count but not the jump's own number: it would never end.
-fn jump_row(row: Row, count: usize, own: usize) -> Decoded
+fn jump_row(row: Row, count: usize, own: usize) -> Option<Op>
     ensures { decoded_of result ≡ rules.jump_row count own (row_meant row) }
 {
     only_if(
@@ -401,7 +377,7 @@ fn jump_row(row: Row, count: usize, own: usize) -> Decoded
 }
 
 // A jump on a test uses register, operand a and target.
-fn jump_if_row(row: Row, count: usize) -> Decoded
+fn jump_if_row(row: Row, count: usize) -> Option<Op>
     ensures { decoded_of result ≡ rules.jump_on_row rules.jump_if count (row_meant row) }
 {
     let register = wide8(row.register);
@@ -418,7 +394,7 @@ fn jump_if_row(row: Row, count: usize) -> Decoded
     )
 }
 
-fn jump_unless_row(row: Row, count: usize) -> Decoded
+fn jump_unless_row(row: Row, count: usize) -> Option<Op>
     ensures { decoded_of result ≡ rules.jump_on_row rules.jump_unless count (row_meant row) }
 {
     let register = wide8(row.register);
@@ -436,7 +412,7 @@ fn jump_unless_row(row: Row, count: usize) -> Decoded
 }
 
 // What both ask of a row that is to be this jump.
-fn jump_on_row(row: Row, count: usize, op: Op) -> Decoded
+fn jump_on_row(row: Row, count: usize, op: Op) -> Option<Op>
     ensures { decoded_of result ≡ rules.jump_on_row (λ (register a target : ℕ). op_of op) count (row_meant row) }
 {
     only_if(
@@ -451,7 +427,7 @@ fn jump_on_row(row: Row, count: usize, op: Op) -> Decoded
 }
 
 // A check uses register and operand a.
-fn check_row(row: Row) -> Decoded
+fn check_row(row: Row) -> Option<Op>
     ensures { decoded_of result ≡ rules.check_row (row_meant row) }
 {
     only_if(
@@ -469,7 +445,7 @@ fn check_row(row: Row) -> Decoded
 }
 
 // A spurious choice uses the register.
-fn spurious_row(row: Row) -> Decoded
+fn spurious_row(row: Row) -> Option<Op>
     ensures { decoded_of result ≡ rules.spurious_row (row_meant row) }
 {
     only_if(
@@ -486,7 +462,7 @@ fn spurious_row(row: Row) -> Decoded
 }
 
 // A plain read uses the plain cell and the register.
-fn plain_read_row(row: Row, plains: usize) -> Decoded
+fn plain_read_row(row: Row, plains: usize) -> Option<Op>
     ensures { decoded_of result ≡ rules.plain_read_row plains (row_meant row) }
 {
     only_if(
@@ -504,7 +480,7 @@ fn plain_read_row(row: Row, plains: usize) -> Decoded
 }
 
 // A plain write uses the plain cell and operand a.
-fn plain_write_row(row: Row, plains: usize) -> Decoded
+fn plain_write_row(row: Row, plains: usize) -> Option<Op>
     ensures { decoded_of result ≡ rules.plain_write_row plains (row_meant row) }
 {
     only_if(
@@ -522,13 +498,13 @@ fn plain_write_row(row: Row, plains: usize) -> Decoded
 }
 
 // The row, where it passed its tests.
-fn only_if(fine: bool, op: Op) -> Decoded
+fn only_if(fine: bool, op: Op) -> Option<Op>
     ensures { decoded_of result ≡ rules.only_if fine (op_of op) }
 {
     if fine {
-        return Decoded::Row(op);
+        return Some(op);
     }
-    Decoded::Refused
+    None
 }
 
 // The opcode's number.

@@ -2,7 +2,7 @@
 // how a tick comes out. Each stands for a case of the definition (specs/Moves).
 #![tactic(auto)]
 
-use decode::Decoded;
+use decode::Op;
 use layout::Operation;
 
 // Why a run stops within an execution: document 01's answers from 10 on. Impossible stands for a number read back that
@@ -31,7 +31,7 @@ pub struct Site {
 #[derive(Clone, Copy)]
 pub struct Here {
     pub site: Site,
-    pub row: Decoded,
+    pub row: Option<Op>,
 }
 
 // A pending operation, what a thread is about to do and to which cell: the one that a row sets, or that a thread has.

@@ -25,14 +25,13 @@ use Rattle.event.specs.contracts.Moved as Event'
 use Rattle.event.specs.declared.Question.TheVariants as question
 use Rattle.event.specs.Moves.{move_of, matched_for}
 use Rattle.decode.specs.declared.Op.{Op}
-use Rattle.decode.specs.declared.Decoded.{Decoded}
-use Rattle.decode.specs.declared.Decoded.TheVariants.{Refused, Row as Says}
+use Rattle.std.specs.Prelude.{Option, Some, None}
 use Rattle.decode.specs.Ops.{op_of, decoded_of, InRange, OpWithin}
 use Rattle.rows.specs.Begins.{begun_to, then_acts}
 use Rattle.rows.proofs.RowLaws.{begins-to}
 use Rattle.execution.specs.Next.{next_with}
 
-pub row_within : (row : Decoded) (op : Op) → row ≡ Says op → OpWithin row → InRange (op_of op)
+pub row_within : (row : Option Op) (op : Op) → row ≡ Some op → OpWithin row → InRange (op_of op)
 row_within row op e h = rw e at h
 
 -- the places of the events that are not that it moves, among the variants
@@ -87,7 +86,7 @@ pub next-with : (p : Program) (st : State) (t k count : ℕ) (row : rules.Decode
 unfolding next_with next_at
 next-with p st t k count row e f = rw (← e, ← f)
 
-module _ (p : Program) (st : State) (t k count : ℕ) (b : Bool) (asked : b ≡ is_to_begin st t) (row : Decoded) where
+module _ (p : Program) (st : State) (t k count : ℕ) (b : Bool) (asked : b ≡ is_to_begin st t) (row : Option Op) where
   pub next-ended : b ≡ true → count ≤ k → (left : State) → left ≡ thread_ended st t → schedules left [] ≡ next_with p st t k count (decoded_of row)
   unfolding next_with
   next-ended y h left e =
@@ -99,11 +98,11 @@ module _ (p : Program) (st : State) (t k count : ℕ) (b : Bool) (asked : b ≡ 
   not-past (inr n) = let f : is_to_begin st t ≡ false = sym asked ∙ n in rw f
 
   module _ (stays : (k < count) ⊎ (b ≡ false)) where
-    pub next-refused : row ≡ Refused → stops st Event.impossible ≡ next_with p st t k count (decoded_of row)
+    pub next-refused : row ≡ None → stops st Event.impossible ≡ next_with p st t k count (decoded_of row)
     unfolding next_with
     next-refused e = rw (not-past stays, e)
 
-    module _ (op : Op) (e : row ≡ Says op) where
+    module _ (op : Op) (e : row ≡ Some op) where
       pub next-begins : b ≡ true → (out : Move State) → out ≡ begins p st t k (op_of op) → out ≡ next_with p st t k count (decoded_of row)
       unfolding next_with
       next-begins y out h =
@@ -122,6 +121,6 @@ module _ (p : Program) (st : State) (t k count : ℕ) (b : Bool) (asked : b ≡ 
 
       pub next-acts : (now : State) → ((b ≡ true) × (acts p now t k (op_of op) ≡ begins p st t k (op_of op))) ⊎ ((b ≡ false) × (now ≡ st)) →
           (r : code.Moved) (left : State) →
-          move_of r t k (opcode_of (op_of op)) (matched_for left t (decoded_of (Says op))) left ≡ acts p now t k (op_of op) →
+          move_of r t k (opcode_of (op_of op)) (matched_for left t (decoded_of (Some op))) left ≡ acts p now t k (op_of op) →
           move_of r t k (opcode_in (decoded_of row)) (matched_for left t (decoded_of row)) left ≡ next_with p st t k count (decoded_of row)
       next-acts now came r left h = rw e (h ∙ (rw e at (acting now came)))

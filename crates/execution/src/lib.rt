@@ -15,7 +15,7 @@ ghost use Rattle.execution.specs.Answers.{Answers, ChoiceWithin};
 ghost use Rattle.execution.specs.Next.{next_with};
 ghost use Rattle.execution.specs.Stores.{Stores};
 
-use decode::{Decoded, Op};
+use decode::Op;
 use event::{Fault, Here, Moved, Picked, Question, Site};
 use layout::of_thread::REGISTER;
 use layout::{Access, Clocks, Marks, Numbers, Values, register_at, wide16};
@@ -55,7 +55,7 @@ pub fn next(
             };
         }
     }
-    let Decoded::Row(op) = row else {
+    let Some(op) = row else {
         return Moved::Stops(Fault::Impossible);
     };
     if to_begin {
@@ -79,7 +79,7 @@ pub fn act(
     cells: usize,
 ) -> Moved
     requires { (site.thread < 5) × (cells ≤ 4) × InRange (op_of op) }
-    ensures { (p : machine.Program) → cells_of p.table ≡ cells → move_of result site.thread site.row (opcode_of (op_of op)) (matched_for (state clocks.new marks.new values.new numbers.new) site.thread (decoded_of (Decoded.Row op))) (state clocks.new marks.new values.new numbers.new) ≡ machine.acts p (state clocks.old marks.old values.old numbers.old) site.thread site.row (op_of op) }
+    ensures { (p : machine.Program) → cells_of p.table ≡ cells → move_of result site.thread site.row (opcode_of (op_of op)) (matched_for (state clocks.new marks.new values.new numbers.new) site.thread (decoded_of (Some op))) (state clocks.new marks.new values.new numbers.new) ≡ machine.acts p (state clocks.old marks.old values.old numbers.old) site.thread site.row (op_of op) }
 {
     match op {
         Op::Load { .. } => ask_slot(clocks, site.thread),

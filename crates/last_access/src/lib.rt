@@ -8,7 +8,7 @@ ghost use Rattle.decode.specs.Ops.{op_of};
 ghost use Rattle.last_access.specs.Access.{cell_in, is_success, stores_after, accesses, is_access, last_access_step};
 
 use change::{Change, Changed};
-use decode::{Decoded, Op};
+use decode::Op;
 
 // The cell of a row that names none.
 pub const NO_CELL: u64 = 255;
@@ -49,7 +49,7 @@ pub fn last(table: &[u8], trace: &[u8], thread: u64, access: CellAccess, n: usiz
 fn is_access(table: &[u8], trace: &[u8], thread: u64, access: CellAccess, i: usize) -> bool
     ensures { result ≡ is_access table.now trace.now thread access.cell access.kind i }
 {
-    let Decoded::Row(op) = steps::operation(table, trace, i) else {
+    let Some(op) = steps::operation(table, trace, i) else {
         return false;
     };
     let kind = access.kind;

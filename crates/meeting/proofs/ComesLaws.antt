@@ -23,8 +23,7 @@ use Rattle.trace.proofs.TraceLaws.{length-entry_bytes}
 use Rattle.rules.specs.Table.{opcode_of, opcode_in}
 use Rattle.decode.specs.Ops.{op_of, decoded_of}
 use Rattle.decode.specs.declared.Op.{Op}
-use Rattle.decode.specs.declared.Decoded.{Decoded}
-use Rattle.decode.specs.declared.Decoded.TheVariants as decode
+use Rattle.std.specs.Prelude.{Option, Some, None}
 use Rattle.event.specs.Moves.{fault_of}
 use Rattle.event.specs.declared.Moved.{Moved}
 use Rattle.event.specs.declared.Moved.TheVariants as event
@@ -41,11 +40,11 @@ use Rattle.meeting.specs.declared.Outcome.TheVariants as code
 use Rattle.meeting.specs.declared.Ticked.{Ticked}
 use Rattle.meeting.specs.Entries.{Kept, landed, opcode_at, noted_at, completed_at, concluded_at, Wrote, Lands, with_trace}
 
-pub opcode-of : (row : Decoded) (op : Op) → row ≡ decode.Row op → opcode_of (op_of op) ≡ opcode_in (decoded_of row)
-opcode-of row op e = sym (ap (λ (r : Decoded). opcode_in (decoded_of r)) e)
+pub opcode-of : (row : Option Op) (op : Op) → row ≡ Some op → opcode_of (op_of op) ≡ opcode_in (decoded_of row)
+opcode-of row op e = sym (ap (λ (r : Option Op). opcode_in (decoded_of r)) e)
 
-pub opcode-refused : (row : Decoded) → row ≡ decode.Refused → 255 ≡ opcode_in (decoded_of row)
-opcode-refused row e = sym (ap (λ (r : Decoded). opcode_in (decoded_of r)) e)
+pub opcode-refused : (row : Option Op) → row ≡ None → 255 ≡ opcode_in (decoded_of row)
+opcode-refused row e = sym (ap (λ (r : Option Op). opcode_in (decoded_of r)) e)
 
 -- a cursor that is left as it is
 pub same-stands : {x : Lent} {c d : Cursor} {w : Walk State} → SameCursor c d → Stands x c w → Stands x d w

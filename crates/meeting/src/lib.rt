@@ -11,7 +11,7 @@ ghost use Rattle.meeting.specs.Stands.{GoesOn, FaultMet};
 ghost use Rattle.meeting.specs.Branches.{CursorMarks, MarksThreads, Reaches, added_at, reached_at, PushedFew, AddedTo, RepliesBy};
 ghost use Rattle.meeting.specs.Entries.{Lands, noted_at, completed_at, concluded_at};
 
-use decode::Decoded;
+use decode::Op;
 use decode::opcodes::NO_OPCODE;
 use event::{Fault, Here, Moved, NO_SLOT, Picked, Question, Site};
 use layout::of_run::EXPLORING;
@@ -259,12 +259,12 @@ fn note(trace: &mut [u8], here: Here, slot: u8, mask: u8, value: u64, mut cursor
 }
 
 // The opcode of a row; 255 of one that is none.
-fn opcode_in(row: Decoded) -> u8
+fn opcode_in(row: Option<Op>) -> u8
     ensures { result ≡ opcode_in (decoded_of row) }
 {
     match row {
-        Decoded::Row(op) => table::opcode(op),
-        Decoded::Refused => NO_OPCODE,
+        Some(op) => table::opcode(op),
+        None => NO_OPCODE,
     }
 }
 

@@ -8,7 +8,7 @@ ghost use Rattle.decode.specs.Ops.{op_of};
 ghost use Rattle.outcome.specs.Comes.{change_came, came_of, came_of_step};
 
 use change::{Change, Changed};
-use decode::{Decoded, Op};
+use decode::Op;
 use steps::held;
 use steps::held::Held;
 
@@ -32,7 +32,7 @@ pub enum Came {
 pub fn of_step(table: &[u8], trace: &[u8], held: &Held, i: usize) -> Came
     ensures { result ≡ came_of_step table.now trace.now held.now i }
 {
-    let Decoded::Row(op) = steps::operation(table, trace, i) else {
+    let Some(op) = steps::operation(table, trace, i) else {
         return Came::Nothing;
     };
     let thread = steps::thread(trace, i);

@@ -6,7 +6,7 @@ ghost use Rattle.rules.specs.Token.{bytes_of};
 ghost use Rattle.page.specs.Pages.{page_of, put_text};
 ghost use Rattle.race.specs.Races.{cell_at, race_said, access_name, put_where, put_met, put_step, put_before, put_race};
 
-use decode::Decoded;
+use decode::Op;
 use last_access::{AccessKind, CellAccess, NO_CELL};
 use layout::races;
 use page::Page;
@@ -118,7 +118,7 @@ fn put_step(page: &mut Page, at: usize, trace: &[u8], other: u64, step: u64) -> 
 fn cell_at(table: &[u8], site: AtFault) -> u64
     ensures { result ≡ cell_at table.now site.thread site.row }
 {
-    let Decoded::Row(op) = steps::row_of(table, (site.thread % 256) as u8, (site.row % 256) as u8)
+    let Some(op) = steps::row_of(table, (site.thread % 256) as u8, (site.row % 256) as u8)
     else {
         return NO_CELL;
     };

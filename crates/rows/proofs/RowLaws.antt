@@ -36,8 +36,7 @@ use Rattle.decode.specs.contracts.Op as Op
 use Rattle.decode.proofs.NumberLaws.{all_but, by_number}
 use Rattle.decode.specs.declared.Op.{Op}
 use Rattle.decode.specs.declared.Op.TheVariants as code
-use Rattle.decode.specs.declared.Decoded.{Decoded}
-use Rattle.decode.specs.declared.Decoded.TheVariants.{Refused, Row as Says}
+use Rattle.std.specs.Prelude.{Option, Some, None}
 use Rattle.decode.specs.Ops.{op_of, decoded_of, InRange, OpWithin}
 use Rattle.layout.specs.declared.Operation.{Operation}
 use Rattle.event.specs.declared.Pending.{Pending}
@@ -193,7 +192,7 @@ abbrev bitless : List ℕ
 bitless = all_but (16 ∷ [])
 
 module _ (st : State) (t k v : ℕ) where
-  pub bit-refused : (row : Decoded) → row ≡ Refused → stops st Event.impossible ≡ bit_taken st t k v (role_in (decoded_of row))
+  pub bit-refused : (row : Option Op) → row ≡ None → stops st Event.impossible ≡ bit_taken st t k v (role_in (decoded_of row))
   unfolding bit_taken
   bit-refused row e = rw e
 
@@ -209,20 +208,20 @@ module _ (st : State) (t k v : ℕ) where
       by-role (takes_bit r) e = absurd (missed bitless (op_of op) (rules.spurious r) e tt (by_number bitless op h))
       by-role otherwise e = refl
 
-  pub bit-other : (row : Decoded) (op : Op) → row ≡ Says op → OneOf bitless (tag_of Op.the_type op) → stops st Event.impossible ≡ bit_taken st t k v (role_in (decoded_of row))
+  pub bit-other : (row : Option Op) (op : Op) → row ≡ Some op → OneOf bitless (tag_of Op.the_type op) → stops st Event.impossible ≡ bit_taken st t k v (role_in (decoded_of row))
   bit-other row op e h = rw e (bit-none op h)
 
 -- the register of a row that takes a bit
-pub bit-within : (row : Decoded) (op : Op) (register : ℕ) → row ≡ Says op → op ≡ code.Spurious register → OpWithin row → register < 4
-bit-within row op register e f w = rw (e ∙ ap Says f) at w
+pub bit-within : (row : Option Op) (op : Op) (register : ℕ) → row ≡ Some op → op ≡ code.Spurious register → OpWithin row → register < 4
+bit-within row op register e f w = rw (e ∙ ap Some f) at w
 
-pub bit-taken : (clocks : Clocks) (marks : Marks) (values : Values) (numbers left : Numbers) (t k : ℕ) (row : Decoded) (op : Op) (register at v n next : ℕ) →
-    row ≡ Says op → op ≡ code.Spurious register → at ≡ 4 * t + register → v ≡ n → next ≡ one_more k →
+pub bit-taken : (clocks : Clocks) (marks : Marks) (values : Values) (numbers left : Numbers) (t k : ℕ) (row : Option Op) (op : Op) (register at v n next : ℕ) →
+    row ≡ Some op → op ≡ code.Spurious register → at ≡ 4 * t + register → v ≡ n → next ≡ one_more k →
     state clocks marks (set values (28 + at) v) left ≡ completed (state clocks marks (set values (28 + at) v) numbers) t next →
     moves (state clocks marks (set values (28 + at) v) left) (entry t k (opcode_in (decoded_of row)) no_slot 0 v)
     ≡ bit_taken (state clocks marks values numbers) t k n (role_in (decoded_of row))
 unfolding bit_taken
 bit-taken clocks marks values numbers left t k row op register at v n next e f a b c d =
-    let whole : row ≡ Says (code.Spurious register) = e ∙ ap Says f in
+    let whole : row ≡ Some (code.Spurious register) = e ∙ ap Some f in
     let done : left ≡ (completed (state clocks marks values numbers) t next).numbers = ap (λ (s : State). s.numbers) d in
     rw (whole, done, c, a, b)

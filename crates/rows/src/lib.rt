@@ -13,7 +13,7 @@ ghost use Rattle.decode.specs.Ops.{op_of, decoded_of, InRange};
 ghost use Rattle.rows.specs.Begins.{begun_to};
 ghost use Rattle.rows.specs.Pendings.{Pends};
 
-use decode::{Decoded, Op};
+use decode::Op;
 use event::{BARE_DONE, Fault, Here, Moved, NO_SLOT, Pending, Question, Site};
 use layout::of_run::{EXPLORING, ROWS_BEGUN, SKIPPING};
 use layout::of_thread::{CAUSALITY, OPERATES_ON, OPERATION, PHASE, REGISTER, ROWS, SCHEDULE};
@@ -179,7 +179,7 @@ pub fn take_bit(values: &mut Values, numbers: &mut Numbers, here: Here, bit: boo
     let site = here.site;
     let row = here.row;
     let thread = site.thread;
-    let Decoded::Row(op) = row else {
+    let Some(op) = row else {
         return Moved::Stops(Fault::Impossible);
     };
     let Op::Spurious { register } = op else {

@@ -14,8 +14,7 @@ use native.Mathlib.Decide.{dec_lt}
 use lib.Dec.{ltb, eqb}
 use borrow.Author.Tests.{lt-ltb, le-ltb}
 use Rattle.rules.specs.Table.{Op, Decoded, refused, decoded, first_not, max_threads}
-use Rattle.decode.specs.declared.Decoded as code
-use Rattle.decode.specs.declared.Decoded.TheVariants.{Row as Says}
+use Rattle.std.specs.Prelude.{Option, Some}
 use Rattle.decode.specs.declared.Op as codes
 use Rattle.decode.specs.Ops.{op_of, decoded_of, InRange, OpWithin}
 use Rattle.table.proofs.Within.{op-made}
@@ -57,7 +56,7 @@ module _ (trace : List ℕ) where
     entries_none h k = first-none (is_at trace) (room trace) i h k ∙ (omega arith)
 
 -- what is decoded under a test is within where it is without the test
-within-if : (b : Bool) {x : Decoded Op} (d : code.Decoded) → (decoded_of d ≡ x → OpWithin d) → decoded_of d ≡ cond b x refused → OpWithin d
+within-if : (b : Bool) {x : Decoded Op} (d : Option codes.Op) → (decoded_of d ≡ x → OpWithin d) → decoded_of d ≡ cond b x refused → OpWithin d
 within-if true d h e = h e
 within-if false d h e = rw e tt
 
@@ -77,7 +76,7 @@ module _ (table trace : List ℕ) (i : ℕ) where
     | no l ↦ let past : room trace ≤ i = omega arith in let z : ◌≡◌ {A = ℕ} 0 1 = cc (operation-none past) in absurd (omega arith)
   ]
 
-  operation-range : (d : code.Decoded) → decoded_of d ≡ operation_at table trace i → OpWithin d
+  operation-range : (d : Option codes.Op) → decoded_of d ≡ operation_at table trace i → OpWithin d
   unfolding operation_at row_says
   operation-range d =
       within-if (ltb i (room trace)) d
@@ -93,7 +92,7 @@ module _ (table trace : List ℕ) (i : ℕ) where
         absurd (omega arith)
   ]
 
-  pub operation-in : (d : code.Decoded) {op : codes.Op} {byte thread : ℕ} → decoded_of d ≡ operation_at table trace i → d ≡ Says op →
+  pub operation-in : (d : Option codes.Op) {op : codes.Op} {byte thread : ℕ} → decoded_of d ≡ operation_at table trace i → d ≡ Some op →
       byte ≡ (entry_read trace i).thread → thread ≡ byte → (thread < 5) × InRange (op_of op)
   operation-in d {op} e f p q =
       let named : InRange (op_of op) = rw f at (operation-range d e) in

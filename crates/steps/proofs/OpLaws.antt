@@ -14,8 +14,7 @@ use Rattle.decode.proofs.NumberLaws.{all_but}
 use Rattle.decode.specs.contracts.Op.{the_type}
 use Rattle.decode.specs.declared.Op.{Op}
 use Rattle.decode.specs.declared.Op.TheVariants as code
-use Rattle.decode.specs.declared.Decoded.{Decoded}
-use Rattle.decode.specs.declared.Decoded.TheVariants.{Refused, Row as Says}
+use Rattle.std.specs.Prelude.{Option, Some, None}
 use Rattle.decode.specs.Ops.{op_of, decoded_of, InRange}
 use Rattle.steps.specs.Holds.{next_of, acted}
 
@@ -25,11 +24,11 @@ op-as f e h = h ∙ sym (ap (λ (p : Op). f (op_of p)) e)
 pub op-in : {op m : Op} → op ≡ m → InRange (op_of op) → InRange (op_of m)
 op-in e h = rw e at h
 
-module _ {d : Decoded} {x : rules.Decoded rules.Op} (is : decoded_of d ≡ x) where
-  pub says : {op : Op} → d ≡ Says op → x ≡ rules.decoded (op_of op)
+module _ {d : Option Op} {x : rules.Decoded rules.Op} (is : decoded_of d ≡ x) where
+  pub says : {op : Op} → d ≡ Some op → x ≡ rules.decoded (op_of op)
   says e = sym is ∙ ap decoded_of e
 
-  pub refuses : d ≡ Refused → x ≡ rules.refused
+  pub refuses : d ≡ None → x ≡ rules.refused
   refuses e = sym is ∙ ap decoded_of e
 
 pub changed-as : {A : Type 0} (f : changes.Changed → A) {r m : Changed} {x : changes.Changed} → changed_of r ≡ x → r ≡ m → f (changed_of m) ≡ f x

@@ -13,7 +13,8 @@ use lib.Seq.{get_or-take, get_or-drop}
 use borrow.Author.Tests.{lt-ltb, le-ltb, lt-leb}
 use Rattle.rules.specs.Machine.{row_of, row_count}
 use Rattle.rules.specs.Table.{Op, Decoded, refused, header_bytes, row_bytes, max_threads, max_cells, max_plains, size_of, counts_of, shape_of, no_row, row_at, Room, row_decoded, op_at}
-use Rattle.decode.specs.declared.Decoded as code
+use Rattle.std.specs.Prelude.{Option}
+use Rattle.decode.specs.declared.Op as code
 use Rattle.decode.specs.Ops.{decoded_of}
 use Rattle.table.proofs.ShapeLaws.{shape-threads, shape-cells, shape-plains, shape-rows, shape-first}
 use Rattle.table.specs.Answers.{room_in, OpAt}
@@ -71,7 +72,7 @@ shape-said t i k h = elim (dec_lt (length t) header_bytes) [
 ]
 
 module _ (t : List ℕ) {i k thread number : ℕ} (same : i ≡ thread) (also : k ≡ number) where
-  pub row-said : {s : List ℕ} {d : code.Decoded} → s ≡ shape_of t → i < max_threads →
+  pub row-said : {s : List ℕ} {d : Option code.Op} → s ≡ shape_of t → i < max_threads →
       OpAt t (room_in s i k) (get_or s (7 + i) 0 + k) d → decoded_of d ≡ row_says t thread number
   unfolding row_says
   row-said e h o =

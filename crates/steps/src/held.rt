@@ -8,7 +8,7 @@ ghost use Rattle.rules.specs.Vector.{one_more};
 ghost use Rattle.steps.specs.Holds as holds;
 
 use change::{Change, Changed};
-use decode::{Decoded, Op};
+use decode::Op;
 use layout::{
     ALL_REGISTERS, MAX_ATOMIC_HISTORY, MAX_CELLS, MAX_PLAINS, MAX_THREADS, REGISTERS, STORES,
     register_at, store_at, wide8,
@@ -124,7 +124,7 @@ pub fn plain_writer(held: &Held, plain: usize) -> u64
 pub fn take(table: &[u8], trace: &[u8], held: &mut Held, i: usize)
     ensures { held.new ≡ holds.step_taken table.now trace.now i held.old }
 {
-    let Decoded::Row(op) = crate::operation(table, trace, i) else {
+    let Some(op) = crate::operation(table, trace, i) else {
         return;
     };
     let thread = wide8(crate::thread(trace, i));

@@ -7,7 +7,7 @@ ghost use Rattle.rules.specs.Machine.{row_count};
 ghost use Rattle.decode.specs.Ops.{decoded_of};
 ghost use Rattle.steps.specs.Entries.{byte_at, entry_read, is_entry, entries, program, row_says, operation_at};
 
-use decode::Decoded;
+use decode::Op;
 use decode::opcodes::LOAD;
 use layout::{MAX_THREADS, RECORD, short8, wide8};
 use table::COUNTS;
@@ -88,22 +88,22 @@ fn byte(trace: &[u8], i: usize, place: usize) -> u8
 }
 
 // What the row of entry `i` does; refused where there is no such entry.
-pub fn operation(table: &[u8], trace: &[u8], i: usize) -> Decoded
+pub fn operation(table: &[u8], trace: &[u8], i: usize) -> Option<Op>
     ensures { decoded_of result ≡ operation_at table.now trace.now i }
 {
     if i < trace.len() / RECORD {
         return row_of(table, thread(trace, i), row(trace, i));
     }
-    Decoded::Refused
+    None
 }
 
 // What the row of a thread does, by its number there; refused for a thread that no table has.
-pub fn row_of(table: &[u8], thread: u8, row: u8) -> Decoded
+pub fn row_of(table: &[u8], thread: u8, row: u8) -> Option<Op>
     ensures { decoded_of result ≡ row_says table.now thread row }
 {
     let t = wide8(thread);
     if MAX_THREADS <= t {
-        return Decoded::Refused;
+        return None;
     }
     let shape = table::shape(table);
     table::row_of(table, &shape, t, short8(row))

@@ -7,8 +7,7 @@ use lib.ListN.{length}
 use borrow.Author.Tests.{lt-ltb, le-ltb, le-leb, lt-leb}
 use Rattle.rules.specs.Table.{max_cells, max_plains, max_values, all_rows, Room, room_of, threads_of, cells_of, plains_of, header_bytes, value_bytes, row_bytes, size_of, u64_at, start_value, row_from, no_row, row_at, max_threads, Row, refused, row_decoded, op_at}
 use Rattle.table.specs.Answers.{PlaceOf}
-use Rattle.table.specs.declared.RowStart.{RowStart}
-use Rattle.table.specs.declared.RowStart.TheVariants.{Nowhere, At}
+use Rattle.std.specs.Prelude.{Option, Some, None}
 
 module _ (t : List ℕ) (i : ℕ) where
   pub value-held : i < max_values → header_bytes + value_bytes * i + value_bytes ≤ length t →
@@ -60,35 +59,35 @@ module _ (t : List ℕ) (room : Room) (index : ℕ) where
   op-no_row h k l e = no-row ∙ op-read h k l e
 
   pub place-held : room.threads ≤ max_threads → room.cells ≤ max_cells → room.plains ≤ max_plains → index < all_rows →
-      size_of (room.cells + room.plains) index + row_bytes ≤ length t → PlaceOf t room index (At (size_of (room.cells + room.plains) index))
+      size_of (room.cells + room.plains) index + row_bytes ≤ length t → PlaceOf t room index (Some (size_of (room.cells + room.plains) index))
   place-held h k l i m = (m, op-read h k l (row-held t (room.cells + room.plains) index (omega arith) i m))
 
   pub place_short : room.threads ≤ max_threads → room.cells ≤ max_cells → room.plains ≤ max_plains → index < all_rows →
-      length t < size_of (room.cells + room.plains) index + row_bytes → PlaceOf t room index Nowhere
+      length t < size_of (room.cells + room.plains) index + row_bytes → PlaceOf t room index None
   place_short h k l i m = op-no_row h k l (row-short t (room.cells + room.plains) index (omega arith) i m)
 
   pub place-past : room.threads ≤ max_threads → room.cells ≤ max_cells → room.plains ≤ max_plains → all_rows ≤ index →
-      PlaceOf t room index Nowhere
+      PlaceOf t room index None
   place-past h k l i = op-no_row h k l (row-past t (room.cells + room.plains) index (omega arith) i)
 
-  pub place-filled : room.threads ≤ max_threads → room.cells ≤ max_cells → max_plains < room.plains → PlaceOf t room index Nowhere
+  pub place-filled : room.threads ≤ max_threads → room.cells ≤ max_cells → max_plains < room.plains → PlaceOf t room index None
   unfolding op_at
   place-filled h k l = rw (le-leb room.threads max_threads h, le-leb room.cells max_cells k, lt-leb room.plains max_plains l)
 
-  pub place-crowded : room.threads ≤ max_threads → max_cells < room.cells → PlaceOf t room index Nowhere
+  pub place-crowded : room.threads ≤ max_threads → max_cells < room.cells → PlaceOf t room index None
   unfolding op_at
   place-crowded h k = rw (le-leb room.threads max_threads h, lt-leb room.cells max_cells k)
 
-  pub place_none : max_threads < room.threads → PlaceOf t room index Nowhere
+  pub place_none : max_threads < room.threads → PlaceOf t room index None
   unfolding op_at
   place_none h = rw (lt-leb room.threads max_threads h)
 
   -- a place that was taken apart
-  module _ {x : RowStart} (p : PlaceOf t room index x) where
-    pub op-nowhere : x ≡ Nowhere → refused ≡ op_at t room index
+  module _ {x : Option ℕ} (p : PlaceOf t room index x) where
+    pub op-nowhere : x ≡ None → refused ≡ op_at t room index
     op-nowhere e = subst (PlaceOf t room index) e p
 
-    pub op-there : {at : ℕ} → x ≡ At at → PlaceOf t room index (At at)
+    pub op-there : {at : ℕ} → x ≡ Some at → PlaceOf t room index (Some at)
     op-there e = subst (PlaceOf t room index) e p
 
 -- the room that a header gives

@@ -1,17 +1,18 @@
 -- Laws for the loops over a table's counts and rows: what is left to be asked from place i on. Assumes nothing.
 use Prim.Native.Nat.{ℕ, suc, ◌+◌, ◌-◌, ◌≤◌, ◌<◌}
 use mathlib.Core.List.{List, [], ◌∷◌}
-use mathlib.Core.Bool.{Bool, true, false, cond, ◌&&◌}
-use mathlib.Core.Path.{◌≡◌}
+use mathlib.Core.Bool.{Bool, true, false, cond, not, ◌&&◌}
+use mathlib.Core.Path.{◌≡◌, sym, ◌∙◌}
 use native.Mathlib.Omega.{arith}
 use native.Mathlib.Nat.{sub-zero}
 use native.Mathlib.Numerals.{add-one}
 use lib.ListN.{length, get_or, drop, drop_of_length-le}
 use lib.Seq.{drop-cons}
-use borrow.Author.Tests.{lt-ltb, le-ltb}
+use borrow.Author.Tests.{lt-ltb, le-ltb, not-false}
+use Rattle.std.specs.Prelude.{Option, Some, None, unwrap_or, IfSome}
 use lib.Dec.{ltb}
 use Rattle.rules.specs.Table.{max_threads, header_bytes, counts_of, count_fine, counts_fine, first_not, first_bad, is_fine, op_at, rows_judged, bad_row, good, bad_header, judged, header_fine, Room, room_of}
-use Rattle.table.proofs.Header.{counts-length, counts-at}
+use Rattle.table.proofs.Header.{counts-length, counts-at, header-long}
 
 -- a search for the first that is not fine
 module _ (fine : ℕ → Bool) (n i : ℕ) where
@@ -77,12 +78,21 @@ module _ (t : List ℕ) (h : header_bytes ≤ length t) (i n c : ℕ) (k : i < m
   unfolding rows_judged
   threads-one = rw e (counts-more (rows_judged t i n) t h i k)
 
-  pub threads-on : {b : ℕ} → b ≡ first_bad t n c → c ≤ b →
+  threads-on : {b : ℕ} → b ≡ first_bad t n c → c ≤ b →
       rows_judged t (i + 1) (n + c) (drop (i + 1) (counts_of t)) ≡ rows_judged t i n (drop i (counts_of t))
   threads-on p l = rw (threads-one, ← p, le-ltb _ c l)
 
-  pub threads-bad : {b : ℕ} → b ≡ first_bad t n c → b < c → bad_row i b ≡ rows_judged t i n (drop i (counts_of t))
+  threads-bad : {b : ℕ} → b ≡ first_bad t n c → b < c → bad_row i b ≡ rows_judged t i n (drop i (counts_of t))
   threads-bad p l = rw (threads-one, ← p, lt-ltb _ c l)
+
+  -- by what the search for a bad row answered
+  pub threads_in : {r : Option ℕ} {b : ℕ} → r ≡ Some b → unwrap_or r c ≡ first_bad t n c → IfSome r (λ (row : ℕ). row < c) →
+      bad_row i b ≡ rows_judged t i n (drop i (counts_of t))
+  threads_in e p l = threads-bad (rw e at p) (rw e at l)
+
+  pub threads-past : {r : Option ℕ} → r ≡ None → unwrap_or r c ≡ first_bad t n c →
+      rows_judged t (i + 1) (n + c) (drop (i + 1) (counts_of t)) ≡ rows_judged t i n (drop i (counts_of t))
+  threads-past e p = threads-on (rw e at p) (omega arith)
 
 pub threads-none : (t : List ℕ) (h : header_bytes ≤ length t) (i n : ℕ) → max_threads ≤ i → rows_judged t i n (drop i (counts_of t)) ≡ good
 unfolding rows_judged
@@ -97,3 +107,11 @@ module _ (t : List ℕ) where
   pub judged-rows : header_fine t ≡ true → rows_judged t 0 0 (counts_of t) ≡ judged t
   unfolding judged
   judged-rows e = rw e
+
+  -- where the header was asked for
+  module _ {b : Bool} (is : b ≡ header_fine t) (k : not b ≡ false) where
+    pub header-is : header_fine t ≡ true
+    header-is = sym is ∙ not-false b k
+
+    pub header_held : header_bytes ≤ length t
+    header_held = header-long t header-is

@@ -5,12 +5,10 @@ use mathlib.Core.List.{List}
 use mathlib.Core.Bool.{Bool, true, false, cond, ◌&&◌, and-eq-true_iff}
 use mathlib.Core.Path.{◌≡◌, refl, sym}
 use lib.Dec.{ltb, leb, eqb}
-use lib.ListN.{length}
 use borrow.Author.Tests.{ltb-true, leb-true}
 use Rattle.rules.specs.Change.{Change}
 use Rattle.rules.specs.Table.{max_threads, max_cells, max_plains, Row, Room, Op, Decoded, refused, decoded, only_if, is_register, is_fence_order, load, store, store_register, rmw, fence, unsync_load, with_mut, yield, join, jump, jump_if, jump_unless, check, critical, explore_state, skip_branch, spurious, plain_read, plain_write, load_row, store_row, store_register_row, rmw_row, fence_row, unsync_load_row, with_mut_row, bare_row, join_row, jump_row, jump_on_row, check_row, spurious_row, plain_read_row, plain_write_row, change_decoded, row_decoded, row_at, op_at}
-use Rattle.decode.specs.declared.Decoded as row
-use Rattle.decode.specs.declared.Decoded.TheVariants as rows
+use Rattle.std.specs.Prelude.{Option, Some}
 use Rattle.decode.specs.declared.Op as code
 use Rattle.decode.specs.Ops.{op_of, decoded_of, InRange, AllInRange}
 use Rattle.table.specs.Answers.{OpAt}
@@ -150,16 +148,16 @@ module _ (t : List ℕ) (room : Room) (index : ℕ) where
   op-in = (asked _ refl).is
 
   -- so what is decoded is within
-  pub op-made : (r : row.Decoded) → decoded_of r ≡ op_at t room index → OpAt t room index r
+  pub op-made : (r : Option code.Op) → decoded_of r ≡ op_at t room index → OpAt t room index r
   op-made r e = record { is = e; within = rw e op-in }
 
-pub op-moved : {t : List ℕ} {threads cells plains rows number first threads₁ cells₁ plains₁ rows₁ number₁ first₁ : ℕ} {r : row.Decoded} →
+pub op-moved : {t : List ℕ} {threads cells plains rows number first threads₁ cells₁ plains₁ rows₁ number₁ first₁ : ℕ} {r : Option code.Op} →
     threads ≡ threads₁ → cells ≡ cells₁ → plains ≡ plains₁ → rows ≡ rows₁ → number ≡ number₁ → first ≡ first₁ →
     OpAt t (record { threads = threads; cells = cells; plains = plains; rows = rows; row = number }) (first + number) r →
     OpAt t (record { threads = threads₁; cells = cells₁; plains = plains₁; rows = rows₁; row = number₁ }) (first₁ + number₁) r
 op-moved p q l e f g o = rw (← p, ← q, ← l, ← e, ← f, ← g) o
 
 -- for callers: what a row names, once it is taken apart
-pub named-in-range : {t : List ℕ} {room : Room} {index : ℕ} {r : row.Decoded} {op taken : code.Op} →
-    OpAt t room index r → r ≡ rows.Row op → op ≡ taken → InRange (op_of taken)
+pub named-in-range : {t : List ℕ} {room : Room} {index : ℕ} {r : Option code.Op} {op taken : code.Op} →
+    OpAt t room index r → r ≡ Some op → op ≡ taken → InRange (op_of taken)
 named-in-range o e f = rw (← f) (rw e at o.within)

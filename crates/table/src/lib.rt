@@ -2,7 +2,7 @@
 // Each promise is an equation with the definition in rules (Table).
 #![tactic(auto)]
 
-ghost use Rattle.std.specs.Prelude.{◌≡◌, ◌+◌, ◌<◌, ◌≤◌, ◌^◌, length, get_or};
+ghost use Rattle.std.specs.Prelude.{◌≡◌, ◌+◌, ◌<◌, ◌≤◌, ◌^◌, length, get_or, unwrap_or, IfSome};
 ghost use Rattle.rules.specs.Table as rules;
 ghost use Rattle.rules.specs.Table.{header_bytes, row_bytes, header_fine, count_fine, counts_fine, counts_of, first_bad, judged, shape_of, start_value, row_from, op_at, is_fine};
 ghost use Rattle.decode.specs.Ops.{row_meant, room_meant};
@@ -13,7 +13,7 @@ pub mod limits;
 
 pub use decode::opcode;
 use decode::opcodes::NO_OPCODE;
-use decode::{Decoded, Room, Row, is_row, row_decoded};
+use decode::{Op, Room, Row, is_row, row_decoded};
 use fields::{A, B, FAILURE, KIND, OBJECT, ORDER, REGISTER, TARGET};
 use layout::{MAX_CELLS, MAX_PLAINS, MAX_THREADS, short8, wide8, wide16};
 use limits::{
@@ -42,40 +42,29 @@ pub const LAST_COUNT: usize = COUNTS + MAX_THREADS - 1;
 
 pub const LAST_FIRST: usize = FIRSTS + MAX_THREADS - 1;
 
-// How a table is judged: good; or its header or length is bad; or else its first bad row, in byte order.
+// Why bytes are no table: their header or length is bad, or else a row, of which this is the first in byte order.
 #[derive(Clone, Copy)]
-pub enum Judged {
-    Good,
-    BadHeader,
-    BadRow { thread: usize, row: usize },
-}
-
-// The first byte of a row, or that the table does not hold it.
-#[derive(Clone, Copy)]
-pub enum RowStart {
-    Nowhere,
-    At(usize),
+pub enum BadTable {
+    Header,
+    Row { thread: usize, row: usize },
 }
 
 // Whether these bytes are a table, and if not, what is wrong first. The header and the length are judged before any row.
-pub fn judge(table: &[u8]) -> Judged
+pub fn judge(table: &[u8]) -> Result<(), BadTable>
     ensures { judged_of result ≡ judged table.now }
 {
     if !header_fine(table) {
-        return Judged::BadHeader;
+        return Err(BadTable::Header);
     }
-    let mut thread = 0;
     let mut first = 0;
-    while thread < MAX_THREADS {
+    for thread in 0..MAX_THREADS {
         let count = wide8(table[ROW_COUNTS + thread]);
-        let row = first_bad(table, first, count);
-        if row < count {
-            return Judged::BadRow { thread, row };
+        if let Some(row) = first_bad(table, first, count) {
+            return Err(BadTable::Row { thread, row });
         }
         first += count;
-        thread += 1;
     }
-    Judged::Good
+    Ok(())
 }
 
 // The shape; zeros where the table is shorter than a header.
@@ -115,7 +104,7 @@ pub fn start_value(table: &[u8], i: usize) -> u64
 }
 
 // What this thread's row with this number does, in a table of this shape.
-pub fn row_of(table: &[u8], shape: &Shape, thread: usize, row: u16) -> Decoded
+pub fn row_of(table: &[u8], shape: &Shape, thread: usize, row: u16) -> Option<Op>
     requires { thread < 5 }
     ensures { OpAt table.now (room_in shape.now thread row) (get_or shape.now (7 + thread) 0 + row) result }
 {
@@ -137,12 +126,10 @@ pub fn row_of(table: &[u8], shape: &Shape, thread: usize, row: u16) -> Decoded
 
 // What the row of this number among all rows does, in this room. Refused where the table does not hold it, and where there are
 // more threads, cells or plain cells than there can be.
-pub fn op_at(table: &[u8], room: Room, index: usize) -> Decoded
+pub fn op_at(table: &[u8], room: Room, index: usize) -> Option<Op>
     ensures { OpAt table.now (room_meant room) index result }
 {
-    let RowStart::At(at) = place_of(table, room, index) else {
-        return Decoded::Refused;
-    };
+    let at = place_of(table, room, index)?;
     row_decoded(row_from(table, at), room)
 }
 
@@ -150,14 +137,14 @@ pub fn op_at(table: &[u8], room: Room, index: usize) -> Decoded
 fn is_fine(table: &[u8], room: Room, index: usize) -> bool
     ensures { result ≡ is_fine (op_at table.now (room_meant room) index) }
 {
-    let RowStart::At(at) = place_of(table, room, index) else {
+    let Some(at) = place_of(table, room, index) else {
         return false;
     };
     is_row(row_from(table, at), room)
 }
 
-// Where the row of this number among all rows stands.
-fn place_of(table: &[u8], room: Room, index: usize) -> RowStart
+// Where the row of this number among all rows stands, if the table holds it.
+fn place_of(table: &[u8], room: Room, index: usize) -> Option<usize>
     ensures { PlaceOf table.now (room_meant room) index result }
 {
     let threads = room.threads;
@@ -169,13 +156,13 @@ fn place_of(table: &[u8], room: Room, index: usize) -> RowStart
                 if index < ALL_ROWS {
                     let at = HEADER_BYTES + VALUE_BYTES * (cells + plains) + ROW_BYTES * index;
                     if at + ROW_BYTES <= table.len() {
-                        return RowStart::At(at);
+                        return Some(at);
                     }
                 }
             }
         }
     }
-    RowStart::Nowhere
+    None
 }
 
 // The row of this number among all rows of a table with so many start values; where the table does not hold it, one that no opcode has.
@@ -246,13 +233,11 @@ fn counts_fine(table: &[u8], threads: usize) -> bool
     requires { header_bytes ≤ length table.now }
     ensures { result ≡ counts_fine threads 0 (counts_of table.now) }
 {
-    let mut thread = 0;
-    while thread < MAX_THREADS {
+    for thread in 0..MAX_THREADS {
         let count = wide8(table[ROW_COUNTS + thread]);
         if !count_fine(thread, count, threads) {
             return false;
         }
-        thread += 1;
     }
     true
 }
@@ -267,21 +252,20 @@ pub fn count_fine(thread: usize, count: usize, threads: usize) -> bool
     count == 0
 }
 
-// The first row of a thread that is bad, or its row count where none is. The thread's first row has the number `first` among
-// all rows.
-fn first_bad(table: &[u8], first: usize, count: usize) -> usize
+// The first row of a thread that is bad, which the definition numbers by the row count where none is. The thread's first row
+// has the number `first` among all rows.
+fn first_bad(table: &[u8], first: usize, count: usize) -> Option<usize>
     requires { (header_bytes ≤ length table.now) × (first + count < 2 ^ 64) }
-    ensures { result ≡ first_bad table.now first count }
+    ensures is { unwrap_or result count ≡ first_bad table.now first count }
+    ensures within { IfSome result (λ row. row < count) }
 {
-    let mut i = 0;
-    while i < count {
+    for i in 0..count {
         let room = room_of(table, count, i);
         if !is_fine(table, room, first + i) {
-            return i;
+            return Some(i);
         }
-        i += 1;
     }
-    count
+    None
 }
 
 // What the row of this number, in a thread of so many rows, may name.

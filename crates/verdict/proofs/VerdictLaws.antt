@@ -17,8 +17,7 @@ use Rattle.decode.proofs.NumberLaws.{all_but}
 use Rattle.decode.specs.contracts.Op as Op
 use Rattle.decode.specs.declared.Op.{Op}
 use Rattle.decode.specs.declared.Op.TheVariants as code
-use Rattle.decode.specs.declared.Decoded.{Decoded}
-use Rattle.decode.specs.declared.Decoded.TheVariants.{Refused, Row as Says}
+use Rattle.std.specs.Prelude.{Option, Some, None}
 use Rattle.decode.specs.Ops.{op_of, decoded_of}
 use Rattle.refusal.specs.Refusals.{put_refusal}
 use Rattle.race.specs.Races.{put_race}
@@ -52,12 +51,12 @@ wants-none p holds (code.Spurious register) k = refl
 wants-none p holds (code.PlainRead plain register) k = refl
 wants-none p holds (code.PlainWrite plain value) k = refl
 
-module _ (p : Page) (holds : ℕ → ℕ) (row : Decoded) {said : rules.Decoded rules.Op} (s : decoded_of row ≡ said) where
-  pub wants-refused : row ≡ Refused → p ≡ put_wants p holds said
+module _ (p : Page) (holds : ℕ → ℕ) (row : Option Op) {said : rules.Decoded rules.Op} (s : decoded_of row ≡ said) where
+  pub wants-refused : row ≡ None → p ≡ put_wants p holds said
   unfolding put_wants
   wants-refused e = rw (← s, e)
 
-  module _ (op : Op) (e : row ≡ Says op) where
+  module _ (op : Op) (e : row ≡ Some op) where
     pub wants-else : OneOf others (tag_of Op.the_type op) → p ≡ put_wants p holds said
     wants-else k = rw (← s, e) (wants-none p holds op k)
 

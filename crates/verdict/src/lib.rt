@@ -8,7 +8,7 @@ ghost use Rattle.settings.specs.Given.{settings_of};
 ghost use Rattle.report.specs.Answers.{report_of};
 ghost use Rattle.verdict.specs.Verdicts.{put_verdict, put_passed, put_refused, put_check, put_wanted, put_failed};
 
-use decode::{Decoded, Op};
+use decode::Op;
 use page::Page;
 use report::{AtFault, Report, answers};
 use settings::Settings;
@@ -127,7 +127,7 @@ fn put_check(page: &mut Page, at: usize, table: &[u8], trace: &[u8], site: AtFau
 fn put_wanted(page: &mut Page, at: usize, table: &[u8], trace: &[u8], thread: u8, row: u8) -> usize
     ensures { page_of page.new result ≡ put_wanted (page_of page.old at) table.now trace.now thread row }
 {
-    let Decoded::Row(op) = steps::row_of(table, thread, row) else {
+    let Some(op) = steps::row_of(table, thread, row) else {
         return at;
     };
     let Op::Check { register, a } = op else {

@@ -28,7 +28,7 @@ returns-in_default c =
 
 pub begin-event-requires : goal.begin-event-requires
 begin-event-requires c =
-    (c.requires.0.who, row_within _ _ c.in-Row.is c.requires.0.names)
+    (c.requires.0.who, row_within _ _ c.in-Some.is c.requires.0.names)
 
 pub returns-in_default-event : goal.returns-in_default-event
 returns-in_default-event c =
@@ -37,12 +37,12 @@ returns-in_default-event c =
     next-begins p (state args.clocks.now args.marks.now args.values.now args.numbers.now) args.here.site.thread args.here.site.row _ _ (c.is_to_begin-to_begin.ensures args.clocks.now args.marks.now args.values.now) args.here.row (elim c.if-to_begin.branch [
       | then-to_begin+else-shape-thread w ↦ inl w.if-shape-thread.false
       | else-to_begin w ↦ inr w.if-to_begin.false
-    ]) _ c.in-Row.is c.if-to_begin-2.true _
+    ]) _ c.in-Some.is c.if-to_begin-2.true _
     (begun-other p (state args.clocks.now args.marks.now args.values.now args.numbers.now) _ args.here.site.thread args.here.site.row _ _ _ _ c.begin-event.result limited (c.begin-event.ensures args.clocks.now args.marks.now args.values.now args.here.site.row _ _) (opened c.in_default-event.in_default-event-own.keys2))
 
 pub act-requires : goal.act-requires
 act-requires c =
-    (c.requires.0.who, omega (arith, c.wide16-cells.ensures.same, c.requires.1), row_within _ _ c.in-Row.is c.requires.0.names)
+    (c.requires.0.who, omega (arith, c.wide16-cells.ensures.same, c.requires.1), row_within _ _ c.in-Some.is c.requires.0.names)
 
 pub returns : goal.returns
 returns c =
@@ -51,10 +51,10 @@ returns c =
     next-acts p (state args.clocks.now args.marks.now args.values.now args.numbers.now) args.here.site.thread args.here.site.row _ _ (c.is_to_begin-to_begin.ensures args.clocks.now args.marks.now args.values.now) args.here.row (elim c.if-to_begin.branch [
       | then-to_begin+else-shape-thread w ↦ inl w.if-shape-thread.false
       | else-to_begin w ↦ inr w.if-to_begin.false
-    ]) _ c.in-Row.is
+    ]) _ c.in-Some.is
     (state args.clocks.now args.marks.now args.values.now c.if-to_begin-2.numbers)
     (elim c.if-to_begin-2.branch [
-      | then-to_begin-2+in-Moves w ↦ inl (w.if-to_begin-2.true, begun-acts p (state args.clocks.now args.marks.now args.values.now args.numbers.now) _ args.here.site.thread args.here.site.row 0 args.limit (op_of c.in-Row.op) (offers []) w.begin-event.result limited (w.begin-event.ensures args.clocks.now args.marks.now args.values.now args.here.site.row 0 (offers [])) w.in-Moves.is _ (ap (λ (n : Numbers). state args.clocks.now args.marks.now args.values.now n) w.numbers-is))
+      | then-to_begin-2+in-Moves w ↦ inl (w.if-to_begin-2.true, begun-acts p (state args.clocks.now args.marks.now args.values.now args.numbers.now) _ args.here.site.thread args.here.site.row 0 args.limit (op_of c.in-Some.op) (offers []) w.begin-event.result limited (w.begin-event.ensures args.clocks.now args.marks.now args.values.now args.here.site.row 0 (offers [])) w.in-Moves.is _ (ap (λ (n : Numbers). state args.clocks.now args.marks.now args.values.now n) w.numbers-is))
       | else-to_begin-2 w ↦ inr (w.if-to_begin-2.false, ap (λ (n : Numbers). state args.clocks.now args.marks.now args.values.now n) w.numbers-is)
     ])
     c.act.result _

@@ -7,4 +7,4 @@ returns-in_default c = came-none _ _ _ _ (refuses c.operation.ensures c.in_defau
 
 pub returns : goal.returns
 returns c =
-    came-some _ _ _ _ _ _ _ _ (says c.operation.ensures c.in-Row.is) c.thread-thread.ensures c.slot-slot.ensures c.value.ensures _ c.of_row.ensures
+    came-some _ _ _ _ _ _ _ _ (says c.operation.ensures c.in-Some.is) c.thread-thread.ensures c.slot-slot.ensures c.value.ensures _ c.of_row.ensures

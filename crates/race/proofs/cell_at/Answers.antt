@@ -10,4 +10,4 @@ returns-in_default c = ap cell_named (sym (refuses c.row_of.ensures c.in_default
 pub returns : goal.returns
 unfolding cell_at
 returns c =
-    c.cell_of.ensures ∙ ap cell_named (sym (says c.row_of.ensures c.in-Row.is))
+    c.cell_of.ensures ∙ ap cell_named (sym (says c.row_of.ensures c.in-Some.is))

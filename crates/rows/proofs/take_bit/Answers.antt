@@ -18,34 +18,34 @@ pub returns-in_default-op : goal.returns-in_default-op
 returns-in_default-op c =
     let args = c.args in
     λ clocks marks m.
-    bit-other (state clocks marks args.values.now args.numbers.now) args.here.site.thread args.here.site.row (cond args.bit 1 0) args.here.row _ c.in-Row.is (opened c.in_default-op.in_default-op-own.keys2)
+    bit-other (state clocks marks args.values.now args.numbers.now) args.here.site.thread args.here.site.row (cond args.bit 1 0) args.here.row _ c.in-Some.is (opened c.in_default-op.in_default-op-own.keys2)
 
 pub register_at-requires : goal.register_at-requires
 register_at-requires c =
     let args = c.args in
-    (search rules, omega (arith, bit-within args.here.row _ _ c.in-Row.is c.in-Spurious.is c.requires.names))
+    (search rules, omega (arith, bit-within args.here.row _ _ c.in-Some.is c.in-Spurious.is c.requires.names))
 
 pub overflow_add-values : goal.overflow_add-values
 overflow_add-values c =
     let args = c.args in
-    omega (arith, c.register_at.ensures, bit-within args.here.row _ _ c.in-Row.is c.in-Spurious.is c.requires.names)
+    omega (arith, c.register_at.ensures, bit-within args.here.row _ _ c.in-Some.is c.in-Spurious.is c.requires.names)
 
 pub offset_bounds-values-register_at : goal.offset_bounds-values-register_at
 offset_bounds-values-register_at c =
     let args = c.args in
-    omega (arith, c.register_at.ensures, bit-within args.here.row _ _ c.in-Row.is c.in-Spurious.is c.requires.names)
+    omega (arith, c.register_at.ensures, bit-within args.here.row _ _ c.in-Some.is c.in-Spurious.is c.requires.names)
 
 pub bounds-values-register_at : goal.bounds-values-register_at
 bounds-values-register_at c =
     let args = c.args in
-    omega (arith, c.register_at.ensures, bit-within args.here.row _ _ c.in-Row.is c.in-Spurious.is c.requires.names)
+    omega (arith, c.register_at.ensures, bit-within args.here.row _ _ c.in-Some.is c.in-Spurious.is c.requires.names)
 
 pub returns : goal.returns
 returns c =
     let args = c.args in
     λ clocks marks m.
     bit-taken clocks marks args.values.now args.numbers.now _ args.here.site.thread args.here.site.row args.here.row _ _ _ c.if-bit.value (cond args.bit 1 0) _
-    c.in-Row.is c.in-Spurious.is c.register_at.ensures
+    c.in-Some.is c.in-Spurious.is c.register_at.ensures
     (elim c.if-bit.branch [
       | then-bit w ↦ flag_true args.bit _ w.if-bit.true w.value-is
       | else-bit w ↦ flag-false args.bit _ w.if-bit.false w.value-is

@@ -9,11 +9,11 @@ pub returns-in_default : goal.returns-in_default
 returns-in_default c = fine refl (op-nowhere _ _ _ c.place_of.ensures c.in_default.is)
 
 pub row_from-requires : goal.row_from-requires
-row_from-requires c = (op-there _ _ _ c.place_of.ensures c.in-At.is).0
+row_from-requires c = (op-there _ _ _ c.place_of.ensures c.in-Some.is).0
 
 pub returns : goal.returns
 returns c =
     let g = c.args in
     fine c.is_row.ensures
     (ap (λ (r : Row). row_decoded (room_meant g.room) r) c.row_from.ensures
-    ∙ (op-there _ _ _ c.place_of.ensures c.in-At.is).1)
+    ∙ (op-there _ _ _ c.place_of.ensures c.in-Some.is).1)

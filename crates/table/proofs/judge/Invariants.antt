@@ -1,12 +1,9 @@
-use Prim.Native.Nat.{◌≤◌, ◌-◌, ◌*◌}
+use Prim.Native.Nat.{◌≤◌, ◌*◌}
 use mathlib.Core.Path.{◌≡◌}
 use lib.ListN.{drop}
-use Rattle.rules.specs.Table.{max_threads, counts_of, rows_judged}
+use Rattle.rules.specs.Table.{counts_of, rows_judged}
 use Rattle.table.proofs.judge.Given as goal
 
 abbrev pub invariant-loop-thread : goal.invariant-loop-thread
 invariant-loop-thread l =
-    (l.thread ≤ max_threads) × (l.first ≤ 255 * l.thread) × (rows_judged l.table l.thread l.first (drop l.thread (counts_of l.table)) ≡ rows_judged l.table 0 0 (counts_of l.table))
-
-abbrev pub decreases-loop-thread : goal.decreases-loop-thread
-decreases-loop-thread l = max_threads - l.thread
+    (l.first ≤ 255 * l.thread) × (rows_judged l.table l.thread l.first (drop l.thread (counts_of l.table)) ≡ rows_judged l.table 0 0 (counts_of l.table))

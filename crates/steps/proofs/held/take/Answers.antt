@@ -10,20 +10,20 @@ returns-in_default c = taken_none _ _ _ _ (refuses c.operation.ensures c.in_defa
 
 pub next_of-next-requires : goal.next_of-next-requires
 next_of-next-requires c =
-    operation-in _ _ _ _ c.operation.ensures c.in-Row.is c.thread.ensures c.wide8-thread.ensures.same
+    operation-in _ _ _ _ c.operation.ensures c.in-Some.is c.thread.ensures c.wide8-thread.ensures.same
 
 pub go_on-requires : goal.go_on-requires
 go_on-requires c =
-    (operation-in _ _ _ _ c.operation.ensures c.in-Row.is c.thread.ensures c.wide8-thread.ensures.same).0
+    (operation-in _ _ _ _ c.operation.ensures c.in-Some.is c.thread.ensures c.wide8-thread.ensures.same).0
 
 pub overflow_add-i : goal.overflow_add-i
 overflow_add-i c =
-    omega (arith, c.well_formed, operation-within _ _ _ (says c.operation.ensures c.in-Row.is))
+    omega (arith, c.well_formed, operation-within _ _ _ (says c.operation.ensures c.in-Some.is))
 
 pub act-requires : goal.act-requires
 act-requires c =
-    operation-in _ _ _ _ c.operation.ensures c.in-Row.is c.thread.ensures c.wide8-thread.ensures.same
+    operation-in _ _ _ _ c.operation.ensures c.in-Some.is c.thread.ensures c.wide8-thread.ensures.same
 
 pub returns : goal.returns
 returns c =
-    taken_made _ _ _ _ (says c.operation.ensures c.in-Row.is) (c.wide8-thread.ensures.same ∙ c.thread.ensures) c.row.ensures c.value.ensures c.next_of-next.ensures c.go_on.ensures c.act.ensures
+    taken_made _ _ _ _ (says c.operation.ensures c.in-Some.is) (c.wide8-thread.ensures.same ∙ c.thread.ensures) c.row.ensures c.value.ensures c.next_of-next.ensures c.go_on.ensures c.act.ensures
