@@ -1,6 +1,6 @@
 -- The laws of a row by its opcode: what a load or an RMW reads, that any other row reads nothing, and how each goes on with a
 -- slot. Assumes nothing.
---     row_within, load-within, rmw-within, of-within     the cells and registers that are named
+--     row_within, load-within, rmw-within, some-within     the cells and registers that are named
 --     others                                             a row that is neither a load nor an RMW
 --     load_read, rmw-read, other-read                    what is read
 --     load-done, rmw-done                                the access
@@ -30,12 +30,11 @@ use Rattle.change.specs.Changes.{change_meant}
 use Rattle.decode.specs.Ops.{op_of, decoded_of, InRange, OpWithin}
 use Rattle.decode.specs.declared.Op.{Op}
 use Rattle.decode.specs.declared.Op.TheVariants as code
-use Rattle.std.specs.Prelude.{Option, Some, None}
 use Rattle.decode.specs.contracts.Op.{the_type}
 use Rattle.decode.proofs.NumberLaws.{all_but, by_number}
-use Rattle.accesses.specs.Reads.{read_done, reading_of, ReadWithin, Means}
+use Rattle.std.specs.Prelude.{Option, None, Some}
+use Rattle.accesses.specs.Reads.{read_done, reading, reading_of, ReadWithin, Means}
 use Rattle.accesses.specs.declared.Reading.{Reading}
-use Rattle.accesses.specs.declared.Reading.TheVariants.{Nothing, Of}
 
 -- What is named is in range
 
@@ -48,8 +47,8 @@ load-within op c o r e h = subst (λ (p : Op). InRange (op_of p)) e h
 pub rmw-within : (op : Op) (c o f : ℕ) (change : Change) (r : ℕ) → op ≡ code.Rmw o c r change f → InRange (op_of op) → (c < 4) × (r < 4)
 rmw-within op c o f change r e h = subst (λ (p : Op). InRange (op_of p)) e h
 
-pub of-within : (r : Reading) (cell register : ℕ) → r ≡ Of cell register → ReadWithin r → (cell < 4) × (register < 4)
-of-within r cell register e h = subst (λ (x : Reading). ReadWithin x) e h
+pub some-within : (r : Option Reading) (s : Reading) → r ≡ Some s → ReadWithin r → (s.cell < 4) × (s.register < 4)
+some-within r s e h = subst (λ (x : Option Reading). ReadWithin x) e h
 
 -- Neither a load nor an RMW
 
@@ -58,7 +57,7 @@ abbrev neither : List ℕ
 neither = all_but (0 ∷ 3 ∷ [])
 
 pub record Other (role : Role) : Type 0 where
-  pub nothing : Nothing ≡ reading_of role
+  pub nothing : None ≡ reading_of role
   pub done : (st : State) (t slot : ℕ) → read 0 st ≡ read_done st t slot role
   pub offers : (st : State) (t : ℕ) → offered_as st t role ≡ Event.offers []
 
@@ -78,14 +77,14 @@ others op k = by-role (role_of (op_of op)) (told (op_of op))
 
 -- What is read
 
-pub load_read : (op : Op) (c o r : ℕ) → op ≡ code.Load o c r → InRange (op_of op) → Means (Of c r) (role_of (op_of op))
+pub load_read : (op : Op) (c o r : ℕ) → op ≡ code.Load o c r → InRange (op_of op) → Means (Some (reading c r)) (role_of (op_of op))
 load_read op c o r e h = record { is = sym (ap (λ (p : Op). reading_of (role_of (op_of p))) e); within = load-within op c o r e h }
 
-pub rmw-read : (op : Op) (c o f : ℕ) (change : Change) (r : ℕ) → op ≡ code.Rmw o c r change f → InRange (op_of op) → Means (Of c r) (role_of (op_of op))
+pub rmw-read : (op : Op) (c o f : ℕ) (change : Change) (r : ℕ) → op ≡ code.Rmw o c r change f → InRange (op_of op) → Means (Some (reading c r)) (role_of (op_of op))
 rmw-read op c o f change r e h =
     record { is = sym (ap (λ (p : Op). reading_of (role_of (op_of p))) e); within = rmw-within op c o f change r e h }
 
-pub other-read : (op : Op) → OneOf neither (tag_of the_type op) → Means Nothing (role_of (op_of op))
+pub other-read : (op : Op) → OneOf neither (tag_of the_type op) → Means None (role_of (op_of op))
 other-read op e = record { is = (others op e).nothing; within = tt }
 
 module _ (st : State) (t slot : ℕ) (x : AccessResult) (op : Op) (c o : ℕ) where
@@ -130,10 +129,10 @@ module _ (clocks : Clocks) (marks : Marks) (values : Values) (numbers : Numbers)
 -- How a row goes on with a slot
 
 -- by the cell and the register that it reads
-abbrev reading_from : Reading → State → ℕ → ℕ → ℕ → ℕ → Table.Op → Move State
-reading_from Nothing st t k slot mask op = stops st Event.impossible
-reading_from (Of cell register) st t k slot mask op =
-    if_live st cell slot (reads (read_done st t slot (role_of op)) t k (opcode_of op) register slot mask)
+abbrev reading_from : Option Reading → State → ℕ → ℕ → ℕ → ℕ → Table.Op → Move State
+reading_from None st t k slot mask op = stops st Event.impossible
+reading_from (Some r) st t k slot mask op =
+    if_live st r.cell slot (reads (read_done st t slot (role_of op)) t k (opcode_of op) r.register slot mask)
 
 module _ (st : State) (t k slot mask : ℕ) where
   by-reading : (op : Table.Op) → read_from st t k slot mask (role_of op) ≡ reading_from (reading_of (role_of op)) st t k slot mask op
@@ -152,24 +151,24 @@ module _ (st : State) (t k slot mask : ℕ) where
   unfolding read_from
   from-refused row e = sym (ap (λ (d : Option Op). read_from st t k slot mask (role_in (decoded_of d))) e)
 
-  module _ (row : Option Op) (op : Op) (says : row ≡ Some op) (r : Reading) (is : r ≡ reading_of (role_of (op_of op))) where
+  module _ (row : Option Op) (op : Op) (says : row ≡ Some op) (r : Option Reading) (is : r ≡ reading_of (role_of (op_of op))) where
     -- of the row, by what was found that it reads
-    by-found : (found : Reading) → r ≡ found → read_from st t k slot mask (role_in (decoded_of row)) ≡ reading_from found st t k slot mask (op_of op)
+    by-found : (found : Option Reading) → r ≡ found → read_from st t k slot mask (role_in (decoded_of row)) ≡ reading_from found st t k slot mask (op_of op)
     by-found found e =
         ap (λ (d : Option Op). read_from st t k slot mask (role_in (decoded_of d))) says
         ∙ by-reading (op_of op)
-        ∙ ap (λ (x : Reading). reading_from x st t k slot mask (op_of op)) (sym is ∙ e)
+        ∙ ap (λ (x : Option Reading). reading_from x st t k slot mask (op_of op)) (sym is ∙ e)
 
-    pub from_nothing : r ≡ Nothing → stops st Event.impossible ≡ read_from st t k slot mask (role_in (decoded_of row))
-    from_nothing e = sym (by-found Nothing e)
+    pub from_nothing : r ≡ None → stops st Event.impossible ≡ read_from st t k slot mask (role_in (decoded_of row))
+    from_nothing e = sym (by-found None e)
 
-    module _ (cell register : ℕ) (e : r ≡ Of cell register) (b : Bool) (live : b ≡ ltb slot (number st.numbers (count cell))) where
+    module _ (s : Reading) (e : r ≡ Some s) (b : Bool) (live : b ≡ ltb slot (number st.numbers (count s.cell))) where
       pub from-dead : b ≡ false → stops st Event.impossible ≡ read_from st t k slot mask (role_in (decoded_of row))
-      from-dead f = rw (by-found (Of cell register) e, ← live, f)
+      from-dead f = rw (by-found (Some s) e, ← live, f)
 
       pub from-live : b ≡ true → (x : AccessResult) → x ≡ read_done st t slot (role_of (op_of op)) → (move : Move State) →
-          move ≡ reads x t k (opcode_in (decoded_of row)) register slot mask → move ≡ read_from st t k slot mask (role_in (decoded_of row))
+          move ≡ reads x t k (opcode_in (decoded_of row)) s.register slot mask → move ≡ read_from st t k slot mask (role_in (decoded_of row))
       from-live f x g move p =
-          let q : move ≡ reads x t k (opcode_of (op_of op)) register slot mask =
-          subst (λ (d : Option Op). move ≡ reads x t k (opcode_in (decoded_of d)) register slot mask) says p in
-          rw (by-found (Of cell register) e, ← live, f, ← g) q
+          let q : move ≡ reads x t k (opcode_of (op_of op)) s.register slot mask =
+          subst (λ (d : Option Op). move ≡ reads x t k (opcode_in (decoded_of d)) s.register slot mask) says p in
+          rw (by-found (Some s) e, ← live, f, ← g) q

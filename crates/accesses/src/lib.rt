@@ -33,9 +33,9 @@ use track::Race;
 
 // What a row reads, if it is a load or a read-modify-write.
 #[derive(Clone, Copy)]
-pub enum Reading {
-    Nothing,
-    Of { cell: usize, register: usize },
+pub struct Reading {
+    pub cell: usize,
+    pub register: usize,
 }
 
 // A store of a value: the version, the race, the store. Its slot is that of the count before it.
@@ -212,7 +212,7 @@ pub fn read_from(
     let Some(op) = row else {
         return Moved::Stops(Fault::Impossible);
     };
-    let Reading::Of { cell, register } = to_read(op) else {
+    let Some(Reading { cell, register }) = to_read(op) else {
         return Moved::Stops(Fault::Impossible);
     };
     if !is_live(numbers, cell, slot) {
@@ -223,14 +223,14 @@ pub fn read_from(
 }
 
 // The cell that a load or a read-modify-write reads, and the register that takes the value.
-fn to_read(op: Op) -> Reading
+fn to_read(op: Op) -> Option<Reading>
     requires { InRange (op_of op) }
     ensures { Means result (machine.role_of (op_of op)) }
 {
     match op {
-        Op::Load { cell, register, .. } => Reading::Of { cell, register },
-        Op::Rmw { cell, register, .. } => Reading::Of { cell, register },
-        _ => Reading::Nothing,
+        Op::Load { cell, register, .. } => Some(Reading { cell, register }),
+        Op::Rmw { cell, register, .. } => Some(Reading { cell, register }),
+        _ => None,
     }
 }
 

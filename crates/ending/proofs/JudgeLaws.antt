@@ -12,6 +12,7 @@ use mathlib.Core.Path.{◌≡◌, refl, sym, ap, ◌∙◌}
 use native.Mathlib.Omega.{arith}
 use lib.Dec.{eqb}
 use lib.ListN.{length}
+use Rattle.std.specs.Prelude.{Option, Some, None}
 use borrow.Author.Tests.{eq-eqb, ne_eqb, ltb-true, ltb-false}
 use Rattle.rules.specs.State.{State, Values}
 use Rattle.rules.specs.Table.{threads_of}
@@ -37,8 +38,6 @@ use Rattle.meeting.specs.declared.Cursor.{Cursor}
 use Rattle.meeting.specs.declared.Outcome.{Outcome}
 use Rattle.meeting.specs.declared.Outcome.TheVariants as code
 use Rattle.ending.specs.Ends.{met_by, at_no_site, ended_as, judged_as, Judges}
-use Rattle.ending.specs.declared.After.{After}
-use Rattle.ending.specs.declared.After.TheVariants as afterwards
 
 pub no_threads : (table : List ℕ) → length table ≡ 0 → 0 ≡ threads_of table
 no_threads [] e = refl
@@ -50,55 +49,55 @@ pub held_by : (table condition : List ℕ) (values : Values) {threads : ℕ} {he
 held_by table condition values e h = rw e at h
 
 module _ (path : List ℕ) (met : Bool) (o : Outcome) (len : ℕ) (last : Bool) where
-  pub judge-goes : {s : Site} → o ≡ code.Goes → site_of s ≡ no_site → Judges path met o len last (afterwards.Answers (answer.Stopped fault.Impossible s))
+  pub judge-goes : {s : Site} → o ≡ code.Goes → site_of s ≡ no_site → Judges path met o len last (Some (answer.Stopped fault.Impossible s))
   judge-goes e z =
       record {
         continues = tt;
         is = λ bs h l.
-            ap (λ (y : events.Site). afterwards.Answers (answer.Stopped fault.Impossible (record { thread = y.thread; row = y.row }))) z
+            ap (λ (y : events.Site). Some (answer.Stopped fault.Impossible (record { thread = y.thread; row = y.row }))) z
             ∙ ap (λ (y : Outcome). judged_as met y (open_in bs) last) (sym e);
       }
 
-  pub judge-fault : {f : Fault} {s : Site} → o ≡ code.Faulted f s → Judges path met o len last (afterwards.Answers (answer.Stopped f s))
+  pub judge-fault : {f : Fault} {s : Site} → o ≡ code.Faulted f s → Judges path met o len last (Some (answer.Stopped f s))
   judge-fault e = record { continues = tt; is = λ bs h l. ap (λ (y : Outcome). judged_as met y (open_in bs) last) (sym e) }
 
   module _ (k : o ≡ code.Over) {held : Bool} (q : held ≡ met) where
     as-ended : (bs : List Branch) {b : Bool} → held ≡ b → judged_as met o (open_in bs) last ≡ ended_as b (open_in bs) last
     as-ended bs e = ap (λ (y : Outcome). judged_as met y (open_in bs) last) k ∙ ap (λ (y : Bool). ended_as y (open_in bs) last) (sym q ∙ e)
 
-    pub judge-unmet : held ≡ false → Judges path met o len last (afterwards.Answers answer.Unmet)
+    pub judge-unmet : held ≡ false → Judges path met o len last (Some answer.Unmet)
     judge-unmet e = record { continues = tt; is = λ bs h l. sym (as-ended bs e) }
 
     -- the condition is met
     module _ (held-so : held ≡ true) {any : Bool} (a : AnyOpen path len any) where
-      as-open : {none : Bool} (bs : List Branch) → eqb (open_in bs) 0 ≡ none → judged_as met o (open_in bs) last ≡ cond none (afterwards.Answers answer.Exhausted) (cond last (afterwards.Answers answer.Spent) afterwards.GoesOn)
+      as-open : {none : Bool} (bs : List Branch) → eqb (open_in bs) 0 ≡ none → judged_as met o (open_in bs) last ≡ cond none (Some answer.Exhausted) (cond last (Some answer.Spent) None)
       as-open bs z =
           as-ended bs held-so
-          ∙ ap (λ (y : Bool). cond y (afterwards.Answers answer.Exhausted) (cond last (afterwards.Answers answer.Spent) afterwards.GoesOn)) z
+          ∙ ap (λ (y : Bool). cond y (Some answer.Exhausted) (cond last (Some answer.Spent) None)) z
 
-      pub judge-exhausted : any ≡ false → Judges path met o len last (afterwards.Answers answer.Exhausted)
+      pub judge-exhausted : any ≡ false → Judges path met o len last (Some answer.Exhausted)
       judge-exhausted e =
           record {
             continues = tt;
             is = λ bs h l. sym (as-open bs (eq-eqb (open_in bs) 0 (omega (arith, ltb-false 0 (open_in bs) (sym (a.is bs h l) ∙ e)))));
           }
 
-      some-open : any ≡ true → (bs : List Branch) → Holds path bs → length bs ≡ len → judged_as met o (open_in bs) last ≡ cond last (afterwards.Answers answer.Spent) afterwards.GoesOn
+      some-open : any ≡ true → (bs : List Branch) → Holds path bs → length bs ≡ len → judged_as met o (open_in bs) last ≡ cond last (Some answer.Spent) None
       some-open e bs h l =
           as-open bs (ne_eqb (open_in bs) 0 (λ (y : open_in bs ≡ 0). omega (arith, ltb-true 0 (open_in bs) (sym (a.is bs h l) ∙ e))))
 
-      pub judge-spent : any ≡ true → last ≡ true → Judges path met o len last (afterwards.Answers answer.Spent)
+      pub judge-spent : any ≡ true → last ≡ true → Judges path met o len last (Some answer.Spent)
       judge-spent e f =
           record {
             continues = tt;
-            is = λ bs h l. sym (some-open e bs h l ∙ ap (λ (y : Bool). cond y (afterwards.Answers answer.Spent) afterwards.GoesOn) f);
+            is = λ bs h l. sym (some-open e bs h l ∙ ap (λ (y : Bool). cond y (Some answer.Spent) None) f);
           }
 
-      pub judge-more : any ≡ true → last ≡ false → Judges path met o len last afterwards.GoesOn
+      pub judge-more : any ≡ true → last ≡ false → Judges path met o len last None
       judge-more e f =
           record {
             continues = f;
-            is = λ bs h l. sym (some-open e bs h l ∙ ap (λ (y : Bool). cond y (afterwards.Answers answer.Spent) afterwards.GoesOn) f);
+            is = λ bs h l. sym (some-open e bs h l ∙ ap (λ (y : Bool). cond y (Some answer.Spent) None) f);
           }
 
 -- What comes after it, by the definition
@@ -117,14 +116,14 @@ pub record GoesWith (final : State → Bool) (x : Lent) (c : Cursor) (last : Boo
   pub stands : Stands x c walk
   pub left : left_by t ≡ walk
 
-abbrev going_on : After → ℕ
-going_on afterwards.GoesOn = 1
-going_on (afterwards.Answers a) = 0
+abbrev going_on : Option Answer → ℕ
+going_on None = 1
+going_on (Some a) = 0
 
-answers-not : (a : Answer) → afterwards.Answers a ≡ afterwards.GoesOn → ⊥
+answers-not : (a : Answer) → Some a ≡ None → ⊥
 answers-not a e = let z : ◌≡◌ {A = ℕ} 0 1 = ap going_on e in omega arith
 
-answers-same : (a b : Answer) → afterwards.Answers a ≡ afterwards.Answers b → a ≡ b
+answers-same : (a b : Answer) → Some a ≡ Some b → a ≡ b
 answers-same a b e = cc
 
 module _ (final : State → Bool) (x : Lent) (c : Cursor) (last : Bool) (past : List Execution) (met : Bool)
@@ -133,7 +132,7 @@ module _ (final : State → Bool) (x : Lent) (c : Cursor) (last : Bool) (past : 
   met-by w stands = ap final stands.is_state ∙ is-met
 
   over-stops : (w : Walk State) (a : Answer) (held none ends : Bool) → final w.state ≡ held → eqb (open_in w.ledger.path) 0 ≡ none → last ≡ ends
-      → afterwards.Answers a ≡ cond (not held) (afterwards.Answers answer.Unmet) (cond none (afterwards.Answers answer.Exhausted) (cond ends (afterwards.Answers answer.Spent) afterwards.GoesOn))
+      → Some a ≡ cond (not held) (Some answer.Unmet) (cond none (Some answer.Exhausted) (cond ends (Some answer.Spent) None))
       → Stands x c w → StopsWith final x c last past (over w) a
   unfolding after
   over-stops w a false none ends q n l e stands =
@@ -145,7 +144,7 @@ module _ (final : State → Bool) (x : Lent) (c : Cursor) (last : Bool) (past : 
   over-stops w a true false false q n l e stands = absurd (answers-not a e)
 
   over-goes : (w : Walk State) (held none ends : Bool) → final w.state ≡ held → eqb (open_in w.ledger.path) 0 ≡ none → last ≡ ends
-      → afterwards.GoesOn ≡ cond (not held) (afterwards.Answers answer.Unmet) (cond none (afterwards.Answers answer.Exhausted) (cond ends (afterwards.Answers answer.Spent) afterwards.GoesOn))
+      → None ≡ cond (not held) (Some answer.Unmet) (cond none (Some answer.Exhausted) (cond ends (Some answer.Spent) None))
       → Stands x c w → GoesWith final x c last past (over w)
   unfolding after
   over-goes w false none ends q n l e stands = absurd (answers-not answer.Unmet (sym e))
@@ -154,7 +153,7 @@ module _ (final : State → Bool) (x : Lent) (c : Cursor) (last : Bool) (past : 
   over-goes w true false false q n l e stands = record { walk = w; is = rw (q, n, l) refl; stands = stands; left = refl }
 
   pub stops-with : (o : Outcome) (t : Tick State) (a : Answer) → ComesTo o c x t
-      → afterwards.Answers a ≡ judged_as met o (open_in (left_by t).ledger.path) last → StopsWith final x c last past t a
+      → Some a ≡ judged_as met o (open_in (left_by t).ledger.path) last → StopsWith final x c last past t a
   unfolding after
   stops-with code.Goes (goes w) a h e =
       record {
@@ -183,7 +182,7 @@ module _ (final : State → Bool) (x : Lent) (c : Cursor) (last : Bool) (past : 
       }
 
   pub goes_with : (o : Outcome) (t : Tick State) → ComesTo o c x t
-      → afterwards.GoesOn ≡ judged_as met o (open_in (left_by t).ledger.path) last → GoesWith final x c last past t
+      → None ≡ judged_as met o (open_in (left_by t).ledger.path) last → GoesWith final x c last past t
   goes_with code.Goes (goes w) h e = absurd (answers-not (answer.Stopped fault.Impossible at_no_site) (sym e))
   goes_with code.Goes (over w) h e = absurd h
   goes_with code.Goes (faulted g s w) h e = absurd h

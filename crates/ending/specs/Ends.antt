@@ -3,7 +3,7 @@
 --     at_no_site             no thread and no row
 --     ended_as, judged_as, Continues, Judges      what it says of the run
 --     Finished            the report of a run that stops
-use Rattle.std.specs.Prelude.{ℕ, List, Bool, false, cond, not, ◌≡◌, eqb, length}
+use Rattle.std.specs.Prelude.{ℕ, List, Bool, false, cond, not, ◌≡◌, eqb, length, Option, Some, None}
 use Rattle.rules.specs.State.{Clocks, Marks, Values, Numbers}
 use Rattle.rules.specs.Table.{threads_of}
 use Rattle.rules.specs.Condition as claims
@@ -21,8 +21,6 @@ use Rattle.report.specs.declared.Report.{Report}
 use Rattle.meeting.specs.declared.Cursor.{Cursor}
 use Rattle.meeting.specs.declared.Outcome.{Outcome}
 use Rattle.meeting.specs.declared.Outcome.TheVariants as outcome
-use Rattle.ending.specs.declared.After.{After}
-use Rattle.ending.specs.declared.After.TheVariants as afterwards
 
 -- whether the final condition holds of the registers in these values
 abbrev pub met_by : List ℕ → List ℕ → Values → Bool
@@ -33,22 +31,22 @@ abbrev pub at_no_site : Site
 at_no_site = record { thread = no_site.thread; row = no_site.row }
 
 -- with so many choices open
-abbrev pub ended_as : Bool → ℕ → Bool → After
+abbrev pub ended_as : Bool → ℕ → Bool → Option Answer
 ended_as met n last =
-    cond (not met) (afterwards.Answers answer.Unmet)
-    (cond (eqb n 0) (afterwards.Answers answer.Exhausted) (cond last (afterwards.Answers answer.Spent) afterwards.GoesOn))
+    cond (not met) (Some answer.Unmet)
+    (cond (eqb n 0) (Some answer.Exhausted) (cond last (Some answer.Spent) None))
 
 -- case by case as the definition's `after`: one that would still go on is the impossible outcome
-abbrev pub judged_as : Bool → Outcome → ℕ → Bool → After
-judged_as met outcome.Goes n last = afterwards.Answers (answer.Stopped fault.Impossible at_no_site)
+abbrev pub judged_as : Bool → Outcome → ℕ → Bool → Option Answer
+judged_as met outcome.Goes n last = Some (answer.Stopped fault.Impossible at_no_site)
 judged_as met outcome.Over n last = ended_as met n last
-judged_as met (outcome.Faulted f site) n last = afterwards.Answers (answer.Stopped f site)
+judged_as met (outcome.Faulted f site) n last = Some (answer.Stopped f site)
 
-abbrev pub Continues : After → Bool → Type 0
-Continues afterwards.GoesOn last = last ≡ false
-Continues (afterwards.Answers a) last = Unit
+abbrev pub Continues : Option Answer → Bool → Type 0
+Continues None last = last ≡ false
+Continues (Some a) last = Unit
 
-pub record Judges (path : List ℕ) (met : Bool) (o : Outcome) (len : ℕ) (last : Bool) (v : After) : Type 0 where
+pub record Judges (path : List ℕ) (met : Bool) (o : Outcome) (len : ℕ) (last : Bool) (v : Option Answer) : Type 0 where
   pub continues : Continues v last
   pub is : (bs : List Branch) → Holds path bs → length bs ≡ len → v ≡ judged_as met o (open_in bs) last
 

@@ -11,14 +11,7 @@ use report::{Answer, Counts, Report};
 use table::limits::THREAD_COUNT;
 use walk::{Cursor, Outcome, Ticked};
 
-// What an execution that is over says of the run.
-#[derive(Clone, Copy)]
-pub enum After {
-    GoesOn,
-    Answers(Answer),
-}
-
-// A fault is the answer. An execution that ended answers 18 if the final condition is false of the registers, 0 if nothing is open,
+// What the run answers, if it stops with the execution that is over; if not, it goes on. A fault is the answer. An execution that ended answers 18 if the final condition is false of the registers, 0 if nothing is open,
 // and 1 if it was the last allowed. One that would still go on is not over: that is the impossible outcome, as in the definition.
 pub fn judge_end(
     table: &[u8],
@@ -27,33 +20,33 @@ pub fn judge_end(
     path: &[u8],
     over: Ticked,
     last: bool,
-) -> After
+) -> Option<Answer>
     ensures { Judges path.now (met_by table.now condition.now values.now) over.outcome over.cursor.len last result }
 {
     let outcome = over.outcome;
     match outcome {
         Outcome::Goes => {
-            return After::Answers(Answer::Stopped {
+            return Some(Answer::Stopped {
                 fault: Fault::Impossible,
                 site: walk::no_site(),
             });
         }
         Outcome::Over => {}
         Outcome::Faulted { fault, site } => {
-            return After::Answers(Answer::Stopped { fault, site });
+            return Some(Answer::Stopped { fault, site });
         }
     }
     if !condition::holds(condition, values, threads_of(table)) {
-        return After::Answers(Answer::Unmet);
+        return Some(Answer::Unmet);
     }
     let cursor = over.cursor;
     if !path::any_open(path, cursor.len) {
-        return After::Answers(Answer::Exhausted);
+        return Some(Answer::Exhausted);
     }
     if last {
-        return After::Answers(Answer::Spent);
+        return Some(Answer::Spent);
     }
-    After::GoesOn
+    None
 }
 
 // How many threads the table has, by its first byte.

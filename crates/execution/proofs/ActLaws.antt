@@ -7,7 +7,7 @@
 --     answers-as                     an answer that was taken apart
 use Prim.Native.Nat.{ℕ, ◌<◌}
 use mathlib.Core.List.{List, [], ◌∷◌}
-use mathlib.Core.Bool.{Bool, not}
+use mathlib.Core.Bool.{not}
 use mathlib.Core.Path.{◌≡◌, refl, ap, sym, subst, ◌∙◌}
 use mir.Val.{has_key}
 use lib.Dec.{T, eqb}

@@ -21,11 +21,11 @@ use layout::of_thread::REGISTER;
 use layout::{Access, Clocks, Marks, Numbers, Values, register_at, wide16};
 use table::{CELLS, COUNTS, Shape};
 
-// What a row stores, if it is a store: of an operand, or of a register.
+// What a store stores: an operand, or what a register holds.
 #[derive(Clone, Copy)]
-pub enum Stored {
-    Nothing,
-    Of { access: Access, value: u64 },
+pub struct Stored {
+    pub access: Access,
+    pub value: u64,
 }
 
 // One tick of the active thread at its row: past its last row it ends; else it begins the row and, if no scheduling comes first
@@ -104,14 +104,14 @@ fn act_store(
     requires { (site.thread < 5) × InRange (op_of op) × Storing (op_of op) }
     ensures { (p : machine.Program) (m : Matched) → move_of result site.thread site.row (opcode_of (op_of op)) m (state clocks.new marks.new values.new numbers.new) ≡ machine.acts p (state clocks.old marks.old values.old numbers.old) site.thread site.row (op_of op) }
 {
-    if let Stored::Of { access, value } = to_store(values, site.thread, op) {
+    if let Some(Stored { access, value }) = to_store(values, site.thread, op) {
         return accesses::store_row(clocks, marks, values, numbers, access, site.row, value);
     }
     act_unsync(clocks, values, numbers, site, op)
 }
 
-// What a row stores: its operand, or what a register holds.
-fn to_store(values: &Values, thread: usize, op: Op) -> Stored
+// What a row stores; one that is no store stores nothing.
+fn to_store(values: &Values, thread: usize, op: Op) -> Option<Stored>
     requires { (thread < 5) × InRange (op_of op) }
     ensures { Stores result values.now thread (machine.role_of (op_of op)) }
 {
@@ -122,7 +122,7 @@ fn to_store(values: &Values, thread: usize, op: Op) -> Stored
                 cell,
                 order,
             };
-            Stored::Of { access, value }
+            Some(Stored { access, value })
         }
         Op::StoreRegister {
             cell,
@@ -135,9 +135,9 @@ fn to_store(values: &Values, thread: usize, op: Op) -> Stored
                 order,
             };
             let value = register_of(values, thread, register);
-            Stored::Of { access, value }
+            Some(Stored { access, value })
         }
-        _ => Stored::Nothing,
+        _ => None,
     }
 }
 

@@ -34,14 +34,12 @@ use Rattle.report.proofs.AnswerLaws.{ran-reported}
 use Rattle.meeting.specs.Stands.{Lent, Stands, ComesTo}
 use Rattle.meeting.specs.declared.Cursor.{Cursor}
 use Rattle.meeting.specs.declared.Ticked.{Ticked}
-use Rattle.iteration.specs.Executes.{most_opened, machine_of, RunReady, Shaped, TermsGiven, Knows, Executes}
+use Rattle.iteration.specs.Executes.{machine_of, RunReady, TermsGiven, Executes}
 use Rattle.iteration.specs.declared.Terms.{Terms}
-use Rattle.ending.specs.Ends.{met_by, judged_as, Continues, Judges, Finished}
-use Rattle.ending.specs.declared.After as ending
-use Rattle.ending.specs.declared.After.TheVariants as afterwards
+use Rattle.ending.specs.Ends.{met_by, judged_as, Judges}
+use Rattle.std.specs.Prelude.{Option, None, Some}
 use Rattle.ending.proofs.JudgeLaws.{stops-with, goes_with, left-stands}
-use Rattle.explorer.specs.Explores.{explored_of}
-use Rattle.explorer.specs.Runs.{Greater, Further, Running, Stepped, RunStopped, Empty, Ran}
+use Rattle.explorer.specs.Runs.{Further, Running, Stepped, RunStopped, Empty, Ran}
 use Rattle.explorer.specs.declared.run.Progress.{Progress}
 use Rattle.explorer.proofs.RunLaws.{goes-on, greater-within}
 
@@ -148,7 +146,7 @@ module _ (table condition : List ℕ) (s : Settings) where
       {shape : List ℕ} (is-shape : shape ≡ shape_of table) {t : Terms} (given : TermsGiven s t)
       (entry exit : Lent) (same-path : entry.path ≡ path) (same-trace : entry.trace ≡ trace) (r : Ticked) (does : Executes entry exit table shape t p.cursor r)
       (q : Progress) (further : Further p r q)
-      (v : ending.After) (judges : Judges exit.path (met_by table condition exit.values) r.outcome r.cursor.len (eqb q.begun s.executions) v) where
+      (v : Option Answer) (judges : Judges exit.path (met_by table condition exit.values) r.outcome r.cursor.len (eqb q.begun s.executions) v) where
     abbrev ledger : Ledger
     ledger = run.coming.ledger
 
@@ -201,7 +199,7 @@ module _ (table condition : List ℕ) (s : Settings) where
     same-opened = ap (λ (c : Cursor). c.opened) further.same-cursor
 
     -- after which the run goes on
-    pub running_more : v ≡ afterwards.GoesOn → {path' : List ℕ} (d : Progress) → Stepped exit.path path' q d
+    pub running_more : v ≡ None → {path' : List ℕ} (d : Progress) → Stepped exit.path path' q d
         → length exit.path ≡ length path → length exit.trace ≡ length trace
         → Running table condition s path' exit.trace d
     running_more e {path'} d next long traced =
@@ -243,7 +241,7 @@ module _ (table condition : List ℕ) (s : Settings) where
             cleared.above i past_all ∙ clean-past i past_all
 
     -- with which it stops
-    pub ran_out : (a : Answer) → v ≡ afterwards.Answers a → {trace' : List ℕ} (report : Report)
+    pub ran_out : (a : Answer) → v ≡ Some a → {trace' : List ℕ} (report : Report)
         → RunStopped exit.clocks exit.numbers exit.path exit.trace trace' a q report
         → length exit.path ≡ length path → length exit.trace ≡ length trace
         → Ran table condition s path trace report exit.path trace'

@@ -9,7 +9,7 @@ use mathlib.Core.Path.{◌≡◌, ap, sym, ◌∙◌}
 use lib.Dec.{eqb}
 use lib.ListN.{length}
 use borrow.Author.Tests.{eqb-true, eqb-false}
-use Rattle.rules.specs.Table.{judged, good, bad_header, bad_row, threads_of}
+use Rattle.rules.specs.Table.{judged, threads_of}
 use Rattle.rules.specs.Condition.{is_condition}
 use Rattle.rules.specs.Explored as rules
 use Rattle.rules.specs.Explored.{refused, settings_fine}

@@ -1,5 +1,5 @@
 -- Two answers that meet a promise are equal. Assumes nothing.
-use mathlib.Core.Path.{◌≡◌, ap, sym, ◌∙◌}
+use mathlib.Core.Path.{ap, sym, ◌∙◌}
 use Rattle.rules.specs.Explored as rules
 use Rattle.explorer.specs.Same.{OneAnswer, OneExplored}
 

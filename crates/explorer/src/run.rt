@@ -4,7 +4,7 @@ ghost use Rattle.settings.specs.Given.{settings_of};
 ghost use Rattle.iteration.specs.Executes.{RunReady, TermsGiven};
 ghost use Rattle.explorer.specs.Runs.{Greater, Further, Stepped, RunStopped, Empty, Ran};
 
-use ending::{After, finish, judge_end};
+use ending::{finish, judge_end};
 use iteration::{Terms, execute};
 use layout::{
     CLOCKS, Clocks, MAX_ATOMIC_HISTORY, MAX_CELLS, MAX_THREADS, NUMBERS, Numbers, RECORD, UNSEEN,
@@ -72,8 +72,7 @@ fn executions(
         );
         progress = further(progress, over);
         let last = progress.begun == settings.executions;
-        let after = judge_end(table, condition, &values, path, over, last);
-        if let After::Answers(answer) = after {
+        if let Some(answer) = judge_end(table, condition, &values, path, over, last) {
             return stop(&clocks, &numbers, path, trace, answer, progress);
         }
         progress = stepped(path, progress);

@@ -7,6 +7,7 @@ use mathlib.Core.List.{List, [], ◌∷◌, map}
 use mathlib.Core.Path.{◌≡◌, refl, ap, sym, subst, ◌∙◌}
 use native.Mathlib.Omega.{arith}
 use lib.ListN.{length}
+use Rattle.std.specs.Prelude.{Option, None, Some}
 use types.Run.{OneOf, miss}
 use denote.Enum.Declared.{tag_of}
 use Rattle.rules.specs.Event as rules
@@ -20,8 +21,6 @@ use Rattle.path.specs.Walks.{Backtracks}
 use Rattle.path.specs.declared.Bound.{Bound}
 use Rattle.path.proofs.WalkLaws.{length-backtracked}
 use Rattle.scheduling.specs.Schedules.{point_of}
-use Rattle.scheduling.specs.declared.Point.{Point}
-use Rattle.scheduling.specs.declared.Point.TheVariants as place
 use Rattle.event.specs.contracts.Question.{the_type as asked}
 use Rattle.event.specs.declared.Question.{Question}
 use Rattle.event.specs.declared.Question.TheVariants as question
@@ -31,8 +30,8 @@ use Rattle.meeting.specs.declared.Cursor.{Cursor}
 use Rattle.event.specs.declared.Here.{Here}
 
 module _ (clocks : Clocks) (numbers : Numbers) (bound : Bound) where
-  module _ (t : ℕ) (p : Point) (says : (marks : MarkTable) (values : Values) → point_of p ≡ conflict (state clocks marks values numbers) t) where
-    pub thread-nowhere : p ≡ place.Nowhere → (path : List ℕ) → MarksThread clocks numbers path path bound t 0
+  module _ (t : ℕ) (p : Option ℕ) (says : (marks : MarkTable) (values : Values) → point_of p ≡ conflict (state clocks marks values numbers) t) where
+    pub thread-nowhere : p ≡ None → (path : List ℕ) → MarksThread clocks numbers path path bound t 0
     thread-nowhere e path =
         record {
           few = omega arith;
@@ -42,7 +41,7 @@ module _ (clocks : Clocks) (numbers : Numbers) (bound : Bound) where
               (record { holds = h; same = refl; opens = omega arith });
         }
 
-    pub thread-marked : {n : ℕ} (point : ℕ) {entry exit : List ℕ} {r : ℕ} → p ≡ place.Branch n → point ≡ n → Backtracks entry exit point (bound_of bound) t r → MarksThread clocks numbers entry exit bound t r
+    pub thread-marked : {n : ℕ} (point : ℕ) {entry exit : List ℕ} {r : ℕ} → p ≡ Some n → point ≡ n → Backtracks entry exit point (bound_of bound) t r → MarksThread clocks numbers entry exit bound t r
     thread-marked {n} point {entry} {exit} {r} e same b =
         record {
           few = b.few;

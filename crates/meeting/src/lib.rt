@@ -19,7 +19,6 @@ use layout::{Clocks, MAX_ATOMIC_HISTORY, MAX_THREADS, Marks, Numbers, wide16};
 use matches::Matched;
 use path::{Addition, Bound, Chosen, Said};
 use record::Offered;
-use scheduling::Point;
 use trace::Entry;
 
 // Where an execution stands: records in the path, those that it has passed, choices opened in the whole history, entries in
@@ -81,7 +80,7 @@ fn mark_threads(clocks: &Clocks, numbers: &Numbers, path: &mut [u8], bound: Boun
     let mut opened = 0;
     let mut t = 0;
     while t < MAX_THREADS {
-        if let Point::Branch(point) = scheduling::conflict(clocks, numbers, t) {
+        if let Some(point) = scheduling::conflict(clocks, numbers, t) {
             opened += path::backtrack(path, wide16(point), bound, t);
         }
         t += 1;

@@ -16,7 +16,8 @@ use mathlib.Core.Path.{◌≡◌, refl, ap, sym, ◌∙◌}
 use mathlib.Core.Logic.{◌≢◌, ◌⊎◌, inl, inr, ⊎_elim}
 use native.Mathlib.Omega.{arith}
 use lib.Dec.{ltb, eqb}
-use borrow.Author.Tests.{lt-ltb, le-ltb, ltb-true, eq-eqb, ne_eqb, eqb-true, not-true, not-false}
+use Rattle.std.specs.Prelude.{Option, Some}
+use borrow.Author.Tests.{lt-ltb, le-ltb, ltb-true, eq-eqb, ne_eqb, not-true, not-false}
 use Rattle.rules.specs.Event as rules
 use Rattle.rules.specs.Event.{Point, nowhere, branch}
 use Rattle.rules.specs.State.{State, Clocks, Marks, Values, Numbers, number, with_number, vector, schedule_of, operation, operates_on, yields, active_thread, none}
@@ -27,7 +28,7 @@ use Rattle.layout.specs.Tables.{state}
 use Rattle.layout.specs.declared.Operation.{Operation}
 use Rattle.track.specs.LastAccess.{grown_by, accessed}
 use Rattle.thread.proofs.ThreadLaws.{one_left, none_left}
-use Rattle.scheduling.specs.Schedules.{On, OperationMeans, or_five}
+use Rattle.scheduling.specs.Schedules.{On, OperationMeans, whom_of}
 use Rattle.event.specs.declared.Pending.{Pending}
 use Rattle.event.specs.declared.Pending.TheVariants as answer
 
@@ -97,66 +98,46 @@ module _ (st : State) (t : ℕ) where
 
 -- Rule (b)
 
--- the best so far, five where there is none
-unfoldable pub whom_of : ℕ → Whom
-whom_of best = cond (eqb best 5) nobody (thread best)
+module _ (numbers : Numbers) (best : Option ℕ) (n t : ℕ) (more : t < n) where
+  -- one turn, with what is best after it
+  turn : (left : Whom) → left ≡ cond (is_in numbers runnable t && yields_less numbers t (whom_of best)) (thread t) (whom_of best) →
+      fewest_from numbers left (n - (t + 1)) (t + 1) ≡ fewest_from numbers (whom_of best) (n - t) t
+  unfolding fewest_from
+  turn left e = rw (one_left n t more, e)
 
-whom-none : (best : ℕ) → best ≡ 5 → whom_of best ≡ nobody
-unfolding whom_of
-whom-none best e = rw e
+  pub fewest-not : (left : Option ℕ) → number numbers (names.state t) ≢ runnable → left ≡ best →
+      fewest_from numbers (whom_of left) (n - (t + 1)) (t + 1) ≡ fewest_from numbers (whom_of best) (n - t) t
+  fewest-not left e f = turn (whom_of left) (rw (ne_eqb (number numbers (names.state t)) runnable e, f))
 
-whom-some : (best : ℕ) → best ≢ 5 → whom_of best ≡ thread best
-unfolding whom_of
-whom-some best n = rw (ne_eqb best 5 n)
+  module _ (less : Bool) (asked : less ≡ yields_less numbers t (whom_of best)) (e : number numbers (names.state t) ≡ runnable) (left : Option ℕ) where
+    pub fewest-fewer : less ≡ true → left ≡ Some t →
+        fewest_from numbers (whom_of left) (n - (t + 1)) (t + 1) ≡ fewest_from numbers (whom_of best) (n - t) t
+    fewest-fewer f g = turn (whom_of left) (rw (g, e, ← asked, f))
+
+    pub fewest-as_many : less ≡ false → left ≡ best →
+        fewest_from numbers (whom_of left) (n - (t + 1)) (t + 1) ≡ fewest_from numbers (whom_of best) (n - t) t
+    fewest-as_many f g = turn (whom_of left) (rw (g, e, ← asked, f))
+
+pub fewest-end : (numbers : Numbers) (best : Whom) (n t : ℕ) → n ≤ t → best ≡ fewest_from numbers best (n - t) t
+unfolding fewest_from
+fewest-end numbers best n t h = rw (none_left n t h)
+
+module _ (numbers : Numbers) (w : ℕ) (is : w ≡ number numbers active_thread) where
+  pub initial-active : w < 5 → number numbers (names.state w) ≡ runnable → thread w ≡ initial numbers
+  unfolding initial
+  initial-active h e = rw (← is, lt-ltb w 5 h, e)
+
+  pub initial-not : w < 5 → number numbers (names.state w) ≢ runnable → (r : Whom) → r ≡ fewest_from numbers nobody 5 0 → r ≡ initial numbers
+  unfolding initial
+  initial-not h e r f = rw (← is, lt-ltb w 5 h, ne_eqb (number numbers (names.state w)) runnable e) f
+
+  pub initial-away : 5 ≤ w → (r : Whom) → r ≡ fewest_from numbers nobody 5 0 → r ≡ initial numbers
+  unfolding initial
+  initial-away h r f = rw (← is, le-ltb w 5 h) f
 
 flag : (b : Bool) → (b ≡ true) ⊎ (b ≡ false)
 flag true = inl refl
 flag false = inr refl
-
-pub five : (best : ℕ) → best ≡ or_five (whom_of best)
-unfolding whom_of
-five best = ⊎_elim (λ e. rw e (eqb-true best 5 e)) (λ e. rw e) (flag (eqb best 5))
-
-module _ (numbers : Numbers) (best n t : ℕ) (more : t < n) where
-  -- one turn, with what is best after it
-  turn : (left : ℕ) → whom_of left ≡ cond (is_in numbers runnable t && yields_less numbers t (whom_of best)) (thread t) (whom_of best) →
-      fewest_from numbers (whom_of left) (n - (t + 1)) (t + 1) ≡ fewest_from numbers (whom_of best) (n - t) t
-  unfolding fewest_from
-  turn left e = rw (one_left n t more, e)
-
-  pub fewest-not : number numbers (names.state t) ≢ runnable → (left : ℕ) → left ≡ best →
-      fewest_from numbers (whom_of left) (n - (t + 1)) (t + 1) ≡ fewest_from numbers (whom_of best) (n - t) t
-  fewest-not e left f = turn left (rw (ne_eqb (number numbers (names.state t)) runnable e, f))
-
-  pub fewest-first : t < 5 → number numbers (names.state t) ≡ runnable → best ≡ 5 → (left : ℕ) → left ≡ t →
-      fewest_from numbers (whom_of left) (n - (t + 1)) (t + 1) ≡ fewest_from numbers (whom_of best) (n - t) t
-  fewest-first h e f left g = turn left (rw (g, e, whom-none best f, whom-some t (omega arith)))
-
-  module _ (fewest : ℕ) (some : best ≢ 5) (is : fewest ≡ number numbers (yields best)) (e : number numbers (names.state t) ≡ runnable) where
-    pub fewest-fewer : t < 5 → ltb (number numbers (yields t)) fewest ≡ true → (left : ℕ) → left ≡ t →
-        fewest_from numbers (whom_of left) (n - (t + 1)) (t + 1) ≡ fewest_from numbers (whom_of best) (n - t) t
-    fewest-fewer h f left g = turn left (rw (g, e, whom-some best some, ← is, f, whom-some t (omega arith)))
-
-    pub fewest-as-many : ltb (number numbers (yields t)) fewest ≡ false → (left : ℕ) → left ≡ best →
-        fewest_from numbers (whom_of left) (n - (t + 1)) (t + 1) ≡ fewest_from numbers (whom_of best) (n - t) t
-    fewest-as-many f left g = turn left (rw (g, e, whom-some best some, ← is, f))
-
-pub fewest-end : (numbers : Numbers) (best n t : ℕ) → n ≤ t → best ≡ or_five (fewest_from numbers (whom_of best) (n - t) t)
-unfolding fewest_from
-fewest-end numbers best n t h = rw (none_left n t h) (five best)
-
-module _ (numbers : Numbers) (w : ℕ) (is : w ≡ number numbers active_thread) where
-  pub initial-active : w < 5 → number numbers (names.state w) ≡ runnable → w ≡ or_five (initial numbers)
-  unfolding initial
-  initial-active h e = rw (← is, lt-ltb w 5 h, e)
-
-  pub initial-not : w < 5 → number numbers (names.state w) ≢ runnable → (r : ℕ) → r ≡ or_five (fewest_from numbers nobody 5 0) → r ≡ or_five (initial numbers)
-  unfolding initial
-  initial-not h e r f = rw (← is, lt-ltb w 5 h, ne_eqb (number numbers (names.state w)) runnable e) f
-
-  pub initial-away : 5 ≤ w → (r : ℕ) → r ≡ or_five (fewest_from numbers nobody 5 0) → r ≡ or_five (initial numbers)
-  unfolding initial
-  initial-away h r f = rw (← is, le-ltb w 5 h) f
 
 -- Rules (d) and (e)
 

@@ -8,6 +8,9 @@ use mathlib.Core.Path.{◌≡◌, refl, sym}
 use mathlib.Core.Logic.{◌≢◌, ◌⊎◌, inl, inr, ⊎_elim}
 use native.Mathlib.Omega.{arith}
 use lib.Dec.{eqb}
+use Rattle.std.specs.Prelude.{Option, None, Some}
+use Rattle.std.specs.Option.{option_eq}
+use Rattle.scheduling.specs.Schedules.{whom_of}
 use lib.ListN.{length, get_or, set, length-set}
 use lib.Seq.{get_or-set_same, get_or-set_other}
 use borrow.Author.Tests.{ne_eqb, eqb-true, eqb-false}
@@ -17,7 +20,6 @@ use Rattle.rules.specs.Path.{active, yield, skip, disabled, to_active}
 use Rattle.rules.specs.Vector.{Whom, nobody, thread}
 use Rattle.rules.specs.Explorer.{seed_state, seed_of}
 use Rattle.rules.specs.Machine.{yielded, runnable, standing, every_thread, initial}
-use Rattle.scheduling.specs.Schedules.{or_five}
 
 pub seed-first : (b : Bool) (x : ℕ) → b ≡ true → active ≡ cond b active x
 seed-first b x e = rw e
@@ -50,24 +52,25 @@ flag : (b : Bool) → (b ≡ true) ⊎ (b ≡ false)
 flag true = inl refl
 flag false = inr refl
 
-put-at : (l : List ℕ) (i t x : ℕ) → t < length l → x ≡ get_or l t 0 → cond (eqb t i) active x ≡ get_or (set l i active) t 0
+put-at : (l : List ℕ) (i t x : ℕ) → t < length l → x ≡ get_or l t 0 → cond (eqb i t) active x ≡ get_or (set l i active) t 0
 put-at l i t x h e =
     ⊎_elim
-    (λ (f : eqb t i ≡ true). rw (f, eqb-true t i f) (sym (get_or-set_same l i active 0 (rw (← eqb-true t i f) h))))
-    (λ (f : eqb t i ≡ false). rw (f, get_or-set_other l i t active 0 (eqb-false t i f)) e)
-    (flag (eqb t i))
+    (λ (f : eqb i t ≡ true). rw (f, eqb-true i t f) (sym (get_or-set_same l t active 0 h)))
+    (λ (f : eqb i t ≡ false). rw (f, get_or-set_other l i t active 0 (λ g. eqb-false i t f (sym g))) e)
+    (flag (eqb i t))
 
-active-at : (w : Whom) (numbers : Numbers) (t : ℕ) → t < 5 → cond (eqb t (or_five w)) active (seed_state (standing numbers t)) ≡ get_or (to_active w (states numbers)) t 0
-active-at nobody numbers t h = rw (ne_eqb t 5 (omega arith)) (state-at numbers t h)
-active-at (thread i) numbers t h = put-at (states numbers) i t (seed_state (standing numbers t)) h (state-at numbers t h)
+active-at : (first : Option ℕ) (numbers : Numbers) (t : ℕ) → t < 5 → cond (option_eq eqb first (Some t)) active (seed_state (standing numbers t)) ≡ get_or (to_active (whom_of first) (states numbers)) t 0
+active-at None numbers t h = state-at numbers t h
+active-at (Some i) numbers t h = put-at (states numbers) i t (seed_state (standing numbers t)) h (state-at numbers t h)
 
 -- the whole seed
 abbrev pub seeded : Numbers → List ℕ
 seeded numbers = seed_of (initial numbers) (map (standing numbers) every_thread)
 
-pub seed-at : (numbers : Numbers) (first t : ℕ) → t < 5 → first ≡ or_five (initial numbers) → cond (eqb t first) active (seed_state (standing numbers t)) ≡ get_or (seeded numbers) t 0
+pub seed-at : (numbers : Numbers) (first : Option ℕ) (t : ℕ) (b : Bool) → t < 5 → whom_of first ≡ initial numbers → b ≡ option_eq eqb first (Some t) →
+    cond b active (seed_state (standing numbers t)) ≡ get_or (seeded numbers) t 0
 unfolding seed_of
-seed-at numbers first t h e = rw e (active-at (initial numbers) numbers t h)
+seed-at numbers first t b h e f = rw (f, ← e) (active-at first numbers t h)
 
 active-length : (w : Whom) (numbers : Numbers) → length (to_active w (states numbers)) ≡ 5
 active-length nobody numbers = refl

@@ -11,22 +11,15 @@ ghost use Rattle.rules.specs.State as rules;
 ghost use Rattle.rules.specs.Vector.{nobody, thread};
 ghost use Rattle.layout.specs.Tables.{state};
 ghost use Rattle.event.specs.Moves.{move_of};
-ghost use Rattle.scheduling.specs.Schedules.{point_of, OperationMeans, or_five};
+ghost use Rattle.scheduling.specs.Schedules.{point_of, OperationMeans, whom_of, BestWithin};
 
 use event::{Fault, Moved, Pending};
 use layout::action::NO_OPERATION;
 use layout::of_run::ACTIVE_THREAD;
 use layout::of_thread::{OPERATES_ON, OPERATION, STATE, YIELDS};
-use layout::{Clocks, MAX_CELLS, MAX_THREADS, NONE, Numbers, Operation, seed, wide16};
+use layout::{Clocks, MAX_CELLS, MAX_THREADS, Numbers, Operation, seed, wide16};
 use thread::{RUNNABLE, YIELDED};
 use track::access;
-
-// A branch's position, or none.
-#[derive(Clone, Copy)]
-pub enum Point {
-    Nowhere,
-    Branch(u16),
-}
 
 // A thread's pending operation. One on a cell that is none, which no row sets, counts as none.
 pub fn pending_operation(numbers: &Numbers, thread: usize) -> Pending
@@ -46,50 +39,54 @@ pub fn pending_operation(numbers: &Numbers, thread: usize) -> Pending
 
 // Rule (a): the branch of the access that a thread's pending operation is concurrent with. That branch is to be backtracked
 // from.
-pub fn conflict(clocks: &Clocks, numbers: &Numbers, thread: usize) -> Point
+pub fn conflict(clocks: &Clocks, numbers: &Numbers, thread: usize) -> Option<u16>
     requires { thread < 5 }
     ensures { (marks : rules.Marks) (values : rules.Values) → point_of result ≡ machine.conflict (state clocks.now marks values numbers.now) thread }
 {
     let Pending::On(operation) = pending_operation(numbers, thread) else {
-        return Point::Nowhere;
+        return None;
     };
     if access::is_concurrent(clocks, numbers, thread, operation) {
-        return Point::Branch(access::last_dependent_branch(numbers, operation));
+        return Some(access::last_dependent_branch(numbers, operation));
     }
-    Point::Nowhere
+    None
 }
 
 // Rule (b): the active thread if it is runnable, so that a thread that can go on is not preempted unless a mark asks for it;
-// else the runnable one with fewest yields, the lowest on a tie; 5 if none.
-pub fn initial(numbers: &Numbers) -> usize
-    ensures { result ≡ or_five (machine.initial numbers.now) }
+// else the runnable one with fewest yields, the lowest on a tie.
+pub fn initial(numbers: &Numbers) -> Option<usize>
+    ensures { whom_of result ≡ machine.initial numbers.now }
 {
     let active = wide16(numbers[ACTIVE_THREAD]);
     if active < MAX_THREADS {
         if numbers[STATE + active] == RUNNABLE {
-            return active;
+            return Some(active);
         }
     }
     fewest_yields(numbers)
 }
 
-fn fewest_yields(numbers: &Numbers) -> usize
-    ensures { result ≡ or_five (machine.fewest_from numbers.now nobody 5 0) }
+fn fewest_yields(numbers: &Numbers) -> Option<usize>
+    ensures { whom_of result ≡ machine.fewest_from numbers.now nobody 5 0 }
 {
-    let mut best = MAX_THREADS;
-    let mut fewest = NONE;
-    let mut t = 0;
-    while t < MAX_THREADS {
-        if numbers[STATE + t] == RUNNABLE {
-            let yields = numbers[YIELDS + t];
-            if best == MAX_THREADS || yields < fewest {
-                best = t;
-                fewest = yields;
-            }
+    let mut best = None;
+    for t in 0..MAX_THREADS {
+        if numbers[STATE + t] == RUNNABLE && yields_less(numbers, t, best) {
+            best = Some(t);
         }
-        t += 1;
     }
     best
+}
+
+// Whether a thread has yielded less than the best so far; any thread, where there is none.
+fn yields_less(numbers: &Numbers, thread: usize, best: Option<usize>) -> bool
+    requires { (thread < 5) × BestWithin best }
+    ensures { result ≡ machine.yields_less numbers.now thread (whom_of best) }
+{
+    let Some(best) = best else {
+        return true;
+    };
+    numbers[YIELDS + thread] < numbers[YIELDS + best]
 }
 
 // Rule (c): the states that a new schedule branch starts from.
@@ -98,10 +95,8 @@ pub fn seed(numbers: &Numbers) -> [u8; MAX_THREADS]
 {
     let first = initial(numbers);
     let mut states = [seed::DISABLED; MAX_THREADS];
-    let mut t = 0;
-    while t < MAX_THREADS {
-        states[t] = seed_of(numbers[STATE + t], t == first);
-        t += 1;
+    for t in 0..MAX_THREADS {
+        states[t] = seed_of(numbers[STATE + t], first == Some(t));
     }
     states
 }

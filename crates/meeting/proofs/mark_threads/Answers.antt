@@ -1,8 +1,7 @@
-use Prim.Native.Nat.{◌-◌}
 use Rattle.meeting.proofs.MarkedLaws.{thread-nowhere, thread-marked, below_none, turn-marked, turn-same, below_all}
 use borrow.Author.Rules.{rules}
 use Rattle.meeting.proofs.mark_threads.Goals as goal
-use Rattle.meeting.proofs.mark_threads.Goals.{in-Branch, in_default}
+use Rattle.meeting.proofs.mark_threads.Goals.{in-Some, in_default}
 
 pub loop-t-init : goal.loop-t-init
 loop-t-init c =
@@ -14,9 +13,9 @@ loop-t-preserved c =
     let bound = c.args.bound in
     let t = c.loop-t.t in
     elim c.match-conflict.branch [
-      | in-Branch w ↦ let turn =
+      | in-Some w ↦ let turn =
           turn-marked _ _ bound t c.loop-t.opened w.path-is w.opened-is c.loop-t.invariant.1 c.loop-t.invariant.2 c.loop-t.invariant.3
-          (thread-marked _ _ bound t call.result call.ensures _ w.in-Branch.is w.wide16.ensures.same w.backtrack-opened.ensures) in
+          (thread-marked _ _ bound t call.result call.ensures _ w.in-Some.is w.wide16.ensures.same w.backtrack-opened.ensures) in
           (search rules, turn.0, turn.1, turn.2)
       | in_default w ↦ let turn =
           turn-same _ _ bound t c.loop-t.opened w.path-is w.opened-is c.loop-t.invariant.1 c.loop-t.invariant.2 c.loop-t.invariant.3

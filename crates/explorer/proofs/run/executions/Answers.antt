@@ -1,4 +1,3 @@
-use Prim.Native.Nat.{◌-◌}
 use mathlib.Core.Path.{refl, ap}
 use native.Mathlib.Omega.{arith}
 use Rattle.meeting.specs.declared.Cursor.{Cursor}
@@ -38,22 +37,22 @@ stop-requires c =
       omega (arith, within, c.execute-over.auto, c.loop-answer.invariant.1, c.loop-answer.invariant.2, good),
     )
 
-pub shape_of-path-in-Answers : goal.shape_of-path-in-Answers
-shape_of-path-in-Answers c =
+pub shape_of-path-in-Some : goal.shape_of-path-in-Some
+shape_of-path-in-Some c =
     omega (arith, c.execute-over.auto, c.loop-answer.invariant.1, c.loop-answer.invariant.2)
 
-pub shape_of-trace-in-Answers : goal.shape_of-trace-in-Answers
-shape_of-trace-in-Answers c =
+pub shape_of-trace-in-Some : goal.shape_of-trace-in-Some
+shape_of-trace-in-Some c =
     omega (arith, c.stop.auto, c.execute-over.auto, c.loop-answer.invariant.1, c.loop-answer.invariant.2)
 
-pub returns-in-Answers : goal.returns-in-Answers
-returns-in-Answers c =
+pub returns-in-Some : goal.returns-in-Some
+returns-in-Some c =
     let run = c.loop-answer.invariant.0 in
     let args = c.args in
     ran-cleared args.table.now args.condition.now (settings_of args.settings)
     (ran_out args.table.now args.condition.now (settings_of args.settings) run c.shape-shape.ensures (c.terms_of-terms.ensures (ready-operations run.ready)) _ _ refl refl
-    c.execute-over.result c.execute-over.ensures c.further-progress.result c.further-progress.ensures c.judge_end-after.result c.judge_end-after.ensures
-    _ c.in-Answers.is c.stop.result c.stop.ensures (omega (arith, c.execute-over.auto)) (omega (arith, c.execute-over.auto)))
+    c.execute-over.result c.execute-over.ensures c.further-progress.result c.further-progress.ensures c.judge_end.result c.judge_end.ensures
+    _ c.in-Some.is c.stop.result c.stop.ensures (omega (arith, c.execute-over.auto)) (omega (arith, c.execute-over.auto)))
     c.loop-answer.invariant.1 c.loop-answer.invariant.2
 
 pub loop-answer-smaller : goal.loop-answer-smaller
@@ -65,7 +64,7 @@ loop-answer-preserved c =
     let run = c.loop-answer.invariant.0 in
     let args = c.args in (
       running_more args.table.now args.condition.now (settings_of args.settings) run c.shape-shape.ensures (c.terms_of-terms.ensures (ready-operations run.ready)) _ _ refl refl
-          c.execute-over.result c.execute-over.ensures c.further-progress.result c.further-progress.ensures c.judge_end-after.result c.judge_end-after.ensures
+          c.execute-over.result c.execute-over.ensures c.further-progress.result c.further-progress.ensures c.judge_end.result c.judge_end.ensures
           c.in_default.is c.stepped-progress.result c.stepped-progress.ensures (omega (arith, c.execute-over.auto)) (omega (arith, c.execute-over.auto)),
       omega (arith, c.stepped-progress.auto, c.execute-over.auto, c.loop-answer.invariant.1),
       omega (arith, c.execute-over.auto, c.loop-answer.invariant.2),
