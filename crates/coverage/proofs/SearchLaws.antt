@@ -1,6 +1,7 @@
 -- Laws for the search of rows: one turn of each loop. Assumes nothing.
 use Prim.Native.Nat.{ℕ, suc, ◌+◌, ◌-◌, ◌≤◌, ◌<◌}
 use mathlib.Core.List.{List, [], ◌∷◌}
+use Rattle.std.specs.Prelude.{Option, Some, None}
 use mathlib.Core.Bool.{Bool, true, false, cond, not, ◌||◌}
 use mathlib.Core.Path.{◌≡◌, refl, ap, sym, ◌∙◌}
 use native.Mathlib.Omega.{arith}
@@ -21,9 +22,8 @@ use Rattle.decode.specs.declared.Op.{Op}
 use Rattle.decode.specs.declared.Op.TheVariants as code
 use Rattle.std.specs.Prelude.{Option, Some, None}
 use Rattle.decode.specs.Ops.{op_of, decoded_of}
-use Rattle.coverage.specs.Covered.{count_of, row_op, switches, first_in_thread, first_from, first_switch, stores_pending, stores_to, one_if, summed, stores_in, store_count}
-use Rattle.coverage.specs.declared.search.Switch.{Switch}
-use Rattle.coverage.specs.declared.search.Switch.TheVariants.{Nowhere, At}
+use Rattle.coverage.specs.Covered.{count_of, row_op, switches, one_below, first_in_thread, site_or, first_from, first_switch, stores_pending, stores_to, one_if, summed, stores_in, store_count}
+use Rattle.coverage.specs.declared.search.Site.{Site}
 
 -- The first row of a thread that switches (table/proofs/Walks has the turns of that loop)
 
@@ -31,9 +31,16 @@ abbrev pub stays : List ℕ → List ℕ → Bool → ℕ → ℕ → Bool
 stays t shape on thread row = not (switches on (row_op t shape thread row))
 
 pub first-all : (t shape : List ℕ) (on : Bool) (thread count : ℕ) → count ≡ count_of shape thread →
-    first_not (stays t shape on thread) (count - 0) 0 ≡ first_in_thread t shape on thread
+    one_below count (first_not (stays t shape on thread) (count - 0) 0) ≡ first_in_thread t shape on thread
 unfolding first_in_thread
 first-all t shape on thread count e = rw (sub-zero, e)
+
+module _ (n i k : ℕ) where
+  pub below_some : k ≡ i → i < n → one_below n k ≡ Some i
+  below_some p h = let e : ltb i n ≡ true = lt-ltb i n h in rw (p, e)
+
+  pub below-none : k ≡ n → one_below n k ≡ None
+  below-none p = let e : ltb n n ≡ false = le-ltb n n (omega arith) in rw (p, e)
 
 -- by what the code found of the row
 pub told : (on : Bool) (d e : rules.Decoded rules.Op) (r b : Bool) → r ≡ switches on d → d ≡ e → r ≡ b → not (switches on e) ≡ not b
@@ -41,22 +48,21 @@ told on d e r b q p s = ap (λ (x : rules.Decoded rules.Op). not (switches on x)
 
 -- The first thread that has such a row: what is left to be asked at thread i
 
-module _ (t shape : List ℕ) (on : Bool) (i row count : ℕ) (whole : Switch) (left : first_from t shape on (5 - i) i ≡ whole)
-    (h : i < 5) (found : row ≡ first_in_thread t shape on i) (counted : count ≡ count_of shape i) where
-  from_one : first_from t shape on (5 - i) i ≡ cond (ltb row count) (At i row) (first_from t shape on (5 - (i + 1)) (i + 1))
+module _ (t shape : List ℕ) (on : Bool) (i : ℕ) (whole : Option Site) (left : first_from t shape on (5 - i) i ≡ whole) (h : i < 5) where
+  from_one : first_from t shape on (5 - i) i ≡ site_or i (first_in_thread t shape on i) (first_from t shape on (5 - (i + 1)) (i + 1))
   unfolding first_from
-  from_one = let e : 5 - i ≡ suc (5 - (i + 1)) = omega arith in rw (e, found, counted)
+  from_one = let e : 5 - i ≡ suc (5 - (i + 1)) = omega arith in rw e
 
-  pub from_on : count ≤ row → first_from t shape on (5 - (i + 1)) (i + 1) ≡ whole
-  from_on l = let e : ltb row count ≡ false = le-ltb row count l in cc (from_one, ap (λ (b : Bool). cond b (At i row) (first_from t shape on (5 - (i + 1)) (i + 1))) e)
+  pub from_on : None ≡ first_in_thread t shape on i → first_from t shape on (5 - (i + 1)) (i + 1) ≡ whole
+  from_on e = sym (rw (← e) at from_one) ∙ left
 
-  pub from_found : row < count → At i row ≡ whole
-  from_found l = let e : ltb row count ≡ true = lt-ltb row count l in cc (from_one, ap (λ (b : Bool). cond b (At i row) (first_from t shape on (5 - (i + 1)) (i + 1))) e)
+  pub from_found : (row : ℕ) → Some row ≡ first_in_thread t shape on i → Some (record { thread = i; row = row }) ≡ whole
+  from_found row e = sym (rw (← e) at from_one) ∙ left
 
 pub from_all : (t shape : List ℕ) (on : Bool) → shape ≡ shape_of t → first_from t shape on 5 0 ≡ first_switch t on
 from_all t shape on e = rw e
 
-pub from-none : (t shape : List ℕ) (on : Bool) (i : ℕ) (whole : Switch) → first_from t shape on (5 - i) i ≡ whole → 5 ≤ i → Nowhere ≡ whole
+pub from-none : (t shape : List ℕ) (on : Bool) (i : ℕ) (whole : Option Site) → first_from t shape on (5 - i) i ≡ whole → 5 ≤ i → None ≡ whole
 unfolding first_from
 from-none t shape on i whole left h = let e : 5 - i ≡ 0 = omega arith in rw e at left
 

@@ -3,12 +3,11 @@
 --     row_op          what a row of a thread does
 --     first_switch    the first row, thread by thread, that switches exploring on, or off
 --     store_count     how many rows may store to a cell
-use Rattle.std.specs.Prelude.{ℕ, zero, suc, ◌+◌, List, Bool, true, false, cond, not, ◌&&◌, ◌||◌, ltb, eqb, get_or}
+use Rattle.std.specs.Prelude.{ℕ, zero, suc, ◌+◌, List, Option, Some, None, Bool, true, false, cond, not, ◌&&◌, ◌||◌, ltb, eqb, get_or}
 use Rattle.rules.specs.Table.{Op, Decoded, opcode_in, op_at, shape_of, first_not, max_threads}
 use Rattle.table.specs.Answers.{room_in}
 use Rattle.rules.specs.Machine.{Pending, nothing, pends, role_in, pending_as, aLoad}
-use Rattle.coverage.specs.declared.search.Switch.{Switch}
-use Rattle.coverage.specs.declared.search.Switch.TheVariants.{Nowhere, At}
+use Rattle.coverage.specs.declared.search.Site.{Site}
 
 -- Rows, in a table of this shape
 
@@ -25,18 +24,27 @@ abbrev pub switches : Bool → Decoded Op → Bool
 switches true row = eqb (opcode_in row) 14
 switches false row = eqb (opcode_in row) 13 || eqb (opcode_in row) 15
 
--- the first row of a thread that does, or its row count
-unfoldable pub first_in_thread : List ℕ → List ℕ → Bool → ℕ → ℕ
-first_in_thread t shape on thread = first_not (λ (row : ℕ). not (switches on (row_op t shape thread row))) (count_of shape thread) 0
+-- a number below this one
+abbrev pub one_below : ℕ → ℕ → Option ℕ
+one_below n i = cond (ltb i n) (Some i) None
+
+-- the first row of a thread that does
+unfoldable pub first_in_thread : List ℕ → List ℕ → Bool → ℕ → Option ℕ
+first_in_thread t shape on thread =
+    one_below (count_of shape thread) (first_not (λ (row : ℕ). not (switches on (row_op t shape thread row))) (count_of shape thread) 0)
+
+-- this row of the thread, or else what is found behind it
+abbrev pub site_or : ℕ → Option ℕ → Option Site → Option Site
+site_or thread (Some row) rest = Some (record { thread = thread; row = row })
+site_or thread None rest = rest
 
 -- of the n threads from this one on
-unfoldable pub first_from : List ℕ → List ℕ → Bool → ℕ → ℕ → Switch
-first_from t shape on zero thread = Nowhere
+unfoldable pub first_from : List ℕ → List ℕ → Bool → ℕ → ℕ → Option Site
+first_from t shape on zero thread = None
 first_from t shape on (suc n) thread =
-    cond (ltb (first_in_thread t shape on thread) (count_of shape thread)) (At thread (first_in_thread t shape on thread))
-    (first_from t shape on n (thread + 1))
+    site_or thread (first_in_thread t shape on thread) (first_from t shape on n (thread + 1))
 
-abbrev pub first_switch : List ℕ → Bool → Switch
+abbrev pub first_switch : List ℕ → Bool → Option Site
 first_switch t on = first_from t (shape_of t) on max_threads 0
 
 -- Rows that store

@@ -5,7 +5,7 @@
 --     put_bounded       what a bound leaves
 --     put_old_stores     a warning of each cell that has more stores than are kept
 --     put_covered       all of this, behind a page's end
-use Rattle.std.specs.Prelude.{ℕ, zero, suc, ◌+◌, List, true, false, cond, ltb, eqb}
+use Rattle.std.specs.Prelude.{ℕ, zero, suc, ◌+◌, List, Option, Some, None, true, false, cond, ltb, eqb}
 use Rattle.rules.specs.Token.{bytes_of}
 use Rattle.rules.specs.Table.{max_cells}
 use Rattle.rules.specs.State.{history}
@@ -13,8 +13,7 @@ use Rattle.rules.specs.Path.{Bound, unbounded, at_most}
 use Rattle.rules.specs.Explored.{Settings}
 use Rattle.page.specs.Pages.{Page, put_text, put_filled}
 use Rattle.coverage.specs.Covered.{first_switch, store_count}
-use Rattle.coverage.specs.declared.search.Switch.{Switch}
-use Rattle.coverage.specs.declared.search.Switch.TheVariants.{Nowhere, At}
+use Rattle.coverage.specs.declared.search.Site.{Site}
 
 -- The first line
 
@@ -29,13 +28,13 @@ put_first l what n begun = put_text (put_executions (put_filled l what n 0 0) be
 -- What was tried
 
 -- exploring was off at the start: by the first row that switches it on
-abbrev pub put_switched_on : Page → Switch → Page
-put_switched_on l Nowhere = put_text l (bytes_of "covered: one execution; no other order of the threads and no other load was tried\n")
-put_switched_on l (At thread row) =
+abbrev pub put_switched_on : Page → Option Site → Page
+put_switched_on l None = put_text l (bytes_of "covered: one execution; no other order of the threads and no other load was tried\n")
+put_switched_on l (Some site) =
     put_filled l (bytes_of "covered: what is varied while exploring is on, by `explore_state` (first at thread #, row #); nothing else\n")
-    thread row 0
+    site.thread site.row 0
 
-unfoldable pub put_off : Page → Switch → ℕ → Page
+unfoldable pub put_off : Page → Option Site → ℕ → Page
 put_off l on begun =
     put_switched_on (put_first l (bytes_of "answer 0: not explored, by --not-exploring; ended after ") 0 begun) on
 
@@ -47,12 +46,12 @@ put_exhausted l unbounded begun =
 put_exhausted l (at_most most) begun = put_first l (bytes_of "answer 0: exhausted within --bound # after ") most begun
 
 -- exploring was on at the start: by the first row that switches it off
-unfoldable pub put_explored : Page → Bound → Switch → ℕ → Page
-put_explored l bound Nowhere begun = put_exhausted l bound begun
-put_explored l bound (At thread row) begun =
+unfoldable pub put_explored : Page → Bound → Option Site → ℕ → Page
+put_explored l bound None begun = put_exhausted l bound begun
+put_explored l bound (Some site) begun =
     put_filled (put_first l (bytes_of "answer 0: exhausted in part, since the program switches exploring off, after ") 0 begun)
     (bytes_of "covered: what is varied while exploring is on; it goes off at thread #, row #, and then nothing else is tried\n")
-    thread row 0
+    site.thread site.row 0
 
 unfoldable pub put_tried : Page → List ℕ → Settings → ℕ → Page
 put_tried l t settings begun =

@@ -12,7 +12,7 @@ ghost use Rattle.coverage.specs.Says.{put_old_stores, put_covered};
 use layout::{MAX_ATOMIC_HISTORY, MAX_CELLS};
 use page::Page;
 use path::Bound;
-use search::Switch;
+use search::Site;
 use settings::Settings;
 
 mod search;
@@ -61,7 +61,7 @@ fn put_executions(page: &mut Page, at: usize, begun: u64) -> usize
 }
 
 // Exploring was off at the start.
-fn put_off(page: &mut Page, at: usize, on: Switch, begun: u64) -> usize
+fn put_off(page: &mut Page, at: usize, on: Option<Site>, begun: u64) -> usize
     ensures { page_of page.new result ≡ put_off (page_of page.old at) on begun }
 {
     let to = put_first(
@@ -71,7 +71,7 @@ fn put_off(page: &mut Page, at: usize, on: Switch, begun: u64) -> usize
         0,
         begun,
     );
-    let Switch::At { thread, row } = on else {
+    let Some(site) = on else {
         return page::put(
             page,
             to,
@@ -82,17 +82,23 @@ fn put_off(page: &mut Page, at: usize, on: Switch, begun: u64) -> usize
         page,
         to,
         b"covered: what is varied while exploring is on, by `explore_state` (first at thread #, row #); nothing else\n",
-        thread as u64,
-        row as u64,
+        site.thread as u64,
+        site.row as u64,
         0,
     )
 }
 
 // Exploring was on at the start; the program may switch it off.
-fn put_explored(page: &mut Page, at: usize, bound: Bound, switched: Switch, begun: u64) -> usize
+fn put_explored(
+    page: &mut Page,
+    at: usize,
+    bound: Bound,
+    switched: Option<Site>,
+    begun: u64,
+) -> usize
     ensures { page_of page.new result ≡ put_explored (page_of page.old at) (bound_of bound) switched begun }
 {
-    let Switch::At { thread, row } = switched else {
+    let Some(site) = switched else {
         return put_exhausted(page, at, bound, begun);
     };
     let to = put_first(
@@ -106,8 +112,8 @@ fn put_explored(page: &mut Page, at: usize, bound: Bound, switched: Switch, begu
         page,
         to,
         b"covered: what is varied while exploring is on; it goes off at thread #, row #, and then nothing else is tried\n",
-        thread as u64,
-        row as u64,
+        site.thread as u64,
+        site.row as u64,
         0,
     )
 }
@@ -162,10 +168,8 @@ fn put_old_stores(page: &mut Page, at: usize, table: &[u8]) -> usize
     ensures { page_of page.new result ≡ put_old_stores (page_of page.old at) table.now max_cells 0 }
 {
     let mut to = at;
-    let mut cell = 0;
-    while cell < MAX_CELLS as u64 {
+    for cell in 0..MAX_CELLS as u64 {
         to = put_stores(page, to, table, cell);
-        cell += 1;
     }
     to
 }

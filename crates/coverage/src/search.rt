@@ -8,43 +8,38 @@ use decode::Op;
 use layout::{MAX_THREADS, wide16};
 use table::{COUNTS, Shape};
 
-// A row of the table, or none.
+// A row of the table, by its thread and its number there.
 #[derive(Clone, Copy)]
-pub enum Switch {
-    Nowhere,
-    At { thread: usize, row: usize },
+pub struct Site {
+    pub thread: usize,
+    pub row: usize,
 }
 
 // The first row, thread by thread, that switches exploring on, or off.
-pub fn first_switch(table: &[u8], on: bool) -> Switch
+pub fn first_switch(table: &[u8], on: bool) -> Option<Site>
     ensures { result ≡ first_switch table.now on }
 {
     let shape = table::shape(table);
-    let mut thread = 0;
-    while thread < MAX_THREADS {
-        let row = first_in(table, &shape, thread, on);
-        if row < wide16(shape[COUNTS + thread]) {
-            return Switch::At { thread, row };
+    for thread in 0..MAX_THREADS {
+        if let Some(row) = first_in(table, &shape, thread, on) {
+            return Some(Site { thread, row });
         }
-        thread += 1;
     }
-    Switch::Nowhere
+    None
 }
 
-// The first such row of a thread, or its row count.
-fn first_in(table: &[u8], shape: &Shape, thread: usize, on: bool) -> usize
+// The first such row of a thread.
+fn first_in(table: &[u8], shape: &Shape, thread: usize, on: bool) -> Option<usize>
     requires { thread < 5 }
     ensures { result ≡ first_in_thread table.now shape.now on thread }
 {
     let count = wide16(shape[COUNTS + thread]);
-    let mut row = 0;
-    while row < count {
+    for row in 0..count {
         if switches(table::row_of(table, shape, thread, row as u16), on) {
-            return row;
+            return Some(row);
         }
-        row += 1;
     }
-    count
+    None
 }
 
 // Whether a row switches exploring on, or off.
@@ -68,10 +63,8 @@ pub fn stores(table: &[u8], cell: u64) -> u64
 {
     let shape = table::shape(table);
     let mut sum = 0;
-    let mut thread = 0;
-    while thread < MAX_THREADS {
+    for thread in 0..MAX_THREADS {
         sum += stores_in(table, &shape, thread, cell);
-        thread += 1;
     }
     sum
 }
@@ -83,10 +76,8 @@ fn stores_in(table: &[u8], shape: &Shape, thread: usize, cell: u64) -> u64
 {
     let count = wide16(shape[COUNTS + thread]);
     let mut sum = 0;
-    let mut row = 0;
-    while row < count {
+    for row in 0..count {
         sum += may_store(table::row_of(table, shape, thread, row as u16), cell);
-        row += 1;
     }
     sum
 }

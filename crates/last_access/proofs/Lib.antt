@@ -1,2 +1,1 @@
 mod AccessLaws
-mod OpLaws

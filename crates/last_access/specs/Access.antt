@@ -1,7 +1,8 @@
 -- The steps that access a cell or a plain cell, as a race speaks of them. Assumes nothing.
 --     cell_in          the cell or the plain cell that a row names
 --     last_access_step  the last step in which a thread so accesses a cell
-use Rattle.std.specs.Prelude.{ℕ, zero, suc, List, Bool, true, false, cond, ◌&&◌, ◌||◌, eqb}
+use Rattle.std.specs.Prelude.{ℕ, zero, suc, List, Option, Some, None, Bool, true, false, cond, ◌&&◌, ◌||◌, eqb}
+use Rattle.std.specs.Option.{option_eq}
 use Rattle.rules.specs.Change.{Changed, success, failure, applied}
 use Rattle.rules.specs.Event.{Entry}
 use Rattle.rules.specs.Table.{Op, Decoded, refused, decoded, opcode_of, load, store, store_register, rmw, fence, unsync_load, with_mut, yield, join, jump, jump_if, jump_unless, check, critical, explore_state, skip_branch, spurious, plain_read, plain_write}
@@ -10,27 +11,27 @@ use Rattle.steps.specs.Entries.{entry_read, operation_at}
 use Rattle.last_access.specs.declared.AccessKind.{AccessKind}
 use Rattle.last_access.specs.declared.AccessKind.TheVariants.{Load, UnsyncLoad, Store, Exclusive, PlainRead, PlainWrite}
 
--- the cell that a row names, or the plain cell, or 255: its opcode says which
-abbrev pub cell_in : Op → ℕ
-cell_in (load c o r) = c
-cell_in (store c o a) = c
-cell_in (store_register c o r) = c
-cell_in (rmw c o f change r) = c
-cell_in (fence o) = 255
-cell_in (unsync_load c r) = c
-cell_in (with_mut c change r) = c
-cell_in yield = 255
-cell_in (join thread) = 255
-cell_in (jump target) = 255
-cell_in (jump_if r a target) = 255
-cell_in (jump_unless r a target) = 255
-cell_in (check r a) = 255
-cell_in critical = 255
-cell_in explore_state = 255
-cell_in skip_branch = 255
-cell_in (spurious r) = 255
-cell_in (plain_read c r) = c
-cell_in (plain_write c a) = c
+-- the cell that a row names, or the plain cell: its opcode says which
+abbrev pub cell_in : Op → Option ℕ
+cell_in (load c o r) = Some c
+cell_in (store c o a) = Some c
+cell_in (store_register c o r) = Some c
+cell_in (rmw c o f change r) = Some c
+cell_in (fence o) = None
+cell_in (unsync_load c r) = Some c
+cell_in (with_mut c change r) = Some c
+cell_in yield = None
+cell_in (join thread) = None
+cell_in (jump target) = None
+cell_in (jump_if r a target) = None
+cell_in (jump_unless r a target) = None
+cell_in (check r a) = None
+cell_in critical = None
+cell_in explore_state = None
+cell_in skip_branch = None
+cell_in (spurious r) = None
+cell_in (plain_read c r) = Some c
+cell_in (plain_write c a) = Some c
 
 abbrev pub is_success : Changed → Bool
 is_success (success v) = true
@@ -62,16 +63,16 @@ accesses PlainWrite v op = eqb (opcode_of op) 18
 abbrev pub is_access_by : ℕ → ℕ → AccessKind → Entry → Decoded Op → Bool
 is_access_by thread cell kind e refused = false
 is_access_by thread cell kind e (decoded op) =
-    eqb e.thread thread && eqb (cell_in op) cell && accesses kind e.value op
+    eqb e.thread thread && option_eq eqb (cell_in op) (Some cell) && accesses kind e.value op
 
--- the last of the first n numbers that passes the test, counted from 1, or 0
-unfoldable pub last_of : (ℕ → Bool) → ℕ → ℕ
-last_of test zero = 0
-last_of test (suc n) = cond (test n) (suc n) (last_of test n)
+-- the last of the first n numbers that passes the test
+unfoldable pub last_of : (ℕ → Bool) → ℕ → Option ℕ
+last_of test zero = None
+last_of test (suc n) = cond (test n) (Some n) (last_of test n)
 
 unfoldable pub is_access : List ℕ → List ℕ → ℕ → ℕ → AccessKind → ℕ → Bool
 is_access table trace thread cell kind i = is_access_by thread cell kind (entry_read trace i) (operation_at table trace i)
 
--- the last of the first n steps that is such an access, counted from 1, or 0
-unfoldable pub last_access_step : List ℕ → List ℕ → ℕ → ℕ → AccessKind → ℕ → ℕ
+-- the last of the first n steps that is such an access
+unfoldable pub last_access_step : List ℕ → List ℕ → ℕ → ℕ → AccessKind → ℕ → Option ℕ
 last_access_step table trace thread cell kind n = last_of (is_access table trace thread cell kind) n

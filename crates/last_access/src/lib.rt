@@ -1,7 +1,7 @@
 // The steps that access a cell or a plain cell, as a race speaks of them.
 #![tactic(auto)]
 
-ghost use Rattle.std.specs.Prelude.{ℕ, ◌≡◌};
+ghost use Rattle.std.specs.Prelude.{◌≡◌, ◌<◌, IfSome};
 ghost use Rattle.rules.specs.Change.{applied};
 ghost use Rattle.change.specs.Changes.{change_meant};
 ghost use Rattle.decode.specs.Ops.{op_of};
@@ -9,9 +9,6 @@ ghost use Rattle.last_access.specs.Access.{cell_in, is_success, stores_after, ac
 
 use change::{Change, Changed};
 use decode::Op;
-
-// The cell of a row that names none.
-pub const NO_CELL: u64 = 255;
 
 // How a step accesses a cell or, in the last two, a plain cell. A change that fails only loads.
 #[derive(Clone, Copy)]
@@ -31,18 +28,17 @@ pub struct CellAccess {
     pub kind: AccessKind,
 }
 
-// The last of the first `n` steps in which a thread so accesses a cell, counted from 1; 0 for none.
-pub fn last(table: &[u8], trace: &[u8], thread: u64, access: CellAccess, n: usize) -> u64
-    ensures { result ≡ last_access_step table.now trace.now thread access.cell access.kind n }
+// The last of the first `n` steps in which a thread so accesses a cell.
+pub fn last(table: &[u8], trace: &[u8], thread: u64, access: CellAccess, n: usize) -> Option<usize>
+    ensures same { result ≡ last_access_step table.now trace.now thread access.cell access.kind n }
+    ensures one_of_them { IfSome result (λ i. i < n) }
 {
-    let mut i = n;
-    while 0 < i {
-        if is_access(table, trace, thread, access, i - 1) {
-            return i as u64;
+    for i in (0..n).rev() {
+        if is_access(table, trace, thread, access, i) {
+            return Some(i);
         }
-        i -= 1;
     }
-    0
+    None
 }
 
 // Whether step `i` is such an access.
@@ -54,59 +50,37 @@ fn is_access(table: &[u8], trace: &[u8], thread: u64, access: CellAccess, i: usi
     };
     let kind = access.kind;
     (steps::thread(trace, i) as u64 == thread)
-        & (cell_of(op) == access.cell)
+        & (cell_of(op) == Some(access.cell))
         & is_of(op, kind, steps::value(trace, i))
 }
 
-// Whether a row so accesses its cell, where it has read this value.
+// Whether a row so accesses its cell, where it has read this value; a change loads, whether it succeeds or not.
 fn is_of(op: Op, kind: AccessKind, read: u64) -> bool
     ensures { result ≡ accesses kind read (op_of op) }
 {
     match kind {
-        AccessKind::Load => loads(op),
-        AccessKind::UnsyncLoad => loads_unsync(op),
+        AccessKind::Load => matches!(op, Op::Load { .. } | Op::Rmw { .. }),
+        AccessKind::UnsyncLoad => matches!(op, Op::UnsyncLoad { .. }),
         AccessKind::Store => stores(op, read),
-        AccessKind::Exclusive => is_exclusive(op),
-        AccessKind::PlainRead => reads_plain(op),
-        AccessKind::PlainWrite => writes_plain(op),
+        AccessKind::Exclusive => matches!(op, Op::WithMut { .. }),
+        AccessKind::PlainRead => matches!(op, Op::PlainRead { .. }),
+        AccessKind::PlainWrite => matches!(op, Op::PlainWrite { .. }),
     }
 }
 
 // The cell that a row names, or the plain cell: the row says which.
-pub fn cell_of(op: Op) -> u64
+pub fn cell_of(op: Op) -> Option<u64>
     ensures { result ≡ cell_in (op_of op) }
 {
     match op {
-        Op::Load { cell, .. } => cell as u64,
-        Op::Store { cell, .. } => cell as u64,
-        Op::StoreRegister { cell, .. } => cell as u64,
-        Op::Rmw { cell, .. } => cell as u64,
-        Op::UnsyncLoad { cell, .. } => cell as u64,
-        Op::WithMut { cell, .. } => cell as u64,
-        Op::PlainRead { plain, .. } => plain as u64,
-        Op::PlainWrite { plain, .. } => plain as u64,
-        _ => NO_CELL,
-    }
-}
-
-// Whether a row loads from a cell; a change does, whether it succeeds or not.
-fn loads(op: Op) -> bool
-    ensures { (read : ℕ) → result ≡ accesses AccessKind.Load read (op_of op) }
-{
-    match op {
-        Op::Load { .. } => true,
-        Op::Rmw { .. } => true,
-        _ => false,
-    }
-}
-
-// The same without synchronising.
-fn loads_unsync(op: Op) -> bool
-    ensures { (read : ℕ) → result ≡ accesses AccessKind.UnsyncLoad read (op_of op) }
-{
-    match op {
-        Op::UnsyncLoad { .. } => true,
-        _ => false,
+        Op::Load { cell, .. }
+        | Op::Store { cell, .. }
+        | Op::StoreRegister { cell, .. }
+        | Op::Rmw { cell, .. }
+        | Op::UnsyncLoad { cell, .. }
+        | Op::WithMut { cell, .. } => Some(cell as u64),
+        Op::PlainRead { plain, .. } | Op::PlainWrite { plain, .. } => Some(plain as u64),
+        _ => None,
     }
 }
 
@@ -118,36 +92,6 @@ fn stores(op: Op, read: u64) -> bool
         Op::Store { .. } => true,
         Op::StoreRegister { .. } => true,
         Op::Rmw { change, .. } => succeeds(change, read),
-        _ => false,
-    }
-}
-
-// Whether a row changes a cell exclusively.
-fn is_exclusive(op: Op) -> bool
-    ensures { (read : ℕ) → result ≡ accesses AccessKind.Exclusive read (op_of op) }
-{
-    match op {
-        Op::WithMut { .. } => true,
-        _ => false,
-    }
-}
-
-// Whether a row reads a plain cell.
-fn reads_plain(op: Op) -> bool
-    ensures { (read : ℕ) → result ≡ accesses AccessKind.PlainRead read (op_of op) }
-{
-    match op {
-        Op::PlainRead { .. } => true,
-        _ => false,
-    }
-}
-
-// Whether it writes one.
-fn writes_plain(op: Op) -> bool
-    ensures { (read : ℕ) → result ≡ accesses AccessKind.PlainWrite read (op_of op) }
-{
-    match op {
-        Op::PlainWrite { .. } => true,
         _ => false,
     }
 }

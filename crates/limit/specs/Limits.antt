@@ -4,7 +4,7 @@
 --     put_to_do        what to do about it
 --     put_spin        whether the execution went round in a loop
 --     put_limit       all three, behind a page's end
-use Rattle.std.specs.Prelude.{ℕ, List, Bool, cond, ◌||◌, eqb, ltb}
+use Rattle.std.specs.Prelude.{ℕ, List, Option, Some, None, Bool, cond, ◌||◌, eqb, ltb}
 use Rattle.rules.specs.Token.{bytes_of}
 use Rattle.rules.specs.Explored.{Settings, max_branches, max_operations, max_executions}
 use Rattle.page.specs.Pages.{Page, put_text, put_filled}
@@ -50,13 +50,13 @@ put_to_do l s number =
     (cond (eqb number 12) (put_raise l (bytes_of "--operations") s.operations max_operations)
     (put_filled l (bytes_of "to do: make the program smaller, or leave such orders out, and others with them, by --bound #\n") 255 0 0)))
 
--- the last of n steps repeat the same p rows; nothing is said where p is 0
-abbrev pub put_repeat : Page → List ℕ → ℕ → ℕ → Page
-put_repeat l trace n p =
-    cond (eqb p 0) l
-    (cond (yields_in trace n p)
+-- the last of n steps repeat the same p rows; nothing is said where they do not
+abbrev pub put_repeat : Page → List ℕ → ℕ → Option ℕ → Page
+put_repeat l trace n None = l
+put_repeat l trace n (Some p) =
+    cond (yields_in trace n p)
     (put_filled l (bytes_of "hint: the last steps repeat the same # rows, a yield among them: do threads wait for each other?\n") p 0 0)
-    (put_filled l (bytes_of "hint: the last steps repeat the same # rows: a loop that waits? `yield` in it lets the others run\n") p 0 0))
+    (put_filled l (bytes_of "hint: the last steps repeat the same # rows: a loop that waits? `yield` in it lets the others run\n") p 0 0)
 
 unfoldable pub put_spin : Page → List ℕ → Page
 put_spin l trace = put_repeat l trace (entries trace) (period_of trace (entries trace))

@@ -147,10 +147,9 @@ fn put_spin(page: &mut Page, at: usize, trace: &[u8]) -> usize
     ensures { page_of page.new result ≡ put_spin (page_of page.old at) trace.now }
 {
     let n = steps::count(trace);
-    let p = spin::period(trace, n);
-    if p == 0 {
+    let Some(p) = spin::period(trace, n) else {
         return at;
-    }
+    };
     if spin::yields(trace, n, p) {
         return page::fill(
             page,

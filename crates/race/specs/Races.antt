@@ -3,7 +3,7 @@
 --     cell_at         the cell or the plain cell of the row at fault
 --     access_name     what an access is called
 --     put_race        the line that names both, behind a page's end
-use Rattle.std.specs.Prelude.{ℕ, ◌-◌, ◌%◌, List, Bool, true, false, cond, eqb}
+use Rattle.std.specs.Prelude.{ℕ, ◌+◌, ◌%◌, List, Option, Some, None, unwrap_or, Bool, true, false, cond, eqb}
 use Prim.Native.String.{String}
 use Rattle.rules.specs.Token.{bytes_of}
 use Rattle.rules.specs.Table.{Op, Decoded, refused, decoded}
@@ -14,19 +14,15 @@ use Rattle.last_access.specs.declared.AccessKind.{AccessKind}
 use Rattle.last_access.specs.declared.AccessKind.TheVariants.{Load, UnsyncLoad, Store, Exclusive, PlainRead, PlainWrite}
 
 -- the access that meets a race, and the one before it that it races with
-pub record RaceSaid : Type 0 where
-  pub met : AccessKind
-  pub before : AccessKind
-
 infix 20 ◌against◌
-abbrev pub ◌against◌ : AccessKind → AccessKind → RaceSaid
-met against before = record { met = met; before = before }
+abbrev pub ◌against◌ : AccessKind → AccessKind → AccessKind × AccessKind
+met against before = (met, before)
 
 -- "Race kinds in check order: load 1 (mut); unsynchronised load 2 (mut), 3 (store); store 4 (mut), 5 (unsynchronised load);
 -- exclusive 6 (load), 7 (unsynchronised load), 8 (store), 9 (mut)." Of plain cells: "A read is refused if a write vector has a
 -- thread ahead (race kind 10). A write is refused if a read vector (kind 11), then a write vector (kind 12), has one." 9 stands
 -- last, for what is no race kind too
-unfoldable pub race_said : ℕ → RaceSaid
+abbrev pub race_said : ℕ → AccessKind × AccessKind
 race_said kind =
     cond (eqb kind 1) (Load against Exclusive)
     (cond (eqb kind 2) (UnsyncLoad against Exclusive)
@@ -44,7 +40,7 @@ race_said kind =
 -- the cell or the plain cell that a row names, or 255; a thread and a row are numbers of one byte
 abbrev pub cell_named : Decoded Op → ℕ
 cell_named refused = 255
-cell_named (decoded op) = cell_in op
+cell_named (decoded op) = unwrap_or (cell_in op) 255
 
 unfoldable pub cell_at : List ℕ → ℕ → ℕ → ℕ
 cell_at table thread row = cell_named (row_says table (thread % 256) (row % 256))
@@ -57,7 +53,7 @@ access_name Exclusive = "the exclusive change"
 access_name PlainRead = "the plain read"
 access_name PlainWrite = "the plain write"
 
-unfoldable pub is_plain : AccessKind → Bool
+abbrev pub is_plain : AccessKind → Bool
 is_plain Load = false
 is_plain UnsyncLoad = false
 is_plain Store = false
@@ -75,11 +71,11 @@ unfoldable pub put_met : Page → ℕ → AccessKind → ℕ → ℕ → Page
 put_met l cell met thread row =
     put_filled (put_text (put_where l met cell) (bytes_of (access_name met))) (bytes_of " of thread #, row #, against ") thread row 0
 
--- the other thread, and the row of this step, counted from 1; 0 is none
-unfoldable pub put_step : Page → List ℕ → ℕ → ℕ → Page
-put_step l trace other step =
-    cond (eqb step 0) (put_filled l (bytes_of " of thread #\n") other 0 0)
-    (put_filled l (bytes_of " of thread #, row # (step #)\n") other (entry_read trace (step - 1)).row step)
+-- the other thread, and the row of this step; steps are counted from 1 where they are told
+unfoldable pub put_step : Page → List ℕ → ℕ → Option ℕ → Page
+put_step l trace other None = put_filled l (bytes_of " of thread #\n") other 0 0
+put_step l trace other (Some i) =
+    put_filled l (bytes_of " of thread #, row # (step #)\n") other (entry_read trace i).row (i + 1)
 
 -- the access before it: the other thread's last of this kind to the cell
 unfoldable pub put_before : Page → List ℕ → List ℕ → ℕ → AccessKind → ℕ → Page
@@ -88,5 +84,5 @@ put_before l table trace cell before other =
 
 unfoldable pub put_race : Page → List ℕ → List ℕ → ℕ → ℕ → ℕ → ℕ → Page
 put_race l table trace thread row kind other =
-    put_before (put_met l (cell_at table thread row) (race_said kind).met thread row) table trace (cell_at table thread row)
-    (race_said kind).before other
+    put_before (put_met l (cell_at table thread row) (race_said kind).0 thread row) table trace (cell_at table thread row)
+    (race_said kind).1 other

@@ -1,16 +1,19 @@
 // Answer 14: a race, by the access that met it and the one before it: document 01's nine kinds, and three of plain cells.
 #![tactic(auto)]
 
-ghost use Rattle.std.specs.Prelude.{◌≡◌};
+ghost use Rattle.std.specs.Prelude.{◌≡◌, ◌+◌, ◌<◌, ◌^◌, IfSome};
 ghost use Rattle.rules.specs.Token.{bytes_of};
 ghost use Rattle.page.specs.Pages.{page_of, put_text};
 ghost use Rattle.race.specs.Races.{cell_at, race_said, access_name, put_where, put_met, put_step, put_before, put_race};
 
 use decode::Op;
-use last_access::{AccessKind, CellAccess, NO_CELL};
+use last_access::{AccessKind, CellAccess};
 use layout::races;
 use page::Page;
 use report::AtFault;
+
+// What stands for the cell in the line where the row at fault names none.
+const NO_CELL: u64 = 255;
 
 // Names both accesses, the other one by its step.
 pub fn put(
@@ -25,15 +28,12 @@ pub fn put(
     ensures { page_of page.new result ≡ put_race (page_of page.old at) table.now trace.now site.thread site.row kind other }
 {
     let cell = cell_at(table, site);
-    let met = CellAccess {
-        cell,
-        kind: met(kind),
-    };
+    let (met, against) = race_said(kind);
+    let to = put_met(page, at, site, CellAccess { cell, kind: met });
     let before = CellAccess {
         cell,
-        kind: against(kind),
+        kind: against,
     };
-    let to = put_met(page, at, site, met);
     put_before(page, to, table, trace, other, before)
 }
 
@@ -97,20 +97,20 @@ fn put_where(page: &mut Page, at: usize, access: CellAccess) -> usize
 }
 
 // The other thread, and its row and step where the trace has them.
-fn put_step(page: &mut Page, at: usize, trace: &[u8], other: u64, step: u64) -> usize
+fn put_step(page: &mut Page, at: usize, trace: &[u8], other: u64, step: Option<usize>) -> usize
+    requires { IfSome step (λ i. i + 1 < 2 ^ 64) }
     ensures { page_of page.new result ≡ put_step (page_of page.old at) trace.now other step }
 {
-    if step == 0 {
+    let Some(i) = step else {
         return page::fill(page, at, b" of thread #\n", other, 0, 0);
-    }
-    let i = (step - 1) as usize;
+    };
     page::fill(
         page,
         at,
         b" of thread #, row # (step #)\n",
         other,
         steps::row(trace, i) as u64,
-        step,
+        i as u64 + 1,
     )
 }
 
@@ -122,38 +122,26 @@ fn cell_at(table: &[u8], site: AtFault) -> u64
     else {
         return NO_CELL;
     };
-    last_access::cell_of(op)
+    last_access::cell_of(op).unwrap_or(NO_CELL)
 }
 
-// The access that met the race. The exclusive change has the rest, and what is no race kind with it.
-fn met(kind: u8) -> AccessKind
-    ensures { result ≡ (race_said kind).met }
+// The access that met the race, and the one before it that it races with. What is no race kind has the exclusive changes.
+fn race_said(kind: u8) -> (AccessKind, AccessKind)
+    ensures { result ≡ race_said kind }
 {
     match kind {
-        races::LOAD_AGAINST_MUT => AccessKind::Load,
-        races::UNSYNC_LOAD_AGAINST_MUT | races::UNSYNC_LOAD_AGAINST_STORE => AccessKind::UnsyncLoad,
-        races::STORE_AGAINST_MUT | races::STORE_AGAINST_UNSYNC_LOAD => AccessKind::Store,
-        races::PLAIN_READ_AGAINST_WRITE => AccessKind::PlainRead,
-        races::PLAIN_WRITE_AGAINST_READ | races::PLAIN_WRITE_AGAINST_WRITE => {
-            AccessKind::PlainWrite
-        }
-        _ => AccessKind::Exclusive,
-    }
-}
-
-// The access before it that it races with.
-fn against(kind: u8) -> AccessKind
-    ensures { result ≡ (race_said kind).before }
-{
-    match kind {
-        races::MUT_AGAINST_LOAD => AccessKind::Load,
-        races::STORE_AGAINST_UNSYNC_LOAD | races::MUT_AGAINST_UNSYNC_LOAD => AccessKind::UnsyncLoad,
-        races::UNSYNC_LOAD_AGAINST_STORE | races::MUT_AGAINST_STORE => AccessKind::Store,
-        races::PLAIN_WRITE_AGAINST_READ => AccessKind::PlainRead,
-        races::PLAIN_READ_AGAINST_WRITE | races::PLAIN_WRITE_AGAINST_WRITE => {
-            AccessKind::PlainWrite
-        }
-        _ => AccessKind::Exclusive,
+        races::LOAD_AGAINST_MUT => (AccessKind::Load, AccessKind::Exclusive),
+        races::UNSYNC_LOAD_AGAINST_MUT => (AccessKind::UnsyncLoad, AccessKind::Exclusive),
+        races::UNSYNC_LOAD_AGAINST_STORE => (AccessKind::UnsyncLoad, AccessKind::Store),
+        races::STORE_AGAINST_MUT => (AccessKind::Store, AccessKind::Exclusive),
+        races::STORE_AGAINST_UNSYNC_LOAD => (AccessKind::Store, AccessKind::UnsyncLoad),
+        races::MUT_AGAINST_LOAD => (AccessKind::Exclusive, AccessKind::Load),
+        races::MUT_AGAINST_UNSYNC_LOAD => (AccessKind::Exclusive, AccessKind::UnsyncLoad),
+        races::MUT_AGAINST_STORE => (AccessKind::Exclusive, AccessKind::Store),
+        races::PLAIN_READ_AGAINST_WRITE => (AccessKind::PlainRead, AccessKind::PlainWrite),
+        races::PLAIN_WRITE_AGAINST_READ => (AccessKind::PlainWrite, AccessKind::PlainRead),
+        races::PLAIN_WRITE_AGAINST_WRITE => (AccessKind::PlainWrite, AccessKind::PlainWrite),
+        _ => (AccessKind::Exclusive, AccessKind::Exclusive),
     }
 }
 

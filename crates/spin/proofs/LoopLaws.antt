@@ -5,6 +5,7 @@
 --     period-from, yields-from                                     where `period` and `yields` begin
 use Prim.Native.Nat.{ℕ, suc, ◌+◌, ◌-◌, ◌*◌, ◌≤◌, ◌<◌}
 use mathlib.Core.List.{List}
+use Rattle.std.specs.Prelude.{Option}
 use mathlib.Core.Bool.{Bool, true, false, cond, not, ◌&&◌}
 use mathlib.Core.Path.{◌≡◌, refl}
 use native.Mathlib.Omega.{arith}
@@ -56,7 +57,7 @@ module _ (trace : List ℕ) (n p : ℕ) where
     repeats-all h = first-none (λ (j : ℕ). not (same_row trace j (j - p))) (λ (j : ℕ). false) true n i h
 
 -- the lengths of a loop that are left at p, and the steps that are left at i
-abbrev pub period_left : List ℕ → ℕ → ℕ → ℕ
+abbrev pub period_left : List ℕ → ℕ → ℕ → Option ℕ
 period_left trace n p = least (repeats_in trace n) (suc max_rows - p) p
 
 pub period-from : (trace : List ℕ) (n : ℕ) → period_left trace n 1 ≡ period_of trace n

@@ -1,7 +1,7 @@
 -- Whether an execution ends in a loop. Assumes nothing.
 --     period_of     over how many steps it does
 --     yields_in     whether one of the last steps is a yield
-use Rattle.std.specs.Prelude.{ℕ, zero, suc, ◌+◌, ◌-◌, ◌*◌, List, Bool, true, false, cond, not, ◌&&◌, leb, eqb}
+use Rattle.std.specs.Prelude.{ℕ, zero, suc, ◌+◌, ◌-◌, ◌*◌, List, Option, Some, None, Bool, true, false, cond, not, ◌&&◌, leb, eqb}
 use Rattle.rules.specs.Table.{max_rows}
 use Rattle.steps.specs.Entries.{entry_read}
 
@@ -10,15 +10,15 @@ unfoldable pub first_of : {A : Type 0} → (ℕ → Bool) → (ℕ → A) → A 
 first_of test found none zero i = none
 first_of test found none (suc n) i = cond (test i) (found i) (first_of test found none n (i + 1))
 
--- whether each of them passes the test, whether one does, and the least that does, or 0
+-- whether each of them passes the test, whether one does, and the least that does
 abbrev pub every : (ℕ → Bool) → ℕ → ℕ → Bool
 every test = first_of (λ (i : ℕ). not (test i)) (λ (i : ℕ). false) true
 
 abbrev pub some : (ℕ → Bool) → ℕ → ℕ → Bool
 some test = first_of test (λ (i : ℕ). true) false
 
-abbrev pub least : (ℕ → Bool) → ℕ → ℕ → ℕ
-least test = first_of test (λ (i : ℕ). i) 0
+abbrev pub least : (ℕ → Bool) → ℕ → ℕ → Option ℕ
+least test = first_of test (λ (i : ℕ). Some i) None
 
 -- two steps of the same thread and row
 abbrev pub same_row : List ℕ → ℕ → ℕ → Bool
@@ -29,8 +29,8 @@ same_row trace i j =
 unfoldable pub repeats_in : List ℕ → ℕ → ℕ → Bool
 repeats_in trace n p = leb (3 * p) n && every (λ (i : ℕ). same_row trace i (i - p)) (2 * p) (n - 2 * p)
 
--- the least such p up to the most rows that a thread may have, or 0
-unfoldable pub period_of : List ℕ → ℕ → ℕ
+-- the least such p up to the most rows that a thread may have
+unfoldable pub period_of : List ℕ → ℕ → Option ℕ
 period_of trace n = least (repeats_in trace n) max_rows 1
 
 -- "7 yield"

@@ -1,7 +1,7 @@
 // Whether an execution ends in a loop.
 #![tactic(auto)]
 
-ghost use Rattle.std.specs.Prelude.{◌≡◌, ◌-◌};
+ghost use Rattle.std.specs.Prelude.{◌≡◌};
 ghost use Rattle.spin.specs.Loops.{same_row, repeats_in, period_of, is_yield, yields_in};
 
 use decode::opcodes::YIELD;
@@ -10,19 +10,17 @@ use table::limits::MAX_ROWS;
 // The longest loop that is looked for.
 const LONGEST: usize = MAX_ROWS;
 
-// Over how many steps the last of the first `n` repeat those before them, three times at least; 0 where they do not, or where a
+// Over how many steps the last of the first `n` repeat those before them, three times at least; none where they do not, or where a
 // loop would have more steps than a thread may have rows.
-pub fn period(trace: &[u8], n: usize) -> usize
+pub fn period(trace: &[u8], n: usize) -> Option<usize>
     ensures { result ≡ period_of trace.now n }
 {
-    let mut p = 1;
-    while p <= LONGEST {
+    for p in 1..=LONGEST {
         if repeats(trace, n, p) {
-            return p;
+            return Some(p);
         }
-        p += 1;
     }
-    0
+    None
 }
 
 // Whether the last steps are three times the same `p` rows.
@@ -32,12 +30,10 @@ fn repeats(trace: &[u8], n: usize, p: usize) -> bool
     if n / 3 < p {
         return false;
     }
-    let mut i = n - 2 * p;
-    while i < n {
+    for i in n - 2 * p..n {
         if !same_row(trace, i, i - p) {
             return false;
         }
-        i += 1;
     }
     true
 }
@@ -46,24 +42,12 @@ fn repeats(trace: &[u8], n: usize, p: usize) -> bool
 pub fn yields(trace: &[u8], n: usize, p: usize) -> bool
     ensures { result ≡ yields_in trace.now n p }
 {
-    let mut i = from_end(n, p);
-    while i < n {
+    for i in n.saturating_sub(p)..n {
         if is_yield(trace, i) {
             return true;
         }
-        i += 1;
     }
     false
-}
-
-// The first of the last `p` of `n`.
-fn from_end(n: usize, p: usize) -> usize
-    ensures { result ≡ n - p }
-{
-    if p < n {
-        return n - p;
-    }
-    0
 }
 
 fn is_yield(trace: &[u8], i: usize) -> bool

@@ -9,4 +9,4 @@ returns-in_default c = rw c.in_default.is c.put_exhausted.ensures
 pub returns : goal.returns
 unfolding put_explored bytes_of
 returns c =
-    rw c.in-At.is (rw c.put_first-to.ensures at c.fill.ensures)
+    rw c.in-Some.is (rw c.put_first-to.ensures at c.fill.ensures)

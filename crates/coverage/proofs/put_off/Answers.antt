@@ -10,4 +10,4 @@ returns-in_default c =
 pub returns : goal.returns
 unfolding put_off bytes_of
 returns c =
-    rw c.in-At.is (rw c.put_first-to.ensures at c.fill.ensures)
+    rw c.in-Some.is (rw c.put_first-to.ensures at c.fill.ensures)

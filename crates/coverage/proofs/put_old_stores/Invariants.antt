@@ -1,4 +1,4 @@
-use Prim.Native.Nat.{◌≤◌, ◌-◌}
+use Prim.Native.Nat.{◌-◌}
 use mathlib.Core.Path.{◌≡◌}
 use Rattle.rules.specs.Table.{max_cells}
 use Rattle.page.specs.Pages.{page_of}
@@ -7,8 +7,4 @@ use Rattle.coverage.proofs.put_old_stores.Given as goal
 
 abbrev pub invariant-loop-cell : goal.invariant-loop-cell
 invariant-loop-cell l =
-    (l.cell ≤ max_cells)
-    × (put_old_stores (page_of l.page l.to) l.table (max_cells - l.cell) l.cell ≡ put_old_stores (page_of l.initial.page l.at) l.table max_cells 0)
-
-abbrev pub decreases-loop-cell : goal.decreases-loop-cell
-decreases-loop-cell l = max_cells - l.cell
+    put_old_stores (page_of l.page l.to) l.table (max_cells - l.cell) l.cell ≡ put_old_stores (page_of l.initial.page l.at) l.table max_cells 0

@@ -11,4 +11,4 @@ returns-in_default c = access-none _ _ _ (entry_read c.args.trace.now c.args.i) 
 pub returns : goal.returns
 unfolding is_access
 returns c =
-    access-made _ _ _ (entry_read c.args.trace.now c.args.i) (says c.operation.ensures c.in-Some.is) c.thread.ensures c.cell_of.ensures c.value.ensures c.is_of.ensures
+    access-made _ _ _ (entry_read c.args.trace.now c.args.i) (says c.operation.ensures c.in-Some.is) c.thread.ensures c.cell_of.ensures c.eq.ensures c.value.ensures c.is_of.ensures

@@ -4,4 +4,4 @@ use Rattle.race.proofs.put.Goals as goal
 pub returns : goal.returns
 unfolding put_race
 returns c =
-    rw (c.against.ensures, c.put_met-to.ensures, c.met.ensures, c.cell_at-cell.ensures) at c.put_before.ensures
+    rw (c.put_met-to.ensures, c.race_said-met.ensures, c.cell_at-cell.ensures) at c.put_before.ensures

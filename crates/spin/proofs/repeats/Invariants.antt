@@ -5,7 +5,4 @@ use Rattle.spin.proofs.LoopLaws.{repeats_left}
 use Rattle.spin.proofs.repeats.Given as goal
 
 abbrev pub invariant-loop-i : goal.invariant-loop-i
-invariant-loop-i l = (l.i ≤ l.n) × (l.p ≤ l.i) × (repeats_left l.trace l.n l.p l.i ≡ repeats_in l.trace l.n l.p)
-
-abbrev pub decreases-loop-i : goal.decreases-loop-i
-decreases-loop-i l = l.n - l.i
+invariant-loop-i l = (l.p ≤ l.i) × (repeats_left l.trace l.n l.p l.i ≡ repeats_in l.trace l.n l.p)

@@ -6,6 +6,3 @@ use Rattle.spin.proofs.yields.Given as goal
 
 abbrev pub invariant-loop-i : goal.invariant-loop-i
 invariant-loop-i l = yields_left l.trace l.n l.i ≡ yields_in l.trace l.n l.p
-
-abbrev pub decreases-loop-i : goal.decreases-loop-i
-decreases-loop-i l = l.n - l.i

@@ -1,4 +1,4 @@
-use Prim.Native.Nat.{◌≤◌, ◌-◌}
+use Prim.Native.Nat.{◌-◌}
 use mathlib.Core.Path.{◌≡◌}
 use Rattle.rules.specs.Table.{max_threads}
 use Rattle.coverage.specs.Covered.{first_from, first_switch}
@@ -6,7 +6,4 @@ use Rattle.coverage.proofs.search.first_switch.Given as goal
 
 abbrev pub invariant-loop-thread : goal.invariant-loop-thread
 invariant-loop-thread l =
-    (l.thread ≤ max_threads) × (first_from l.table l.shape l.on (max_threads - l.thread) l.thread ≡ first_switch l.table l.on)
-
-abbrev pub decreases-loop-thread : goal.decreases-loop-thread
-decreases-loop-thread l = max_threads - l.thread
+    first_from l.table l.shape l.on (max_threads - l.thread) l.thread ≡ first_switch l.table l.on

@@ -6,7 +6,4 @@ use Rattle.coverage.proofs.search.stores.Given as goal
 
 abbrev pub invariant-loop-thread : goal.invariant-loop-thread
 invariant-loop-thread l =
-    (l.thread ≤ max_threads) × (l.sum ≤ 65535 * l.thread) × (l.sum + summed (stores_in l.table l.shape l.cell) (max_threads - l.thread) l.thread ≡ store_count l.table l.cell)
-
-abbrev pub decreases-loop-thread : goal.decreases-loop-thread
-decreases-loop-thread l = max_threads - l.thread
+    (l.sum ≤ 65535 * l.thread) × (l.sum + summed (stores_in l.table l.shape l.cell) (max_threads - l.thread) l.thread ≡ store_count l.table l.cell)

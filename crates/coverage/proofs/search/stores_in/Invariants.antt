@@ -6,7 +6,4 @@ use Rattle.coverage.proofs.search.stores_in.Given as goal
 
 abbrev pub invariant-loop-row : goal.invariant-loop-row
 invariant-loop-row l =
-    (l.row ≤ l.count) × (l.sum ≤ l.row) × (l.sum + summed (storing l.table l.shape l.cell l.thread) (l.count - l.row) l.row ≡ stores_in l.table l.shape l.cell l.thread)
-
-abbrev pub decreases-loop-row : goal.decreases-loop-row
-decreases-loop-row l = l.count - l.row
+    (l.sum ≤ l.row) × (l.sum + summed (storing l.table l.shape l.cell l.thread) (l.count - l.row) l.row ≡ stores_in l.table l.shape l.cell l.thread)
