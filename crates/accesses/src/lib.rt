@@ -17,7 +17,6 @@ ghost use Rattle.event.specs.Moves.{HereWithin, move_of, matched_for};
 ghost use Rattle.decode.specs.Ops.{op_of, decoded_of, InRange};
 ghost use Rattle.accesses.specs.Reads.{Means, read_done};
 
-use atomic::{AccessResult, Mutated};
 use change::Change;
 use decode::Op;
 use event::{Fault, Here, Moved, NO_SLOT, Site};
@@ -54,8 +53,8 @@ pub fn store_row(
     let thread = access.thread;
     let cell = access.cell;
     thread::raise(clocks, thread);
-    if let Race::With { kind, other } = track::track_store(clocks, thread, cell) {
-        return Moved::Stops(Fault::Race { kind, other });
+    if let Err(race) = track::track_store(clocks, thread, cell) {
+        return Moved::Stops(Fault::from(race));
     }
     let slot = slots::index(numbers[COUNT + cell]);
     atomic::store(
@@ -108,11 +107,11 @@ pub fn with_mut_row(
 {
     let thread = site.thread;
     match atomic::with_mut(clocks, values, numbers, thread, cell, change) {
-        Mutated::Raced { kind, other } => Moved::Stops(Fault::Race { kind, other }),
-        Mutated::Values { read, .. } => {
+        Err(race) => Moved::Stops(Fault::from(race)),
+        Ok(mutated) => {
             let slot = slots::newest(numbers[COUNT + cell]);
             let left = values[VALUE + store_at(cell, slot)];
-            values[REGISTER + register_at(thread, register)] = read;
+            values[REGISTER + register_at(thread, register)] = mutated.read;
             thread::complete(numbers, thread, vv::one_more(site.row));
             Moved::Done {
                 slot: slot as u8,
@@ -152,8 +151,8 @@ pub fn plain_write_row(
     ensures { (marks : rules.Marks) (opcode : ℕ) (m : events.Matched) → move_of result site.thread site.row opcode m (state clocks.new marks values.new numbers.new) ≡ machine.writes_unless (plain_write_race clocks.old site.thread plain) (state clocks.old marks values.old numbers.old) (plain_write_done (state clocks.old marks values.old numbers.old) site.thread plain value) site.thread site.row opcode value }
 {
     let thread = site.thread;
-    if let Race::With { kind, other } = plain::write(clocks, values, thread, plain, value) {
-        return Moved::Stops(Fault::Race { kind, other });
+    if let Err(race) = plain::write(clocks, values, thread, plain, value) {
+        return Moved::Stops(Fault::from(race));
     }
     thread::complete(numbers, thread, vv::one_more(site.row));
     Moved::Done {
@@ -243,7 +242,7 @@ fn read(
     thread: usize,
     op: Op,
     slot: usize,
-) -> AccessResult
+) -> Result<u64, Race>
     requires { (thread < 5) × (slot < 7) × InRange (op_of op) }
     ensures { access_of result (state clocks.new marks.new values.new numbers.new) ≡ read_done (state clocks.old marks.old values.old numbers.old) thread slot (machine.role_of (op_of op)) }
 {
@@ -270,7 +269,7 @@ fn read(
             };
             atomic::rmw(clocks, marks, values, numbers, act, change, failure, slot)
         }
-        _ => AccessResult::Read(0),
+        _ => Ok(0),
     }
 }
 
@@ -290,15 +289,15 @@ fn put_value(
     register: usize,
     slot: u8,
     mask: u8,
-    loaded: AccessResult,
+    loaded: Result<u64, Race>,
 ) -> Moved
     requires { (site.thread < 5) × (register < 4) }
     ensures { (clocks : rules.Clocks) (marks : rules.Marks) (opcode : ℕ) (m : events.Matched) → move_of result site.thread site.row opcode m (state clocks marks values.new numbers.new) ≡ machine.reads (access_of loaded (state clocks marks values.old numbers.old)) site.thread site.row opcode register slot mask }
 {
     let thread = site.thread;
     match loaded {
-        AccessResult::Raced { kind, other } => Moved::Stops(Fault::Race { kind, other }),
-        AccessResult::Read(value) => {
+        Err(race) => Moved::Stops(Fault::from(race)),
+        Ok(value) => {
             values[REGISTER + register_at(thread, register)] = value;
             thread::complete(numbers, thread, vv::one_more(site.row));
             Moved::Done { slot, mask, value }

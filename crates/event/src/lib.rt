@@ -2,8 +2,12 @@
 // how a tick comes out. Each stands for a case of the definition (specs/Moves).
 #![tactic(auto)]
 
+ghost use Rattle.std.specs.Prelude.{◌≡◌};
+ghost use Rattle.event.specs.declared.Fault.TheVariants as fault;
+
 use decode::Op;
 use layout::Operation;
+use track::Race;
 
 // Why a run stops within an execution: document 01's answers from 10 on. Impossible stands for a number read back that
 // no run from a fresh start can have written.
@@ -18,6 +22,17 @@ pub enum Fault {
     Flags,
     Preemptions,
     Impossible,
+}
+
+impl From<Race> for Fault {
+    ghost from_gives = { λ race f. f ≡ fault.Race race.kind race.other };
+
+    fn from(race: Race) -> Fault {
+        Fault::Race {
+            kind: race.kind,
+            other: race.other,
+        }
+    }
 }
 
 // Where something happens: a thread, and its row.

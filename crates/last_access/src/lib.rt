@@ -7,7 +7,7 @@ ghost use Rattle.change.specs.Changes.{change_meant};
 ghost use Rattle.decode.specs.Ops.{op_of};
 ghost use Rattle.last_access.specs.Access.{cell_in, is_success, stores_after, accesses, is_access, last_access_step};
 
-use change::{Change, Changed};
+use change::Change;
 use decode::Op;
 
 // How a step accesses a cell or, in the last two, a plain cell. A change that fails only loads.
@@ -100,9 +100,5 @@ fn stores(op: Op, read: u64) -> bool
 fn succeeds(change: Change, read: u64) -> bool
     ensures { result ≡ is_success (applied (change_meant change) read) }
 {
-    if let Changed::Success(_) = change::apply(change, read) {
-        true
-    } else {
-        false
-    }
+    change::apply(change, read).is_some()
 }

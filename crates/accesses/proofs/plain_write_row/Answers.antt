@@ -3,11 +3,11 @@ use Rattle.track.specs.Tracked.{race_meant}
 use Rattle.accesses.proofs.AccessLaws.{write-raced, write_done}
 use Rattle.accesses.proofs.plain_write_row.Goals as goal
 
-pub returns-in-With : goal.returns-in-With
-returns-in-With c =
+pub returns-in-Err : goal.returns-in-Err
+returns-in-Err c =
     let args = c.args in
     λ marks opcode m.
-    write-raced _ _ opcode args.value _ _ c.write.ensures.answer _ _ _ (c.write.ensures.left marks args.numbers.now) _ _ (ap race_meant c.in-With.is)
+    write-raced _ _ opcode args.value _ _ c.write.ensures.answer _ _ _ (c.write.ensures.left marks args.numbers.now) _ (ap race_meant c.in-Err.is) _ c.from.ensures
 
 pub returns : goal.returns
 returns c =
