@@ -11,7 +11,6 @@ ghost use Rattle.coverage.specs.Says.{put_old_stores, put_covered};
 
 use layout::{MAX_ATOMIC_HISTORY, MAX_CELLS};
 use page::Page;
-use path::Bound;
 use search::Site;
 use settings::Settings;
 
@@ -89,13 +88,7 @@ fn put_off(page: &mut Page, at: usize, on: Option<Site>, begun: u64) -> usize
 }
 
 // Exploring was on at the start; the program may switch it off.
-fn put_explored(
-    page: &mut Page,
-    at: usize,
-    bound: Bound,
-    switched: Option<Site>,
-    begun: u64,
-) -> usize
+fn put_explored(page: &mut Page, at: usize, bound: Option<u8>, switched: Option<Site>, begun: u64) -> usize
     ensures { page_of page.new result ≡ put_explored (page_of page.old at) (bound_of bound) switched begun }
 {
     let Some(site) = switched else {
@@ -119,10 +112,10 @@ fn put_explored(
 }
 
 // Exploring was on throughout.
-fn put_exhausted(page: &mut Page, at: usize, bound: Bound, begun: u64) -> usize
+fn put_exhausted(page: &mut Page, at: usize, bound: Option<u8>, begun: u64) -> usize
     ensures { page_of page.new result ≡ put_exhausted (page_of page.old at) (bound_of bound) begun }
 {
-    let Bound::AtMost(most) = bound else {
+    let Some(most) = bound else {
         let to = put_first(page, at, b"answer 0: exhausted after ", 0, begun);
         return page::put(
             page,
@@ -140,10 +133,10 @@ fn put_exhausted(page: &mut Page, at: usize, bound: Bound, begun: u64) -> usize
 }
 
 // What a bound leaves. A branch with as many preemptions as the bound allows tries no other thread.
-fn put_bounded(page: &mut Page, at: usize, bound: Bound) -> usize
+fn put_bounded(page: &mut Page, at: usize, bound: Option<u8>) -> usize
     ensures { page_of page.new result ≡ put_bounded (page_of page.old at) (bound_of bound) }
 {
-    let Bound::AtMost(most) = bound else {
+    let Some(most) = bound else {
         return at;
     };
     if most == 0 {

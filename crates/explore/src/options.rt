@@ -1,6 +1,5 @@
 // The words of the command line: the file's name, what is asked of it, and the settings.
 use decimal::Parsed;
-use path::Bound;
 use settings::{MAX_BOUND, MAX_BRANCHES, MAX_EXECUTIONS, MAX_OPERATIONS, Settings, bound_of};
 use std::env::FillError;
 use std::io;
@@ -57,7 +56,7 @@ impl Options {
             branches: MAX_BRANCHES,
             operations: MAX_OPERATIONS,
             executions: MAX_EXECUTIONS,
-            bound: Bound::Unbounded,
+            bound: None,
             exploring: true,
         };
         Options {
@@ -318,7 +317,7 @@ fn take_bound(errors: &impl Print, word: &[u8], options: Options) -> io::Result<
 }
 
 // The settings with another bound, which is an enum, so the struct is made anew.
-fn with_bound(settings: Settings, bound: Bound) -> Settings {
+fn with_bound(settings: Settings, bound: Option<u8>) -> Settings {
     Settings {
         branches: settings.branches,
         operations: settings.operations,

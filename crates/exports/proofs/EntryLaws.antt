@@ -14,7 +14,7 @@ use borrow.Author.Tests.{lt-ltb, le-ltb, eq-eqb, ne_eqb, eqb-true, eqb-false}
 use Rattle.rules.specs.Explored as rules
 use Rattle.rules.specs.Explored.{Explored}
 use Rattle.path.specs.Bounds.{bound_of}
-use Rattle.path.specs.declared.Bound.{Bound}
+use Rattle.std.specs.Prelude.{Option}
 use Rattle.report.specs.Answers.{report_of, answer_number}
 use Rattle.report.specs.declared.Report.{Report}
 use Rattle.explorer.specs.Explores.{explored_of}
@@ -64,7 +64,7 @@ module _ (table condition : List ℕ) (branches operations executions bound expl
     entered-run n done number numbers e f g = rw (f, g) (ap entered_by e ∙ sym (entered_so n))
 
 -- with the settings that the numbers stand for
-pub explored-so : (table condition path trace : List ℕ) (branches operations executions bound exploring : ℕ) (b : Bound) {x : Explored}
+pub explored-so : (table condition path trace : List ℕ) (branches operations executions bound exploring : ℕ) (b : Option ℕ) {x : Explored}
     → bound_of b ≡ bound_for bound
     → x ≡ rules.explored table condition (record { branches = branches; operations = operations; executions = executions; bound = bound_of b; exploring = eqb exploring 1 }) path trace
     → x ≡ rules.explored table condition (settings_for branches operations executions bound exploring) path trace

@@ -30,7 +30,8 @@ use Rattle.layout.specs.Tables.{state}
 use Rattle.path.specs.Holds.{Holds}
 use Rattle.path.specs.Places.{records_of}
 use Rattle.path.specs.Pushes.{pushed_of, grown, Pushes, PushesThread}
-use Rattle.path.specs.declared.Addition.{Addition}
+use Rattle.std.specs.Prelude.{Result}
+use Rattle.path.specs.declared.NotAdded.{NotAdded}
 use Rattle.event.specs.declared.Fault.TheVariants as fault
 use Rattle.event.specs.declared.Site.{Site}
 use Rattle.event.specs.declared.Question.{Question}
@@ -60,29 +61,29 @@ module _ (c : Cursor) (r : Ticked) (site : Site) (clocks : Clocks) (marks : Mark
           is-entries = s.is-entries ∙ sym m.same_entries;
         }
 
-    answer-comes : (a : Added) (p : Addition) → p ≡ pushed_of a → Holds exit (grown w.ledger.path a) → AddedTo p site c r
+    answer-comes : (a : Added) (p : Result ℕ NotAdded) → p ≡ pushed_of a → Holds exit (grown w.ledger.path a) → AddedTo p site c r
         → ComesTo r.outcome r.cursor (lent clocks marks values numbers exit trace) (branched (site_of site) w (or_fault a))
     answer-comes (paths.added b) p e h to =
-        let m = subst (λ (x : Addition). AddedTo x site c r) e to in
+        let m = subst (λ (x : Result ℕ NotAdded). AddedTo x site c r) e to in
         comes-goes r _ _ _ m.0 refl (more-stands b h m.1)
     answer-comes paths.full p e h to =
-        let m = subst (λ (x : Addition). AddedTo x site c r) e to in
+        let m = subst (λ (x : Result ℕ NotAdded). AddedTo x site c r) e to in
         comes-faulted r _ w fault.Full site _ m.is refl (same-stands m.stays (refused-stands h))
     answer-comes paths.preempted p e h to =
-        let m = subst (λ (x : Addition). AddedTo x site c r) e to in
+        let m = subst (λ (x : Result ℕ NotAdded). AddedTo x site c r) e to in
         comes-faulted r _ w fault.Preemptions site _ m.is refl (same-stands m.stays (refused-stands h))
 
   records : (L : explorer.Limits) → BranchesHeld L entry → records_of entry ≡ L.branches
   records L h = omega (arith, h.branches)
 
-  pub pushes-comes : {most : ℕ} {answer : ℕ → List Branch → Added} {p : Addition} → Pushes entry exit c.len most answer p → AddedTo p site c r
+  pub pushes-comes : {most : ℕ} {answer : ℕ → List Branch → Added} {p : Result ℕ NotAdded} → Pushes entry exit c.len most answer p → AddedTo p site c r
       → (L : explorer.Limits) (w : Walk State) (values : Values) (trace : List ℕ) → BranchesHeld L entry → Stands (lent clocks marks values numbers entry trace) c w
       → ComesTo r.outcome r.cursor (lent clocks marks values numbers exit trace) (branched (site_of site) w (or_fault (answer L.branches w.ledger.path)))
   pushes-comes {most} {answer} {p} h to L w values trace room s =
       subst (λ (B : ℕ). ComesTo r.outcome r.cursor (lent clocks marks values numbers exit trace) (branched (site_of site) w (or_fault (answer B w.ledger.path)))) (records L room)
       (answer-comes w values trace s (answer (records_of entry) w.ledger.path) p (h.says w.ledger.path s.holds s.is-len) (h.holds w.ledger.path s.holds s.is-len) to)
 
-  pub pushes-thread-comes : {exploring : Bool} {seed : List ℕ} {p : Addition} → 16 * c.len ≤ length entry → PushesThread entry exit c.len exploring seed p → AddedTo p site c r
+  pub pushes-thread-comes : {exploring : Bool} {seed : List ℕ} {p : Result ℕ NotAdded} → 16 * c.len ≤ length entry → PushesThread entry exit c.len exploring seed p → AddedTo p site c r
       → (L : explorer.Limits) (w : Walk State) (values : Values) (trace : List ℕ) → BranchesHeld L entry → Stands (lent clocks marks values numbers entry trace) c w
       → ComesTo r.outcome r.cursor (lent clocks marks values numbers exit trace) (branched (site_of site) w (or_fault (thread_added L.branches w.ledger.path exploring seed)))
   pushes-thread-comes {exploring} {seed} {p} within h to L w values trace room s =
@@ -110,7 +111,7 @@ module _ (c : Cursor) (r : Ticked) (h : Here) (q : Question) (clocks : Clocks) (
               subst (λ (y : Tick State). ComesTo r.outcome r.cursor (lent clocks marks values numbers exit trace) y) (add-as k w values L e s.is_state) (f L w values trace room s);
         }
 
-    pub thread-reaches : {exploring : Bool} {seed : List ℕ} {p : Addition} → q ≡ question.Thread → exploring ≡ exploring_now numbers → seed ≡ seed_of (initial numbers) (map (standing numbers) every_thread)
+    pub thread-reaches : {exploring : Bool} {seed : List ℕ} {p : Result ℕ NotAdded} → q ≡ question.Thread → exploring ≡ exploring_now numbers → seed ≡ seed_of (initial numbers) (map (standing numbers) every_thread)
         → 16 * c.len ≤ length entry → PushesThread entry exit c.len exploring seed p → AddedTo p h.site c r → Reaches c r clocks marks numbers entry exit (added_at q h)
     unfolding explorer.pushed
     thread-reaches {exploring} {seed} {p} e x y within push to =
@@ -120,7 +121,7 @@ module _ (c : Cursor) (r : Ticked) (h : Here) (q : Question) (clocks : Clocks) (
         (subst (λ (b : Bool). ComesTo r.outcome r.cursor (lent clocks marks values numbers exit trace) (branched (site_of h.site) w (or_fault (thread_added L.branches w.ledger.path b seed)))) x
         (pushes-thread-comes c r h.site clocks marks numbers entry exit within push to L w values trace room s)))
 
-    pub bit-reaches : {exploring : Bool} {p : Addition} → q ≡ question.Bit → exploring ≡ exploring_now numbers
+    pub bit-reaches : {exploring : Bool} {p : Result ℕ NotAdded} → q ≡ question.Bit → exploring ≡ exploring_now numbers
         → Pushes entry exit c.len 1 (λ B bs. spurious_added B bs exploring) p → AddedTo p h.site c r → Reaches c r clocks marks numbers entry exit (added_at q h)
     unfolding explorer.pushed
     bit-reaches {exploring} {p} e x push to =
@@ -239,7 +240,7 @@ read_back n seed dst rules.equal long few e = subst IsSlots e tt
 
 module _ (c : Cursor) (r : Ticked) (h : Here) (clocks : Clocks) (marks : MarkTable) (numbers : Numbers) (entry exit : List ℕ) (dst seed : List ℕ) (m : Matched)
     (says : (values : Values) → scanned m seed ≡ offered (matched_for (state clocks marks values numbers) h.site.thread (decoded_of h.row)) dst) (met : Met c r exit) where
-  offers-comes : (exploring : Bool) → exploring ≡ exploring_now numbers → (n : ℕ) → {p : Addition} → Pushes entry exit c.len 6 (λ B bs. load_added B bs exploring (take n seed)) p → AddedTo p h.site c r
+  offers-comes : (exploring : Bool) → exploring ≡ exploring_now numbers → (n : ℕ) → {p : Result ℕ NotAdded} → Pushes entry exit c.len 6 (λ B bs. load_added B bs exploring (take n seed)) p → AddedTo p h.site c r
       → (L : explorer.Limits) (w : Walk State) (values : Values) (trace : List ℕ) → BranchesHeld L entry → Stands (lent clocks marks values numbers entry trace) c w
       → (offer : rules.Matched) → ReadBack n seed offer
       → ComesTo r.outcome r.cursor (lent clocks marks values numbers exit trace) (branched (site_of h.site) w (explorer.load_pushed L.branches w.ledger.path (exploring_now numbers) offer))
@@ -249,7 +250,7 @@ module _ (c : Cursor) (r : Ticked) (h : Here) (clocks : Clocks) (marks : MarkTab
       (pushes-comes c r h.site clocks marks numbers entry exit push to L w values trace room s))
   offers-comes exploring x n push to L w values trace room s rules.equal back = absurd back
 
-  pub offers-reaches : {n : ℕ} (exploring : Bool) {p : Addition} → m ≡ match.Offers n → exploring ≡ exploring_now numbers → length dst ≡ 7 → Pushes entry exit c.len 6 (λ B bs. load_added B bs exploring (take n seed)) p → AddedTo p h.site c r
+  pub offers-reaches : {n : ℕ} (exploring : Bool) {p : Result ℕ NotAdded} → m ≡ match.Offers n → exploring ≡ exploring_now numbers → length dst ≡ 7 → Pushes entry exit c.len 6 (λ B bs. load_added B bs exploring (take n seed)) p → AddedTo p h.site c r
       → Reaches c r clocks marks numbers entry exit (added_at question.Slot h)
   unfolding explorer.pushed
   offers-reaches {n} exploring {p} e x long push to =

@@ -18,7 +18,7 @@ use Rattle.rules.specs.Explorer.{Walk, backtrack_from, all_marked}
 use Rattle.layout.specs.Tables.{state}
 use Rattle.path.specs.Bounds.{bound_of}
 use Rattle.path.specs.Walks.{Backtracks}
-use Rattle.path.specs.declared.Bound.{Bound}
+use Rattle.std.specs.Prelude.{Option}
 use Rattle.path.proofs.WalkLaws.{length-backtracked}
 use Rattle.scheduling.specs.Schedules.{point_of}
 use Rattle.event.specs.contracts.Question.{the_type as asked}
@@ -29,7 +29,7 @@ use Rattle.meeting.specs.Branches.{asked_at, MarkedBy, MarksThread, marked_below
 use Rattle.meeting.specs.declared.Cursor.{Cursor}
 use Rattle.event.specs.declared.Here.{Here}
 
-module _ (clocks : Clocks) (numbers : Numbers) (bound : Bound) where
+module _ (clocks : Clocks) (numbers : Numbers) (bound : Option ℕ) where
   module _ (t : ℕ) (p : Option ℕ) (says : (marks : MarkTable) (values : Values) → point_of p ≡ conflict (state clocks marks values numbers) t) where
     pub thread-nowhere : p ≡ None → (path : List ℕ) → MarksThread clocks numbers path path bound t 0
     thread-nowhere e path =
@@ -103,7 +103,7 @@ pub record MoreOpened (c : Cursor) (n : ℕ) (d : Cursor) : Type 0 where
   pub same_entries : d.entries ≡ c.entries
   pub more : d.opened ≡ c.opened + n
 
-module _ (c d : Cursor) (clocks : Clocks) (numbers : Numbers) (bound : Bound) (q : Question) where
+module _ (c d : Cursor) (clocks : Clocks) (numbers : Numbers) (bound : Option ℕ) (q : Question) where
   other-stands : (k : Question) → OneOf (1 ∷ 2 ∷ []) (tag_of asked k) → (path : List ℕ) (w : Walk State) (marks : MarkTable) (values : Values) (trace : List ℕ) (h : Here)
       → Stands (lent clocks marks values numbers path trace) c w
       → Stands (lent clocks marks values numbers path trace) c (explorer.with_ledger w (explorer.first_marked (bound_of bound) w.ledger (asked_at k h w.state)))

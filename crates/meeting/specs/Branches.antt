@@ -5,7 +5,7 @@
 --     branched, reached                                     the definition's: a branch added, the path met
 --     Met, BranchesHeld, Reaches, added_at, reached_at             a branch is added where there is none
 --     ReplyWithin, PickFits, AnswersBy, RepliesBy           what a branch chooses
-use Rattle.std.specs.Prelude.{ℕ, zero, suc, ◌+◌, ◌*◌, ◌≤◌, ◌<◌, List, map, Bool, cond, ◌≡◌, eqb, length, get_or}
+use Rattle.std.specs.Prelude.{ℕ, zero, suc, ◌+◌, ◌*◌, ◌≤◌, ◌<◌, List, map, Bool, cond, ◌≡◌, eqb, length, get_or, Option, Some, None, Result, Ok, Err}
 use Rattle.rules.specs.Event as rules
 use Rattle.rules.specs.Vector.{nobody, thread}
 use Rattle.rules.specs.State.{State, Clocks, Marks as MarkTable, Values, Numbers}
@@ -18,9 +18,8 @@ use Rattle.layout.specs.Tables.{state}
 use Rattle.decode.specs.Ops.{decoded_of}
 use Rattle.path.specs.Holds.{Holds}
 use Rattle.path.specs.Bounds.{bound_of}
-use Rattle.path.specs.declared.Bound.{Bound}
-use Rattle.path.specs.declared.Addition.{Addition}
-use Rattle.path.specs.declared.Addition.TheVariants as pushed
+use Rattle.path.specs.declared.NotAdded.{NotAdded}
+use Rattle.path.specs.declared.NotAdded.TheVariants.{Full, Preempted}
 use Rattle.event.specs.Moves.{matched_for}
 use Rattle.event.specs.declared.Picked.{Picked}
 use Rattle.event.specs.declared.Picked.TheVariants as choice
@@ -33,8 +32,6 @@ use Rattle.meeting.specs.Stands.{lent, Stands, ComesTo, BranchThere, FaultMet, s
 use Rattle.meeting.specs.declared.Cursor.{Cursor}
 use Rattle.event.specs.declared.Here.{Here}
 use Rattle.meeting.specs.declared.Outcome.TheVariants as outcome
-use Rattle.meeting.specs.declared.Reply.{Reply}
-use Rattle.meeting.specs.declared.Reply.TheVariants as reply
 use Rattle.meeting.specs.declared.Ticked.{Ticked}
 
 -- rule (a): at most ten choices are opened for each of five threads
@@ -61,30 +58,30 @@ pub record MarkedBy (exit : List ℕ) (l m : Ledger) (r : ℕ) : Type 0 where
   pub opens : m.opened ≡ l.opened + r
 
 -- what is marked for one thread, for the threads below n, and for all
-pub record MarksThread (clocks : Clocks) (numbers : Numbers) (entry exit : List ℕ) (bound : Bound) (t r : ℕ) : Type 0 where
+pub record MarksThread (clocks : Clocks) (numbers : Numbers) (entry exit : List ℕ) (bound : Option ℕ) (t r : ℕ) : Type 0 where
   pub few : r ≤ 10
   pub keeps : length exit ≡ length entry
   pub marks :
       (l : Ledger) (marks : MarkTable) (values : Values) → Holds entry l.path
       → MarkedBy exit l (explorer.backtrack_from (bound_of bound) l (conflict (state clocks marks values numbers) t) t) r
 
-unfoldable pub marked_below : Bound → State → Ledger → ℕ → Ledger
+unfoldable pub marked_below : Option ℕ → State → Ledger → ℕ → Ledger
 marked_below bound st l zero = l
 marked_below bound st l (suc n) = explorer.backtrack_from (bound_of bound) (marked_below bound st l n) (conflict st n) n
 
-abbrev pub MarksBelow : Clocks → Numbers → List ℕ → List ℕ → Bound → ℕ → ℕ → Type 0
+abbrev pub MarksBelow : Clocks → Numbers → List ℕ → List ℕ → Option ℕ → ℕ → ℕ → Type 0
 MarksBelow clocks numbers entry exit bound n r =
     (l : Ledger) (marks : MarkTable) (values : Values) → Holds entry l.path
     → MarkedBy exit l (marked_below bound (state clocks marks values numbers) l n) r
 
-pub record MarksThreads (clocks : Clocks) (numbers : Numbers) (entry exit : List ℕ) (bound : Bound) (r : ℕ) : Type 0 where
+pub record MarksThreads (clocks : Clocks) (numbers : Numbers) (entry exit : List ℕ) (bound : Option ℕ) (r : ℕ) : Type 0 where
   pub few : r ≤ 50
   pub marks :
       (l : Ledger) (marks : MarkTable) (values : Values) → Holds entry l.path
       → MarkedBy exit l (explorer.all_marked (bound_of bound) l (map (conflict (state clocks marks values numbers)) every_thread) 0) r
 
 -- before a question meets the path
-pub record CursorMarks (c d : Cursor) (clocks : Clocks) (numbers : Numbers) (entry exit : List ℕ) (bound : Bound) (q : Question) : Type 0 where
+pub record CursorMarks (c d : Cursor) (clocks : Clocks) (numbers : Numbers) (entry exit : List ℕ) (bound : Option ℕ) (q : Question) : Type 0 where
   pub marked : CursorMarked c d
   pub stands :
       (w : Walk State) (marks : MarkTable) (values : Values) (trace : List ℕ) (h : Here)
@@ -92,10 +89,9 @@ pub record CursorMarks (c d : Cursor) (clocks : Clocks) (numbers : Numbers) (ent
       → Stands (lent clocks marks values numbers exit trace) d
       (explorer.with_ledger w (explorer.first_marked (bound_of bound) w.ledger (asked_at q h w.state)))
 
-abbrev pub PushedFew : Addition → Type 0
-PushedFew (pushed.Added n) = n ≤ 6
-PushedFew pushed.Full = Unit
-PushedFew pushed.Preempted = Unit
+abbrev pub PushedFew : Result ℕ NotAdded → Type 0
+PushedFew (Ok n) = n ≤ 6
+PushedFew (Err e) = Unit
 
 -- a branch more, with so many choices
 pub record OneMore (c : Cursor) (n : ℕ) (d : Cursor) : Type 0 where
@@ -104,10 +100,10 @@ pub record OneMore (c : Cursor) (n : ℕ) (d : Cursor) : Type 0 where
   pub more-opened : d.opened ≡ c.opened + n
   pub same_entries : d.entries ≡ c.entries
 
-abbrev pub AddedTo : Addition → Site → Cursor → Ticked → Type 0
-AddedTo (pushed.Added n) s c r = (r.outcome ≡ outcome.Goes) × OneMore c n r.cursor
-AddedTo pushed.Full s c r = FaultMet fault.Full s c r
-AddedTo pushed.Preempted s c r = FaultMet fault.Preemptions s c r
+abbrev pub AddedTo : Result ℕ NotAdded → Site → Cursor → Ticked → Type 0
+AddedTo (Ok n) s c r = (r.outcome ≡ outcome.Goes) × OneMore c n r.cursor
+AddedTo (Err Full) s c r = FaultMet fault.Full s c r
+AddedTo (Err Preempted) s c r = FaultMet fault.Preemptions s c r
 
 -- a question has met the path, which these bytes now are
 pub record Met (c : Cursor) (r : Ticked) (path : List ℕ) : Type 0 where
@@ -151,9 +147,9 @@ added_at q h L w = branched (site_of h.site) w (pushed_at L w (asked_at q h w.st
 abbrev pub reached_at : Question → Here → explorer.Limits → Walk State → Tick State
 reached_at q h L w = reached L (site_of h.site) w (exploring_now w.state.numbers) (asked_at q h w.state)
 
-abbrev pub ReplyWithin : Reply → Type 0
-ReplyWithin (reply.Says choice) = ChoiceWithin choice
-ReplyWithin reply.Unexpected = Unit
+abbrev pub ReplyWithin : Option Picked → Type 0
+ReplyWithin (Some choice) = ChoiceWithin choice
+ReplyWithin None = Unit
 
 -- the slot, and the mask of all that were offered
 pub record FitsSlot (slot mask : ℕ) (a : rules.Pick) : Type 0 where
@@ -172,14 +168,14 @@ PickFits choice.Nobody a = FitsNobody a
 PickFits (choice.Slot slot mask) a = FitsSlot slot mask a
 PickFits (choice.Bit bit) a = a ≡ rules.take_bit bit
 
-abbrev pub AnswersBy : Reply → explorer.Reply → Type 0
-AnswersBy (reply.Says choice) (says a) = PickFits choice a
-AnswersBy (reply.Says choice) unexpected = ⊥
-AnswersBy reply.Unexpected (says a) = ⊥
-AnswersBy reply.Unexpected unexpected = Unit
+abbrev pub AnswersBy : Option Picked → explorer.Reply → Type 0
+AnswersBy (Some choice) (says a) = PickFits choice a
+AnswersBy (Some choice) unexpected = ⊥
+AnswersBy None (says a) = ⊥
+AnswersBy None unexpected = Unit
 
 -- what the branch at a position of a path answers
-pub record RepliesBy (path : List ℕ) (pos : ℕ) (q : Question) (r : Reply) : Type 0 where
+pub record RepliesBy (path : List ℕ) (pos : ℕ) (q : Question) (r : Option Picked) : Type 0 where
   pub within : ReplyWithin r
   pub is :
       (bs : List Branch) → Holds path bs → pos < positions → (st : State) (t : ℕ) (row : Decoded Op)

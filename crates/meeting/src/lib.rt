@@ -17,7 +17,7 @@ use event::{Fault, Here, Moved, NO_SLOT, Picked, Question, Site};
 use layout::of_run::EXPLORING;
 use layout::{Clocks, MAX_ATOMIC_HISTORY, MAX_THREADS, Marks, Numbers, wide16};
 use matches::Matched;
-use path::{Addition, Bound, Chosen, Said};
+use path::NotAdded;
 use record::Offered;
 use trace::Entry;
 
@@ -45,20 +45,13 @@ pub struct Ticked {
     pub cursor: Cursor,
 }
 
-// The path's answer to a question: what the branch chooses, or that it is none of the question's kind.
-#[derive(Clone, Copy)]
-pub enum Reply {
-    Says(Picked),
-    Unexpected,
-}
-
 // Rule (a), before a scheduling meets the path: marks the branches from which a conflicting order is to be tried, thread by
 // thread, and counts what that opened.
 pub fn mark(
     clocks: &Clocks,
     numbers: &Numbers,
     path: &mut [u8],
-    bound: Bound,
+    bound: Option<u8>,
     question: Question,
     mut cursor: Cursor,
 ) -> Cursor
@@ -68,22 +61,19 @@ pub fn mark(
     let Question::Thread = question else {
         return cursor;
     };
-    let opened = mark_threads(clocks, numbers, path, bound);
-    cursor.opened = cursor.opened + opened;
+    cursor.opened += mark_threads(clocks, numbers, path, bound);
     cursor
 }
 
 // The choices that rule (a) opens: a thread's branch is backtracked from, if its pending operation is in conflict with one.
-fn mark_threads(clocks: &Clocks, numbers: &Numbers, path: &mut [u8], bound: Bound) -> u64
+fn mark_threads(clocks: &Clocks, numbers: &Numbers, path: &mut [u8], bound: Option<u8>) -> u64
     ensures { MarksThreads clocks.now numbers.now path.old path.new bound result }
 {
     let mut opened = 0;
-    let mut t = 0;
-    while t < MAX_THREADS {
+    for t in 0..MAX_THREADS {
         if let Some(point) = scheduling::conflict(clocks, numbers, t) {
             opened += path::backtrack(path, wide16(point), bound, t);
         }
-        t += 1;
     }
     opened
 }
@@ -167,42 +157,38 @@ fn is_exploring(numbers: &Numbers) -> bool
 }
 
 // A branch that was added is counted, with what it opened; one that was not is a fault.
-fn added(site: Site, pushed: Addition, mut cursor: Cursor) -> Ticked
+fn added(site: Site, pushed: Result<u64, NotAdded>, mut cursor: Cursor) -> Ticked
     requires { PushedFew pushed × (cursor.len + 1 < 2 ^ 64) × (cursor.opened + 6 < 2 ^ 64) }
     ensures { AddedTo pushed site cursor result }
 {
     match pushed {
-        Addition::Added(opened) => {
-            cursor.len = cursor.len + 1;
-            cursor.opened = cursor.opened + opened;
+        Ok(opened) => {
+            cursor.len += 1;
+            cursor.opened += opened;
             goes(cursor)
         }
-        Addition::Full => faulted(Fault::Full, site, cursor),
-        Addition::Preempted => faulted(Fault::Preemptions, site, cursor),
+        Err(NotAdded::Full) => faulted(Fault::Full, site, cursor),
+        Err(NotAdded::Preempted) => faulted(Fault::Preemptions, site, cursor),
     }
 }
 
-// What the branch at a position chooses, where it is one of the question's kind.
-pub fn answer(path: &[u8], pos: usize, question: Question) -> Reply
+// What the branch at a position chooses. None where it is not of the question's kind.
+pub fn answer(path: &[u8], pos: usize, question: Question) -> Option<Picked>
     ensures { RepliesBy path.now pos question result }
 {
     match question {
-        Question::Thread => match path::branch_thread(path, pos) {
-            Chosen::Thread(chosen) => Reply::Says(Picked::Thread {
+        Question::Thread => match path::branch_thread(path, pos)? {
+            Some(chosen) => Some(Picked::Thread {
                 chosen,
                 branch: (pos % 65536) as u16,
             }),
-            Chosen::Nobody => Reply::Says(Picked::Nobody),
-            Chosen::Unexpected => Reply::Unexpected,
+            None => Some(Picked::Nobody),
         },
-        Question::Slot => match path::branch_load(path, pos) {
-            Offered::Slot { slot, mask } => Reply::Says(Picked::Slot { slot, mask }),
-            Offered::Unexpected => Reply::Unexpected,
-        },
-        Question::Bit => match path::branch_spurious(path, pos) {
-            Said::Bit(bit) => Reply::Says(Picked::Bit(bit)),
-            Said::Unexpected => Reply::Unexpected,
-        },
+        Question::Slot => {
+            let Offered { slot, mask } = path::branch_load(path, pos)?;
+            Some(Picked::Slot { slot, mask })
+        }
+        Question::Bit => Some(Picked::Bit(path::branch_spurious(path, pos)?)),
     }
 }
 
@@ -253,7 +239,7 @@ fn note(trace: &mut [u8], here: Here, slot: u8, mask: u8, value: u64, mut cursor
     if !trace::note(trace, cursor.entries, entry) {
         return faulted(Fault::Impossible, site, cursor);
     }
-    cursor.entries = cursor.entries + 1;
+    cursor.entries += 1;
     goes(cursor)
 }
 

@@ -15,7 +15,7 @@ use Rattle.rules.specs.Path as rules
 use Rattle.rules.specs.Path.{Branch, Schedule, schedule, load, spurious, none, at, encoded, no_branch, schedule_at, the_schedule, schedules_below, prev_of}
 use Rattle.record.specs.Fields.{record_byte}
 use Rattle.record.specs.Schedules.{PrevOf, position_at, prev_in}
-use Rattle.record.specs.declared.schedule.ScheduleAt.{ScheduleAt}
+use Rattle.std.specs.Prelude.{Option}
 use Rattle.record.proofs.StandsLaws.{stands-field}
 use Rattle.record.proofs.ScheduleLaws.{stands-prev}
 use Rattle.path.specs.Holds.{Holds, last_in}
@@ -93,7 +93,7 @@ module _ {bytes : List ℕ} {bs : List Branch} {k : ℕ} {s : Schedule} (h : Hol
       let n : Newest bs k p q = newest-is bs k p q e in
       rw (i, lt-ltb p k n.below, is-there h.path p q n.stands)
 
-  pub prev-says : (f : ScheduleAt) → PrevOf bytes k f → f ≡ schedule_at_as (last_in (schedules_below bs k))
+  pub prev-says : (f : Option ℕ) → PrevOf bytes k f → f ≡ schedule_at_as (last_in (schedules_below bs k))
   prev-says f g = g.is ∙ prev-by (last_in (schedules_below bs k)) refl
 
 -- A record that was looked for

@@ -16,8 +16,8 @@ use Rattle.record.specs.Schedules as one
 use Rattle.record.proofs.ScheduleLaws.{stands-preemptions}
 use Rattle.path.specs.Bounds.{bound_of, reaches}
 use Rattle.path.specs.Walks.{HoldsAt, MarksAt}
-use Rattle.path.specs.declared.Bound.{Bound}
-use Rattle.path.specs.declared.Bound.TheVariants.{Unbounded, AtMost}
+use Rattle.std.specs.Prelude.{Option, Some, None}
+use Rattle.std.specs.Option.{option_eq}
 use Rattle.path.proofs.HoldsLaws.{at-stands, at_five, at-states, holds-states-put}
 
 length-either : (b : Bool) (l m n : List ℕ) → length m ≡ length l → length n ≡ length l → length (cond b m n) ≡ length l
@@ -29,12 +29,12 @@ unfolding marked
 length_marked l t =
     length-either (eqb (get_or l t visited) disabled) l (map skip_to_pending l) (set l t (skip_to_pending (get_or l t visited))) (length-map l skip_to_pending) (length-set l t (skip_to_pending (get_or l t visited)))
 
-takes-by : (bound : Bound) (s : Schedule) (f : ℕ) → f ≡ s.preemptions → takes_marks (bound_of bound) s ≡ not (reaches bound f)
+takes-by : (bound : Option ℕ) (s : Schedule) (f : ℕ) → f ≡ s.preemptions → takes_marks (bound_of bound) s ≡ not (reaches bound f)
 unfolding takes_marks
-takes-by Unbounded s f e = refl
-takes-by (AtMost n) s f e = ap (λ (x : ℕ). not (eqb x n)) (sym e)
+takes-by None s f e = refl
+takes-by (Some n) s f e = ap (λ (x : ℕ). not (eqb x n)) (sym e)
 
-module _ (bytes : List ℕ) (k : ℕ) (bound : Bound) (t : ℕ) (full : Bool) (e : full ≡ reaches bound (record_byte bytes k 7)) where
+module _ (bytes : List ℕ) (k : ℕ) (bound : Option ℕ) (t : ℕ) (full : Bool) (e : full ≡ reaches bound (record_byte bytes k 7)) where
   takes : {bs : List Branch} {s : Schedule} → HoldsAt bytes bs k s → takes_marks (bound_of bound) s ≡ not full
   takes {bs} {s} h = takes-by bound s (record_byte bytes k 7) (stands-preemptions (at-stands h)) ∙ ap not (sym e)
 
@@ -64,8 +64,6 @@ module _ (bytes : List ℕ) (k : ℕ) (bound : Bound) (t : ℕ) (full : Bool) (e
 
 -- Whether it takes marks
 
-pub bound-off : (b : Bound) (f : ℕ) → b ≡ Unbounded → false ≡ reaches b f
-bound-off b f e = rw e
-
-pub bound-on : (b : Bound) (f g n : ℕ) → b ≡ AtMost n → f ≡ g → eqb f n ≡ reaches b g
-bound-on b f g n e q = rw (e, q)
+pub reaches-by : (b : Option ℕ) (f : ℕ) → option_eq eqb (Some f) b ≡ reaches b f
+reaches-by None f = refl
+reaches-by (Some n) f = refl

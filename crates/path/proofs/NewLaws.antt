@@ -23,8 +23,8 @@ use Rattle.record.specs.Schedules.{position_of, initial_at}
 use Rattle.path.specs.Pushes.{PushesThread, pushed_of, grown}
 use Rattle.path.specs.Places.{records_of}
 use Rattle.path.specs.Walks.{schedule_at_as, StandsIn, LastOf, PreemptionsBefore}
-use Rattle.path.specs.declared.Addition.TheVariants.{Added, Full, Preempted}
-use Rattle.record.specs.declared.schedule.ScheduleAt.{ScheduleAt}
+use Rattle.std.specs.Prelude.{Option, Result, Ok, Err}
+use Rattle.path.specs.declared.NotAdded.TheVariants.{Full, Preempted}
 use Rattle.record.proofs.FieldLaws.{put-again}
 use Rattle.record.proofs.ThreadLaws.{length-toggled}
 use Rattle.path.proofs.HoldsLaws.{holds-blank, holds-added, at-states}
@@ -49,7 +49,7 @@ module _ (bytes : List ℕ) (len : ℕ) (exploring : Bool) (seed : List ℕ) whe
   unfolding thread_added
   as_added bs e f = rw (e, f)
 
-  pub thread-refused : records_of bytes ≤ len → PushesThread bytes bytes len exploring seed Full
+  pub thread-refused : records_of bytes ≤ len → PushesThread bytes bytes len exploring seed (Err Full)
   thread-refused h =
       let is : (bs : List Branch) → length bs ≡ len → answer bs ≡ rules.full = λ bs e. as-full bs (rw e (no_room bytes len h)) in
       record {
@@ -60,11 +60,11 @@ module _ (bytes : List ℕ) (len : ℕ) (exploring : Bool) (seed : List ℕ) whe
         holds = λ bs q e z. subst (λ (a : rules.Added). Holds bytes (grown bs a)) (sym (is bs e)) q;
       }
 
-  module _ (room : 16 * len + 16 ≤ length bytes) (prev : ScheduleAt) (found : LastOf bytes len prev) (p : ℕ) (many : PreemptionsBefore bytes prev p) where
+  module _ (room : 16 * len + 16 ≤ length bytes) (prev : Option ℕ) (found : LastOf bytes len prev) (p : ℕ) (many : PreemptionsBefore bytes prev p) where
     before-is : {bs : List Branch} → Holds bytes bs → length bs ≡ len → p ≡ preemptions_after (last_schedule bs)
     before-is {bs} q e = many.says bs q (last_schedule bs) (last-stands bs) (found.says bs q e)
 
-    pub thread-preempted : 255 < p → PushesThread bytes bytes len exploring seed Preempted
+    pub thread-preempted : 255 < p → PushesThread bytes bytes len exploring seed (Err Preempted)
     thread-preempted h =
         let is : (bs : List Branch) → Holds bytes bs → length bs ≡ len → answer bs ≡ rules.preempted =
         λ bs q e.
@@ -157,7 +157,7 @@ module _ (bytes : List ℕ) (len : ℕ) (room : 16 * len + 16 ≤ length bytes) 
 
 -- It is added
 
-module _ (bytes : List ℕ) (len : ℕ) (exploring : Bool) (seed : List ℕ) (room : 16 * len + 16 ≤ length bytes) (prev : ScheduleAt) (found : LastOf bytes len prev) (p : ℕ) (many : PreemptionsBefore bytes prev p) (few : p ≤ 255) (five : length seed ≡ 5) where
+module _ (bytes : List ℕ) (len : ℕ) (exploring : Bool) (seed : List ℕ) (room : 16 * len + 16 ≤ length bytes) (prev : Option ℕ) (found : LastOf bytes len prev) (p : ℕ) (many : PreemptionsBefore bytes prev p) (few : p ≤ 255) (five : length seed ≡ 5) where
   abbrev toggled_seed : List ℕ
   toggled_seed = toggled seed
 
@@ -169,7 +169,7 @@ module _ (bytes : List ℕ) (len : ℕ) (exploring : Bool) (seed : List ℕ) (ro
       (e₂ : b₂ ≡ with_states_at b₁ len seed)
       (e₃ : b₃ ≡ with_states_at b₂ len (toggled (states_at b₂ len)))
       (e₄ : b₄ ≡ with_record_byte b₃ len 8 (initial_at b₃ len prev))
-      (e₅ : b₅ ≡ with_record_byte b₄ len 7 (p % 256))
+      (e₅ : b₅ ≡ with_record_byte b₄ len 7 p)
       (e₆ : b₆ ≡ with_record_byte (with_record_byte b₅ len 9 (position_of prev % 256)) len 10 (position_of prev / 256 % 256))
     where
       module _ {bs : List Branch} (h : Holds bytes bs) (same : length bs ≡ len) where
@@ -204,8 +204,8 @@ module _ (bytes : List ℕ) (len : ℕ) (exploring : Bool) (seed : List ℕ) (ro
             ∙ ap (initial_at (kept bytes len room exploring toggled_seed) len) prev-is
             ∙ initial-is bytes len room exploring toggled_seed five-toggled h last (last-stands bs) last-below
 
-        preemptions-now : p % 256 ≡ preemptions_after last
-        preemptions-now = let m : p ≡ preemptions_after last = before-is bytes len exploring seed room prev found p many h same in omega arith
+        preemptions-now : p ≡ preemptions_after last
+        preemptions-now = before-is bytes len exploring seed room prev found p many h same
 
         abbrev new : Schedule
         new = new_schedule exploring last toggled_seed
@@ -260,11 +260,11 @@ module _ (bytes : List ℕ) (len : ℕ) (exploring : Bool) (seed : List ℕ) (ro
             its-prev : (q : Schedule) → schedule new ≡ schedule q → q.prev ≡ prev_of (last_schedule bs)
             its-prev q e = let f : new ≡ q = cc in ap (λ (x : Schedule). x.prev) (sym f)
 
-        opens-is : (n : ℕ) → n ≡ cond exploring (pendings (states_at b₆ len)) 0 → Added n ≡ pushed_of (answer bytes len exploring seed bs)
+        opens-is : (n : ℕ) → n ≡ cond exploring (pendings (states_at b₆ len)) 0 → Ok n ≡ pushed_of (answer bytes len exploring seed bs)
         unfolding open_at
-        opens-is n e = ap Added (e ∙ ap (λ (x : List ℕ). cond exploring (pendings x) 0) states-now) ∙ ap pushed_of (sym added_is)
+        opens-is n e = ap Ok (e ∙ ap (λ (x : List ℕ). cond exploring (pendings x) 0) states-now) ∙ ap pushed_of (sym added_is)
 
-      pub thread-added : length b₆ ≡ length bytes → (n : ℕ) → n ≤ 5 → n ≡ cond exploring (pendings (states_at b₆ len)) 0 → PushesThread bytes b₆ len exploring seed (Added n)
+      pub thread-added : length b₆ ≡ length bytes → (n : ℕ) → n ≤ 5 → n ≡ cond exploring (pendings (states_at b₆ len)) 0 → PushesThread bytes b₆ len exploring seed (Ok n)
       thread-added keeps n most e = record {
         within = record { room = room; few = most };
         full = λ l. absurd (omega arith);

@@ -198,8 +198,8 @@ module _ (start path mid : List ℕ) (len n : ℕ) (h : 0 < n) (k : n ≤ len) (
     unfolding cleared
     dropped-holds = rw long at (holds-dropped (take (n - 1) bs) (branch_stepped its) now)
 
-  pub step-here : r ≡ true → 16 * n ≤ length start → length mid ≡ length start → StepsPath start mid len n
-  step-here t f w = record { few = k; fits = f; keeps = w; left = λ bs q e. turned-length bs q e t; holds = λ bs q e. turned-holds bs q e t }
+  pub step-here : r ≡ true → 16 * n ≤ length start → length mid ≡ length start → StepsPath start mid len (n - 1 + 1)
+  step-here t f w = let e : n - 1 + 1 ≡ n = omega arith in rw e record { few = k; fits = f; keeps = w; left = λ bs q e. turned-length bs q e t; holds = λ bs q e. turned-holds bs q e t }
 
   pub step-on : r ≡ false → (exit : List ℕ) → exit ≡ cleared mid (n - 1) → StillLeft start exit len (n - 1)
   step-on t exit f = record { holds = λ bs q e. rw f (dropped-holds bs q e); next = λ bs q e. dropped-next bs q e t }

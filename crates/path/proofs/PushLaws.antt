@@ -24,7 +24,8 @@ use Rattle.record.proofs.LoadLaws.{load-new, left-whole}
 use Rattle.path.specs.Holds.{Holds}
 use Rattle.path.specs.Places.{records_of}
 use Rattle.path.specs.Pushes.{Pushes, Seven, pushed_of, grown}
-use Rattle.path.specs.declared.Addition.TheVariants.{Added, Full}
+use Rattle.std.specs.Prelude.{Result, Ok, Err}
+use Rattle.path.specs.declared.NotAdded.TheVariants.{Full}
 use Rattle.path.proofs.HoldsLaws.{holds-blank, holds-added}
 
 pub no_room : (bytes : List ℕ) (len : ℕ) → records_of bytes ≤ len → leb (records_of bytes) len ≡ true
@@ -34,7 +35,7 @@ pub has_room : (bytes : List ℕ) (len : ℕ) → 16 * len + 16 ≤ length bytes
 has_room bytes len h = lt-leb (records_of bytes) len (omega arith)
 
 module _ (bytes : List ℕ) (len most : ℕ) (answer : ℕ → List Branch → rules.Added) where
-  pub refused : records_of bytes ≤ len → ((B : ℕ) (bs : List Branch) → leb B (length bs) ≡ true → answer B bs ≡ rules.full) → Pushes bytes bytes len most answer Full
+  pub refused : records_of bytes ≤ len → ((B : ℕ) (bs : List Branch) → leb B (length bs) ≡ true → answer B bs ≡ rules.full) → Pushes bytes bytes len most answer (Err Full)
   refused h f =
       let says : (bs : List Branch) → length bs ≡ len → answer (records_of bytes) bs ≡ rules.full =
       λ bs e. f (records_of bytes) bs (rw e (no_room bytes len h)) in
@@ -51,7 +52,7 @@ module _ (bytes : List ℕ) (len most : ℕ) (answer : ℕ → List Branch → r
       → ((bs : List Branch) (s : Schedule) → b ≡ rules.schedule s → s.prev ≡ prev_of (last_schedule bs))
       → (record_at bytes len ≡ replicate 16 0 → exit ≡ with_record bytes len (encoded b))
       → ((B : ℕ) (bs : List Branch) → leb B (length bs) ≡ false → answer B bs ≡ rules.added b)
-      → Pushes bytes exit len most answer (Added n)
+      → Pushes bytes exit len most answer (Ok n)
   added-as room exit keeps b n few opens shape prev put f =
       let says : (bs : List Branch) → length bs ≡ len → answer (records_of bytes) bs ≡ rules.added b =
       λ bs e. f (records_of bytes) bs (rw e (has_room bytes len room)) in
@@ -64,7 +65,7 @@ module _ (bytes : List ℕ) (len most : ℕ) (answer : ℕ → List Branch → r
         within = record { room = room; few = few };
         full = λ l. absurd (omega arith);
         keeps = keeps;
-        says = λ bs q e. ap Added opens ∙ ap pushed_of (sym (says bs e));
+        says = λ bs q e. ap Ok opens ∙ ap pushed_of (sym (says bs e));
         holds = λ bs q e. subst (λ (a : rules.Added). Holds exit (grown bs a)) (sym (says bs e)) (holds bs q e);
       }
 
@@ -74,7 +75,7 @@ abbrev new_spurious : Bool → Branch
 new_spurious exploring = rules.spurious (record { exploring = exploring; bit = false })
 
 module _ (bytes : List ℕ) (len : ℕ) (exploring : Bool) where
-  pub spurious-refused : records_of bytes ≤ len → Pushes bytes bytes len 1 (λ B bs. spurious_added B bs exploring) Full
+  pub spurious-refused : records_of bytes ≤ len → Pushes bytes bytes len 1 (λ B bs. spurious_added B bs exploring) (Err Full)
   unfolding spurious_added
   spurious-refused h = refused bytes len 1 (λ B bs. spurious_added B bs exploring) h (λ B bs e. rw e)
 
@@ -82,7 +83,7 @@ module _ (bytes : List ℕ) (len : ℕ) (exploring : Bool) where
   unfolding record_begun encoded
   spurious-put e = rw e
 
-  pub spurious-added : 16 * len + 16 ≤ length bytes → (exit : List ℕ) → length exit ≡ length bytes → (n : ℕ) → n ≡ cond exploring 1 0 → n ≤ 1 → exit ≡ record_begun bytes len 3 exploring → Pushes bytes exit len 1 (λ B bs. spurious_added B bs exploring) (Added n)
+  pub spurious-added : 16 * len + 16 ≤ length bytes → (exit : List ℕ) → length exit ≡ length bytes → (n : ℕ) → n ≡ cond exploring 1 0 → n ≤ 1 → exit ≡ record_begun bytes len 3 exploring → Pushes bytes exit len 1 (λ B bs. spurious_added B bs exploring) (Ok n)
   unfolding spurious_added open_at
   spurious-added room exit keeps n opens few e =
       added-as bytes len 1 (λ B bs. spurious_added B bs exploring) room exit keeps (new_spurious exploring) n few opens refl no-prev (λ z. e ∙ spurious-put z) (λ B bs q. rw q)
@@ -103,7 +104,7 @@ abbrev new_load : Bool → List ℕ → Branch
 new_load exploring offers = rules.load (record { exploring = exploring; values = offers; pos = 0 })
 
 module _ (bytes : List ℕ) (len : ℕ) (exploring : Bool) (seed : List ℕ) (n : ℕ) where
-  pub load-refused : records_of bytes ≤ len → Pushes bytes bytes len 6 (λ B bs. load_added B bs exploring (take n seed)) Full
+  pub load-refused : records_of bytes ≤ len → Pushes bytes bytes len 6 (λ B bs. load_added B bs exploring (take n seed)) (Err Full)
   unfolding load_added
   load-refused h = refused bytes len 6 (λ B bs. load_added B bs exploring (take n seed)) h (λ B bs e. rw e)
 
@@ -125,7 +126,7 @@ module _ (bytes : List ℕ) (len : ℕ) (exploring : Bool) (seed : List ℕ) (n 
     -- the same slots are offered where more are asked for than there are
     pub load-added :
         (all : ℕ) → take n seed ≡ take all seed → (mid exit : List ℕ) → length exit ≡ length bytes → (m : ℕ) → m ≡ cond exploring (n - 1) 0 → m ≤ 6 → mid ≡ record_begun bytes len 2 exploring → exit ≡ with_offers mid len seed n
-        → Pushes bytes exit len 6 (λ B bs. load_added B bs exploring (take all seed)) (Added m)
+        → Pushes bytes exit len 6 (λ B bs. load_added B bs exploring (take all seed)) (Ok m)
     unfolding load_added open_at
     load-added all same mid exit keeps m opens few e f =
         let k : length (take n seed) ≡ n = length-take-le n seed (omega arith) in

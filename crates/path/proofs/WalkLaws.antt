@@ -21,17 +21,16 @@ use lib.Seq.{take-suc, take_all, length-take-le, get_or-set_same}
 use Rattle.rules.specs.Path as rules
 use Rattle.rules.specs.Path.{Branch, Schedule, Marked, Placed, schedule, load, spurious, none, at, no_branch, schedule_at, the_schedule, if_exploring, exploring_below, last_schedule, or_first, one_further, schedules_below, switch_in, preemptions_after, active, active_in, active_of, schedule_marked, marked_at, marked_before, with_opened, backtracked}
 use Rattle.record.specs.Fields.{record_byte, states_at}
-use Rattle.record.specs.Places.{First, or_five}
+use Rattle.record.specs.Places.{First, FoundBelow, found_as}
 use Rattle.record.specs.Schedules.{PrevOf, PreemptionsOf}
-use Rattle.record.specs.declared.schedule.ScheduleAt.{ScheduleAt}
-use Rattle.record.specs.declared.schedule.ScheduleAt.TheVariants.{At, None}
+use Rattle.std.specs.Prelude.{Option, Some, None, is_some}
+use Rattle.std.specs.Option.{option_eq}
+use Rattle.std.specs.Bool.{then_some}
 use Rattle.record.proofs.ScheduleLaws.{stands-exploring, active-is, first-of-five, five-alike}
 use Rattle.path.specs.Bounds.{bound_of}
 use Rattle.path.specs.Holds.{Holds, last_in}
 use Rattle.path.specs.Places.{Through, records_of}
 use Rattle.path.specs.Walks.{HoldsAt, schedule_at_as, StandsIn, PathMarked, MarksAt, ExploringFrom, SwitchFrom, MarksBefore}
-use Rattle.path.specs.declared.Bound.{Bound}
-use Rattle.path.specs.declared.Bound.TheVariants.{Unbounded, AtMost}
 use Rattle.path.proofs.HoldsLaws.{holds-room, inside, at-stands, at_five}
 use Rattle.path.proofs.KindLaws.{There, there, not_there, prev-says}
 use Rattle.path.proofs.PrevLaws.{schedule-there, last-here, last-other, if-stands, if-true, if-false, Newest, newest-is, none_is, switch-stands, switch-first, switch-here, switch-quiet, switch-same}
@@ -46,7 +45,7 @@ pub record Named (l : rules.ScheduleAt) (p : ℕ) : Type 0 where
   pub of : Schedule
   pub is : l ≡ at p of
 
-pub found_at : (l : rules.ScheduleAt) (p : ℕ) → At p ≡ schedule_at_as l → Named l p
+pub found_at : (l : rules.ScheduleAt) (p : ℕ) → Some p ≡ schedule_at_as l → Named l p
 found_at none p e = let z : ◌≡◌ {A = ℕ} 0 1 = cc in absurd (omega arith)
 found_at (at k s) p e = let q : k ≡ p = cc in record { of = s; is = ap (λ (x : ℕ). at x s) q }
 
@@ -111,7 +110,7 @@ module _ (bytes : List ℕ) (n : ℕ) (pos : 0 < n) (kind : Bool) (is : kind ≡
     pub look-quiet : x ≡ false → exploring_below bs n ≡ exploring_below bs (n - 1)
     look-quiet q = ap (exploring_below bs) one_less ∙ past-quiet bs (n - 1) here.of here.is (sym exploring-is ∙ q)
 
-    pub look-here : x ≡ true → At (n - 1) ≡ schedule_at_as (exploring_below bs n)
+    pub look-here : x ≡ true → Some (n - 1) ≡ schedule_at_as (exploring_below bs n)
     look-here q =
         ap schedule_at_as (sym (ap (exploring_below bs) one_less ∙ stops-here bs (n - 1) here.of here.is (sym exploring-is ∙ q)))
 
@@ -143,7 +142,7 @@ module _ (bytes : List ℕ) (n : ℕ) (pos : 0 < n) (kind : Bool) (is : kind ≡
   last_on e =
       ap last_schedule one-more ∙ last-other (take (n - 1) bs) (get_or bs (n - 1) no_branch) (n - 1) (not_there h (n - 1) (sym is ∙ e))
 
-  pub last-at : kind ≡ true → At (n - 1) ≡ schedule_at_as (last_schedule (take n bs))
+  pub last-at : kind ≡ true → Some (n - 1) ≡ schedule_at_as (last_schedule (take n bs))
   last-at e =
       let t : There bs (n - 1) = there h (n - 1) (sym is ∙ e) in
       let f : length (take (n - 1) bs) ≡ n - 1 = length-take-le (n - 1) bs (omega arith) in
@@ -181,7 +180,7 @@ pub before-none : (l : rules.ScheduleAt) → None ≡ schedule_at_as l → 0 ≡
 before-none none e = refl
 before-none (at k s) e = let z : ◌≡◌ {A = ℕ} 0 1 = cc in absurd (omega arith)
 
-pub before_at : {bytes : List ℕ} {bs : List Branch} (h : Holds bytes bs) (l : rules.ScheduleAt) (p r : ℕ) → StandsIn bs l → At p ≡ schedule_at_as l → PreemptionsOf bytes p r → r ≡ preemptions_after l
+pub before_at : {bytes : List ℕ} {bs : List Branch} (h : Holds bytes bs) (l : rules.ScheduleAt) (p r : ℕ) → StandsIn bs l → Some p ≡ schedule_at_as l → PreemptionsOf bytes p r → r ≡ preemptions_after l
 before_at h none p r s e f = let z : ◌≡◌ {A = ℕ} 0 1 = cc in absurd (omega arith)
 before_at {bytes} {bs} h (at k q) p r s e f =
     let n : p ≡ k = cc in
@@ -189,6 +188,10 @@ before_at {bytes} {bs} h (at k q) p r s e f =
     g.says q (at-stands (record { path = h; there = s }))
 
 -- The walk by prev
+
+pub some-below : (x : Bool) {n p : ℕ} → p < n → FoundBelow n (then_some x p)
+some-below true h = h
+some-below false h = tt
 
 pub record Walk (bs : List Branch) (from curr : ℕ) : Type 0 where
   pub now : Schedule
@@ -201,7 +204,7 @@ Walks bytes from curr = (bs : List Branch) (s : Schedule) → HoldsAt bytes bs f
 pub walk_none : (bytes : List ℕ) (from : ℕ) → Walks bytes from from
 walk_none bytes from bs s h = record { now = s; stands = h.there; same = ap (λ (n : ℕ). switch_in (schedules_below bs n)) (add-one from) }
 
-module _ (bytes : List ℕ) (from curr : ℕ) (w : Walks bytes from curr) (f : ScheduleAt) (g : PrevOf bytes curr f) (x : Bool) (i : x ≡ eqb (record_byte bytes curr 1) 1) where
+module _ (bytes : List ℕ) (from curr : ℕ) (w : Walks bytes from curr) (f : Option ℕ) (g : PrevOf bytes curr f) (x : Bool) (i : x ≡ eqb (record_byte bytes curr 1) 1) where
   module _ {bs : List Branch} {s : Schedule} (h : HoldsAt bytes bs from s) where
     this : Walk bs from curr
     this = w bs s h
@@ -217,32 +220,39 @@ module _ (bytes : List ℕ) (from curr : ℕ) (w : Walks bytes from curr) (f : S
         let b : last_in (schedules_below bs curr) ≡ none = found_none (last_in (schedules_below bs curr)) (sym e ∙ prev-says held f g) in
         this.same ∙ switch-first bs curr this.now this.stands b
 
-    pub walk_first : f ≡ None → x ≡ true → At curr ≡ schedule_at_as (switch_in (schedules_below bs (from + 1)))
+    walk_first : f ≡ None → x ≡ true → Some curr ≡ schedule_at_as (switch_in (schedules_below bs (from + 1)))
     walk_first e q = ap schedule_at_as (sym (first_of e ∙ if-true curr this.now none (sym explores ∙ q)))
 
-    pub walk-nowhere : f ≡ None → x ≡ false → None ≡ schedule_at_as (switch_in (schedules_below bs (from + 1)))
+    walk-nowhere : f ≡ None → x ≡ false → None ≡ schedule_at_as (switch_in (schedules_below bs (from + 1)))
     walk-nowhere e q = ap schedule_at_as (sym (first_of e ∙ if-false curr this.now none (sym explores ∙ q)))
 
-    module _ (p : ℕ) (e : f ≡ At p) where
+    pub walk-end : f ≡ None → then_some x curr ≡ schedule_at_as (switch_in (schedules_below bs (from + 1)))
+    walk-end e = go x refl
+      where
+        go : (b : Bool) → x ≡ b → then_some b curr ≡ schedule_at_as (switch_in (schedules_below bs (from + 1)))
+        go true q = walk_first e q
+        go false q = walk-nowhere e q
+
+    module _ (p : ℕ) (e : f ≡ Some p) where
       prior : Named (last_in (schedules_below bs curr)) p
       prior = found_at (last_in (schedules_below bs curr)) p (sym e ∙ prev-says held f g)
 
       lower : Newest bs curr p prior.of
       lower = newest-is bs curr p prior.of prior.is
 
-      alike : (a b : ℕ) → First (states_at bytes curr) active a → First (states_at bytes p) active b → eqb (active_of this.now) (active_of prior.of) ≡ eqb a b
+      alike : (a b : Option ℕ) → First (states_at bytes curr) active a → First (states_at bytes p) active b → eqb (active_of this.now) (active_of prior.of) ≡ option_eq eqb a b
       unfolding active_of
       alike a b m n =
           let back : HoldsAt bytes bs p prior.of = record { path = h.path; there = lower.stands } in
           sym
-          (ap (λ (y : ℕ). eqb y b) (active-is (at-stands held) a m)
-          ∙ ap (λ (y : ℕ). eqb (or_five (active_in this.now.states)) y) (active-is (at-stands back) b n)
+          (ap (λ (y : Option ℕ). option_eq eqb y b) (active-is (at-stands held) a m)
+          ∙ ap (λ (y : Option ℕ). option_eq eqb (found_as (active_in this.now.states)) y) (active-is (at-stands back) b n)
           ∙ five-alike (active_in this.now.states) (active_in prior.of.states) (first-of-five active this.now.states (at_five held)) (first-of-five active prior.of.states (at_five back)))
 
-      pub walk_here : x ≡ true → (a b : ℕ) → First (states_at bytes curr) active a → First (states_at bytes p) active b → a ≢ b → At curr ≡ schedule_at_as (switch_in (schedules_below bs (from + 1)))
+      pub walk_here : x ≡ true → (a b : Option ℕ) → First (states_at bytes curr) active a → First (states_at bytes p) active b → option_eq eqb a b ≡ false → Some curr ≡ schedule_at_as (switch_in (schedules_below bs (from + 1)))
       walk_here q a b m n d =
           ap schedule_at_as
-          (sym (this.same ∙ switch-here bs curr this.now this.stands p prior.of prior.is (sym explores ∙ q) (alike a b m n ∙ ne_eqb a b d)))
+          (sym (this.same ∙ switch-here bs curr this.now this.stands p prior.of prior.is (sym explores ∙ q) (alike a b m n ∙ d)))
 
       pub walk-quiet : x ≡ false → Walk bs from p
       walk-quiet q = record {
@@ -251,11 +261,11 @@ module _ (bytes : List ℕ) (from curr : ℕ) (w : Walks bytes from curr) (f : S
         same = this.same ∙ switch-quiet bs curr this.now this.stands p prior.of prior.is (sym explores ∙ q);
       }
 
-      pub walk_same : x ≡ true → (a b : ℕ) → First (states_at bytes curr) active a → First (states_at bytes p) active b → a ≡ b → Walk bs from p
+      pub walk_same : x ≡ true → (a b : Option ℕ) → First (states_at bytes curr) active a → First (states_at bytes p) active b → option_eq eqb a b ≡ true → Walk bs from p
       walk_same q a b m n d = record {
         now = prior.of;
         stands = lower.stands;
-        same = this.same ∙ switch-same bs curr this.now this.stands p prior.of prior.is (sym explores ∙ q) (alike a b m n ∙ eq-eqb a b d);
+        same = this.same ∙ switch-same bs curr this.now this.stands p prior.of prior.is (sym explores ∙ q) (alike a b m n ∙ d);
       }
 
 -- The second mark
@@ -271,14 +281,14 @@ module _ (bound : rules.Bound) (k t : ℕ) (m : Marked) (s : Schedule) where
   unmarked-second : {bytes : List ℕ} → Holds bytes m.path → switch_in (schedules_below m.path k) ≡ none → PathMarked bytes (marked_before bound m (at k s) t) (m.opened + 0)
   unmarked-second h e = rw (second_is none e) (record { holds = h; opens = refl })
 
-module _ {entry : List ℕ} (bound : rules.Bound) (k t : ℕ) (f : ScheduleAt) (g : PrevOf entry k f) (m : Marked) (s : Schedule) (h : HoldsAt entry m.path k s) where
+module _ {entry : List ℕ} (bound : rules.Bound) (k t : ℕ) (f : Option ℕ) (g : PrevOf entry k f) (m : Marked) (s : Schedule) (h : HoldsAt entry m.path k s) where
   pub second_none : f ≡ None → PathMarked entry (marked_before bound m (at k s) t) (m.opened + 0)
   unfolding switch_in
   second_none e =
       let b : last_in (schedules_below m.path k) ≡ none = found_none (last_in (schedules_below m.path k)) (sym e ∙ prev-says h f g) in
       unmarked-second bound k t m s h.path (ap switch_in (none_is m.path k b))
 
-  module _ (p : ℕ) (e : f ≡ At p) (c : ScheduleAt) (d : SwitchFrom entry p c) where
+  module _ (p : ℕ) (e : f ≡ Some p) (c : Option ℕ) (d : SwitchFrom entry p c) where
     prior-is : Named (last_in (schedules_below m.path k)) p
     prior-is = found_at (last_in (schedules_below m.path k)) p (sym e ∙ prev-says h f g)
 
@@ -297,7 +307,7 @@ module _ {entry : List ℕ} (bound : rules.Bound) (k t : ℕ) (f : ScheduleAt) (
     pub second-nowhere : c ≡ None → PathMarked entry (marked_before bound m (at k s) t) (m.opened + 0)
     second-nowhere q = unmarked-second bound k t m s h.path (found_none met (sym q ∙ met-is))
 
-    pub second_at : (u : ℕ) → c ≡ At u → (exit : List ℕ) (r : ℕ) → MarksAt entry exit u bound t r → PathMarked exit (marked_before bound m (at k s) t) (m.opened + r)
+    pub second_at : (u : ℕ) → c ≡ Some u → (exit : List ℕ) (r : ℕ) → MarksAt entry exit u bound t r → PathMarked exit (marked_before bound m (at k s) t) (m.opened + r)
     second_at u q exit r w =
         let there-is : Named met u = found_at met u (sym q ∙ met-is) in
         let stood : StandsIn m.path met = switch-stands m.path k in
@@ -312,19 +322,19 @@ second-same : (bound : rules.Bound) (m : Marked) (k : ℕ) (s u : Schedule) (t :
 unfolding marked_before
 second-same bound m k s u t = refl
 
-module _ {entry : List ℕ} (point t : ℕ) (f : ScheduleAt) (g : ExploringFrom entry point f) {bs : List Branch} (h : Holds entry bs) where
+module _ {entry : List ℕ} (point t : ℕ) (f : Option ℕ) (g : ExploringFrom entry point f) {bs : List Branch} (h : Holds entry bs) where
   abbrev first : rules.ScheduleAt
   first = exploring_below bs (point + 1)
 
-  unmarked-by : (bound : Bound) → first ≡ none → PathMarked entry (backtracked (bound_of bound) bs point t) 0
+  unmarked-by : (bound : Option ℕ) → first ≡ none → PathMarked entry (backtracked (bound_of bound) bs point t) 0
   unfolding backtracked marked_before
-  unmarked-by Unbounded e = rw e (record { holds = h; opens = refl })
-  unmarked-by (AtMost n) e = rw e (record { holds = h; opens = refl })
+  unmarked-by None e = rw e (record { holds = h; opens = refl })
+  unmarked-by (Some n) e = rw e (record { holds = h; opens = refl })
 
-  pub mark-none : (bound : Bound) → f ≡ None → PathMarked entry (backtracked (bound_of bound) bs point t) 0
+  pub mark-none : (bound : Option ℕ) → f ≡ None → PathMarked entry (backtracked (bound_of bound) bs point t) 0
   mark-none bound e = unmarked-by bound (found_none first (sym e ∙ g.says bs h))
 
-  module _ (k : ℕ) (e : f ≡ At k) where
+  module _ (k : ℕ) (e : f ≡ Some k) where
     first-is : Named first k
     first-is = found_at first k (sym e ∙ g.says bs h)
 
@@ -338,9 +348,9 @@ module _ {entry : List ℕ} (point t : ℕ) (f : ScheduleAt) (g : ExploringFrom 
     unfolding backtracked
     one-mark exit r w = rw first-is.is (w.marks bs first-is.of first-at)
 
-    pub mark-one : (bound : Bound) → bound ≡ Unbounded → (exit : List ℕ) (r : ℕ) → MarksAt entry exit k (bound_of bound) t r → PathMarked exit (backtracked (bound_of bound) bs point t) r
-    mark-one Unbounded q exit r w = one-mark exit r w
-    mark-one (AtMost n) q exit r w = let z : ◌≡◌ {A = ℕ} 0 1 = cc in absurd (omega arith)
+    pub mark-one : (bound : Option ℕ) → is_some bound ≡ false → (exit : List ℕ) (r : ℕ) → MarksAt entry exit k (bound_of bound) t r → PathMarked exit (backtracked (bound_of bound) bs point t) r
+    mark-one None q exit r w = one-mark exit r w
+    mark-one (Some n) q exit r w = cc
 
     two-marks : (n : ℕ) (mid exit : List ℕ) (r q : ℕ) → MarksAt entry mid k (rules.at_most n) t r → MarksBefore mid exit k (rules.at_most n) t q → PathMarked exit (backtracked (rules.at_most n) bs point t) (r + q)
     unfolding backtracked
@@ -353,9 +363,9 @@ module _ {entry : List ℕ} (point t : ℕ) (f : ScheduleAt) (g : ExploringFrom 
         let two : PathMarked exit (marked_before (rules.at_most n) m (at k u) t) (m.opened + q) = v.marks m u back in
         rw (first-is.is, one.opens, ← second-same (rules.at_most n) m k s u t) two
 
-    pub mark-two : (bound : Bound) (n : ℕ) → bound ≡ AtMost n → (mid exit : List ℕ) (r q : ℕ) → MarksAt entry mid k (bound_of bound) t r → MarksBefore mid exit k (bound_of bound) t q → PathMarked exit (backtracked (bound_of bound) bs point t) (r + q)
-    mark-two Unbounded n b mid exit r q w v = let z : ◌≡◌ {A = ℕ} 0 1 = cc in absurd (omega arith)
-    mark-two (AtMost x) n b mid exit r q w v = two-marks x mid exit r q w v
+    pub mark-two : (bound : Option ℕ) → is_some bound ≡ true → (mid exit : List ℕ) (r q : ℕ) → MarksAt entry mid k (bound_of bound) t r → MarksBefore mid exit k (bound_of bound) t q → PathMarked exit (backtracked (bound_of bound) bs point t) (r + q)
+    mark-two None b mid exit r q w v = cc
+    mark-two (Some x) b mid exit r q w v = two-marks x mid exit r q w v
 
 -- As many branches as before
 

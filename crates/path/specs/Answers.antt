@@ -1,9 +1,8 @@
 -- What each answer of a public function tells its caller, whatever the bytes are. Assumes nothing.
-use Rattle.std.specs.Prelude.{ℕ, ◌+◌, ◌*◌, ◌≤◌, ◌<◌, List, ◌≡◌, length}
-use Rattle.path.specs.declared.Addition.{Addition}
-use Rattle.path.specs.declared.Addition.TheVariants as pushed
-use Rattle.path.specs.declared.Chosen.{Chosen}
-use Rattle.path.specs.declared.Chosen.TheVariants as chosen
+use Rattle.std.specs.Prelude.{ℕ, ◌+◌, ◌*◌, ◌≤◌, ◌<◌, List, ◌≡◌, length, Option, Some, None, Result, Ok, Err}
+use Rattle.record.specs.Places.{FoundBelow}
+use Rattle.path.specs.declared.NotAdded.{NotAdded}
+use Rattle.path.specs.declared.NotAdded.TheVariants.{Full, Preempted}
 
 -- a branch that was added: it had room, and opened at most so many choices
 pub record Opened (path : List ℕ) (len most n : ℕ) : Type 0 where
@@ -16,13 +15,12 @@ pub record Refused (entry exit : List ℕ) (why : Type 0) : Type 0 where
   pub same : exit ≡ entry
 
 -- a new branch: it is refused as full exactly where the next record does not fit
-abbrev pub PushedWithin : List ℕ → List ℕ → ℕ → ℕ → Addition → Type 0
-PushedWithin entry exit len most (pushed.Added n) = Opened entry len most n
-PushedWithin entry exit len most pushed.Full = Refused entry exit (length entry < 16 * len + 16)
-PushedWithin entry exit len most pushed.Preempted = Refused entry exit (16 * len + 16 ≤ length entry)
+abbrev pub PushedWithin : List ℕ → List ℕ → ℕ → ℕ → Result ℕ NotAdded → Type 0
+PushedWithin entry exit len most (Ok n) = Opened entry len most n
+PushedWithin entry exit len most (Err Full) = Refused entry exit (length entry < 16 * len + 16)
+PushedWithin entry exit len most (Err Preempted) = Refused entry exit (16 * len + 16 ≤ length entry)
 
 -- a thread that was chosen is one of the five
-abbrev pub ChosenThread : Chosen → Type 0
-ChosenThread (chosen.Thread t) = t < 5
-ChosenThread chosen.Nobody = Unit
-ChosenThread chosen.Unexpected = Unit
+abbrev pub ChosenThread : Option (Option ℕ) → Type 0
+ChosenThread (Some w) = FoundBelow 5 w
+ChosenThread None = Unit

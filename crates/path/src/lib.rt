@@ -1,7 +1,7 @@
 // The execution path, after loom's rt/path.rs: records of 16 bytes in a buffer that the caller
 // lends, the first `len` of them in use and every byte after those zero. As many branches can be
 // added as the buffer has records. Every function takes any bytes, any length and any position: no
-// room is Full, and a place without the record that is asked for is Unexpected.
+// room is Full, and a place without the record that is asked for is None.
 #![tactic(auto)]
 
 ghost use Rattle.std.specs.Prelude.{◌+◌, ◌*◌, ◌/◌, ◌≤◌, ◌≡◌, length, take};
@@ -18,83 +18,54 @@ ghost use Rattle.path.specs.Walks.{LastOf, PreemptionsBefore, ExploringFrom, Swi
 use layout::{MAX_ATOMIC_HISTORY, MAX_THREADS};
 pub use record::fields::MAX_PREEMPTIONS;
 use record::fields::{RECORD, field};
-use record::schedule::ScheduleAt;
 use record::{Offered, fields, load, schedule};
 
-// What became of a new branch: it was added and opened so many choices; there is no room for it
-// (answer 11); or its preemptions would pass 255 (answer 17). In the last two cases the path is as
-// it was.
+// Why a branch was not added, so that the path is as it was: there is no room for it (answer 11), or
+// its preemptions would pass 255 (answer 17).
 #[derive(Clone, Copy)]
-pub enum Addition {
-    Added(u64),
+pub enum NotAdded {
     Full,
     Preempted,
 }
 
-// The thread that a schedule branch chooses. Unexpected where the branch is no schedule.
-#[derive(Clone, Copy)]
-pub enum Chosen {
-    Thread(usize),
-    Nobody,
-    Unexpected,
-}
-
-// What a spurious branch chooses. Unexpected where the branch is none.
-#[derive(Clone, Copy)]
-pub enum Said {
-    Bit(bool),
-    Unexpected,
-}
-
-// How many preemptions an execution may have.
-#[derive(Clone, Copy)]
-pub enum Bound {
-    Unbounded,
-    AtMost(u8),
-}
-
-// Adds a schedule branch with the seed's thread states. It opens what the seed has Pending, which
-// is nothing in a run: backtrack opens.
+// Adds a schedule branch with the seed's thread states, and answers how many choices it opened: what
+// the seed has Pending, which is nothing in a run, where backtrack opens.
 pub fn push_thread(
     path: &mut [u8],
     len: usize,
     exploring: bool,
     seed: [u8; MAX_THREADS],
-) -> Addition
+) -> Result<u64, NotAdded>
     ensures { PushesThread path.old path.new len exploring seed result }
 {
     if path.len() / RECORD <= len {
-        return Addition::Full;
+        return Err(NotAdded::Full);
     }
     let prev = last_schedule(path, len);
     let preemptions = preemptions_before(path, len, prev);
     if MAX_PREEMPTIONS < preemptions {
-        return Addition::Preempted;
+        return Err(NotAdded::Preempted);
     }
     fields::begin(path, len, fields::KIND_SCHEDULE, exploring);
     schedule::put_threads(path, len, seed);
     schedule::toggle_yield(path, len);
     schedule::put_initial_active(path, len, prev);
-    fields::put(path, len, fields::PREEMPTIONS, (preemptions % 256) as u8);
+    fields::put(path, len, fields::PREEMPTIONS, preemptions as u8);
     schedule::put_prev(path, len, prev);
     if exploring {
-        return Addition::Added(schedule::pending(path, len));
+        return Ok(schedule::pending(path, len));
     }
-    Addition::Added(0)
+    Ok(0)
 }
 
-// The thread that the branch at a position has Active.
-pub fn branch_thread(path: &[u8], pos: usize) -> Chosen
+// The thread that the branch at a position has Active, if it has one. None where it is no schedule.
+pub fn branch_thread(path: &[u8], pos: usize) -> Option<Option<usize>>
     ensures { Chooses path.now pos result }
 {
     if !has_kind(path, pos, fields::KIND_SCHEDULE) {
-        return Chosen::Unexpected;
+        return None;
     }
-    let thread = schedule::active_thread_index(path, pos);
-    if thread < MAX_THREADS {
-        return Chosen::Thread(thread);
-    }
-    Chosen::Nobody
+    Some(schedule::active_thread_index(path, pos))
 }
 
 // Adds a load branch that offers the seed's first n slots, of which it chooses the first. The
@@ -105,69 +76,69 @@ pub fn push_load(
     exploring: bool,
     seed: [u8; MAX_ATOMIC_HISTORY],
     n: usize,
-) -> Addition
+) -> Result<u64, NotAdded>
     ensures { Pushes path.old path.new len 6 (λ B bs. load_added B bs exploring (take n seed)) result }
 {
     if path.len() / RECORD <= len {
-        return Addition::Full;
+        return Err(NotAdded::Full);
     }
     let n = at_most_seven(n);
     fields::begin(path, len, fields::KIND_LOAD, exploring);
     load::put_values(path, len, seed, n);
     if exploring {
-        return Addition::Added(load::left(n, 0));
+        return Ok(load::left(n, 0));
     }
-    Addition::Added(0)
+    Ok(0)
 }
 
-// The slot that the branch at a position chooses now, with its offers.
-pub fn branch_load(path: &[u8], pos: usize) -> Offered
+// The slot that the branch at a position chooses now, with its offers. None where it is no load.
+pub fn branch_load(path: &[u8], pos: usize) -> Option<Offered>
     ensures { ReadsSlot path.now pos result }
 {
     if !has_kind(path, pos, fields::KIND_LOAD) {
-        return Offered::Unexpected;
+        return None;
     }
     load::offered(path, pos)
 }
 
 // Adds a spurious branch, which says no first. Its yes is opened where it is explored.
-pub fn push_spurious(path: &mut [u8], len: usize, exploring: bool) -> Addition
+pub fn push_spurious(path: &mut [u8], len: usize, exploring: bool) -> Result<u64, NotAdded>
     ensures { Pushes path.old path.new len 1 (λ B bs. spurious_added B bs exploring) result }
 {
     if path.len() / RECORD <= len {
-        return Addition::Full;
+        return Err(NotAdded::Full);
     }
     fields::begin(path, len, fields::KIND_SPURIOUS, exploring);
     if exploring {
-        return Addition::Added(1);
+        return Ok(1);
     }
-    Addition::Added(0)
+    Ok(0)
 }
 
-// What the branch at a position says now.
-pub fn branch_spurious(path: &[u8], pos: usize) -> Said
+// What the branch at a position says now. None where it is no spurious branch.
+pub fn branch_spurious(path: &[u8], pos: usize) -> Option<bool>
     ensures { Says path.now pos result }
 {
     if !has_kind(path, pos, fields::KIND_SPURIOUS) {
-        return Said::Unexpected;
+        return None;
     }
-    Said::Bit(field(path, pos, fields::SPUR) != 0)
+    Some(field(path, pos, fields::SPUR) != 0)
 }
 
 // Marks a thread to be explored at the last exploring schedule from a point downwards, and answers
 // how many choices that opened. The branch at the point may be no schedule, or one that is not
 // explored and so is never set to another choice: the mark goes to the next below that can take it.
-// With a bound an earlier schedule is marked too.
-pub fn backtrack(path: &mut [u8], point: usize, bound: Bound, thread: usize) -> u64
+// With a bound on the preemptions of an execution an earlier schedule is marked too.
+pub fn backtrack(path: &mut [u8], point: usize, bound: Option<u8>, thread: usize) -> u64
     ensures { Backtracks path.old path.new point (bound_of bound) thread result }
 {
-    let ScheduleAt::At(at) = exploring_from(path, point) else {
+    let Some(at) = exploring_from(path, point) else {
         return 0;
     };
     let opened = backtrack_at(path, at, bound, thread);
-    let Bound::AtMost(_) = bound else {
+    if bound.is_none() {
         return opened;
-    };
+    }
     opened + backtrack_before(path, at, bound, thread)
 }
 
@@ -175,9 +146,7 @@ pub fn backtrack(path: &mut [u8], point: usize, bound: Bound, thread: usize) -> 
 pub fn any_open(path: &[u8], len: usize) -> bool
     ensures { AnyOpen path.now len result }
 {
-    let mut last = present(path, len);
-    while 0 < last {
-        last -= 1;
+    for last in (0..present(path, len)).rev() {
         if 0 < record::open_at(path, last) {
             return true;
         }
@@ -189,12 +158,9 @@ pub fn any_open(path: &[u8], len: usize) -> bool
 pub fn open(path: &[u8], len: usize) -> u64
     ensures { OpenIn path.now len result }
 {
-    let all = present(path, len);
     let mut count = 0;
-    let mut at = 0;
-    while at < all {
+    for at in 0..present(path, len) {
         count += record::open_at(path, at);
-        at += 1;
     }
     count
 }
@@ -205,14 +171,11 @@ pub fn open(path: &[u8], len: usize) -> u64
 pub fn step(path: &mut [u8], len: usize) -> usize
     ensures { StepsPath path.old path.new len result }
 {
-    let mut left = present(path, len);
-    while 0 < left {
-        let last = left - 1;
+    for last in (0..present(path, len)).rev() {
         if record::step_at(path, last) {
-            return left;
+            return last + 1;
         }
         fields::clear(path, last);
-        left = last;
     }
     0
 }
@@ -260,49 +223,43 @@ fn at_most_seven(n: usize) -> usize
 }
 
 // The last schedule record of the path.
-fn last_schedule(path: &[u8], len: usize) -> ScheduleAt
+fn last_schedule(path: &[u8], len: usize) -> Option<usize>
     requires { 16 * len ≤ length path.now }
     ensures { LastOf path.now len result }
 {
-    let mut last = len;
-    while 0 < last {
-        last -= 1;
+    for last in (0..len).rev() {
         if fields::is_kind(path, last, fields::KIND_SCHEDULE) {
-            return ScheduleAt::At(last);
+            return Some(last);
         }
     }
-    ScheduleAt::None
+    None
 }
 
 // The preemptions before a new branch at a position, by the schedule record before it.
-fn preemptions_before(path: &[u8], at: usize, prev: ScheduleAt) -> usize
+fn preemptions_before(path: &[u8], at: usize, prev: Option<usize>) -> usize
     requires { (16 * at ≤ length path.now) × FoundBelow at prev }
     ensures { PreemptionsBefore path.now prev result }
 {
-    let ScheduleAt::At(p) = prev else {
+    let Some(p) = prev else {
         return 0;
     };
     schedule::preemptions(path, p)
 }
 
 // The last exploring schedule record that does not stand after the point.
-fn exploring_from(path: &[u8], point: usize) -> ScheduleAt
+fn exploring_from(path: &[u8], point: usize) -> Option<usize>
     ensures { ExploringFrom path.now point result }
 {
-    let mut at = through(path, point);
-    while 0 < at {
-        at -= 1;
-        if fields::is_kind(path, at, fields::KIND_SCHEDULE) {
-            if fields::is_exploring(path, at) {
-                return ScheduleAt::At(at);
-            }
+    for at in (0..through(path, point)).rev() {
+        if fields::is_kind(path, at, fields::KIND_SCHEDULE) && fields::is_exploring(path, at) {
+            return Some(at);
         }
     }
-    ScheduleAt::None
+    None
 }
 
 // A mark in the schedule at a position: none where its preemptions have reached the bound.
-fn backtrack_at(path: &mut [u8], at: usize, bound: Bound, thread: usize) -> u64
+fn backtrack_at(path: &mut [u8], at: usize, bound: Option<u8>, thread: usize) -> u64
     requires { 16 * at + 16 ≤ length path.old }
     ensures { MarksAt path.old path.new at (bound_of bound) thread result }
 {
@@ -313,27 +270,24 @@ fn backtrack_at(path: &mut [u8], at: usize, bound: Bound, thread: usize) -> u64
 }
 
 // Whether the preemptions before the record are as many as the bound.
-fn is_bound(path: &[u8], at: usize, bound: Bound) -> bool
+fn is_bound(path: &[u8], at: usize, bound: Option<u8>) -> bool
     requires { 16 * at + 16 ≤ length path.now }
     ensures { result ≡ reaches bound (record_byte path.now at 7) }
 {
-    let Bound::AtMost(most) = bound else {
-        return false;
-    };
-    field(path, at, fields::PREEMPTIONS) == most
+    Some(field(path, at, fields::PREEMPTIONS)) == bound
 }
 
 // The second mark of a bounded search, at a schedule before this one: a search that bounds
 // preemptions has to be careful and add another point, to cover cases that the bound makes it miss.
 // It is made also where the first left no mark. Answers how many choices it opened.
-fn backtrack_before(path: &mut [u8], at: usize, bound: Bound, thread: usize) -> u64
+fn backtrack_before(path: &mut [u8], at: usize, bound: Option<u8>, thread: usize) -> u64
     requires { 16 * at + 16 ≤ length path.old }
     ensures { MarksBefore path.old path.new at (bound_of bound) thread result }
 {
-    let ScheduleAt::At(prev) = schedule::prev(path, at) else {
+    let Some(prev) = schedule::prev(path, at) else {
         return 0;
     };
-    let ScheduleAt::At(curr) = switch_from(path, prev) else {
+    let Some(curr) = switch_from(path, prev) else {
         return 0;
     };
     backtrack_at(path, curr, bound, thread)
@@ -341,25 +295,21 @@ fn backtrack_before(path: &mut [u8], at: usize, bound: Bound, thread: usize) -> 
 
 // The last exploring schedule, from one downwards, whose Active thread is not that of the schedule
 // before it. The very first schedule counts too, where it is explored.
-fn switch_from(path: &[u8], from: usize) -> ScheduleAt
+fn switch_from(path: &[u8], from: usize) -> Option<usize>
     requires { 16 * from + 16 ≤ length path.now }
     ensures { SwitchFrom path.now from result }
 {
     let mut curr = from;
     loop {
         let exploring = fields::is_exploring(path, curr);
-        let ScheduleAt::At(prev) = schedule::prev(path, curr) else {
-            if exploring {
-                return ScheduleAt::At(curr);
-            }
-            return ScheduleAt::None;
+        let Some(prev) = schedule::prev(path, curr) else {
+            return exploring.then_some(curr);
         };
-        if exploring {
-            if schedule::active_thread_index(path, curr)
+        if exploring
+            && schedule::active_thread_index(path, curr)
                 != schedule::active_thread_index(path, prev)
-            {
-                return ScheduleAt::At(curr);
-            }
+        {
+            return Some(curr);
         }
         curr = prev;
     }

@@ -14,7 +14,7 @@ use Rattle.record.specs.Choices.{all_slots, offers, offered_by, OfLoad}
 use Rattle.record.specs.Fields.{record_byte, values_at}
 use Rattle.record.specs.Stands.{BranchStands}
 use Rattle.record.specs.declared.Offered.{Offered}
-use Rattle.record.specs.declared.Offered.TheVariants as offered
+use Rattle.std.specs.Prelude.{Option, Some, None}
 use Rattle.record.proofs.LoadLaws.{value-at, length-values_at}
 use Rattle.record.proofs.StandsLaws.{stands-pos, stands-len, stands-values, seven-values}
 
@@ -31,10 +31,10 @@ bad-slot (v ∷ vs) (suc i) h l = second (ltb v 7) (all_slots vs) (bad-slot vs i
 
 -- a load's record, with its position and length as they were read
 module _ (bytes : List ℕ) (at : ℕ) (fits : 16 * at + 16 ≤ length bytes) (pos len : ℕ) (ep : pos ≡ record_byte bytes at 9) (el : len ≡ record_byte bytes at 10) where
-  pub offered-many : 7 < len → OfLoad bytes at offered.Unexpected
+  pub offered-many : 7 < len → OfLoad bytes at None
   offered-many h = record { slot = tt; is = λ l q. absurd (omega (arith, stands-len q, seven-values q)) }
 
-  pub offered-none : len ≤ pos → OfLoad bytes at offered.Unexpected
+  pub offered-none : len ≤ pos → OfLoad bytes at None
   unfolding offered_by
   offered-none h = record {
     slot = tt;
@@ -55,14 +55,14 @@ module _ (bytes : List ℕ) (at : ℕ) (fits : 16 * at + 16 ≤ length bytes) (p
         es ∙ value-at bytes at len fits few pos inside ∙ ap (λ (x : List ℕ). get_or x pos 0) v ∙ ap (λ (x : ℕ). get_or l.values x 0) p in
         rw (lt-ltb l.pos (length l.values) k, v, s)
 
-    spoilt : 7 ≤ slot → length (values_at bytes at len) ≡ len → offers slot 0 (values_at bytes at len) ≡ offered.Unexpected
+    spoilt : 7 ≤ slot → length (values_at bytes at len) ≡ len → offers slot 0 (values_at bytes at len) ≡ None
     unfolding offers
     spoilt h n =
         let s : slot ≡ get_or (values_at bytes at len) pos 0 = es ∙ value-at bytes at len fits few pos inside in
         rw (bad-slot (values_at bytes at len) pos (omega arith) (omega arith))
 
-    pub offered-bad : 7 ≤ slot → OfLoad bytes at offered.Unexpected
+    pub offered-bad : 7 ≤ slot → OfLoad bytes at None
     offered-bad h = record { slot = tt; is = λ l q. sym (spoilt h (length-values_at bytes at len fits few)) ∙ picked l q }
 
-    pub offered-some : (r : Offered) → OfferIs (offers slot 0 (values_at bytes at len)) r → OfLoad bytes at r
+    pub offered-some : (r : Option Offered) → OfferIs (offers slot 0 (values_at bytes at len)) r → OfLoad bytes at r
     offered-some r o = record { slot = o.slot; is = λ l q. o.is ∙ picked l q }

@@ -22,7 +22,8 @@ use Rattle.rules.proofs.RecordLaws.{length-record_at, byte_at}
 use Rattle.record.specs.Answers.{Left}
 use Rattle.record.specs.Choices.{offers, all_slots}
 use Rattle.record.specs.Fields.{record_byte, values_at}
-use Rattle.record.specs.declared.Offered.TheVariants.{Slot, Unexpected}
+use Rattle.std.specs.Prelude.{Option, Some, None}
+use Rattle.record.specs.declared.Offered.{Offered}
 
 pub left-many : (pos len : ℕ) → 7 < len → Left pos len 0
 left-many pos len h = record { few = omega arith; is = rw (lt-ltb 7 len h) }
@@ -148,11 +149,11 @@ module _ (slot mask : ℕ) (vs : List ℕ) (i : ℕ) where
         let k : get_or vs i 0 < 7 = omega arith in
         rw (bit v l, e, add-one) (sym (offers-cons ∙ rw (lt-ltb (get_or vs i 0) 7 k)))
 
-    offers-ends : 7 ≤ get_or vs i 0 → offers slot mask (drop i vs) ≡ Unexpected
+    offers-ends : 7 ≤ get_or vs i 0 → offers slot mask (drop i vs) ≡ None
     unfolding offers all_slots
     offers-ends l = offers-cons ∙ rw (le-ltb (get_or vs i 0) 7 l)
 
-  offers-all : length vs ≤ i → offers slot mask (drop i vs) ≡ Slot slot mask
+  offers-all : length vs ≤ i → offers slot mask (drop i vs) ≡ Some (record { slot = slot; mask = mask })
   unfolding offers all_slots mask_of
   offers-all l = let e : drop i vs ≡ [] = drop_of_length-le vs {i = i} l in rw e
 
@@ -168,8 +169,8 @@ module _ (bytes : List ℕ) (at n : ℕ) (fits : 16 * at + 16 ≤ length bytes) 
     pub mask-on : v < 7 → offers slot (bit_or mask (1 * 2 ^ v % 256)) (drop (i + 1) (values_at bytes at n)) ≡ offers slot mask (drop i (values_at bytes at n))
     mask-on l = offers-on slot mask (values_at bytes at n) i in-values v is-value l
 
-    pub mask-ends : 7 ≤ v → Unexpected ≡ offers slot mask (drop i (values_at bytes at n))
+    pub mask-ends : 7 ≤ v → None ≡ offers slot mask (drop i (values_at bytes at n))
     mask-ends l = sym (offers-ends slot mask (values_at bytes at n) i in-values (omega (arith, is-value)))
 
-  pub mask-all : n ≤ i → Slot slot mask ≡ offers slot mask (drop i (values_at bytes at n))
+  pub mask-all : n ≤ i → Some (record { slot = slot; mask = mask }) ≡ offers slot mask (drop i (values_at bytes at n))
   mask-all l = sym (offers-all slot mask (values_at bytes at n) i (omega (arith, length-values_at bytes at n fits h)))

@@ -21,7 +21,7 @@ use Rattle.record.specs.Stands.{BranchStands, shaped}
 use Rattle.record.specs.Steps.{Visits, Moves, Sets, OpenAt, StepsAt, spent, branch_stepped}
 use Rattle.record.proofs.StandsLaws.{stands-field, stands_same, stands-states, stands-states-put, stands-pos, stands-len, stands-moved, seven-values}
 use Rattle.record.proofs.ScheduleLaws.{flag_is}
-use Rattle.record.proofs.StepLaws.{either, length-turned, length-left, Some, some_in, pendings-left}
+use Rattle.record.proofs.StepLaws.{either, length-turned, length-left, SomeIn, some_in, pendings-left}
 
 -- The first two bytes
 
@@ -130,7 +130,7 @@ left-only : (s : List ℕ) → pendings s ≡ 0 → turned s ≡ left s
 unfolding turned
 left-only s e = none (first_in pending (left s)) (some_in (left s))
   where
-    none : (w : Whom) → Some (left s) w → to_active w (left s) ≡ left s
+    none : (w : Whom) → SomeIn (left s) w → to_active w (left s) ≡ left s
     none nobody h = refl
     none (thread t) h = absurd (omega (arith, h.0, pendings-left s))
 

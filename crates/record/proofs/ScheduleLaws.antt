@@ -17,10 +17,11 @@ use lib.Seq.{get_or-append-add}
 use Rattle.rules.specs.Vector.{Whom, nobody, thread, one_up}
 use Rattle.rules.specs.Path.{Schedule, schedule, encoded, flag, first_in, active_in, active, active_of, or_none, preemptions_with}
 use Rattle.record.specs.Fields.{record_byte, states_at}
-use Rattle.record.specs.Places.{First, or_five}
+use Rattle.record.specs.Places.{First, found_as}
 use Rattle.record.specs.Schedules.{byte_of, position_at, prev_in}
 use Rattle.record.specs.Stands.{BranchStands}
-use Rattle.record.specs.declared.schedule.ScheduleAt.TheVariants.{At, None}
+use Rattle.std.specs.Prelude.{Option, Some, None}
+use Rattle.std.specs.Option.{option_eq}
 use Rattle.record.proofs.StandsLaws.{stands-field, stands-states, five-states}
 
 -- The threads of five
@@ -42,14 +43,14 @@ first-fewer x (s ∷ l) = fewer-on (eqb s x) (length l) (first_in x l) (first-fe
 pub first-of-five : (x : ℕ) (l : List ℕ) → length l ≡ 5 → Fewer 5 (first_in x l)
 first-of-five x l e = rw e at (first-fewer x l)
 
-pub five-byte : (w : Whom) → Fewer 5 w → byte_of (or_five w) ≡ or_none w
+pub five-byte : (w : Whom) → Fewer 5 w → byte_of (found_as w) ≡ or_none w
 five-byte nobody h = refl
-five-byte (thread t) h = rw (lt-ltb t 5 h)
+five-byte (thread t) h = omega arith
 
-pub five-alike : (v w : Whom) → Fewer 5 v → Fewer 5 w → eqb (or_five v) (or_five w) ≡ eqb (or_none v) (or_none w)
+pub five-alike : (v w : Whom) → Fewer 5 v → Fewer 5 w → option_eq eqb (found_as v) (found_as w) ≡ eqb (or_none v) (or_none w)
 five-alike nobody nobody g h = refl
-five-alike nobody (thread t) g h = ne_eqb 5 t (λ e. omega arith) ∙ sym (ne_eqb 255 t (λ e. omega arith))
-five-alike (thread t) nobody g h = ne_eqb t 5 (λ e. omega arith) ∙ sym (ne_eqb t 255 (λ e. omega arith))
+five-alike nobody (thread t) g h = sym (ne_eqb 255 t (λ e. omega arith))
+five-alike (thread t) nobody g h = sym (ne_eqb t 255 (λ e. omega arith))
 five-alike (thread t) (thread u) g h = refl
 
 -- What stands in its bytes
@@ -92,10 +93,10 @@ module _ {bytes : List ℕ} {k : ℕ} {s : Schedule} (h : BranchStands bytes k (
 
   -- Its Active thread
 
-  pub active-is : (r : ℕ) → First (states_at bytes k) active r → r ≡ or_five (active_in s.states)
-  active-is r f = f.is ∙ ap (λ (x : List ℕ). or_five (first_in active x)) (stands-states h)
+  pub active-is : (r : Option ℕ) → First (states_at bytes k) active r → r ≡ found_as (active_in s.states)
+  active-is r f = f.is ∙ ap (λ (x : List ℕ). found_as (first_in active x)) (stands-states h)
 
-  pub active-byte : (r : ℕ) → First (states_at bytes k) active r → byte_of r ≡ active_of s
+  pub active-byte : (r : Option ℕ) → First (states_at bytes k) active r → byte_of r ≡ active_of s
   unfolding active_of
   active-byte r f = ap byte_of (active-is r f) ∙ five-byte (active_in s.states) (first-of-five active s.states (five-states h))
 
@@ -106,7 +107,7 @@ module _ {bytes : List ℕ} {k : ℕ} {s : Schedule} (h : BranchStands bytes k (
     unfolding preemptions_with
     preempts-none n = let z : eqb s.initial 255 ≡ true = eq-eqb s.initial 255 (sym stands-initial ∙ sym f ∙ n) in rw z (e ∙ stands-preemptions)
 
-    module _ (r : ℕ) (g : First (states_at bytes k) active r) (n : i ≢ 255) where
+    module _ (r : Option ℕ) (g : First (states_at bytes k) active r) (n : i ≢ 255) where
       other-than : eqb s.initial 255 ≡ false
       other-than = ne_eqb s.initial 255 (λ q. n (f ∙ stands-initial ∙ q))
 
@@ -143,6 +144,6 @@ module _ (bytes : List ℕ) (k low high : ℕ) (e : low ≡ record_byte bytes k 
     unfolding prev_in
     prev-other q = rw (below-it, ← kind-is, q)
 
-    pub prev-there : kind ≡ true → At (low + 256 * high) ≡ prev_in bytes k
+    pub prev-there : kind ≡ true → Some (low + 256 * high) ≡ prev_in bytes k
     unfolding prev_in
-    prev-there q = rw (below-it, ← kind-is, q) (ap At position-is)
+    prev-there q = rw (below-it, ← kind-is, q) (ap Some position-is)

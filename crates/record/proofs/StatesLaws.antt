@@ -19,7 +19,8 @@ use Rattle.rules.specs.Vector.{Whom, nobody, thread, one_up}
 use Rattle.rules.specs.Path.{Schedule, schedule, encoded, with_states, first_in, flag, pendings, is_pending}
 use Rattle.rules.specs.Records.{record_at, with_record}
 use Rattle.rules.proofs.RecordLaws.{length-record_at, record_same, length-with_record, record-now, record-again, byte_at, byte_put, set-append-add, three}
-use Rattle.record.specs.Places.{or_five}
+use Rattle.std.specs.Prelude.{Option, Some, None}
+use Rattle.record.specs.Places.{found_as}
 use Rattle.record.specs.Fields.{record_byte, with_record_byte, states_in, with_states_in, states_at, with_states_at}
 
 -- Among a record's bytes
@@ -122,26 +123,27 @@ module _ (s : Schedule) (l : length s.states ≡ 5) where
       ap (λ (x : List ℕ). 1 ∷ flag s.exploring ∷ (t ++ x))
       (drop_at s.states (s.preemptions ∷ s.initial ∷ s.prev % 256 ∷ s.prev / 256 ∷ replicate 5 0) 5 l)
 
--- The walk up that looks for a state: what is found from place i on, 5 for none
+-- The walk up that looks for a state: what is found from place i on
 
-abbrev from : ℕ → Whom → ℕ
-from i nobody = 5
-from i (thread t) = i + t
+abbrev from : ℕ → Whom → Option ℕ
+from i nobody = None
+from i (thread t) = Some (i + t)
 
 from_next : (i : ℕ) (w : Whom) → from (suc i) w ≡ from i (one_up w)
 from_next i nobody = refl
-from_next i (thread t) = omega arith
+from_next i (thread t) = let e : suc i + t ≡ i + (t + 1) = omega arith in ap Some e
 
-from_zero : (w : Whom) → from 0 w ≡ or_five w
+from_zero : (w : Whom) → from 0 w ≡ found_as w
 from_zero nobody = refl
-from_zero (thread t) = omega arith
+from_zero (thread t) = let e : 0 + t ≡ t = omega arith in ap Some e
 
 module _ (states : List ℕ) (x n : ℕ) (l : length states ≡ 5) (k : n < 5) where
-  from-here : get_or states n 0 ≡ x → n ≡ from n (first_in x (drop n states))
+  from-here : get_or states n 0 ≡ x → Some n ≡ from n (first_in x (drop n states))
   unfolding first_in
   from-here e =
       let b : n < length states = omega arith in
-      rw (drop-cons states n 0 b, eq-eqb (get_or states n 0) x e) (omega arith)
+      let z : n ≡ n + 0 = omega arith in
+      rw (drop-cons states n 0 b, eq-eqb (get_or states n 0) x e) (ap Some z)
 
   from_on : get_or states n 0 ≢ x → from (n + 1) (first_in x (drop (n + 1) states)) ≡ from n (first_in x (drop n states))
   unfolding first_in
@@ -152,26 +154,26 @@ module _ (states : List ℕ) (x n : ℕ) (l : length states ≡ 5) (k : n < 5) w
       (rw (drop-cons states n 0 b, ne_eqb (get_or states n 0) x e)
       (sym (from_next n (first_in x (drop (suc n) states))) ∙ ap (λ (m : ℕ). from m (first_in x (drop m states))) s))
 
-from-none : (states : List ℕ) (x n : ℕ) → length states ≡ 5 → 5 ≤ n → 5 ≡ from n (first_in x (drop n states))
+from-none : (states : List ℕ) (x n : ℕ) → length states ≡ 5 → 5 ≤ n → None ≡ from n (first_in x (drop n states))
 unfolding first_in
 from-none states x n l h = let e : drop n states ≡ [] = drop_of_length-le states {i = n} (omega arith) in rw e
 
-abbrev pub found : List ℕ → ℕ → ℕ → ℕ → ℕ
+abbrev pub found : List ℕ → ℕ → ℕ → ℕ → Option ℕ
 found bytes at x n = from n (first_in x (drop n (states_at bytes at)))
 
 -- the same in the record at a position: f is the byte that was read
 module _ (bytes : List ℕ) (at x : ℕ) (fits : 16 * at + 16 ≤ length bytes) where
-  pub first-start : found bytes at x 0 ≡ or_five (first_in x (states_at bytes at))
+  pub first-start : found bytes at x 0 ≡ found_as (first_in x (states_at bytes at))
   first-start = from_zero (first_in x (states_at bytes at))
 
   module _ (n f : ℕ) (k : n < 5) (r : f ≡ record_byte bytes at (2 + n)) where
-    pub first-here : f ≡ x → n ≡ found bytes at x n
+    pub first-here : f ≡ x → Some n ≡ found bytes at x n
     first-here e = from-here (states_at bytes at) x n (length-states_at bytes at fits) k (sym (state-at bytes at fits n k) ∙ sym r ∙ e)
 
     pub first_on : f ≢ x → found bytes at x (n + 1) ≡ found bytes at x n
     first_on e = from_on (states_at bytes at) x n (length-states_at bytes at fits) k (λ q. e (r ∙ state-at bytes at fits n k ∙ q))
 
-  pub first-none : (n : ℕ) → 5 ≤ n → 5 ≡ found bytes at x n
+  pub first-none : (n : ℕ) → 5 ≤ n → None ≡ found bytes at x n
   first-none n h = from-none (states_at bytes at) x n (length-states_at bytes at fits) h
 
 -- The walk up that counts: what is still to be counted from place i on

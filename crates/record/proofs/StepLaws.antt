@@ -18,8 +18,10 @@ use Rattle.rules.specs.Vector.{Whom, nobody, thread, one_up}
 use Rattle.rules.specs.Path.{first_in, active_in, to_visited, to_active, left, turned, pendings, is_pending, active, pending, visited}
 use Rattle.record.specs.Answers.{CountIs}
 use Rattle.record.specs.Fields.{record_byte, with_record_byte, states_at, with_states_at}
-use Rattle.record.specs.Places.{or_five, First}
+use Rattle.record.specs.Places.{found_as, First}
+use Rattle.std.specs.Prelude.{Option, Some, None}
 use Rattle.record.specs.Steps.{Visits, Moves, Sets}
+use Rattle.record.proofs.Places.{none_of, some_of}
 use Rattle.record.proofs.StatesLaws.{length-states_at, state-put, states-same, states-now, states-again, length-with_states_at}
 
 pub either : (b : Bool) → (b ≡ true) ⊎ (b ≡ false)
@@ -28,21 +30,17 @@ either false = inr refl
 
 -- Who was found
 
-visited-at : (w : Whom) (s : List ℕ) (t : ℕ) → t ≡ or_five w → t < 5 → set s t visited ≡ to_visited w s
-visited-at nobody s t e h = absurd (omega arith)
-visited-at (thread k) s t e h = ap (λ (x : ℕ). set s x visited) e
+visited-at : (w : Whom) (s : List ℕ) (t : ℕ) → Some t ≡ found_as w → set s t visited ≡ to_visited w s
+visited-at w s t e = rw (some_of w t e)
 
-nobody-visited : (w : Whom) (s : List ℕ) (t : ℕ) → length s ≡ 5 → t ≡ or_five w → 5 ≤ t → s ≡ to_visited w s
-nobody-visited nobody s t l e h = refl
-nobody-visited (thread k) s t l e h = sym (set_out s k visited (omega arith))
+nobody-visited : (w : Whom) (s : List ℕ) → None ≡ found_as w → s ≡ to_visited w s
+nobody-visited w s e = rw (none_of w e)
 
-active-at : (w : Whom) (s : List ℕ) (t : ℕ) → t ≡ or_five w → t < 5 → set s t active ≡ to_active w s
-active-at nobody s t e h = absurd (omega arith)
-active-at (thread k) s t e h = ap (λ (x : ℕ). set s x active) e
+active-at : (w : Whom) (s : List ℕ) (t : ℕ) → Some t ≡ found_as w → set s t active ≡ to_active w s
+active-at w s t e = rw (some_of w t e)
 
-nobody-active : (w : Whom) (s : List ℕ) (t : ℕ) → length s ≡ 5 → t ≡ or_five w → 5 ≤ t → s ≡ to_active w s
-nobody-active nobody s t l e h = refl
-nobody-active (thread k) s t l e h = sym (set_out s k active (omega arith))
+nobody-active : (w : Whom) (s : List ℕ) → None ≡ found_as w → s ≡ to_active w s
+nobody-active w s e = rw (none_of w e)
 
 length-visited : (w : Whom) (s : List ℕ) → length (to_visited w s) ≡ length s
 length-visited nobody s = refl
@@ -88,49 +86,47 @@ pendings-visited s (thread t) h = pendings-set s t visited (ap is_pending (sym h
 pub pendings-left : (s : List ℕ) → pendings (left s) ≡ pendings s
 pendings-left s = pendings-visited s (active_in s) (first-in active s)
 
-abbrev pub Some : List ℕ → Whom → Type 0
-Some s nobody = pendings s ≡ 0
-Some s (thread t) = (0 < pendings s) × (t < length s)
+abbrev pub SomeIn : List ℕ → Whom → Type 0
+SomeIn s nobody = pendings s ≡ 0
+SomeIn s (thread t) = (0 < pendings s) × (t < length s)
 
-some_next : (y : ℕ) (s : List ℕ) (w : Whom) → eqb y pending ≡ false → Some s w → Some (y ∷ s) (one_up w)
+some_next : (y : ℕ) (s : List ℕ) (w : Whom) → eqb y pending ≡ false → SomeIn s w → SomeIn (y ∷ s) (one_up w)
 unfolding pendings
 some_next y s nobody e h = rw (e, h)
 some_next y s (thread t) e h = rw e (omega (arith, h.0), omega (arith, h.1))
 
-pub some_in : (s : List ℕ) → Some s (first_in pending s)
+pub some_in : (s : List ℕ) → SomeIn s (first_in pending s)
 unfolding first_in pendings
 some_in [] = refl
 some_in (y ∷ s) = ⊎_elim (λ e. let one : is_pending y ≡ 1 = rw e in rw e (omega arith, omega arith)) (λ e. rw e (some_next y s (first_in pending s) e (some_in s))) (either (eqb y pending))
 
-is_some : (s : List ℕ) (w : Whom) → Some s w → or_five w < 5 → 0 < pendings s
-is_some s nobody p h = absurd (omega arith)
-is_some s (thread t) p h = p.0
+is_some : (s : List ℕ) (w : Whom) (t : ℕ) → SomeIn s w → Some t ≡ found_as w → 0 < pendings s
+is_some s w t p e = let q = rw (some_of w t e) at p in q.0
 
-is_none : (s : List ℕ) (w : Whom) → length s ≡ 5 → Some s w → 5 ≤ or_five w → pendings s ≡ 0
-is_none s nobody l p h = p
-is_none s (thread t) l p h = absurd (omega (arith, p.1))
+is_none : (s : List ℕ) (w : Whom) → SomeIn s w → None ≡ found_as w → pendings s ≡ 0
+is_none s w p e = rw (none_of w e) at p
 
 -- The record at a position: mid is the path once its Active is left
 
 module _ (bytes : List ℕ) (at : ℕ) (fits : 16 * at + 16 ≤ length bytes) where
-  pub visited-by : (exit : List ℕ) (t : ℕ) → First (states_at bytes at) active t → t < 5 → exit ≡ with_record_byte bytes at (2 + t) visited → exit ≡ with_states_at bytes at (left (states_at bytes at))
-  visited-by exit t f h e =
-      e ∙ state-put bytes at fits t visited h ∙ ap (with_states_at bytes at) (visited-at (active_in (states_at bytes at)) (states_at bytes at) t f.is h)
+  pub visited-by : (exit : List ℕ) (t : ℕ) → First (states_at bytes at) active (Some t) → exit ≡ with_record_byte bytes at (2 + t) visited → exit ≡ with_states_at bytes at (left (states_at bytes at))
+  visited-by exit t f e =
+      e ∙ state-put bytes at fits t visited f.few ∙ ap (with_states_at bytes at) (visited-at (active_in (states_at bytes at)) (states_at bytes at) t f.is)
 
-  pub visited-nobody : (t : ℕ) → First (states_at bytes at) active t → 5 ≤ t → bytes ≡ with_states_at bytes at (left (states_at bytes at))
-  visited-nobody t f h =
+  pub visited-nobody : First (states_at bytes at) active None → bytes ≡ with_states_at bytes at (left (states_at bytes at))
+  visited-nobody f =
       sym (states-same bytes at fits)
-      ∙ ap (with_states_at bytes at) (nobody-visited (active_in (states_at bytes at)) (states_at bytes at) t (length-states_at bytes at fits) f.is h)
+      ∙ ap (with_states_at bytes at) (nobody-visited (active_in (states_at bytes at)) (states_at bytes at) f.is)
 
   five-left : length (left (states_at bytes at)) ≡ 5
   five-left = length-visited (active_in (states_at bytes at)) (states_at bytes at) ∙ length-states_at bytes at fits
 
-  module _ (mid : List ℕ) (m : mid ≡ with_states_at bytes at (left (states_at bytes at))) (t : ℕ) (f : First (states_at mid at) pending t) where
+  module _ (mid : List ℕ) (m : mid ≡ with_states_at bytes at (left (states_at bytes at))) where
     mid-states : states_at mid at ≡ left (states_at bytes at)
     mid-states = ap (λ (x : List ℕ). states_at x at) m ∙ states-now bytes at fits (left (states_at bytes at)) five-left
 
-    found : t ≡ or_five (first_in pending (left (states_at bytes at)))
-    found = f.is ∙ ap (λ (x : List ℕ). or_five (first_in pending x)) mid-states
+    found : (r : Option ℕ) → First (states_at mid at) pending r → r ≡ found_as (first_in pending (left (states_at bytes at)))
+    found r f = f.is ∙ ap (λ (x : List ℕ). found_as (first_in pending x)) mid-states
 
     mid-fits : 16 * at + 16 ≤ length mid
     mid-fits = omega (arith, ap length m, length-with_states_at bytes at fits (left (states_at bytes at)) five-left)
@@ -138,30 +134,30 @@ module _ (bytes : List ℕ) (at : ℕ) (fits : 16 * at + 16 ≤ length bytes) wh
     again : (s : List ℕ) → with_states_at mid at s ≡ with_states_at bytes at s
     again s = ap (λ (x : List ℕ). with_states_at x at s) m ∙ states-again bytes at fits (left (states_at bytes at)) five-left s
 
-    pub turned_by : (exit : List ℕ) → t < 5 → exit ≡ with_record_byte mid at (2 + t) active → Visits bytes exit at true
+    pub turned_by : (exit : List ℕ) (t : ℕ) → First (states_at mid at) pending (Some t) → exit ≡ with_record_byte mid at (2 + t) active → Visits bytes exit at true
     unfolding turned
-    turned_by exit h e =
+    turned_by exit t f e =
         let s : List ℕ = left (states_at bytes at) in
         let w : Whom = first_in pending s in
-        let p : 0 < pendings (states_at bytes at) = omega (arith, is_some s w (some_in s) (omega (arith, found)), pendings-left (states_at bytes at)) in
+        let p : 0 < pendings (states_at bytes at) = omega (arith, is_some s w t (some_in s) (found (Some t) f), pendings-left (states_at bytes at)) in
         record {
           said = sym (lt-ltb 0 (pendings (states_at bytes at)) p);
           now = e
-              ∙ state-put mid at mid-fits t active h
+              ∙ state-put mid at mid-fits t active f.few
               ∙ again (set (states_at mid at) t active)
               ∙ ap (λ (x : List ℕ). with_states_at bytes at (set x t active)) mid-states
-              ∙ ap (with_states_at bytes at) (active-at w s t found h);
+              ∙ ap (with_states_at bytes at) (active-at w s t (found (Some t) f));
         }
 
-    pub turned-nobody : 5 ≤ t → Visits bytes mid at false
+    pub turned-nobody : First (states_at mid at) pending None → Visits bytes mid at false
     unfolding turned
-    turned-nobody h =
+    turned-nobody f =
         let s : List ℕ = left (states_at bytes at) in
         let w : Whom = first_in pending s in
-        let p : pendings (states_at bytes at) ≤ 0 = omega (arith, is_none s w five-left (some_in s) (omega (arith, found)), pendings-left (states_at bytes at)) in
+        let p : pendings (states_at bytes at) ≤ 0 = omega (arith, is_none s w (some_in s) (found None f), pendings-left (states_at bytes at)) in
         record {
           said = sym (le-ltb 0 (pendings (states_at bytes at)) p);
-          now = m ∙ ap (with_states_at bytes at) (nobody-active w s t five-left found h);
+          now = m ∙ ap (with_states_at bytes at) (nobody-active w s (found None f));
         }
 
 -- A load's record, with its position and length as they were read

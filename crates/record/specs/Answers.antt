@@ -1,15 +1,14 @@
 -- What an answer tells its caller of its numbers. Assumes nothing.
-use Rattle.std.specs.Prelude.{ℕ, ◌-◌, ◌≤◌, ◌<◌, cond, ◌≡◌, ltb}
+use Rattle.std.specs.Prelude.{ℕ, ◌-◌, ◌≤◌, ◌<◌, cond, ◌≡◌, ltb, Option, Some, None}
 use Rattle.record.specs.declared.Offered.{Offered}
-use Rattle.record.specs.declared.Offered.TheVariants as offered
 
 -- a slot that was chosen is one of the seven
-abbrev pub OfferedSlot : Offered → Type 0
-OfferedSlot (offered.Slot slot mask) = slot < 7
-OfferedSlot offered.Unexpected = Unit
+abbrev pub OfferedSlot : Option Offered → Type 0
+OfferedSlot (Some o) = o.slot < 7
+OfferedSlot None = Unit
 
 -- the slot and the mask are those that are offered
-pub record OfferIs (offer r : Offered) : Type 0 where
+pub record OfferIs (offer r : Option Offered) : Type 0 where
   pub slot : OfferedSlot r
   pub is : r ≡ offer
 

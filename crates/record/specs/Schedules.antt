@@ -3,35 +3,33 @@
 --     prev_in, PrevOf, PreemptionsOf    what is read of it
 --     explored_at, Explores, ExploresAll, RecordMarked     marks made in it, and how many choices that opened
 --     initial_at                        what a new one's initial active is
-use Rattle.std.specs.Prelude.{ℕ, ◌+◌, ◌*◌, ◌≤◌, List, map, cond, ◌&&◌, ◌≡◌, ltb, eqb, get_or, set}
+use Rattle.std.specs.Prelude.{ℕ, ◌+◌, ◌*◌, ◌≤◌, List, map, cond, ◌&&◌, ◌≡◌, ltb, eqb, get_or, set, Option, Some, None, unwrap_or, ◌%◌}
 use Rattle.rules.specs.Path as rules
 use Rattle.rules.specs.Path.{Schedule, no_thread, no_prev, active_in, or_none, marked, made_pending}
 use Rattle.record.specs.Fields.{record_byte, states_at, with_states_at}
 use Rattle.record.specs.Places.{FoundBelow}
 use Rattle.record.specs.Stands.{BranchStands}
-use Rattle.record.specs.declared.schedule.ScheduleAt.{ScheduleAt}
-use Rattle.record.specs.declared.schedule.ScheduleAt.TheVariants.{At, None}
 
 -- a thread's index as a record's byte
-abbrev pub byte_of : ℕ → ℕ
-byte_of t = cond (ltb t 5) t no_thread
+abbrev pub byte_of : Option ℕ → ℕ
+byte_of None = no_thread
+byte_of (Some t) = t % 256
 
 -- a position as a record's prev
-abbrev pub position_of : ScheduleAt → ℕ
-position_of None = no_prev
-position_of (At p) = p
+abbrev pub position_of : Option ℕ → ℕ
+position_of prev = unwrap_or prev no_prev
 
 -- the position that a record's prev names
 abbrev pub position_at : List ℕ → ℕ → ℕ
 position_at path at = record_byte path at 9 + 256 * record_byte path at 10
 
 -- the schedule there, if it is one and stands below
-unfoldable pub prev_in : List ℕ → ℕ → ScheduleAt
+unfoldable pub prev_in : List ℕ → ℕ → Option ℕ
 prev_in path at =
-    cond (ltb (position_at path at) at && eqb (record_byte path (position_at path at) 0) 1) (At (position_at path at)) None
+    cond (ltb (position_at path at) at && eqb (record_byte path (position_at path at) 0) 1) (Some (position_at path at)) None
 
 -- the schedule before the one at a position
-pub record PrevOf (path : List ℕ) (at : ℕ) (r : ScheduleAt) : Type 0 where
+pub record PrevOf (path : List ℕ) (at : ℕ) (r : Option ℕ) : Type 0 where
   pub below : FoundBelow at r
   pub is : r ≡ prev_in path at
 
@@ -63,7 +61,7 @@ pub record RecordMarked (entry exit : List ℕ) (at t r : ℕ) : Type 0 where
   pub puts : exit ≡ with_states_at entry at (marked (states_at entry at) t)
 
 -- the Active of the record at a position, unless the record before has another
-abbrev pub initial_at : List ℕ → ℕ → ScheduleAt → ℕ
+abbrev pub initial_at : List ℕ → ℕ → Option ℕ → ℕ
 initial_at path at None = or_none (active_in (states_at path at))
-initial_at path at (At p) =
+initial_at path at (Some p) =
     cond (eqb (or_none (active_in (states_at path at))) (or_none (active_in (states_at path p)))) (or_none (active_in (states_at path at))) no_thread

@@ -89,10 +89,8 @@ pub fn clear(path: &mut [u8], at: usize)
     requires { 16 * at + 16 ≤ length path.old }
     ensures { path.new ≡ cleared path.old at }
 {
-    let mut k = 0;
-    while k < RECORD {
+    for k in 0..RECORD {
         put(path, at, k, 0);
-        k += 1;
     }
 }
 

@@ -11,12 +11,11 @@ pub mod spurious;
 ghost use Rattle.std.specs.Prelude.{◌+◌, ◌*◌, ◌≤◌, length};
 ghost use Rattle.record.specs.Steps.{OpenAt, StepsAt};
 
-// The slot that a load branch chooses, and the mask of all that it offers. Unexpected where the
-// branch is no load, or one that no push_load has written.
+// The slot that a load branch chooses, and the mask of all that it offers.
 #[derive(Clone, Copy)]
-pub enum Offered {
-    Slot { slot: usize, mask: u8 },
-    Unexpected,
+pub struct Offered {
+    pub slot: usize,
+    pub mask: u8,
 }
 
 // How many choices are open at the record at a position: none where it is not explored.

@@ -15,51 +15,47 @@ pub fn put_values(path: &mut [u8], at: usize, seed: [u8; MAX_ATOMIC_HISTORY], n:
     requires { (16 * at + 16 ≤ length path.old) × (n ≤ 7) }
     ensures { path.new ≡ with_offers path.old at seed n }
 {
-    let mut i = 0;
-    while i < n {
+    for i in 0..n {
         put(path, at, fields::VALUES + i, seed[i]);
-        i += 1;
     }
-    put(path, at, fields::LEN, (n % 256) as u8);
+    put(path, at, fields::LEN, n as u8);
 }
 
-// The value at the record's position, and the mask of all its values. Unexpected where the
-// position is none of theirs or a value is no slot.
-pub fn offered(path: &[u8], at: usize) -> Offered
+// The value at the record's position, and the mask of all its values. None where the position is
+// none of theirs or a value is no slot, as no push_load has written.
+pub fn offered(path: &[u8], at: usize) -> Option<Offered>
     requires { 16 * at + 16 ≤ length path.now }
     ensures { OfLoad path.now at result }
 {
     let pos = wide8(field(path, at, fields::POS));
     let len = wide8(field(path, at, fields::LEN));
     if MAX_ATOMIC_HISTORY < len {
-        return Offered::Unexpected;
+        return None;
     }
     if len <= pos {
-        return Offered::Unexpected;
+        return None;
     }
     let slot = wide8(field(path, at, fields::VALUES + pos));
     if MAX_ATOMIC_HISTORY <= slot {
-        return Offered::Unexpected;
+        return None;
     }
     with_mask(path, at, slot, len)
 }
 
 // The slot, with the mask of the record's first n values: bit i for slot i.
-fn with_mask(path: &[u8], at: usize, slot: usize, n: usize) -> Offered
+fn with_mask(path: &[u8], at: usize, slot: usize, n: usize) -> Option<Offered>
     requires { (16 * at + 16 ≤ length path.now) × (n ≤ 7) × (slot < 7) }
     ensures { OfferIs (offers slot 0 (values_at path.now at n)) result }
 {
     let mut mask = 0;
-    let mut i = 0;
-    while i < n {
+    for i in 0..n {
         let value = wide8(field(path, at, fields::VALUES + i));
         if MAX_ATOMIC_HISTORY <= value {
-            return Offered::Unexpected;
+            return None;
         }
-        mask = mask | (1 << value);
-        i += 1;
+        mask |= 1 << value;
     }
-    Offered::Slot { slot, mask }
+    Some(Offered { slot, mask })
 }
 
 // How many values follow a position, which are the choices still open.
@@ -93,7 +89,7 @@ pub fn step(path: &mut [u8], at: usize) -> bool
 {
     let next = wide8(field(path, at, fields::POS)) + 1;
     if next < wide8(field(path, at, fields::LEN)) {
-        put(path, at, fields::POS, (next % 256) as u8);
+        put(path, at, fields::POS, next as u8);
         return true;
     }
     false

@@ -11,44 +11,35 @@ use crate::fields;
 use crate::fields::{field, put};
 use layout::{MAX_THREADS, seed, wide8};
 
-// A schedule record of the path, by its position, or none.
-#[derive(Clone, Copy)]
-pub enum ScheduleAt {
-    At(usize),
-    None,
-}
-
-// The lowest thread in a state, or MAX_THREADS where there is none.
-pub fn first_in(path: &[u8], at: usize, state: u8) -> usize
+// The lowest thread in a state.
+pub fn first_in(path: &[u8], at: usize, state: u8) -> Option<usize>
     requires { 16 * at + 16 ≤ length path.now }
     ensures { First (states_at path.now at) state result }
 {
-    let mut thread = 0;
-    while thread < MAX_THREADS {
+    for thread in 0..MAX_THREADS {
         if field(path, at, fields::THREADS + thread) == state {
-            return thread;
+            return Some(thread);
         }
-        thread += 1;
     }
-    MAX_THREADS
+    None
 }
 
-// The thread that is Active, or MAX_THREADS.
-pub fn active_thread_index(path: &[u8], at: usize) -> usize
+// The thread that is Active.
+pub fn active_thread_index(path: &[u8], at: usize) -> Option<usize>
     requires { 16 * at + 16 ≤ length path.now }
     ensures { First (states_at path.now at) active result }
 {
     first_in(path, at, seed::ACTIVE)
 }
 
-// A thread as the byte of the initial active field: NOBODY where it is none of the five.
-fn thread_byte(thread: usize) -> u8
+// A thread as the byte of the initial active field.
+fn thread_byte(thread: Option<usize>) -> u8
     ensures { result ≡ byte_of thread }
 {
-    if thread < MAX_THREADS {
-        return (thread % 256) as u8;
+    match thread {
+        Some(t) => (t % 256) as u8,
+        None => fields::NOBODY,
     }
-    fields::NOBODY
 }
 
 // The preemptions up to and with the choice that the record makes now: one more where it turned
@@ -71,7 +62,7 @@ pub fn preemptions(path: &[u8], at: usize) -> usize
 // The schedule record before this one. One that does not lie below counts as none, so that a walk
 // always ends: NO_PREV lies below no record of a path. One that is no schedule, which no push_thread
 // has written, counts as none too.
-pub fn prev(path: &[u8], at: usize) -> ScheduleAt
+pub fn prev(path: &[u8], at: usize) -> Option<usize>
     requires { 16 * at + 16 ≤ length path.now }
     ensures { PrevOf path.now at result }
 {
@@ -79,31 +70,22 @@ pub fn prev(path: &[u8], at: usize) -> ScheduleAt
     let high = wide8(field(path, at, fields::PREV_HIGH));
     let prev = low + 256 * high;
     if at <= prev {
-        return ScheduleAt::None;
+        return None;
     }
     if !fields::is_kind(path, prev, fields::KIND_SCHEDULE) {
-        return ScheduleAt::None;
+        return None;
     }
-    ScheduleAt::At(prev)
+    Some(prev)
 }
 
 // Sets the position of the schedule record before this one, or NO_PREV where there is none.
-pub fn put_prev(path: &mut [u8], at: usize, prev: ScheduleAt)
+pub fn put_prev(path: &mut [u8], at: usize, prev: Option<usize>)
     requires { 16 * at + 16 ≤ length path.old }
     ensures { path.new ≡ with_record_byte (with_record_byte path.old at 9 (position_of prev % 256)) at 10 (position_of prev / 256 % 256) }
 {
-    let position = position_of(prev);
+    let position = prev.unwrap_or(fields::NO_PREV);
     put(path, at, fields::PREV_LOW, (position % 256) as u8);
     put(path, at, fields::PREV_HIGH, (position / 256 % 256) as u8);
-}
-
-fn position_of(prev: ScheduleAt) -> usize
-    ensures { result ≡ position_of prev }
-{
-    let ScheduleAt::At(p) = prev else {
-        return fields::NO_PREV;
-    };
-    p
 }
 
 // Sets the five thread states to the seed.
@@ -111,10 +93,8 @@ pub fn put_threads(path: &mut [u8], at: usize, seed: [u8; MAX_THREADS])
     requires { 16 * at + 16 ≤ length path.old }
     ensures { path.new ≡ with_states_at path.old at seed }
 {
-    let mut thread = 0;
-    while thread < MAX_THREADS {
+    for thread in 0..MAX_THREADS {
         put(path, at, fields::THREADS + thread, seed[thread]);
-        thread += 1;
     }
 }
 
@@ -123,18 +103,16 @@ pub fn toggle_yield(path: &mut [u8], at: usize)
     requires { 16 * at + 16 ≤ length path.old }
     ensures { path.new ≡ with_states_at path.old at (toggled (states_at path.old at)) }
 {
-    if active_thread_index(path, at) < MAX_THREADS {
+    if active_thread_index(path, at).is_some() {
         return;
     }
-    let yielded = first_in(path, at, seed::YIELD);
-    if MAX_THREADS <= yielded {
-        return;
+    if let Some(yielded) = first_in(path, at, seed::YIELD) {
+        put(path, at, fields::THREADS + yielded, seed::ACTIVE);
     }
-    put(path, at, fields::THREADS + yielded, seed::ACTIVE);
 }
 
 // Sets the initial active thread.
-pub fn put_initial_active(path: &mut [u8], at: usize, prev: ScheduleAt)
+pub fn put_initial_active(path: &mut [u8], at: usize, prev: Option<usize>)
     requires { (16 * at + 16 ≤ length path.old) × FoundBelow at prev }
     ensures { path.new ≡ with_record_byte path.old at 8 (initial_at path.old at prev) }
 {
@@ -143,12 +121,12 @@ pub fn put_initial_active(path: &mut [u8], at: usize, prev: ScheduleAt)
 }
 
 // The Active thread, unless the schedule before chose another.
-fn initial_active(path: &[u8], at: usize, prev: ScheduleAt) -> u8
+fn initial_active(path: &[u8], at: usize, prev: Option<usize>) -> u8
     requires { (16 * at + 16 ≤ length path.now) × FoundBelow at prev }
     ensures { result ≡ initial_at path.now at prev }
 {
     let active = active_thread_index(path, at);
-    let ScheduleAt::At(p) = prev else {
+    let Some(p) = prev else {
         return thread_byte(active);
     };
     if active != active_thread_index(path, p) {
@@ -191,10 +169,8 @@ fn explore_all(path: &mut [u8], at: usize) -> u64
     ensures { ExploresAll path.old path.new at result }
 {
     let mut opened = 0;
-    let mut thread = 0;
-    while thread < MAX_THREADS {
+    for thread in 0..MAX_THREADS {
         opened += explore(path, at, thread);
-        thread += 1;
     }
     opened
 }
@@ -205,12 +181,10 @@ pub fn pending(path: &[u8], at: usize) -> u64
     ensures { CountIs 5 (pendings (states_at path.now at)) result }
 {
     let mut count = 0;
-    let mut thread = 0;
-    while thread < MAX_THREADS {
+    for thread in 0..MAX_THREADS {
         if field(path, at, fields::THREADS + thread) == seed::PENDING {
             count += 1;
         }
-        thread += 1;
     }
     count
 }
@@ -222,12 +196,11 @@ pub fn step(path: &mut [u8], at: usize) -> bool
     ensures { Visits path.old path.new at result }
 {
     visit(path, at);
-    let next = first_in(path, at, seed::PENDING);
-    if next < MAX_THREADS {
-        put(path, at, fields::THREADS + next, seed::ACTIVE);
-        return true;
-    }
-    false
+    let Some(next) = first_in(path, at, seed::PENDING) else {
+        return false;
+    };
+    put(path, at, fields::THREADS + next, seed::ACTIVE);
+    true
 }
 
 // The Active thread becomes Visited.
@@ -235,8 +208,7 @@ fn visit(path: &mut [u8], at: usize)
     requires { 16 * at + 16 ≤ length path.old }
     ensures { path.new ≡ with_states_at path.old at (left (states_at path.old at)) }
 {
-    let active = active_thread_index(path, at);
-    if active < MAX_THREADS {
+    if let Some(active) = active_thread_index(path, at) {
         put(path, at, fields::THREADS + active, seed::VISITED);
     }
 }

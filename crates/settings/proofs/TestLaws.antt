@@ -1,7 +1,6 @@
 -- The tests of the settings. Assumes nothing.
---     settings-made, within_both, within-not      of B, L and N
---     holds-both, holds_not                       of a buffer's length
---     bound-none, bound_some                      the bound that a number stands for
+--     settings-made              of B, L and N
+--     holds-both, holds_not      of a buffer's length
 use Prim.Native.Nat.{ℕ, ◌*◌, ◌/◌, ◌%◌, ◌≤◌, ◌<◌}
 use mathlib.Core.Bool.{Bool, true, false, ◌&&◌}
 use mathlib.Core.Path.{◌≡◌, refl, sym, ap, ◌∙◌}
@@ -10,18 +9,10 @@ use lib.Dec.{leb, ltb, eqb}
 use borrow.Author.Tests.{le-leb, lt-leb, lt-ltb, le-ltb, eq-eqb, ne_eqb, eqb-true}
 use Rattle.rules.specs.Explored as rules
 use Rattle.rules.specs.Explored.{settings_fine, within}
-use Rattle.rules.specs.Path.{unbounded, at_most}
-use Rattle.settings.specs.Given.{bound_for}
 
 pub settings-made : (s : rules.Settings) {a b c : Bool} → a ≡ within s.branches rules.max_branches → b ≡ within s.operations rules.max_operations → c ≡ within s.executions rules.max_executions → a && b && c ≡ settings_fine s
 unfolding settings_fine
 settings-made s p q r = rw (p, q, r)
-
-pub within_both : (n most : ℕ) → 1 ≤ n → leb n most ≡ within n most
-within_both n most h = rw (le-leb 1 n h)
-
-pub within-not : (n most : ℕ) → n < 1 → leb 1 n ≡ within n most
-within-not n most h = rw (lt-leb 1 n h)
 
 same_test : (x y : Bool) → (x ≡ true → y ≡ true) → (y ≡ true → x ≡ true) → x ≡ y
 same_test true true f g = refl
@@ -38,10 +29,3 @@ holds-both bytes records h =
 pub holds_not : (bytes records : ℕ) → (bytes % 16 ≡ 0 → ⊥) → eqb (bytes % 16) 0 ≡ eqb bytes (16 * records)
 holds_not bytes records h =
     ne_eqb (bytes % 16) 0 h ∙ sym (ne_eqb bytes (16 * records) (λ (e : bytes ≡ 16 * records). h (omega arith)))
-
-module _ (n : ℕ) where
-  pub bound-none : 255 < n → unbounded ≡ bound_for n
-  bound-none h = rw (lt-ltb 255 n h) refl
-
-  pub bound_some : n ≤ 255 → {k : ℕ} → k ≡ n → at_most k ≡ bound_for n
-  bound_some h e = rw (le-ltb 255 n h) (ap at_most e)

@@ -7,14 +7,15 @@ ghost use Rattle.path.specs.Bounds.{bound_of};
 ghost use Rattle.settings.specs.Given.{bound_for, settings_of};
 
 pub use layout::RECORD;
-use path::{Bound, MAX_PREEMPTIONS};
+use path::MAX_PREEMPTIONS;
 
+// An execution may have as many preemptions as the bound says; any number where it is None.
 #[derive(Clone, Copy)]
 pub struct Settings {
     pub branches: u64,
     pub operations: u64,
     pub executions: u64,
-    pub bound: Bound,
+    pub bound: Option<u8>,
     pub exploring: bool,
 }
 
@@ -32,14 +33,11 @@ pub const PATH_BYTES: usize = RECORD * MAX_BRANCHES as usize;
 
 pub const TRACE_BYTES: usize = RECORD * MAX_OPERATIONS as usize;
 
-// The bound that a number stands for: one that is above every bound is none.
-pub fn bound_of(given: u64) -> Bound
+// The bound that a number stands for: one that is above every bound, MAX_BOUND, is none.
+pub fn bound_of(given: u64) -> Option<u8>
     ensures { bound_of result ≡ bound_for given }
 {
-    if MAX_BOUND < given {
-        return Bound::Unbounded;
-    }
-    Bound::AtMost((given % 256) as u8)
+    u8::try_from(given).ok()
 }
 
 // Whether B, L and N are in range.
@@ -54,7 +52,7 @@ pub fn settings_fine(settings: Settings) -> bool
 fn within(n: u64, most: u64) -> bool
     ensures { result ≡ rules.within n most }
 {
-    1 <= n && n <= most
+    (1..=most).contains(&n)
 }
 
 // Whether a buffer of so many bytes holds exactly so many records of 16 bytes.

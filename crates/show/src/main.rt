@@ -5,7 +5,6 @@
 ghost use Rattle.std.specs.Prelude.{◌≤◌, length};
 
 use condition::CONDITION_BYTES;
-use path::Bound;
 use reader::{TABLE_BYTES, TextAnswer};
 use settings::{MAX_BRANCHES, MAX_EXECUTIONS, MAX_OPERATIONS, PATH_BYTES, Settings, TRACE_BYTES};
 use source::{FILE_BYTES, ROOM};
@@ -71,7 +70,7 @@ fn settings() -> Settings {
         branches: MAX_BRANCHES,
         operations: MAX_OPERATIONS,
         executions: MAX_EXECUTIONS,
-        bound: Bound::Unbounded,
+        bound: None,
         exploring: true,
     }
 }

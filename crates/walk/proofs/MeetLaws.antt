@@ -40,8 +40,7 @@ use Rattle.meeting.specs.declared.Cursor.{Cursor}
 use Rattle.event.specs.declared.Here.{Here}
 use Rattle.meeting.specs.declared.Outcome.{Outcome}
 use Rattle.meeting.specs.declared.Outcome.TheVariants as code
-use Rattle.meeting.specs.declared.Reply.{Reply}
-use Rattle.meeting.specs.declared.Reply.TheVariants as answer
+use Rattle.std.specs.Prelude.{Option, Some, None}
 use Rattle.meeting.specs.declared.Ticked.{Ticked}
 use Rattle.meeting.specs.contracts.Outcome.{the_type as outcomes}
 use Rattle.meeting.proofs.ComesLaws.{same-stands, comes-faulted}
@@ -190,7 +189,7 @@ module _ (c : Cursor) (m : Ticked) (h : Here) (q : Question) (clocks : Clocks) (
             (stays_then (replies p L w) m.cursor reaching m.outcome k (reached_at q h L w) (reach.comes L w values trace rooms.holding s));
       }
 
-  module _ (goes-on : m.outcome ≡ code.Goes) (long : length there ≡ length path) (a : Reply) (ans : RepliesBy there m.cursor.pos q a) (r : Ticked) (exit : Lent) where
+  module _ (goes-on : m.outcome ≡ code.Goes) (long : length there ≡ length path) (a : Option Picked) (ans : RepliesBy there m.cursor.pos q a) (r : Ticked) (exit : Lent) where
     small : (L : explorer.Limits) → BranchesHeld L path → m.cursor.pos < positions
     small L room = omega (arith, met-ahead reach.met goes-on, reach.met.within, long, room.branches, room.few)
 
@@ -213,18 +212,18 @@ module _ (c : Cursor) (m : Ticked) (h : Here) (q : Question) (clocks : Clocks) (
         (reply-row q v.state h row v.pos (get_or v.ledger.path v.pos no_branch) w.state h.site.thread (decoded_of h.row)))
 
   unexpected-comes : (r : Ticked) → FaultMet fault.Impossible h.site m.cursor r → (p : Program) (L : explorer.Limits) (v : Walk State) → Stands reaching m.cursor v
-      → (x : explorer.Reply) → AnswersBy answer.Unexpected x → ComesTo r.outcome r.cursor reaching (explorer.replied (machine p) L (site_of h.site) v x)
+      → (x : explorer.Reply) → AnswersBy None x → ComesTo r.outcome r.cursor reaching (explorer.replied (machine p) L (site_of h.site) v x)
   unexpected-comes r s p L v stands (says a) f = absurd f
   unexpected-comes r s p L v stands unexpected f = comes-faulted r reaching v fault.Impossible h.site _ s.is refl (same-stands s.stays stands)
 
-  pub meet-unexpected : m.outcome ≡ code.Goes → length there ≡ length path → (a : Reply) → RepliesBy there m.cursor.pos q a → a ≡ answer.Unexpected → (r : Ticked) → FaultMet fault.Impossible h.site m.cursor r
+  pub meet-unexpected : m.outcome ≡ code.Goes → length there ≡ length path → (a : Option Picked) → RepliesBy there m.cursor.pos q a → a ≡ None → (r : Ticked) → FaultMet fault.Impossible h.site m.cursor r
       → Goes before reaching c r 6 h (MeetsNeeds q h) (met_at q h)
   meet-unexpected goes-on long a ans e r s =
       record {
         gone = meet-faulted placed reach.met s;
         wrote = wrote_none c r.cursor trace (s.stays.same_entries ∙ reach.met.same_entries);
         comes = meets-by goes-on long a ans r reaching
-            (λ p L v rooms stands x f row. unexpected-comes r s p L v stands x (subst (λ (y : Reply). AnswersBy y x) e f));
+            (λ p L v rooms stands x f row. unexpected-comes r s p L v stands x (subst (λ (y : Option Picked). AnswersBy y x) e f));
       }
 
   module _ (ch : Picked) (ev : Moved) (clocks2 : Clocks) (marks2 : MarkTable) (values2 : Values) (numbers2 : Numbers) (d : Cursor) (passed : Passed m.cursor d)
@@ -249,7 +248,7 @@ module _ (c : Cursor) (m : Ticked) (h : Here) (q : Question) (clocks : Clocks) (
         }
 
     says-comes : (p : Program) (L : explorer.Limits) (v : Walk State) → Rooms p L h path trace → Stands reaching m.cursor v
-        → (x : explorer.Reply) → AnswersBy (answer.Says ch) x → ReplyRow x v.state h → ComesTo r.outcome r.cursor leaving (explorer.replied (machine p) L (site_of h.site) v x)
+        → (x : explorer.Reply) → AnswersBy (Some ch) x → ReplyRow x v.state h → ComesTo r.outcome r.cursor leaving (explorer.replied (machine p) L (site_of h.site) v x)
     says-comes p L v rooms s (says a) f row =
         let there-row : AnswerRow a (state clocks marks values numbers) h = subst (λ (st : State). AnswerRow a st h) s.is_state row in
         let is : move_at ev h leaves ≡ answered p v.state a = answered-is p h (state clocks marks values numbers) (move_at ev h leaves) rooms.is_row ch a f there-row goes-with ∙ ap (λ (st : State). answered p st a) (sym s.is_state) in
@@ -258,7 +257,7 @@ module _ (c : Cursor) (m : Ticked) (h : Here) (q : Question) (clocks : Clocks) (
         (lands.comes p L (lent clocks2 marks2 values2 numbers2 there trace) (explorer.with_state (explorer.onward v) leaves) rooms.room (passed-stands v s))
     says-comes p L v rooms s unexpected f row = absurd f
 
-    pub meet-answered : m.outcome ≡ code.Goes → length there ≡ length path → (a : Reply) → RepliesBy there m.cursor.pos q a → a ≡ answer.Says ch
+    pub meet-answered : m.outcome ≡ code.Goes → length there ≡ length path → (a : Option Picked) → RepliesBy there m.cursor.pos q a → a ≡ Some ch
         → Goes before leaving c r 6 h (MeetsNeeds q h) (met_at q h)
     meet-answered goes-on long a ans e =
         record {
@@ -269,5 +268,5 @@ module _ (c : Cursor) (m : Ticked) (h : Here) (q : Question) (clocks : Clocks) (
             beyond = lands.wrote.beyond;
           };
           comes = meets-by goes-on long a ans r leaving
-              (λ p L v rooms stands x f row. says-comes p L v rooms stands x (subst (λ (y : Reply). AnswersBy y x) e f) row);
+              (λ p L v rooms stands x f row. says-comes p L v rooms stands x (subst (λ (y : Option Picked). AnswersBy y x) e f) row);
         }

@@ -18,7 +18,7 @@ use Rattle.rules.specs.Machine.{Program, machine, schedules, exploring_now}
 use Rattle.rules.specs.Explorer as explorer
 use Rattle.rules.specs.Explorer.{Walk, Tick, goes, faulted}
 use Rattle.path.specs.Bounds.{bound_of}
-use Rattle.path.specs.declared.Bound.{Bound}
+use Rattle.std.specs.Prelude.{Option}
 use Rattle.event.specs.contracts.Moved.{the_type as happened}
 use Rattle.event.specs.declared.Moved.{Moved}
 use Rattle.event.specs.declared.Moved.TheVariants as event
@@ -58,7 +58,7 @@ module _ (h : Here) where
   taken-asks question.Slot yielded p L w = by-fit (asking question.Slot p L w.state) (leb (length w.trace + length (completed_by yielded h)) L.operations) (explorer.noted w w.state (completed_by yielded h)) w
   taken-asks question.Bit yielded p L w = by-fit (asking question.Bit p L w.state) (leb (length w.trace + length (completed_by yielded h)) L.operations) (explorer.noted w w.state (completed_by yielded h)) w
 
-module _ (c : Cursor) (h : Here) (ev : Moved) (bound : Bound) (clocks : Clocks) (marks : MarkTable) (values : Values) (numbers : Numbers) (path trace : List ℕ) (placed : CursorPlaced c path trace) where
+module _ (c : Cursor) (h : Here) (ev : Moved) (bound : Option ℕ) (clocks : Clocks) (marks : MarkTable) (values : Values) (numbers : Numbers) (path trace : List ℕ) (placed : CursorPlaced c path trace) where
   abbrev before : Lent
   before = lent clocks marks values numbers path trace
 

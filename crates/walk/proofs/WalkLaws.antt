@@ -15,14 +15,13 @@ use Rattle.meeting.specs.Branches.{CursorMarked, Met, ReplyWithin}
 use Rattle.meeting.specs.Entries.{Kept}
 use Rattle.meeting.specs.declared.Cursor.{Cursor}
 use Rattle.meeting.specs.declared.Outcome.TheVariants as code
-use Rattle.meeting.specs.declared.Reply.{Reply}
-use Rattle.meeting.specs.declared.Reply.TheVariants as reply
+use Rattle.std.specs.Prelude.{Option, Some}
 use Rattle.meeting.specs.declared.Ticked.{Ticked}
 use Rattle.meeting.proofs.MetLaws.{met-ahead}
 use Rattle.walk.specs.Walks.{CursorPlaced, Gone, Passed}
 
-pub says-within : (r : Reply) {x : Picked} → r ≡ reply.Says x → ReplyWithin r → ChoiceWithin x
-says-within r e h = subst (λ (x : Reply). ReplyWithin x) e h
+pub says-within : (r : Option Picked) {x : Picked} → r ≡ Some x → ReplyWithin r → ChoiceWithin x
+says-within r e h = subst (λ (x : Option Picked). ReplyWithin x) e h
 
 module _ {c : Cursor} {m : Ticked} {entry path trace : List ℕ} (placed : CursorPlaced c entry trace) (met : Met c m path) where
   pub meet-faulted : {r : Ticked} {f : Fault} {at : Site} → FaultMet f at m.cursor r → Gone c r.cursor 6 path trace

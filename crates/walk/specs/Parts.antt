@@ -2,7 +2,7 @@
 --     then_on, then_replied             the definition's tick in parts: what comes next, the branch's answer
 --     AtRow, AsksAt, MovesAt          where the active thread's row is looked at
 --     Goes, with met_at, taken_at, ticked_at      what the functions promise
-use Rattle.std.specs.Prelude.{ℕ, ◌+◌, ◌*◌, List, ◌≡◌, length, get_or}
+use Rattle.std.specs.Prelude.{ℕ, ◌+◌, ◌*◌, List, ◌≡◌, length, get_or, Option}
 use Rattle.rules.specs.Event as rules
 use Rattle.rules.specs.State.{State}
 use Rattle.rules.specs.Table.{cells_of}
@@ -12,7 +12,6 @@ use Rattle.rules.specs.Explorer as explorer
 use Rattle.rules.specs.Explorer.{Walk, Tick, goes, over, faulted}
 use Rattle.decode.specs.Ops.{decoded_of}
 use Rattle.path.specs.Bounds.{bound_of}
-use Rattle.path.specs.declared.Bound.{Bound}
 use Rattle.event.specs.declared.Moved.{Moved}
 use Rattle.event.specs.declared.Moved.TheVariants as event
 use Rattle.event.specs.declared.Question.{Question}
@@ -79,11 +78,11 @@ MeetsNeeds q h p L st = AsksAt q st h
 abbrev pub taken_at : Moved → Here → Program → explorer.Limits → Walk State → Tick State
 taken_at e h p L w = explorer.taken (machine p) L (site_of h.site) w (move_at e h w.state)
 
-pub record TakesAt (e : Moved) (h : Here) (bound : Bound) (L : explorer.Limits) (st : State) : Type 0 where
+pub record TakesAt (e : Moved) (h : Here) (bound : Option ℕ) (L : explorer.Limits) (st : State) : Type 0 where
   pub moves : MovesAt e st h
   pub is_bound : L.bound ≡ bound_of bound
 
-abbrev pub TakesNeeds : Moved → Here → Bound → Program → explorer.Limits → State → Type 0
+abbrev pub TakesNeeds : Moved → Here → Option ℕ → Program → explorer.Limits → State → Type 0
 TakesNeeds e h bound p L st = TakesAt e h bound L st
 
 -- the program's facts that a tick of a thread at its row looks at

@@ -15,15 +15,14 @@ use layout::of_run::ACTIVE_THREAD;
 use layout::of_thread::NEXT_ROW;
 use layout::{Clocks, MAX_THREADS, Marks, Numbers, Values, wide16};
 pub use meeting::{Cursor, Outcome, Ticked, faulted};
-use meeting::{Reply, answer, conclude, mark, note_if, reach};
-use path::Bound;
+use meeting::{answer, conclude, mark, note_if, reach};
 use table::Shape;
 
 // The operation limit, and the preemption bound.
 #[derive(Clone, Copy)]
 pub struct Limits {
     pub operations: u16,
-    pub bound: Bound,
+    pub bound: Option<u8>,
 }
 
 // Where a tick is: the limits that it is under, the thread at its row, and how far the execution has come.
@@ -146,7 +145,7 @@ fn meet(
     };
     let cursor = met.cursor;
     let site = here.site;
-    let Reply::Says(choice) = answer(path, cursor.pos, question) else {
+    let Some(choice) = answer(path, cursor.pos, question) else {
         return faulted(Fault::Impossible, site, cursor);
     };
     let event = execution::answered(clocks, marks, values, numbers, here, choice);

@@ -10,9 +10,9 @@ returns-in_default c = rw c.in_default.is
 pub returns-then-most-eq0 : goal.returns-then-most-eq0
 unfolding put_bounded bytes_of
 returns-then-most-eq0 c =
-    rw (c.in-AtMost.is, eq-eqb _ 0 c.if-most-eq0.true) c.put.ensures
+    rw (c.in-Some.is, eq-eqb _ 0 c.if-most-eq0.true) c.put.ensures
 
 pub returns : goal.returns
 unfolding put_bounded bytes_of
 returns c =
-    rw (c.in-AtMost.is, ne_eqb _ 0 c.if-most-eq0.false) c.fill.ensures
+    rw (c.in-Some.is, ne_eqb _ 0 c.if-most-eq0.false) c.fill.ensures

@@ -9,4 +9,4 @@ returns-in_default c =
 
 pub returns : goal.returns
 unfolding put_exhausted bytes_of
-returns c = rw c.in-AtMost.is c.put_first.ensures
+returns c = rw c.in-Some.is c.put_first.ensures

@@ -12,4 +12,4 @@ returns-in_default c =
 pub returns : goal.returns
 returns c =
     let args = c.args in
-    mark-all args.cursor _ _ _ args.bound args.question _ c.mark_threads-opened.ensures (search rules) c.in-Thread.is
+    mark-all args.cursor _ _ _ args.bound args.question _ c.mark_threads.ensures (search rules) c.in-Thread.is

@@ -5,6 +5,3 @@ use Rattle.path.proofs.any_open.Given as goal
 
 abbrev pub invariant-loop-last : goal.invariant-loop-last
 invariant-loop-last l = (l.last ≤ l.len) × (16 * l.last ≤ length l.path) × Below l.path l.len l.last
-
-abbrev pub decreases-loop-last : goal.decreases-loop-last
-decreases-loop-last l = l.last

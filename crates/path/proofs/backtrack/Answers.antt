@@ -10,15 +10,15 @@ returns-in_default c =
 
 pub backtrack_at-opened-requires : goal.backtrack_at-opened-requires
 backtrack_at-opened-requires c =
-    omega (arith, place-below c.in-At.is c.exploring_from.ensures.below)
+    omega (arith, place-below c.in-Some.is c.exploring_from.ensures.below)
 
-pub returns-in_default-bound : goal.returns-in_default-bound
-returns-in_default-bound c =
-    record { few = omega (arith, c.backtrack_at-opened.ensures.few); keeps = search rules; marks = λ bs h. mark-one _ c.args.thread _ c.exploring_from.ensures h _ c.in-At.is c.args.bound c.in_default-bound.is _ _ c.backtrack_at-opened.ensures }
+pub returns-then-is_none : goal.returns-then-is_none
+returns-then-is_none c =
+    record { few = omega (arith, c.backtrack_at-opened.ensures.few); keeps = search rules; marks = λ bs h. mark-one _ c.args.thread _ c.exploring_from.ensures h _ c.in-Some.is c.args.bound c.if-is_none.ensures _ _ c.backtrack_at-opened.ensures }
 
 pub backtrack_before-requires : goal.backtrack_before-requires
 backtrack_before-requires c =
-    omega (arith, place-below c.in-At.is c.exploring_from.ensures.below)
+    omega (arith, place-below c.in-Some.is c.exploring_from.ensures.below)
 
 pub overflow_add-result : goal.overflow_add-result
 overflow_add-result c =
@@ -26,4 +26,4 @@ overflow_add-result c =
 
 pub returns : goal.returns
 returns c =
-    record { few = omega (arith, c.backtrack_at-opened.ensures.few, c.backtrack_before.ensures.few); keeps = search rules; marks = λ bs h. mark-two _ c.args.thread _ c.exploring_from.ensures h _ c.in-At.is c.args.bound _ c.in-AtMost.is _ _ _ _ c.backtrack_at-opened.ensures c.backtrack_before.ensures }
+    record { few = omega (arith, c.backtrack_at-opened.ensures.few, c.backtrack_before.ensures.few); keeps = search rules; marks = λ bs h. mark-two _ c.args.thread _ c.exploring_from.ensures h _ c.in-Some.is c.args.bound c.if-is_none.ensures _ _ _ _ c.backtrack_at-opened.ensures c.backtrack_before.ensures }

@@ -10,16 +10,16 @@ returns-in_default c =
 
 pub switch_from-requires : goal.switch_from-requires
 switch_from-requires c =
-    omega (arith, place-below c.in-At.is c.prev.ensures.below)
+    omega (arith, place-below c.in-Some.is c.prev.ensures.below)
 
 pub returns-in_default-switch_from : goal.returns-in_default-switch_from
 returns-in_default-switch_from c =
-    record { few = search rules; marks = λ m s h. second-nowhere _ _ _ _ c.prev.ensures m s h _ c.in-At.is _ c.switch_from.ensures c.in_default-switch_from.is }
+    record { few = search rules; marks = λ m s h. second-nowhere _ _ _ _ c.prev.ensures m s h _ c.in-Some.is _ c.switch_from.ensures c.in_default-switch_from.is }
 
 pub backtrack_at-requires : goal.backtrack_at-requires
 backtrack_at-requires c =
-    omega (arith, place-below c.in-At-switch_from.is c.switch_from.ensures.below, place-below c.in-At.is c.prev.ensures.below)
+    omega (arith, place-below c.in-Some-switch_from.is c.switch_from.ensures.below, place-below c.in-Some.is c.prev.ensures.below)
 
 pub returns : goal.returns
 returns c =
-    record { few = c.backtrack_at.ensures.few; marks = λ m s h. second_at _ _ _ _ c.prev.ensures m s h _ c.in-At.is _ c.switch_from.ensures _ c.in-At-switch_from.is _ _ c.backtrack_at.ensures }
+    record { few = c.backtrack_at.ensures.few; marks = λ m s h. second_at _ _ _ _ c.prev.ensures m s h _ c.in-Some.is _ c.switch_from.ensures _ c.in-Some-switch_from.is _ _ c.backtrack_at.ensures }

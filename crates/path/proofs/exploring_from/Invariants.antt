@@ -9,6 +9,3 @@ use Rattle.path.proofs.exploring_from.Given as goal
 abbrev pub invariant-loop-at : goal.invariant-loop-at
 invariant-loop-at l =
     (16 * l.at ≤ length l.path) × ((bs : List Branch) → Holds l.path bs → exploring_below bs (l.point + 1) ≡ exploring_below bs l.at)
-
-abbrev pub decreases-loop-at : goal.decreases-loop-at
-decreases-loop-at l = l.at

@@ -1,9 +1,7 @@
-use Rattle.path.proofs.MarkLaws.{bound-off, bound-on}
+use mathlib.Core.Path.{◌∙◌, ap}
+use Rattle.path.specs.Bounds.{reaches}
+use Rattle.path.proofs.MarkLaws.{reaches-by}
 use Rattle.path.proofs.is_bound.Goals as goal
 
-pub returns-in_default : goal.returns-in_default
-returns-in_default c = bound-off _ _ c.in_default.is
-
 pub returns : goal.returns
-returns c =
-    bound-on _ _ _ _ c.in-AtMost.is c.field.ensures
+returns c = c.eq.ensures ∙ reaches-by c.args.bound c.field.result ∙ ap (reaches c.args.bound) c.field.ensures

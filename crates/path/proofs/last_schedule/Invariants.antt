@@ -9,6 +9,3 @@ use Rattle.path.proofs.last_schedule.Given as goal
 abbrev pub invariant-loop-last : goal.invariant-loop-last
 invariant-loop-last l =
     (l.last ≤ l.len) × ((bs : List Branch) → Holds l.path bs → length bs ≡ l.len → last_schedule bs ≡ last_schedule (take l.last bs))
-
-abbrev pub decreases-loop-last : goal.decreases-loop-last
-decreases-loop-last l = l.last

@@ -9,8 +9,8 @@ loop-at-init c = (search rules, search rules, sum-start _ _)
 
 pub loop-at-preserved : goal.loop-at-preserved
 loop-at-preserved c =
-    (search rules, search rules, sum-on _ _ _ _ _ (omega (arith, c.loop-at-test.true, c.present-all.ensures.few)) c.open_at-count.ensures c.loop-at.invariant.2)
+    (search rules, search rules, sum-on _ _ _ _ _ (omega (arith, c.loop-at-test.true, c.present-at-end.ensures.few)) c.open_at-count.ensures c.loop-at.invariant.2)
 
 pub returns : goal.returns
 returns c =
-    sum-all _ _ _ _ _ c.present-all.ensures c.loop-at.invariant.1 c.loop-at.invariant.0 c.loop-at-test.false c.loop-at.invariant.2
+    sum-all _ _ _ _ _ c.present-at-end.ensures c.loop-at.invariant.1 c.loop-at.invariant.0 c.loop-at-test.false c.loop-at.invariant.2

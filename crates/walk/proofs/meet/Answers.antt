@@ -16,7 +16,7 @@ returns-in_default-answer c =
 
 pub answered-event-requires : goal.answered-event-requires
 answered-event-requires c =
-    (c.requires.0, says-within c.answer.result c.in-Says.is c.answer.ensures.within)
+    (c.requires.0, says-within c.answer.result c.in-Some.is c.answer.ensures.within)
 
 pub passed-requires : goal.passed-requires
 passed-requires c =
@@ -32,4 +32,4 @@ shape_of-path c = omega (arith, c.reach-met.auto)
 pub returns : goal.returns
 returns c =
     let args = c.args in
-    meet-answered args.at.cursor c.reach-met.result args.at.here args.question args.clocks.now args.marks.now args.values.now args.numbers.now args.path.now _ args.trace.now c.requires.1 c.reach-met.ensures _ c.answered-event.result _ _ _ _ _ c.passed.ensures (c.answered-event.ensures _) c.conclude.result _ c.conclude.ensures c.in-Goes.is c.reach-met.auto.path c.answer.result c.answer.ensures c.in-Says.is
+    meet-answered args.at.cursor c.reach-met.result args.at.here args.question args.clocks.now args.marks.now args.values.now args.numbers.now args.path.now _ args.trace.now c.requires.1 c.reach-met.ensures _ c.answered-event.result _ _ _ _ _ c.passed.ensures (c.answered-event.ensures _) c.conclude.result _ c.conclude.ensures c.in-Goes.is c.reach-met.auto.path c.answer.result c.answer.ensures c.in-Some.is

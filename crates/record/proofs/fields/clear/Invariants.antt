@@ -6,6 +6,3 @@ use Rattle.record.proofs.fields.clear.Given as goal
 
 abbrev pub invariant-loop-k : goal.invariant-loop-k
 invariant-loop-k l = (l.k ≤ 16) × (length l.path ≡ length l.initial.path) × (l.path ≡ paste l.initial.path (16 * l.at) (replicate 16 0) l.k)
-
-abbrev pub decreases-loop-k : goal.decreases-loop-k
-decreases-loop-k l = 16 - l.k

@@ -8,6 +8,3 @@ use Rattle.record.proofs.load.with_mask.Given as goal
 abbrev pub invariant-loop-i : goal.invariant-loop-i
 invariant-loop-i l =
     (l.i ≤ l.n) × (offers l.slot l.mask (drop l.i (values_at l.path l.at l.n)) ≡ offers l.slot 0 (values_at l.path l.at l.n))
-
-abbrev pub decreases-loop-i : goal.decreases-loop-i
-decreases-loop-i l = l.n - l.i

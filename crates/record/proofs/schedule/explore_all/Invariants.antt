@@ -8,6 +8,3 @@ use Rattle.record.proofs.schedule.explore_all.Given as goal
 abbrev pub invariant-loop-thread : goal.invariant-loop-thread
 invariant-loop-thread l =
     (l.thread ≤ 5) × (l.opened ≤ l.thread) × (length l.path ≡ length l.initial.path) × (l.path ≡ with_states_at l.initial.path l.at (explored_to l.thread (states_at l.initial.path l.at))) × (l.opened ≡ skips_to l.thread (states_at l.initial.path l.at))
-
-abbrev pub decreases-loop-thread : goal.decreases-loop-thread
-decreases-loop-thread l = 5 - l.thread

@@ -8,6 +8,3 @@ use Rattle.record.proofs.schedule.pending.Given as goal
 abbrev pub invariant-loop-thread : goal.invariant-loop-thread
 invariant-loop-thread l =
     (l.thread ≤ 5) × (l.count ≤ l.thread) × (l.count + pendings (drop l.thread (states_at l.path l.at)) ≡ pendings (states_at l.path l.at))
-
-abbrev pub decreases-loop-thread : goal.decreases-loop-thread
-decreases-loop-thread l = 5 - l.thread

@@ -3,4 +3,4 @@ use Rattle.record.proofs.schedule.put_prev.Goals as goal
 
 pub returns : goal.returns
 returns c =
-    prev-put c.args.path.now c.args.at _ _ _ _ c.put.ensures c.put-2.ensures c.position_of-position.ensures
+    prev-put c.args.path.now c.args.at _ _ _ _ c.put.ensures c.put-2.ensures c.unwrap_or-position.ensures

@@ -1,14 +1,12 @@
+use mathlib.Core.Path.{sym, ◌∙◌}
 use Rattle.record.proofs.ThreadLaws.{toggled-kept, toggled-none, toggled-put}
 use Rattle.record.proofs.schedule.toggle_yield.Goals as goal
 
-pub returns-then-active_thread_index-lt-MAX_THREADS : goal.returns-then-active_thread_index-lt-MAX_THREADS
-returns-then-active_thread_index-lt-MAX_THREADS c =
-    toggled-kept _ _ c.requires _ c.active_thread_index.ensures c.if-active_thread_index-lt-MAX_THREADS.true
+pub returns-then-is_some : goal.returns-then-is_some
+returns-then-is_some c = toggled-kept _ _ c.requires _ c.active_thread_index.ensures (sym c.is_some.ensures ∙ c.if-is_some.true)
 
-pub returns-then-yielded-ge-MAX_THREADS : goal.returns-then-yielded-ge-MAX_THREADS
-returns-then-yielded-ge-MAX_THREADS c =
-    toggled-none _ _ c.requires _ _ c.active_thread_index.ensures c.if-active_thread_index-lt-MAX_THREADS.false c.first_in-yielded.ensures c.if-yielded-ge-MAX_THREADS.true
+pub returns-in-Some : goal.returns-in-Some
+returns-in-Some c = toggled-put _ _ c.requires _ c.active_thread_index.ensures (sym c.is_some.ensures ∙ c.if-is_some.false) _ c.in-Some.ensures _ c.put.ensures
 
-pub returns : goal.returns
-returns c =
-    toggled-put _ _ c.requires _ _ c.active_thread_index.ensures c.if-active_thread_index-lt-MAX_THREADS.false c.first_in-yielded.ensures c.if-yielded-ge-MAX_THREADS.false _ c.put.ensures
+pub returns-in_default : goal.returns-in_default
+returns-in_default c = toggled-none _ _ c.requires _ c.active_thread_index.ensures (sym c.is_some.ensures ∙ c.if-is_some.false) c.in_default.ensures
