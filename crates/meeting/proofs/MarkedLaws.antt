@@ -18,7 +18,6 @@ use Rattle.rules.specs.Explorer.{Walk, backtrack_from, all_marked}
 use Rattle.layout.specs.Tables.{state}
 use Rattle.path.specs.Bounds.{bound_of}
 use Rattle.path.specs.Walks.{Backtracks}
-use Rattle.std.specs.Prelude.{Option}
 use Rattle.path.proofs.WalkLaws.{length-backtracked}
 use Rattle.scheduling.specs.Schedules.{point_of}
 use Rattle.event.specs.contracts.Question.{the_type as asked}
