@@ -15,7 +15,7 @@ use borrow.Author.Tests.{lt-ltb, le-ltb, eq-eqb, ne_eqb}
 use lib.Dec.{eqb}
 use lib.ListN.{length, get_or, set, take, drop, replicate, drop_of_length-le}
 use lib.Seq.{sets, sets-eq, drop-cons, drop-drop, take-nil}
-use Rattle.std.proofs.lemmas.List.{append_assoc, take_min, length-take-le, length-replicate, take-replicate}
+use Rattle.std.proofs.lemmas.List.{append_assoc, take_min, length-take-le, length-drop, length-replicate, take-replicate}
 use borrow.Rule.Slice.PartMut.{put_mid}
 use Rattle.digits.specs.Shown.{shown}
 use Rattle.page.specs.Pages.{Page, page_of, put_byte, put_text, put_one, put_filled, padded, right_at}
@@ -74,14 +74,16 @@ pad-none bytes at column end e h =
     ]
 
 pub pad-put : (bytes new : List ℕ) (at column end : ℕ) → length bytes ≡ 16384 → end ≡ min column 16384 → at < end →
-    new ≡ replicate (end - at) 32 → page_of (put_mid at (end - at) bytes new) end ≡ padded (page_of bytes at) column
+    new ≡ replicate (length (take (end - at) (drop at bytes))) 32 → page_of (put_mid at (end - at) bytes new) end ≡ padded (page_of bytes at) column
 pad-put bytes new at column end l e h f =
     let spaces : List ℕ = replicate (column - at) 32 in
     let long : length spaces ≡ column - at = length-replicate (column - at) 32 in
     let few : end - at ≡ min (16384 - at) (length spaces) = omega (arith, e, long) in
     let part : replicate (end - at) 32 ≡ take (end - at) spaces = sym (take-replicate (end - at) (column - at) 32 (omega (arith, e))) in
     let ends : at + (end - at) ≡ end = omega arith in
-    rw ends at (text-copied spaces bytes new at (end - at) (end - at) l (omega (arith, e)) few (f ∙ part) refl)
+    let over : length (take (end - at) (drop at bytes)) ≡ end - at =
+    length-take-le (end - at) (drop at bytes) (omega (arith, e, length-drop at bytes)) in
+    rw ends at (text-copied spaces bytes new at (end - at) (end - at) l (omega (arith, e)) few (rw over at f ∙ part) refl)
 
 -- A text with numbers: what is left of it at place i, with the numbers that are next
 
