@@ -1,8 +1,7 @@
 -- What is wrong with a field, put in words. Assumes nothing.
 --     part_left                  what is to be put of a list once so many commas are passed
 --     part-whole, part-comma, part-byte, part-other, part_end      of the whole list, and one turn of its loop
---     named, object-named, named-last     one of four by the place among the variants of what an object may be
---     may_none, may-used        what may only be 0, and anything else
+--     cell-named, plain-named, thread-named, none-named      what an object is called, by what it may be
 use Prim.Native.Nat.{ℕ, suc, ◌+◌, ◌-◌, ◌≤◌, ◌<◌}
 use mathlib.Core.Bool.{Bool, true, false, cond}
 use mathlib.Core.List.{List, [], ◌∷◌}
@@ -20,8 +19,13 @@ use Rattle.rules.specs.Table.{Row, Room}
 use Rattle.page.specs.Pages.{Page, put_text}
 use Rattle.reasons.specs.contracts.May.{the_type}
 use Rattle.reasons.specs.declared.May.{May}
-use Rattle.reasons.specs.declared.May.TheVariants as may
-use Rattle.bad_row.specs.Words.{part_past, put_may, put_used, put_value}
+use Rattle.reasons.specs.declared.May.TheVariants.{AnyCell, AnyPlain, AnyThread}
+use Rattle.reasons.specs.declared.Unused.{Unused}
+use Rattle.reasons.specs.declared.Unused.TheVariants.{ByOpcode}
+use Rattle.std.specs.Prelude.{Result, Ok, Err}
+use Rattle.reasons.specs.Wrong.{has_cell, has_plain, may_object}
+use Prim.Native.String.{String}
+use Rattle.bad_row.specs.Words.{object_name, part_past}
 
 -- The part of a list past n commas, of which so many are passed
 
@@ -95,70 +99,51 @@ module _ (list : List ℕ) (i n past : ℕ) (l whole : Page) (left : put_text l 
     pub part-other : (get_or list i 0 ≡ 44 → ⊥) → (past ≡ n → ⊥) → put_text l (part_left n past (drop (i + 1) list)) ≡ whole
     part-other e k = rw (on, left_other n past _ _ e k) at left
 
--- The four names of what an object may be
+-- The four names of what an object may be, by three tests: what it may be, and its name
 
--- the places among the variants of what is none of the first three
-abbrev others : List ℕ
-others = 0 ∷ 4 ∷ 5 ∷ 6 ∷ 7 ∷ 8 ∷ 9 ∷ 10 ∷ 11 ∷ 12 ∷ 13 ∷ []
+abbrev may : Bool → Bool → Bool → Result May Unused
+may x y z = cond x (Ok AnyCell) (cond y (Ok AnyPlain) (cond z (Ok AnyThread) (Err ByOpcode)))
 
-module _ {A : Type 0} (a b c d : A) where
-  -- a cell, a plain cell and a thread are at 1, 2 and 3
-  abbrev pub named : ℕ → A
-  named t = cond (eqb t 1) a (cond (eqb t 2) b (cond (eqb t 3) c d))
+abbrev name : Bool → Bool → Bool → String
+name x y z = cond x "cell" (cond y "plain cell" (cond z "thread" "the cell, plain cell or thread"))
 
-  pub object-named : (x y z : Bool) → cond x a (cond y b (cond z c d))
-      ≡ named (tag_of the_type (cond x may.AnyCell (cond y may.AnyPlain (cond z may.AnyThread may.ZeroByOpcode))))
-  object-named true y z = refl
-  object-named false true z = refl
-  object-named false false true = refl
-  object-named false false false = refl
+by-cell : (x y z : Bool) → may x y z ≡ Ok AnyCell → name x y z ≡ "cell"
+by-cell true y z e = refl
+by-cell false true z e = absurd (cc)
+by-cell false false true e = absurd (cc)
+by-cell false false false e = absurd (cc)
 
-  pub named-last : (t : ℕ) → OneOf others t → named t ≡ d
-  named-last t k =
-      rw (
-        ne_eqb t 1 (λ e. miss others 1 tt (rw e at k)),
-        ne_eqb t 2 (λ e. miss others 2 tt (rw e at k)),
-        ne_eqb t 3 (λ e. miss others 3 tt (rw e at k)),
-      )
+by-plain : (x y z : Bool) → may x y z ≡ Ok AnyPlain → name x y z ≡ "plain cell"
+by-plain true y z e = absurd (cc)
+by-plain false true z e = refl
+by-plain false false true e = absurd (cc)
+by-plain false false false e = absurd (cc)
 
--- What may only be 0, and anything else, by the places among the variants
+by-none : (x y z : Bool) (u : Unused) → may x y z ≡ Err u → name x y z ≡ "the cell, plain cell or thread"
+by-none true y z u e = absurd (cc)
+by-none false true z u e = absurd (cc)
+by-none false false true u e = absurd (cc)
+by-none false false false u e = refl
 
-abbrev zeros : List ℕ
-zeros = 12 ∷ 13 ∷ []
+-- the places among the variants of all but a cell and a plain cell
+abbrev rest : List ℕ
+rest = 0 ∷ 3 ∷ 4 ∷ 5 ∷ 6 ∷ 7 ∷ 8 ∷ 9 ∷ 10 ∷ 11 ∷ []
 
-abbrev used : List ℕ
-used = 0 ∷ 1 ∷ 2 ∷ 3 ∷ 4 ∷ 5 ∷ 6 ∷ 7 ∷ 8 ∷ 9 ∷ 10 ∷ 11 ∷ []
+by-thread : (x y z : Bool) (m : May) → may x y z ≡ Ok m → OneOf rest (tag_of the_type m) → name x y z ≡ "thread"
+by-thread true y z m e k = let p : m ≡ AnyCell = cc in absurd (miss rest 1 tt (rw p at k))
+by-thread false true z m e k = let p : m ≡ AnyPlain = cc in absurd (miss rest 2 tt (rw p at k))
+by-thread false false true m e k = refl
+by-thread false false false m e k = absurd (cc)
 
-pub may_none : (l : Page) (room : Room) (m : May) → OneOf zeros (tag_of the_type m) → l ≡ put_may l room m
-unfolding put_may
-may_none l room may.AnyOpcode k = absurd (miss zeros 0 tt k)
-may_none l room may.AnyCell k = absurd (miss zeros 1 tt k)
-may_none l room may.AnyPlain k = absurd (miss zeros 2 tt k)
-may_none l room may.AnyThread k = absurd (miss zeros 3 tt k)
-may_none l room may.AnyOrder k = absurd (miss zeros 4 tt k)
-may_none l room may.LoadOrder k = absurd (miss zeros 5 tt k)
-may_none l room may.StoreOrder k = absurd (miss zeros 6 tt k)
-may_none l room may.FenceOrder k = absurd (miss zeros 7 tt k)
-may_none l room may.AnyKind k = absurd (miss zeros 8 tt k)
-may_none l room may.AnyRegister k = absurd (miss zeros 9 tt k)
-may_none l room may.AnyTarget k = absurd (miss zeros 10 tt k)
-may_none l room may.OtherTarget k = absurd (miss zeros 11 tt k)
-may_none l room may.ZeroByOpcode k = refl
-may_none l room may.ZeroByKind k = refl
+module _ (opcode : ℕ) where
+  pub cell-named : may_object opcode ≡ Ok AnyCell → object_name opcode ≡ "cell"
+  cell-named = by-cell (has_cell opcode) (has_plain opcode) (eqb opcode 8)
 
-pub may-used : (l : Page) (value : ℕ) (r : Row) (room : Room) (m : May) → OneOf used (tag_of the_type m) → put_used l value room m ≡ put_value l value r room m
-unfolding put_value
-may-used l value r room may.AnyOpcode k = refl
-may-used l value r room may.AnyCell k = refl
-may-used l value r room may.AnyPlain k = refl
-may-used l value r room may.AnyThread k = refl
-may-used l value r room may.AnyOrder k = refl
-may-used l value r room may.LoadOrder k = refl
-may-used l value r room may.StoreOrder k = refl
-may-used l value r room may.FenceOrder k = refl
-may-used l value r room may.AnyKind k = refl
-may-used l value r room may.AnyRegister k = refl
-may-used l value r room may.AnyTarget k = refl
-may-used l value r room may.OtherTarget k = refl
-may-used l value r room may.ZeroByOpcode k = absurd (miss used 12 tt k)
-may-used l value r room may.ZeroByKind k = absurd (miss used 13 tt k)
+  pub plain-named : may_object opcode ≡ Ok AnyPlain → object_name opcode ≡ "plain cell"
+  plain-named = by-plain (has_cell opcode) (has_plain opcode) (eqb opcode 8)
+
+  pub thread-named : (m : May) → may_object opcode ≡ Ok m → OneOf rest (tag_of the_type m) → object_name opcode ≡ "thread"
+  thread-named = by-thread (has_cell opcode) (has_plain opcode) (eqb opcode 8)
+
+  pub none-named : (u : Unused) → may_object opcode ≡ Err u → object_name opcode ≡ "the cell, plain cell or thread"
+  none-named = by-none (has_cell opcode) (has_plain opcode) (eqb opcode 8)

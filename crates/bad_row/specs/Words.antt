@@ -4,7 +4,7 @@
 --     opcode_name    that of an opcode
 --     put_may        what it may be
 --     put_wrong      the field, what it is and what it may be, behind a line's end
-use Rattle.std.specs.Prelude.{ℕ, zero, suc, List, [], ◌∷◌, cond, eqb}
+use Rattle.std.specs.Prelude.{ℕ, zero, suc, List, [], ◌∷◌, Result, Ok, Err, cond, eqb}
 use Prim.Native.String.{String}
 use Rattle.rules.specs.Token.{bytes_of}
 use Rattle.rules.specs.Table.{Row, Room}
@@ -14,6 +14,8 @@ use Rattle.reasons.specs.declared.Field.{Field}
 use Rattle.reasons.specs.declared.Field.TheVariants.{Opcode, Object, Order, Kind, Failure, Register, Target, A, B}
 use Rattle.reasons.specs.declared.May.{May}
 use Rattle.reasons.specs.declared.May.TheVariants as may
+use Rattle.reasons.specs.declared.Unused.{Unused}
+use Rattle.reasons.specs.declared.Unused.TheVariants.{ByOpcode, ByKind}
 
 unfoldable pub field_value : Field → Row → ℕ
 field_value Opcode r = r.opcode
@@ -80,8 +82,6 @@ put_may l room may.AnyRegister = put_last l 3
 put_may l room may.AnyTarget = put_filled l (bytes_of ": it may be up to #, the thread's end") room.rows 0 0
 put_may l room may.OtherTarget =
     put_filled l (bytes_of ": it may be up to #, the thread's end, but not #: a jump to its own row never ends") room.rows room.row 0
-put_may l room may.ZeroByOpcode = l
-put_may l room may.ZeroByKind = l
 
 -- a field that the opcode, which is named, does not use
 unfoldable pub put_unused : Page → ℕ → ℕ → Page
@@ -89,25 +89,11 @@ put_unused l value opcode =
     put_text (put_text (put_filled l (bytes_of " is #, and opcode # (") value opcode 0) (opcode_name opcode))
     (bytes_of ") does not use it: it must be 0")
 
--- the value, and what it may be
-abbrev pub put_used : Page → ℕ → Room → May → Page
-put_used l value room m = put_may (put_filled l (bytes_of " # is none") value 0 0) room m
-
-unfoldable pub put_value : Page → ℕ → Row → Room → May → Page
-put_value l value r room may.AnyOpcode = put_used l value room may.AnyOpcode
-put_value l value r room may.AnyCell = put_used l value room may.AnyCell
-put_value l value r room may.AnyPlain = put_used l value room may.AnyPlain
-put_value l value r room may.AnyThread = put_used l value room may.AnyThread
-put_value l value r room may.AnyOrder = put_used l value room may.AnyOrder
-put_value l value r room may.LoadOrder = put_used l value room may.LoadOrder
-put_value l value r room may.StoreOrder = put_used l value room may.StoreOrder
-put_value l value r room may.FenceOrder = put_used l value room may.FenceOrder
-put_value l value r room may.AnyKind = put_used l value room may.AnyKind
-put_value l value r room may.AnyRegister = put_used l value room may.AnyRegister
-put_value l value r room may.AnyTarget = put_used l value room may.AnyTarget
-put_value l value r room may.OtherTarget = put_used l value room may.OtherTarget
-put_value l value r room may.ZeroByOpcode = put_unused l value r.opcode
-put_value l value r room may.ZeroByKind =
+-- the value, and what it may be, or why it is not used
+unfoldable pub put_value : Page → ℕ → Row → Room → Result May Unused → Page
+put_value l value r room (Ok m) = put_may (put_filled l (bytes_of " # is none") value 0 0) room m
+put_value l value r room (Err ByOpcode) = put_unused l value r.opcode
+put_value l value r room (Err ByKind) =
     put_filled l (bytes_of " is #, and change kind # does not use it: it must be 0") value r.kind 0
 
 unfoldable pub put_wrong : Page → Field → Row → Room → Page

@@ -11,7 +11,7 @@ use decode::opcodes::PLAIN_WRITE;
 use layout::REGISTERS;
 use layout::order::SEQ_CST;
 use page::Page;
-use reasons::{Field, May, Room};
+use reasons::{Field, May, Room, Unused};
 
 const LAST_REGISTER: u8 = (REGISTERS - 1) as u8;
 
@@ -24,8 +24,12 @@ pub fn put(page: &mut Page, at: usize, row: Row, room: Room, field: Field) -> us
     let value = field_value(row, field);
     let to = put_field(page, at, opcode, field);
     match reasons::may_be(field, opcode, kind) {
-        May::ZeroByOpcode => put_unused(page, to, opcode, value),
-        May::ZeroByKind => page::fill(
+        Ok(may) => {
+            let to = page::fill(page, to, b" # is none", value, 0, 0);
+            put_may(page, to, room, may)
+        }
+        Err(Unused::ByOpcode) => put_unused(page, to, opcode, value),
+        Err(Unused::ByKind) => page::fill(
             page,
             to,
             b" is #, and change kind # does not use it: it must be 0",
@@ -33,10 +37,6 @@ pub fn put(page: &mut Page, at: usize, row: Row, room: Room, field: Field) -> us
             kind as u64,
             0,
         ),
-        may => {
-            let to = page::fill(page, to, b" # is none", value, 0, 0);
-            put_may(page, to, room, may)
-        }
     }
 }
 
@@ -78,11 +78,13 @@ fn put_field(page: &mut Page, at: usize, opcode: u8, field: Field) -> usize
 fn put_object(page: &mut Page, at: usize, opcode: u8) -> usize
     ensures { page_of page.new result ≡ put_text (page_of page.old at) (bytes_of (object_name opcode)) }
 {
-    match reasons::may_be(Field::Object, opcode, 0) {
+    let Ok(may) = reasons::may_be(Field::Object, opcode, 0) else {
+        return page::put(page, at, b"the cell, plain cell or thread");
+    };
+    match may {
         May::AnyCell => page::put(page, at, b"cell"),
         May::AnyPlain => page::put(page, at, b"plain cell"),
-        May::AnyThread => page::put(page, at, b"thread"),
-        _ => page::put(page, at, b"the cell, plain cell or thread"),
+        _ => page::put(page, at, b"thread"),
     }
 }
 
@@ -117,7 +119,6 @@ fn put_may(page: &mut Page, at: usize, room: Room, may: May) -> usize
             room.row as u64,
             0,
         ),
-        _ => at,
     }
 }
 
@@ -162,14 +163,12 @@ fn put_nth(page: &mut Page, at: usize, list: &[u8], n: usize) -> usize
 {
     let mut to = at;
     let mut past = 0;
-    let mut i = 0;
-    while i < list.len() {
+    for i in 0..list.len() {
         if list[i] == b',' {
             past += 1;
         } else if past == n {
             to = page::put(page, to, &list[i..i + 1]);
         }
-        i += 1;
     }
     to
 }

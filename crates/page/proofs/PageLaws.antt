@@ -1,8 +1,9 @@
 -- The laws of a line: a byte and a text with room and without, one turn of each loop. Assumes nothing.
 --     text-put      a text as a whole
---     text-*, pad-*, fill-*      what is left of a text, of spaces, of a text with numbers
+--     text-copied, pad-*         the same by what is written at once, and spaces so
+--     fill-*      what is left of a text with numbers
 --     right-at      a number that ends at a column
-use Prim.Native.Nat.{ℕ, suc, ◌+◌, ◌-◌, ◌≤◌, ◌<◌}
+use Prim.Native.Nat.{ℕ, suc, min, ◌+◌, ◌-◌, ◌≤◌, ◌<◌}
 use mathlib.Core.List.{List, [], ◌∷◌}
 use mathlib.Core.Bool.{Bool, true, false, cond}
 use mathlib.Core.Path.{◌≡◌, refl, ap, sym, ◌∙◌}
@@ -13,7 +14,9 @@ use native.Mathlib.Decide.{dec_lt}
 use borrow.Author.Tests.{lt-ltb, le-ltb, eq-eqb, ne_eqb}
 use lib.Dec.{eqb}
 use lib.ListN.{length, get_or, set, take, drop, replicate, drop_of_length-le}
-use lib.Seq.{sets, drop-cons, take-nil}
+use lib.Seq.{sets, sets-eq, drop-cons, drop-drop, take-nil}
+use Rattle.std.proofs.lemmas.List.{append_assoc, take_min, length-take-le, length-drop, length-replicate, take-replicate}
+use borrow.Rule.Slice.PartMut.{put_mid}
 use Rattle.digits.specs.Shown.{shown}
 use Rattle.page.specs.Pages.{Page, page_of, put_byte, put_text, put_one, put_filled, padded, right_at}
 
@@ -49,44 +52,38 @@ text-put (b ∷ bs) bytes at =
           rw (byte-lost bytes at b full, e, add-zero) (text-lost bytes at bs full)
     ]
 
--- A text: what is left of it at place i
+-- the same, where so much of the text was written over what stood there
+pub text-copied : (text bytes new : List ℕ) (at n k : ℕ) → length bytes ≡ 16384 → at ≤ 16384 → n ≡ min (16384 - at) (length text) →
+    new ≡ take n text → k ≡ n → page_of (put_mid at k bytes new) (at + n) ≡ put_text (page_of bytes at) text
+text-copied text bytes new at n k l h e f g =
+    let fits : n ≤ length text = omega (arith, e) in
+    let room : at + n ≤ 16384 = omega (arith, e) in
+    let part : take n text ≡ take (16384 - at) text = rw e (take_min (16384 - at) text) in
+    let long : length (take n text) ≡ n = length-take-le n text fits in
+    let put = rw (← part, sets-eq (take n text) bytes at (omega (arith, long)), long) at (text-put text bytes at) in
+    rw (g, f, drop-drop n at bytes, ← append_assoc) (sym put)
 
-module _ (text : List ℕ) (i : ℕ) where
-  pub text-end : (l : Page) → length text ≤ i → put_text l (drop i text) ≡ l
-  unfolding put_text
-  text-end l h = rw (drop_of_length-le text {i = i} h)
+-- Spaces up to a column
 
-  text-one : (l : Page) → i < length text → put_text l (drop i text) ≡ put_text (put_byte l (get_or text i 0)) (drop (i + 1) text)
-  unfolding put_text
-  text-one l h = rw (add-one i, drop-cons text i 0 h)
+pub pad-none : (bytes : List ℕ) (at column end : ℕ) → end ≡ min column 16384 → end ≤ at → page_of bytes at ≡ padded (page_of bytes at) column
+unfolding put_text
+pad-none bytes at column end e h =
+    elim (dec_lt at column) [
+      | yes l ↦ sym (text-lost bytes at (replicate (column - at) 32) (omega (arith, e)))
+      | no l ↦ let z : column - at ≡ 0 = omega arith in rw z
+    ]
 
-  module _ (bytes : List ℕ) (to : ℕ) (h : i < length text) (whole : Page) (left : put_text (page_of bytes to) (drop i text) ≡ whole) where
-    pub text-on : to < 16384 → put_text (page_of (set bytes to (get_or text i 0)) (to + 1)) (drop (i + 1) text) ≡ whole
-    text-on room =
-        ap (λ (l : Page). put_text l (drop (i + 1) text)) (sym (byte_fits bytes to (get_or text i 0) room))
-        ∙ sym (text-one (page_of bytes to) h)
-        ∙ left
-
-    pub text-full : 16384 ≤ to → page_of bytes to ≡ whole
-    text-full full = sym (text-lost bytes to (drop i text) full) ∙ left
-
--- Spaces: what is left of them at a place
-
-module _ (bytes : List ℕ) (to column : ℕ) (whole : Page) (left : padded (page_of bytes to) column ≡ whole) where
-  pub pad-on : to < column → to < 16384 → padded (page_of (set bytes to 32) (to + 1)) column ≡ whole
-  unfolding put_text
-  pad-on h room =
-      let e : column - to ≡ suc (column - (to + 1)) = omega arith in
-      ap (λ (l : Page). put_text l (replicate (column - (to + 1)) 32)) (sym (byte_fits bytes to 32 room))
-      ∙ ap (λ (k : ℕ). put_text (page_of bytes to) (replicate k 32)) (sym e)
-      ∙ left
-
-  pub pad-full : 16384 ≤ to → page_of bytes to ≡ whole
-  pad-full full = sym (text-lost bytes to (replicate (column - to) 32) full) ∙ left
-
-  pub pad-end : column ≤ to → page_of bytes to ≡ whole
-  unfolding put_text
-  pad-end h = let e : column - to ≡ 0 = omega arith in rw e at left
+pub pad-put : (bytes new : List ℕ) (at column end : ℕ) → length bytes ≡ 16384 → end ≡ min column 16384 → at < end →
+    new ≡ replicate (length (take (end - at) (drop at bytes))) 32 → page_of (put_mid at (end - at) bytes new) end ≡ padded (page_of bytes at) column
+pad-put bytes new at column end l e h f =
+    let spaces : List ℕ = replicate (column - at) 32 in
+    let long : length spaces ≡ column - at = length-replicate (column - at) 32 in
+    let few : end - at ≡ min (16384 - at) (length spaces) = omega (arith, e, long) in
+    let part : replicate (end - at) 32 ≡ take (end - at) spaces = sym (take-replicate (end - at) (column - at) 32 (omega (arith, e))) in
+    let ends : at + (end - at) ≡ end = omega arith in
+    let over : length (take (end - at) (drop at bytes)) ≡ end - at =
+    length-take-le (end - at) (drop at bytes) (omega (arith, e, length-drop at bytes)) in
+    rw ends at (text-copied spaces bytes new at (end - at) (end - at) l (omega (arith, e)) few (rw over at f ∙ part) refl)
 
 -- A text with numbers: what is left of it at place i, with the numbers that are next
 

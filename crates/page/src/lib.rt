@@ -2,7 +2,7 @@
 // part of a report that is put on one page is that long. The programs write it.
 #![tactic(auto)]
 
-ghost use Rattle.std.specs.Prelude.{◌≡◌, [], ◌∷◌, ◌-◌};
+ghost use Rattle.std.specs.Prelude.{◌≡◌};
 ghost use Rattle.digits.specs.Shown.{shown};
 ghost use Rattle.page.specs.Pages.{page_of, put_text, put_one, put_filled, padded, right_at};
 
@@ -16,17 +16,12 @@ pub type Page = [u8; PAGE_BYTES];
 pub fn put(page: &mut Page, at: usize, text: &[u8]) -> usize
     ensures { page_of page.new result ≡ put_text (page_of page.old at) text.now }
 {
-    let mut to = at;
-    let mut i = 0;
-    while i < text.len() {
-        if PAGE_BYTES <= to {
-            return to;
-        }
-        page[to] = text[i];
-        to += 1;
-        i += 1;
+    if PAGE_BYTES < at {
+        return at;
     }
-    to
+    let n = (PAGE_BYTES - at).min(text.len());
+    page[at..at + n].copy_from_slice(&text[..n]);
+    at + n
 }
 
 // Puts a number, in decimal.
@@ -53,14 +48,12 @@ pub fn fill(page: &mut Page, at: usize, text: &[u8], a: u64, b: u64, c: u64) -> 
     let mut to = at;
     let mut now = a;
     let mut next = b;
-    let mut i = 0;
-    while i < text.len() {
-        to = put_byte(page, to, text[i], now);
-        if text[i] == b'#' {
+    for byte in text {
+        to = put_byte(page, to, *byte, now);
+        if *byte == b'#' {
             now = next;
             next = c;
         }
-        i += 1;
     }
     to
 }
@@ -83,31 +76,18 @@ fn put_byte(page: &mut Page, at: usize, byte: u8, n: u64) -> usize
 pub fn pad(page: &mut Page, at: usize, column: usize) -> usize
     ensures { page_of page.new result ≡ padded (page_of page.old at) column }
 {
-    let mut to = at;
-    while to < column {
-        if PAGE_BYTES <= to {
-            return to;
-        }
-        page[to] = b' ';
-        to += 1;
+    let end = column.min(PAGE_BYTES);
+    if end <= at {
+        return at;
     }
-    to
+    page[at..end].fill(b' ');
+    end
 }
 
 // Puts a number so that it ends at a column.
 pub fn put_right(page: &mut Page, at: usize, column: usize, n: u64) -> usize
     ensures { page_of page.new result ≡ right_at (page_of page.old at) column n }
 {
-    let to = pad(page, at, less(column, digits::count(n)));
+    let to = pad(page, at, column.saturating_sub(digits::count(n)));
     put_number(page, to, n)
-}
-
-// How much a column is past a width; 0 where it is not.
-fn less(column: usize, width: usize) -> usize
-    ensures { result ≡ column - width }
-{
-    if width < column {
-        return column - width;
-    }
-    0
 }

@@ -3,12 +3,14 @@
 --     is_opcode           whether there is such an opcode
 --     wrong_in      the first field with which a row is refused
 --     may_be        what that field may be
-use Rattle.std.specs.Prelude.{ℕ, Bool, cond, ◌&&◌, ◌||◌, ltb, leb, eqb}
+use Rattle.std.specs.Prelude.{ℕ, Result, Ok, Err, Bool, cond, ◌&&◌, ◌||◌, ltb, leb, eqb}
 use Rattle.rules.specs.Table.{Row, Room, row_decoded, is_fine}
 use Rattle.reasons.specs.declared.Field.{Field}
 use Rattle.reasons.specs.declared.Field.TheVariants.{Opcode, Object, Order, Kind, Failure, Register, Target, A, B}
 use Rattle.reasons.specs.declared.May.{May}
 use Rattle.reasons.specs.declared.May.TheVariants as may
+use Rattle.reasons.specs.declared.Unused.{Unused}
+use Rattle.reasons.specs.declared.Unused.TheVariants.{ByOpcode, ByKind}
 
 -- "fence 0" is refused: a fence has order 1 in a row of which the order is not looked at
 abbrev pub blank_order : ℕ → ℕ
@@ -78,39 +80,47 @@ has_register opcode =
 abbrev pub is_change : ℕ → Bool
 is_change opcode = eqb opcode 3 || eqb opcode 6
 
-abbrev pub may_object : ℕ → May
+abbrev pub may_object : ℕ → Result May Unused
 may_object opcode =
-    cond (has_cell opcode) may.AnyCell
-    (cond (has_plain opcode) may.AnyPlain
-    (cond (eqb opcode 8) may.AnyThread
-    may.ZeroByOpcode))
+    cond (has_cell opcode) (Ok may.AnyCell)
+    (cond (has_plain opcode) (Ok may.AnyPlain)
+    (cond (eqb opcode 8) (Ok may.AnyThread)
+    (Err ByOpcode)))
 
 -- "Refused: load or failure order 1 or 3, store order 2 or 3, fence 0."
-abbrev pub may_order : ℕ → May
+abbrev pub may_order : ℕ → Result May Unused
 may_order opcode =
-    cond (eqb opcode 0) may.LoadOrder
-    (cond (eqb opcode 1 || eqb opcode 2) may.StoreOrder
-    (cond (eqb opcode 3) may.AnyOrder
-    (cond (eqb opcode 4) may.FenceOrder
-    may.ZeroByOpcode)))
+    cond (eqb opcode 0) (Ok may.LoadOrder)
+    (cond (eqb opcode 1 || eqb opcode 2) (Ok may.StoreOrder)
+    (cond (eqb opcode 3) (Ok may.AnyOrder)
+    (cond (eqb opcode 4) (Ok may.FenceOrder)
+    (Err ByOpcode))))
 
 -- "Only kinds 11 and 12 may fail, and only they, in RMW, use a failure order."
-abbrev pub may_failure : ℕ → ℕ → May
+abbrev pub may_failure : ℕ → ℕ → Result May Unused
 may_failure opcode kind =
-    cond (eqb opcode 3) (cond (eqb kind 11 || eqb kind 12) may.LoadOrder may.ZeroByKind) may.ZeroByOpcode
+    cond (eqb opcode 3) (cond (eqb kind 11 || eqb kind 12) (Ok may.LoadOrder) (Err ByKind)) (Err ByOpcode)
 
 -- "a row that jumps unconditionally to its own row", "Refuse such a table with answer 5 at that row." (document 02, §6)
-abbrev pub may_target : ℕ → May
-may_target opcode = cond (eqb opcode 9) may.OtherTarget (cond (is_jump opcode) may.AnyTarget may.ZeroByOpcode)
+abbrev pub may_target : ℕ → Result May Unused
+may_target opcode = cond (eqb opcode 9) (Ok may.OtherTarget) (cond (is_jump opcode) (Ok may.AnyTarget) (Err ByOpcode))
+
+-- a field that only some opcodes use
+abbrev pub used_if : Bool → May → Result May Unused
+used_if test m = cond test (Ok m) (Err ByOpcode)
+
+-- an operand is used by none, or it may be any number
+abbrev pub may_operand : ℕ → Result May Unused
+may_operand opcode = cond (is_change opcode) (Err ByKind) (Err ByOpcode)
 
 -- "A cell or thread named must exist. Fields that the opcode or change kind doesn't use are zero"
-unfoldable pub may_be : Field → ℕ → ℕ → May
-may_be Opcode opcode kind = may.AnyOpcode
+abbrev pub may_be : Field → ℕ → ℕ → Result May Unused
+may_be Opcode opcode kind = Ok may.AnyOpcode
 may_be Object opcode kind = may_object opcode
 may_be Order opcode kind = may_order opcode
-may_be Kind opcode kind = cond (is_change opcode) may.AnyKind may.ZeroByOpcode
+may_be Kind opcode kind = used_if (is_change opcode) may.AnyKind
 may_be Failure opcode kind = may_failure opcode kind
-may_be Register opcode kind = cond (has_register opcode) may.AnyRegister may.ZeroByOpcode
+may_be Register opcode kind = used_if (has_register opcode) may.AnyRegister
 may_be Target opcode kind = may_target opcode
-may_be A opcode kind = cond (is_change opcode) may.ZeroByKind may.ZeroByOpcode
-may_be B opcode kind = cond (is_change opcode) may.ZeroByKind may.ZeroByOpcode
+may_be A opcode kind = may_operand opcode
+may_be B opcode kind = may_operand opcode

@@ -4,7 +4,7 @@
 
 ghost use Rattle.std.specs.Prelude.{◌≡◌, cond};
 ghost use Rattle.decode.specs.Ops.{row_meant, room_meant};
-ghost use Rattle.reasons.specs.Wrong.{blank_order, blank_target, first_fields, is_fit, is_opcode, wrong_in, has_cell, has_plain, is_jump, has_register, is_change, may_object, may_order, may_failure, may_target, may_be};
+ghost use Rattle.reasons.specs.Wrong.{blank_order, blank_target, first_fields, is_fit, is_opcode, wrong_in, has_register, is_change, used_if, may_operand, may_object, may_order, may_failure, may_target, may_be};
 
 pub use decode::Room;
 use decode::kinds::{COMPARE, DECREMENT};
@@ -46,7 +46,18 @@ const A: usize = 6;
 
 const B: usize = 7;
 
-// What a field may be: one of those that there are, or zero, where the opcode or the change kind does not use it.
+// Those behind the opcode, but for the last: where all before it are fine, the last is wrong.
+const BEHIND: [Field; 7] = [
+    Field::Object,
+    Field::Order,
+    Field::Kind,
+    Field::Failure,
+    Field::Register,
+    Field::Target,
+    Field::A,
+];
+
+// What a field that is used may be.
 #[derive(Clone, Copy)]
 pub enum May {
     AnyOpcode,
@@ -61,8 +72,13 @@ pub enum May {
     AnyRegister,
     AnyTarget,
     OtherTarget,
-    ZeroByOpcode,
-    ZeroByKind,
+}
+
+// Whether the opcode or the change kind does not use a field, which then may only be zero.
+#[derive(Clone, Copy)]
+pub enum Unused {
+    ByOpcode,
+    ByKind,
 }
 
 // The field that is wrong first.
@@ -72,26 +88,10 @@ pub fn wrong(row: Row, room: Room) -> Field
     if !is_opcode(row, room) {
         return Field::Opcode;
     }
-    if !is_fit(row, room, ORDER) {
-        return Field::Object;
-    }
-    if !is_fit(row, room, KIND) {
-        return Field::Order;
-    }
-    if !is_fit(row, room, FAILURE) {
-        return Field::Kind;
-    }
-    if !is_fit(row, room, REGISTER) {
-        return Field::Failure;
-    }
-    if !is_fit(row, room, TARGET) {
-        return Field::Register;
-    }
-    if !is_fit(row, room, A) {
-        return Field::Target;
-    }
-    if !is_fit(row, room, B) {
-        return Field::A;
+    for n in 0..BEHIND.len() {
+        if !is_fit(row, room, n + 1) {
+            return BEHIND[n];
+        }
     }
     Field::B
 }
@@ -123,14 +123,14 @@ fn first_fields(row: Row, own: usize, n: usize) -> Row
 {
     Row {
         opcode: row.opcode,
-        object: byte_if(OBJECT < n, row.object, 0),
-        order: byte_if(ORDER < n, row.order, blank_order(row.opcode)),
-        failure: byte_if(FAILURE < n, row.failure, 0),
-        kind: byte_if(KIND < n, row.kind, 0),
-        register: byte_if(REGISTER < n, row.register, 0),
-        target: target_if(TARGET < n, row.target, blank_target(row.opcode, own)),
-        a: operand_if(A < n, row.a),
-        b: operand_if(B < n, row.b),
+        object: field_if(OBJECT < n, row.object, 0),
+        order: field_if(ORDER < n, row.order, blank_order(row.opcode)),
+        failure: field_if(FAILURE < n, row.failure, 0),
+        kind: field_if(KIND < n, row.kind, 0),
+        register: field_if(REGISTER < n, row.register, 0),
+        target: field_if(TARGET < n, row.target, blank_target(row.opcode, own)),
+        a: field_if(A < n, row.a, 0),
+        b: field_if(B < n, row.b, 0),
     }
 }
 
@@ -138,147 +138,122 @@ fn first_fields(row: Row, own: usize, n: usize) -> Row
 fn blank_order(opcode: u8) -> u8
     ensures { result ≡ blank_order opcode }
 {
-    byte_if(opcode == FENCE, RELEASE, RELAXED)
+    field_if(opcode == FENCE, RELEASE, RELAXED)
 }
 
 // A jump may not lead to its own row, and at row 0 that is where a target of 0 leads.
 fn blank_target(opcode: u8, own: usize) -> u16
     ensures { result ≡ blank_target opcode own }
 {
-    target_if((opcode == JUMP) & (own == 0), 1, 0)
+    field_if((opcode == JUMP) & (own == 0), 1, 0)
 }
 
-fn byte_if(looked: bool, byte: u8, other: u8) -> u8
-    ensures { result ≡ cond looked byte other }
+fn field_if<T: Copy>(looked: bool, field: T, other: T) -> T
+    ensures { result ≡ cond looked field other }
 {
-    if looked {
-        return byte;
-    }
-    other
-}
-
-fn target_if(looked: bool, target: u16, other: u16) -> u16
-    ensures { result ≡ cond looked target other }
-{
-    if looked {
-        return target;
-    }
-    other
-}
-
-fn operand_if(looked: bool, operand: u64) -> u64
-    ensures { result ≡ cond looked operand 0 }
-{
-    if looked {
-        return operand;
-    }
-    0
+    if looked { field } else { other }
 }
 
 // What this field may be in a row of this opcode and change kind.
-pub fn may_be(field: Field, opcode: u8, kind: u8) -> May
+pub fn may_be(field: Field, opcode: u8, kind: u8) -> Result<May, Unused>
     ensures { result ≡ may_be field opcode kind }
 {
     match field {
-        Field::Opcode => May::AnyOpcode,
+        Field::Opcode => Ok(May::AnyOpcode),
         Field::Object => object_may(opcode),
         Field::Order => order_may(opcode),
-        Field::Kind => may_if(is_change(opcode), May::AnyKind, May::ZeroByOpcode),
+        Field::Kind => used_if(is_change(opcode), May::AnyKind),
         Field::Failure => failure_may(opcode, kind),
-        Field::Register => may_if(has_register(opcode), May::AnyRegister, May::ZeroByOpcode),
+        Field::Register => used_if(has_register(opcode), May::AnyRegister),
         Field::Target => target_may(opcode),
-        Field::A => may_if(is_change(opcode), May::ZeroByKind, May::ZeroByOpcode),
-        Field::B => may_if(is_change(opcode), May::ZeroByKind, May::ZeroByOpcode),
+        Field::A | Field::B => operand_may(opcode),
     }
 }
 
-fn may_if(test: bool, may: May, other: May) -> May
-    ensures { result ≡ cond test may other }
+// A field that only some opcodes use.
+fn used_if(test: bool, may: May) -> Result<May, Unused>
+    ensures { result ≡ used_if test may }
 {
-    if test {
-        return may;
-    }
-    other
+    if test { Ok(may) } else { Err(Unused::ByOpcode) }
 }
 
 // The cell, the plain cell or the thread.
-fn object_may(opcode: u8) -> May
+fn object_may(opcode: u8) -> Result<May, Unused>
     ensures { result ≡ may_object opcode }
 {
-    let thread = may_if(opcode == JOIN, May::AnyThread, May::ZeroByOpcode);
-    let plain = may_if(has_plain(opcode), May::AnyPlain, thread);
-    may_if(has_cell(opcode), May::AnyCell, plain)
+    match opcode {
+        LOAD | STORE | STORE_REGISTER | RMW | UNSYNC_LOAD | WITH_MUT => Ok(May::AnyCell),
+        PLAIN_READ | PLAIN_WRITE => Ok(May::AnyPlain),
+        JOIN => Ok(May::AnyThread),
+        _ => Err(Unused::ByOpcode),
+    }
 }
 
 // The order, by what opcode may have which.
-fn order_may(opcode: u8) -> May
+fn order_may(opcode: u8) -> Result<May, Unused>
     ensures { result ≡ may_order opcode }
 {
-    let fence = may_if(opcode == FENCE, May::FenceOrder, May::ZeroByOpcode);
-    let change = may_if(opcode == RMW, May::AnyOrder, fence);
-    let store = may_if(
-        (opcode == STORE) | (opcode == STORE_REGISTER),
-        May::StoreOrder,
-        change,
-    );
-    may_if(opcode == LOAD, May::LoadOrder, store)
+    match opcode {
+        LOAD => Ok(May::LoadOrder),
+        STORE | STORE_REGISTER => Ok(May::StoreOrder),
+        RMW => Ok(May::AnyOrder),
+        FENCE => Ok(May::FenceOrder),
+        _ => Err(Unused::ByOpcode),
+    }
 }
 
 // The order of a change that fails.
-fn failure_may(opcode: u8, kind: u8) -> May
+fn failure_may(opcode: u8, kind: u8) -> Result<May, Unused>
     ensures { result ≡ may_failure opcode kind }
 {
-    let used = may_if(
-        (kind == COMPARE) | (kind == DECREMENT),
-        May::LoadOrder,
-        May::ZeroByKind,
-    );
-    may_if(opcode == RMW, used, May::ZeroByOpcode)
+    match (opcode, kind) {
+        (RMW, COMPARE | DECREMENT) => Ok(May::LoadOrder),
+        (RMW, _) => Err(Unused::ByKind),
+        _ => Err(Unused::ByOpcode),
+    }
 }
 
 // The target: a jump without a test may not lead to its own row.
-fn target_may(opcode: u8) -> May
+fn target_may(opcode: u8) -> Result<May, Unused>
     ensures { result ≡ may_target opcode }
 {
-    let tested = may_if(is_jump(opcode), May::AnyTarget, May::ZeroByOpcode);
-    may_if(opcode == JUMP, May::OtherTarget, tested)
+    match opcode {
+        JUMP => Ok(May::OtherTarget),
+        JUMP_IF | JUMP_UNLESS => Ok(May::AnyTarget),
+        _ => Err(Unused::ByOpcode),
+    }
 }
 
-fn has_cell(opcode: u8) -> bool
-    ensures { result ≡ has_cell opcode }
+// An operand that is wrong is one that is not used.
+fn operand_may(opcode: u8) -> Result<May, Unused>
+    ensures { result ≡ may_operand opcode }
 {
-    (opcode <= RMW) | (opcode == UNSYNC_LOAD) | (opcode == WITH_MUT)
-}
-
-fn has_plain(opcode: u8) -> bool
-    ensures { result ≡ has_plain opcode }
-{
-    (opcode == PLAIN_READ) | (opcode == PLAIN_WRITE)
-}
-
-fn is_jump(opcode: u8) -> bool
-    ensures { result ≡ is_jump opcode }
-{
-    (opcode == JUMP) | (opcode == JUMP_IF) | (opcode == JUMP_UNLESS)
+    if is_change(opcode) {
+        Err(Unused::ByKind)
+    } else {
+        Err(Unused::ByOpcode)
+    }
 }
 
 fn has_register(opcode: u8) -> bool
     ensures { result ≡ has_register opcode }
 {
-    (opcode == LOAD)
-        | (opcode == STORE_REGISTER)
-        | (opcode == RMW)
-        | (opcode == UNSYNC_LOAD)
-        | (opcode == WITH_MUT)
-        | (opcode == JUMP_IF)
-        | (opcode == JUMP_UNLESS)
-        | (opcode == CHECK)
-        | (opcode == SPURIOUS)
-        | (opcode == PLAIN_READ)
+    matches!(
+        opcode,
+        LOAD | STORE_REGISTER
+            | RMW
+            | UNSYNC_LOAD
+            | WITH_MUT
+            | JUMP_IF
+            | JUMP_UNLESS
+            | CHECK
+            | SPURIOUS
+            | PLAIN_READ
+    )
 }
 
 fn is_change(opcode: u8) -> bool
     ensures { result ≡ is_change opcode }
 {
-    (opcode == RMW) | (opcode == WITH_MUT)
+    matches!(opcode, RMW | WITH_MUT)
 }

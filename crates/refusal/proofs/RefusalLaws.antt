@@ -1,8 +1,13 @@
 -- What is wrong with a table, put in words. Assumes nothing.
 --     fine_at, told     whether a thread may have its rows, by what the code found of them
+--     below_some, below-none      a number below another, and none
 --     unnamed          what is put where the table is not accepted
-use Prim.Native.Nat.{ℕ, ◌+◌}
-use mathlib.Core.Bool.{Bool}
+use Prim.Native.Nat.{ℕ, ◌+◌, ◌<◌}
+use native.Mathlib.Omega.{arith}
+use lib.Dec.{ltb}
+use borrow.Author.Tests.{lt-ltb, le-ltb}
+use Rattle.std.specs.Prelude.{Some, None}
+use mathlib.Core.Bool.{Bool, true, false}
 use mathlib.Core.List.{List, [], ◌∷◌}
 use mathlib.Core.Path.{◌≡◌, refl, sym, ◌∙◌}
 use types.Run.{OneOf, miss}
@@ -14,7 +19,7 @@ use Rattle.table.specs.contracts.Judged.{the_type}
 use Rattle.table.specs.Answers.{judged_of}
 use Rattle.table.specs.declared.Judged.{Judged}
 use Rattle.table.specs.declared.Judged.TheVariants as judged
-use Rattle.refusal.specs.Headers.{put_header}
+use Rattle.refusal.specs.Headers.{one_below, put_header}
 use Rattle.refusal.specs.Refusals.{put_unnamed}
 
 abbrev pub fine_at : List ℕ → ℕ → ℕ → Bool
@@ -23,6 +28,13 @@ fine_at t threads i = count_fine threads i (get_or t (2 + i) 0)
 pub told : (t : List ℕ) (threads i : ℕ) {count : ℕ} {r b : Bool} → count ≡ get_or t (2 + i) 0 → r ≡ count_fine threads i count → r ≡ b →
     fine_at t threads i ≡ b
 told t threads i p q s = rw (← p) (sym q ∙ s)
+
+module _ (n : ℕ) where
+  pub below_some : (i k : ℕ) → k ≡ i → i < n → one_below n k ≡ Some i
+  below_some i k p h = let e : ltb i n ≡ true = lt-ltb i n h in rw (p, e)
+
+  pub below-none : (k : ℕ) → k ≡ n → one_below n k ≡ None
+  below-none k p = let e : ltb n n ≡ false = le-ltb n n (omega arith) in rw (p, e)
 
 -- the places among the variants of what is not accepted
 abbrev bad : List ℕ

@@ -1,5 +1,5 @@
 // What is wrong with a header, or with a table's length, in the order of the bytes.
-ghost use Rattle.std.specs.Prelude.{◌≡◌, ◌<◌, ◌≤◌, length};
+ghost use Rattle.std.specs.Prelude.{◌≡◌, ◌<◌, ◌≤◌, length, IfSome};
 ghost use Rattle.rules.specs.Table.{header_bytes, size_of, values_of, counts_of, count_fine, total};
 ghost use Rattle.page.specs.Pages.{page_of};
 ghost use Rattle.refusal.specs.Headers.{is_count, bad_count, put_rows, put_behind, put_header};
@@ -55,7 +55,7 @@ pub fn put(page: &mut Page, at: usize, table: &[u8]) -> usize
 fn is_count(n: usize, most: usize) -> bool
     ensures { result ≡ is_count n most }
 {
-    (1 <= n) & (n <= most)
+    (1..=most).contains(&n)
 }
 
 // What is wrong behind the cell count: a row count, the plain cells, or else the length.
@@ -63,8 +63,7 @@ fn put_behind(page: &mut Page, at: usize, table: &[u8], threads: usize) -> usize
     requires { header_bytes ≤ length table.now }
     ensures { page_of page.new result ≡ put_behind (page_of page.old at) table.now threads }
 {
-    let thread = bad_count(table, threads);
-    if thread < MAX_THREADS {
+    if let Some(thread) = bad_count(table, threads) {
         let count = wide8(table[ROW_COUNTS + thread]);
         return put_rows(page, at, thread, count, threads);
     }
@@ -100,20 +99,19 @@ fn size(table: &[u8]) -> usize
     HEADER_BYTES + VALUE_BYTES * values + ROW_BYTES * rows
 }
 
-// The first thread whose row count is wrong; where none is, the number past the last thread that there can be.
-fn bad_count(table: &[u8], threads: usize) -> usize
+// The first thread whose row count is wrong.
+fn bad_count(table: &[u8], threads: usize) -> Option<usize>
     requires { header_bytes ≤ length table.now }
-    ensures { result ≡ bad_count table.now threads }
+    ensures same { result ≡ bad_count table.now threads }
+    ensures there { IfSome result (λ thread. thread < 5) }
 {
-    let mut thread = 0;
-    while thread < MAX_THREADS {
+    for thread in 0..MAX_THREADS {
         let count = wide8(table[ROW_COUNTS + thread]);
         if !table::count_fine(thread, count, threads) {
-            return thread;
+            return Some(thread);
         }
-        thread += 1;
     }
-    MAX_THREADS
+    None
 }
 
 // A thread has more rows than there may be.

@@ -133,7 +133,7 @@ module _ (n : ℕ) (es : List Entry) (fits : 16 * length es ≤ n) where
     walk : (k i : ℕ) → i + k ≡ length es → entries_left (trace_left n es) i ≡ length es
     walk zero i e = elim (dec_lt i (room (trace_left n es))) [
       | yes l ↦ entries-found (trace_left n es) i l (past_is i (omega arith)) ∙ (omega arith)
-      | no l ↦ entries_none (trace_left n es) i (omega arith) (omega (arith, long)) ∙ (omega arith)
+      | no l ↦ entries_none (trace_left n es) i (omega arith) (omega (arith, long)) ∙ (omega (arith, long))
     ]
     walk (suc k) i e =
         sym (entries-on (trace_left n es) i (omega (arith, long)) (entry-is none i (omega arith) ∙ real i (omega arith)))

@@ -52,8 +52,8 @@ module _ (trace : List ℕ) where
     pub entries-found : i < room trace → is_entry (entry_read trace i) ≡ false → entries_left trace i ≡ i
     entries-found = first_found (is_at trace) (room trace) i
 
-    pub entries_none : room trace ≤ i → i ≤ room trace → entries_left trace i ≡ i
-    entries_none h k = first-none (is_at trace) (room trace) i h k ∙ (omega arith)
+    pub entries_none : room trace ≤ i → i ≤ room trace → entries_left trace i ≡ room trace
+    entries_none = first-none (is_at trace) (room trace) i
 
 -- what is decoded under a test is within where it is without the test
 within-if : (b : Bool) {x : Decoded Op} (d : Option codes.Op) → (decoded_of d ≡ x → OpWithin d) → decoded_of d ≡ cond b x refused → OpWithin d

@@ -2,25 +2,25 @@
 --     both, not_first, not-second           the tests of a place that is named by two numbers
 --     reads, reads_none, puts               a place, and one that there is not
 --     stored_at, over-at                    a store, and one that writes over the newest
---     cell-from                             a cell that takes its start value
+--     start-on, start-all                   the cells that take their start values
 --     left-from, jump-from                  a change of what a register was put into, a jump on one
 --     taken_none, taken_made                a step
 --     after_on, after-all                   the walk along the steps
-use Prim.Native.Nat.{ℕ, ◌+◌, ◌*◌, ◌≤◌, ◌<◌}
+use Prim.Native.Nat.{ℕ, zero, suc, ◌+◌, ◌*◌, ◌≤◌, ◌<◌}
 use mathlib.Core.Bool.{true, false, cond, ◌&&◌}
 use mathlib.Core.List.{List}
 use mathlib.Core.Path.{◌≡◌, ap, ◌∙◌}
 use native.Mathlib.Omega.{arith}
 use native.Mathlib.Numerals.{add-one}
 use lib.Dec.{ltb, eqb}
-use lib.ListN.{get_or, set}
+use lib.ListN.{get_or, set, replicate}
 use borrow.Author.Tests.{lt-ltb, le-ltb}
 use Rattle.layout.specs.Slots.{Next, Newest}
 use Rattle.rules.specs.Change.{Change, Changed, applied}
 use Rattle.rules.specs.Table.{Op, refused, decoded, start_value}
 use Rattle.rules.specs.Vector.{one_more}
 use Rattle.steps.specs.Entries.{entry_read, operation_at}
-use Rattle.steps.specs.Holds.{HeldPlace, register, next_row, is_place, held_place_of, held, with_held, store_held, written_over, start_stored, acted, next_of, step_taken, held_after}
+use Rattle.steps.specs.Holds.{HeldPlace, register, next_row, is_place, held_place_of, held, with_held, store_held, written_over, start_stored, held_at_start, acted, next_of, step_taken, held_after}
 
 module _ (a b m n : ℕ) where
   pub both : a < m → b < n → ltb a m && ltb b n ≡ true
@@ -55,9 +55,20 @@ module _ (h : List ℕ) (c v step : ℕ) (l : c < 4) {at slot : ℕ} (e : at ≡
   unfolding written_over held with_held
   over-at s = rw (e, s.is, lt-ltb c 4 l, lt-ltb _ 7 (rw s.is at s.within))
 
--- a cell that takes its start value
-pub cell-from : (table : List ℕ) (c : ℕ) {v : ℕ} {h x out : List ℕ} → v ≡ start_value table c → h ≡ x → out ≡ store_held h c v 0 → out ≡ start_stored table c x
-cell-from table c p q o = rw (← p, ← q) o
+-- the first cells take their start values, one after the other
+unfoldable pub cells_started : List ℕ → ℕ → List ℕ
+cells_started table zero = replicate 65 0
+cells_started table (suc c) = start_stored table c (cells_started table c)
+
+module _ (table : List ℕ) (c : ℕ) where
+  pub start-on : {v : ℕ} {h out : List ℕ} → v ≡ start_value table c → h ≡ cells_started table c → out ≡ store_held h c v 0 →
+      out ≡ cells_started table (c + 1)
+  unfolding cells_started
+  start-on p q o = rw (add-one, ← p, ← q) o
+
+  pub start-all : {h : List ℕ} → 4 ≤ c → c ≤ 4 → h ≡ cells_started table c → h ≡ held_at_start table
+  unfolding cells_started held_at_start
+  start-all p q e = let n : c ≡ 4 = omega arith in rw n at e
 
 -- a change of what a register was put into
 pub left-from : (left : List ℕ → ℕ → ℕ → Changed → List ℕ) (h : List ℕ) (t r c step : ℕ) (change : Change) {x out : List ℕ} {v w : ℕ} →

@@ -36,10 +36,9 @@ pub fn start(table: &[u8]) -> Held
     ensures { result ≡ holds.held_at_start table.now }
 {
     let mut held = [0; HELD];
-    store(&mut held, 0, table::start_value(table, 0), 0);
-    store(&mut held, 1, table::start_value(table, 1), 0);
-    store(&mut held, 2, table::start_value(table, 2), 0);
-    store(&mut held, 3, table::start_value(table, 3), 0);
+    for cell in 0..MAX_CELLS {
+        store(&mut held, cell, table::start_value(table, cell), 0);
+    }
     held
 }
 
@@ -48,10 +47,8 @@ pub fn after(table: &[u8], trace: &[u8], n: usize) -> Held
     ensures { result ≡ holds.held_after table.now trace.now n }
 {
     let mut held = start(table);
-    let mut i = 0;
-    while i < n {
+    for i in 0..n {
         take(table, trace, &mut held, i);
-        i += 1;
     }
     held
 }

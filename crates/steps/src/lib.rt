@@ -19,14 +19,13 @@ pub mod held;
 pub fn count(trace: &[u8]) -> usize
     ensures { result ≡ entries trace.now }
 {
-    let mut i = 0;
-    while i < trace.len() / RECORD {
+    let room = trace.len() / RECORD;
+    for i in 0..room {
         if !is_entry(trace, i) {
             return i;
         }
-        i += 1;
     }
-    i
+    room
 }
 
 // Past the last entry the trace is zero, and no entry has opcode 0 with nothing offered.

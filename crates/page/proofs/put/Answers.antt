@@ -1,20 +1,11 @@
-use Prim.Native.Nat.{◌-◌}
-use mathlib.Core.Path.{refl, sym, ◌∙◌}
-use Rattle.page.proofs.PageLaws.{text-on, text-full, text-end}
-use borrow.Author.Rules.{rules}
+use mathlib.Core.Path.{sym}
+use native.Mathlib.Omega.{arith}
+use Rattle.page.proofs.PageLaws.{text-lost, text-copied}
 use Rattle.page.proofs.put.Goals as goal
 
-pub loop-i-init : goal.loop-i-init
-loop-i-init c = (search rules, refl)
-
-pub returns-then-to-ge-PAGE_BYTES : goal.returns-then-to-ge-PAGE_BYTES
-returns-then-to-ge-PAGE_BYTES c =
-    text-full _ _ _ _ c.loop-i-test.true _ c.loop-i.invariant.1 c.if-to-ge-PAGE_BYTES.true
-
-pub loop-i-preserved : goal.loop-i-preserved
-loop-i-preserved c =
-    (search rules, text-on _ _ _ _ c.loop-i-test.true _ c.loop-i.invariant.1 c.if-to-ge-PAGE_BYTES.false)
+pub returns-then-at-gt-PAGE_BYTES : goal.returns-then-at-gt-PAGE_BYTES
+returns-then-at-gt-PAGE_BYTES c = sym (text-lost _ _ _ (omega arith))
 
 pub returns : goal.returns
 returns c =
-    sym (text-end _ _ _ c.loop-i-test.false) ∙ c.loop-i.invariant.1
+    text-copied _ _ _ _ _ _ c.told-page c.if-at-gt-PAGE_BYTES.false c.min-n.ensures c.copy_from_slice.ensures.after (omega arith)

@@ -1,21 +1,20 @@
-use Prim.Native.Nat.{◌-◌}
 use mathlib.Core.Path.{sym, ◌∙◌}
 use borrow.Author.Tests.{not-true, not-false}
 use Rattle.steps.proofs.EntryLaws.{entries-all, entries-on, entries-found, entries_none}
-use borrow.Author.Rules.{rules}
+use native.Mathlib.Omega.{arith}
 use Rattle.steps.proofs.count.Goals as goal
 
 pub loop-i-init : goal.loop-i-init
-loop-i-init c = (search rules, entries-all _)
+loop-i-init c = entries-all _
 
 pub returns-then-not-is_entry : goal.returns-then-not-is_entry
 returns-then-not-is_entry c =
-    sym (entries-found _ _ c.loop-i-test.true (sym c.is_entry.ensures ∙ not-true _ c.if-not-is_entry.true-raw)) ∙ c.loop-i.invariant.1
+    sym (entries-found _ _ (omega arith) (sym c.is_entry.ensures ∙ not-true _ c.if-not-is_entry.true-raw)) ∙ c.loop-i.invariant
 
 pub loop-i-preserved : goal.loop-i-preserved
 loop-i-preserved c =
-    (search rules, entries-on _ _ c.loop-i-test.true (sym c.is_entry.ensures ∙ not-false _ c.if-not-is_entry.false-raw) ∙ c.loop-i.invariant.1)
+    entries-on _ _ (omega arith) (sym c.is_entry.ensures ∙ not-false _ c.if-not-is_entry.false-raw) ∙ c.loop-i.invariant
 
 pub returns : goal.returns
 returns c =
-    sym (entries_none _ _ c.loop-i-test.false c.loop-i.invariant.0) ∙ c.loop-i.invariant.1
+    sym (entries_none _ _ (omega arith) (omega arith)) ∙ c.loop-i.invariant

@@ -1,6 +1,5 @@
 use Rattle.rules.specs.Token.{bytes_of}
 use Rattle.bad_row.specs.Words.{put_may}
-use Rattle.bad_row.proofs.WordLaws.{may_none}
 use Rattle.bad_row.proofs.words.put_may.Goals as goal
 
 pub returns-in-AnyOpcode : goal.returns-in-AnyOpcode
@@ -50,6 +49,3 @@ returns-in-AnyTarget c = rw c.in-AnyTarget.is c.fill.ensures
 pub returns-in-OtherTarget : goal.returns-in-OtherTarget
 unfolding put_may bytes_of
 returns-in-OtherTarget c = rw c.in-OtherTarget.is c.fill-in-OtherTarget.ensures
-
-pub returns-in_default : goal.returns-in_default
-returns-in_default c = may_none _ _ _ c.in_default.in_default-own.keys13

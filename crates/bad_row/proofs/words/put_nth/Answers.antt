@@ -7,13 +7,12 @@ use Rattle.bad_row.proofs.words.put_nth.Goals as goal
 use Rattle.bad_row.proofs.words.put_nth.Goals.{else-list-i-eq44+else-past-n, else-list-i-eq44+then-past-n, then-list-i-eq44}
 
 pub loop-i-init : goal.loop-i-init
-loop-i-init c = (search rules, search rules, ap (put_text _) (part-whole _ _))
+loop-i-init c = (search rules, ap (put_text _) (part-whole _ _))
 
 pub loop-i-preserved : goal.loop-i-preserved
 loop-i-preserved c =
     let h = c.loop-i-test.true in
-    let left = c.loop-i.invariant.2 in (
-      search rules,
+    let left = c.loop-i.invariant.1 in (
       elim c.if-list-i-eq44.branch [
         | then-list-i-eq44 w ↦ omega arith
         | else-list-i-eq44+then-past-n w ↦ omega arith
@@ -27,4 +26,4 @@ loop-i-preserved c =
     )
 
 pub returns : goal.returns
-returns c = part_end _ _ _ _ _ _ c.loop-i.invariant.2 c.loop-i-test.false
+returns c = part_end _ _ _ _ _ _ c.loop-i.invariant.1 c.loop-i-test.false

@@ -1,25 +1,21 @@
 use borrow.Enum.Refused.{opened}
 use Rattle.rules.specs.Token.{bytes_of}
-use Rattle.reasons.specs.Wrong.{may_be}
-use Rattle.bad_row.proofs.WordLaws.{object-named, named-last}
+use Rattle.bad_row.proofs.WordLaws.{cell-named, plain-named, thread-named, none-named}
 use Rattle.bad_row.proofs.words.put_object.Goals as goal
 
+pub returns-in_default : goal.returns-in_default
+unfolding bytes_of
+returns-in_default c = rw (none-named c.args.opcode c.in_default.field-0 (cc)) c.put.ensures
+
 pub returns-in-AnyCell : goal.returns-in-AnyCell
-unfolding may_be bytes_of
-returns-in-AnyCell c =
-    rw (object-named, ← c.may_be.ensures, c.in-AnyCell.in-AnyCell-own.keys1) c.put.ensures
+unfolding bytes_of
+returns-in-AnyCell c = rw (cell-named c.args.opcode (cc)) c.put-in-AnyCell.ensures
 
 pub returns-in-AnyPlain : goal.returns-in-AnyPlain
-unfolding may_be bytes_of
-returns-in-AnyPlain c =
-    rw (object-named, ← c.may_be.ensures, c.in-AnyPlain.in-AnyPlain-own.keys2) c.put-in-AnyPlain.ensures
+unfolding bytes_of
+returns-in-AnyPlain c = rw (plain-named c.args.opcode (cc)) c.put-in-AnyPlain.ensures
 
-pub returns-in-AnyThread : goal.returns-in-AnyThread
-unfolding may_be bytes_of
-returns-in-AnyThread c =
-    rw (object-named, ← c.may_be.ensures, c.in-AnyThread.in-AnyThread-own.keys3) c.put-in-AnyThread.ensures
-
-pub returns-in_default : goal.returns-in_default
-unfolding may_be bytes_of
-returns-in_default c =
-    rw (object-named, ← c.may_be.ensures, named-last _ _ _ _ _ (opened c.in_default.in_default-own.keys4)) c.put-in_default.ensures
+pub returns-in_default-may : goal.returns-in_default-may
+unfolding bytes_of
+returns-in_default-may c =
+    rw (thread-named c.args.opcode c.in-Ok.may (cc) (opened c.in_default-may.in_default-may-own.keys3)) c.put-in_default-may.ensures

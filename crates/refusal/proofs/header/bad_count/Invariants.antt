@@ -1,13 +1,10 @@
-use Prim.Native.Nat.{◌≤◌, ◌-◌}
+use Prim.Native.Nat.{◌-◌}
 use mathlib.Core.Path.{◌≡◌}
 use Rattle.rules.specs.Table.{max_threads, first_not}
-use Rattle.refusal.specs.Headers.{bad_count}
+use Rattle.refusal.specs.Headers.{one_below, bad_count}
 use Rattle.refusal.proofs.RefusalLaws.{fine_at}
 use Rattle.refusal.proofs.header.bad_count.Given as goal
 
 abbrev pub invariant-loop-thread : goal.invariant-loop-thread
 invariant-loop-thread l =
-    (l.thread ≤ max_threads) × (first_not (fine_at l.table l.threads) (max_threads - l.thread) l.thread ≡ bad_count l.table l.threads)
-
-abbrev pub decreases-loop-thread : goal.decreases-loop-thread
-decreases-loop-thread l = max_threads - l.thread
+    one_below max_threads (first_not (fine_at l.table l.threads) (max_threads - l.thread) l.thread) ≡ bad_count l.table l.threads

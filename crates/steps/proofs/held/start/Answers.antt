@@ -1,15 +1,14 @@
 use mathlib.Core.Path.{refl}
-use Rattle.steps.specs.Holds.{held_at_start}
-use Rattle.steps.proofs.HoldLaws.{cell-from}
+use native.Mathlib.Omega.{arith}
+use Rattle.steps.proofs.HoldLaws.{cells_started, start-on, start-all}
 use Rattle.steps.proofs.held.start.Goals as goal
 
+pub loop-cell-init : goal.loop-cell-init
+unfolding cells_started
+loop-cell-init c = refl
+
+pub loop-cell-preserved : goal.loop-cell-preserved
+loop-cell-preserved c = start-on _ _ c.start_value.ensures c.loop-cell.invariant c.store.ensures
+
 pub returns : goal.returns
-unfolding held_at_start
-returns c =
-    cell-from _ 3 c.start_value-4.ensures
-    (cell-from _ 2 c.start_value-3.ensures
-    (cell-from _ 1 c.start_value-2.ensures
-    (cell-from _ 0 c.start_value.ensures refl c.store.ensures)
-    c.store-2.ensures)
-    c.store-3.ensures)
-    c.store-4.ensures
+returns c = start-all _ _ (omega arith) (omega arith) c.loop-cell.invariant
