@@ -1,29 +1,24 @@
 // The bytes of a file.
+ghost use Rattle.std.specs.Prelude.{◌≤◌, length, IfOk};
+
 use source::FILE_BYTES;
 use std::fs::File;
 use std::io::{Cursor, Error, ErrorKind, Read, Write};
 use std::rt::Files;
 use std::{io, str};
 
-// A file's bytes, by their count, or a read that failed.
-#[derive(Clone, Copy)]
-pub enum Got {
-    Bytes(usize),
-    Failed,
-}
-
-// Reads the whole file, or as much of it as there is room for. Where it cannot be read, one line says why.
-pub fn read(
+// Reads the whole file, or as much of it as there is room for. Where it cannot be read, one line says why, and there is nothing.
+pub fn read<'a>(
     rt: &impl Files,
     errors: &impl Print,
     name: &[u8],
-    buffer: &mut [u8],
-) -> io::Result<Got> {
+    buffer: &'a mut [u8],
+) -> io::Result<Option<&'a [u8]>> {
     match read_named(rt, name, buffer) {
-        Ok(n) => Ok(Got::Bytes(n)),
+        Ok(n) => Ok(Some(&buffer[..n])),
         Err(why) => {
             unreadable(errors, name, why)?;
-            Ok(Got::Failed)
+            Ok(None)
         }
     }
 }
@@ -41,31 +36,28 @@ fn unreadable(errors: &impl Print, name: &[u8], why: Error) -> io::Result<()> {
     let _ = write!(to, "{why}");
     let end = to.position() as usize;
     let text = to.into_inner();
-    let n = words(token::part(&text, 0, end));
     errors.write_all(b"explore: ")?;
     errors.write_all(name)?;
     errors.write_all(b": ")?;
-    errors.write_all(token::part(&text, 0, n))?;
+    errors.write_all(words(token::part(&text, 0, end)))?;
     errors.write_all(b"\n")
 }
 
 // More than the words of an error take.
 const WHY_ROOM: usize = 256;
 
-// How many bytes stand before the first ` (`.
-fn words(text: &[u8]) -> usize {
-    let mut i = 1;
-    while i < text.len() {
-        if text[i - 1] == b' ' && text[i] == b'(' {
-            return i - 1;
-        }
-        i += 1;
+// What stands before the first ` (`.
+fn words(text: &[u8]) -> &[u8] {
+    match text.windows(2).position(|two| matches!(two, b" (")) {
+        Some(end) => &text[..end],
+        None => text,
     }
-    text.len()
 }
 
 // Opens the file and reads it. A name that is not UTF-8 is none that can be opened.
-fn read_named(rt: &impl Files, name: &[u8], buffer: &mut [u8]) -> io::Result<usize> {
+fn read_named(rt: &impl Files, name: &[u8], buffer: &mut [u8]) -> io::Result<usize>
+    ensures { IfOk result (λ n. n ≤ length buffer.new) }
+{
     let Ok(path) = str::from_utf8(name) else {
         return Err(Error::from(ErrorKind::InvalidFilename));
     };
@@ -73,21 +65,17 @@ fn read_named(rt: &impl Files, name: &[u8], buffer: &mut [u8]) -> io::Result<usi
     read_all(buffer, &mut file)
 }
 
-// Reads until the file ends or the buffer is full. Each read but the last brings a byte at least, so a read for each byte
-// of the buffer and one more are enough.
-fn read_all<R: Read>(buffer: &mut [u8], file: &mut R) -> io::Result<usize> {
+// Reads until the file ends or the buffer is full.
+fn read_all<R: Read>(buffer: &mut [u8], file: &mut R) -> io::Result<usize>
+    ensures { IfOk result (λ n. n ≤ length buffer.new) }
+{
     let mut n = 0;
-    let mut reads = 0;
-    while reads <= buffer.len() {
-        if buffer.len() <= n {
-            return Ok(n);
-        }
+    while n < buffer.len() {
         let got = file.read(&mut buffer[n..])?;
         if got == 0 {
-            return Ok(n);
+            break;
         }
         n += got;
-        reads += 1;
     }
     Ok(n)
 }

@@ -3,8 +3,7 @@
 #![tactic(auto)]
 
 use condition::CONDITION_BYTES;
-use file::Got;
-use options::{Asked, Options, Task, WORD_ROOM};
+use options::{Options, Place, Stop, Task, WORD_ROOM, name_at};
 use reader::{TABLE_BYTES, TextAnswer};
 use source::ROOM;
 use std::io;
@@ -20,11 +19,11 @@ const CONDITION_ROOM: usize = CONDITION_BYTES + 1;
 
 fn main(rt: HostRuntime) -> io::Result<()> {
     let errors = rt.stderr();
-    let asked = options::read(&rt, &errors)?;
-    match asked {
-        Asked::For(options) => answer(&rt, &errors, options),
-        Asked::Usage => usage(&rt.stdout()),
-        Asked::Refused => usage(&errors),
+    match options::read(&rt, &errors) {
+        Ok((options, file)) => answer(&rt, &errors, options, file),
+        Err(Stop::Usage) => usage(&rt.stdout()),
+        Err(Stop::Refused) => usage(&errors),
+        Err(Stop::Failed(why)) => Err(why),
     }
 }
 
@@ -44,23 +43,18 @@ fn answer(
     rt: &(impl Files + Env + Print + Eprint),
     errors: &impl Print,
     options: Options,
+    file: Place,
 ) -> io::Result<()> {
-    let mut name = [0u8; WORD_ROOM];
-    let length = rt.arg(options.file, &mut name).unwrap_or(0);
-    let mut bytes = [0u8; ROOM];
-    let Got::Bytes(n) = file::read(rt, errors, token::part(&name, 0, length), &mut bytes)? else {
+    let mut word = [0u8; WORD_ROOM];
+    let name = name_at(rt, file, &mut word);
+    let mut room = [0u8; ROOM];
+    let Some(bytes) = file::read(rt, errors, name, &mut room)? else {
         return Ok(());
     };
-    if n == ROOM {
-        return file::too_long(errors, token::part(&name, 0, length));
+    if bytes.len() == ROOM {
+        return file::too_long(errors, name);
     }
-    take(
-        rt,
-        errors,
-        token::part(&name, 0, length),
-        token::part(&bytes, 0, n),
-        options,
-    )
+    take(rt, errors, name, bytes, options)
 }
 
 // A table as it is; a text once it is read.
@@ -74,7 +68,7 @@ fn take(
     if source::is_table(bytes) {
         return beside(rt, errors, bytes, options);
     }
-    if options.condition != 0 {
+    if options.condition.is_some() {
         return errors.write_all(
             b"explore: --condition is for a table; a text has its own, behind `finally`\n",
         );
@@ -100,17 +94,16 @@ fn beside(
     table: &[u8],
     options: Options,
 ) -> io::Result<()> {
-    if options.condition == 0 {
+    let Some(place) = options.condition else {
         return perform(rt, table, b"", options);
-    }
+    };
     let mut word = [0u8; WORD_ROOM];
-    let length = rt.arg(options.condition, &mut word).unwrap_or(0);
-    let mut condition = [0u8; CONDITION_ROOM];
-    let name = token::part(&word, options.behind, length);
-    let Got::Bytes(n) = file::read(rt, errors, name, &mut condition)? else {
+    let name = name_at(rt, place, &mut word);
+    let mut room = [0u8; CONDITION_ROOM];
+    let Some(condition) = file::read(rt, errors, name, &mut room)? else {
         return Ok(());
     };
-    perform(rt, table, token::part(&condition, 0, n), options)
+    perform(rt, table, condition, options)
 }
 
 // Does what is asked with the program.
@@ -120,10 +113,9 @@ fn perform(
     condition: &[u8],
     options: Options,
 ) -> io::Result<()> {
-    let task = options.task;
     let settings = options.settings;
-    match task {
+    match options.task {
         Task::Explore => run::run(rt, table, condition, settings, options.whole),
-        _ => writing::write(rt, table, condition, settings, task),
+        Task::Write(form) => writing::write(rt, table, condition, settings, form),
     }
 }

@@ -2,7 +2,7 @@
 ghost use Rattle.std.specs.Prelude.{◌≤◌};
 
 use report::{Answer, Report};
-use settings::{MAX_EXECUTIONS, PATH_BYTES, RECORD, Settings, TRACE_BYTES};
+use settings::{PATH_BYTES, RECORD, Settings, TRACE_BYTES};
 use std::io;
 
 // Explores and prints, with as much of the largest buffers as the settings ask for.
@@ -32,10 +32,7 @@ pub fn run(
 fn bytes(records: u64, all: usize) -> usize
     ensures { result ≤ all }
 {
-    if records <= (all / RECORD) as u64 {
-        return RECORD * records as usize;
-    }
-    all
+    records.saturating_mul(RECORD as u64).min(all as u64) as usize
 }
 
 // Explores in buffers of the right lengths, and prints.
@@ -52,8 +49,8 @@ fn run_in(
     tell::print_report(rt, table, condition, trace, settings, whole, report)
 }
 
-// The first budget of executions: a run that needs no more says nothing before its answer.
-const FIRST_BUDGET: u64 = 8192;
+// The budgets of executions, each twice the one before: a run that needs no more than the first says nothing before its answer.
+const BUDGETS: [u64; 3] = [8192, 16384, 32768];
 
 // Explores. The library gives no word before its answer, so a long run is made with budgets that double: one that is spent
 // is named on standard error.
@@ -65,35 +62,19 @@ fn explore(
     trace: &mut [u8],
     settings: Settings,
 ) -> io::Result<Report> {
-    let mut budget = FIRST_BUDGET;
-    while budget < MAX_EXECUTIONS {
-        if settings.executions <= budget {
-            return Ok(explorer::explore(table, condition, path, trace, settings));
+    for executions in BUDGETS {
+        if settings.executions <= executions {
+            break;
         }
-        let report = explorer::explore(
-            table,
-            condition,
-            path,
-            trace,
-            with_budget(settings, budget),
-        );
-        let answer = report.answer;
-        let Answer::Spent = answer else {
-            return Ok(report);
+        let budget = Settings {
+            executions,
+            ..settings
         };
-        say_spent(rt, budget)?;
-        budget = 2 * budget;
+        let report = explorer::explore(table, condition, path, trace, budget);
+        if !matches!(report.answer, Answer::Spent) {
+            return Ok(report);
+        }
+        eprintln!(rt; "{executions} executions, and choices are open")?;
     }
     Ok(explorer::explore(table, condition, path, trace, settings))
-}
-
-// Says that a budget is spent.
-fn say_spent(rt: &impl Eprint, budget: u64) -> io::Result<()> {
-    eprintln!(rt; "{budget} executions, and choices are open")
-}
-
-// The settings with another budget.
-fn with_budget(mut settings: Settings, executions: u64) -> Settings {
-    settings.executions = executions;
-    settings
 }

@@ -1,5 +1,5 @@
 // A program written: as text, as its table, or its condition.
-use crate::options::Task;
+use crate::options::Form;
 use crate::run;
 use settings::Settings;
 use source::FILE_BYTES;
@@ -12,13 +12,13 @@ pub fn write(
     table: &[u8],
     condition: &[u8],
     settings: Settings,
-    task: Task,
+    form: Form,
 ) -> io::Result<()> {
     let mut text = [0u8; FILE_BYTES];
     match writer::write(table, condition, &mut text) {
         Written::Unfit => run::run(rt, table, condition, settings, false),
         Written::Short(needed) => too_long(rt, needed),
-        Written::Text(n) => write_fit(rt, token::part(&text, 0, n), table, condition, task),
+        Written::Text(n) => write_fit(rt, token::part(&text, 0, n), table, condition, form),
     }
 }
 
@@ -33,24 +33,19 @@ fn write_fit(
     text: &[u8],
     table: &[u8],
     condition: &[u8],
-    task: Task,
+    form: Form,
 ) -> io::Result<()> {
-    match task {
-        Task::Explore => Ok(()),
-        Task::ToText => put_out(rt, text),
-        Task::ToTable => {
-            put_out(rt, table)?;
-            if 0 < condition.len() {
+    match form {
+        Form::Text => rt.write_all(text),
+        Form::Table => {
+            rt.write_all(table)?;
+            if !condition.is_empty() {
                 eprintln!(rt;
                     "note: a table holds no condition, so it is left out; --to-condition writes its bytes"
                 )?;
             }
             Ok(())
         }
-        Task::ToCondition => put_out(rt, condition),
+        Form::Condition => rt.write_all(condition),
     }
-}
-
-fn put_out(rt: &impl Print, bytes: &[u8]) -> io::Result<()> {
-    rt.write_all(bytes)
 }

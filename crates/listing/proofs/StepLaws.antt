@@ -1,34 +1,34 @@
 -- The listing of an execution: how wide its rows are, what its texts come to, and one turn of each loop. Assumes nothing.
 --     row-long      where a row ends that is put at a page's begin
---     widest-*      one step more in the search for the longest row, and its end
+--     widest-more   one step more in the search for the longest row
 --     width_low     no row has 256 bytes
---     head-put, step-put, row_put, numbers-put, slots-put, slot-*, offer-*     the calls that put a text, one behind the other
+--     head-put, step-put     the calls that put a text, one behind the other
 --     each-*        one turn of the loop over the slots of a mask, and its end
---     shown-*, between-*     an execution that is shortened
-use Prim.Native.Nat.{ℕ, zero, suc, ◌+◌, ◌-◌, ◌/◌, ◌%◌, ◌≤◌, ◌<◌}
+--     between-*     an execution that is shortened
+use Prim.Native.Nat.{ℕ, zero, suc, ◌+◌, ◌-◌, ◌/◌, ◌%◌, ◌≤◌, ◌<◌, max}
 use mathlib.Core.Bool.{Bool, true, false, cond}
 use mathlib.Core.List.{List, [], ◌∷◌}
 use mathlib.Core.Path.{◌≡◌, ap, ◌∙◌}
 use native.Mathlib.Decide.{dec_lt, dec_le}
 use native.Mathlib.Omega.{arith}
 use native.Mathlib.Numerals.{add-one}
+use Rattle.std.proofs.Math.Nat.{max-eq_left, max-eq_right}
 use borrow.Author.Tests.{lt-ltb, le-ltb, le-leb, lt-leb, eq-eqb, ne_eqb}
-use lib.Dec.{eqb, leb}
+use lib.Dec.{eqb}
 use lib.ListN.{length, take, length-append}
 use lib.Seq.{take_all}
 use Rattle.rules.specs.Token.{bytes_of}
 use Rattle.rules.specs.Table.{Row}
 use Rattle.rules.specs.Form.{forms}
 use Rattle.rules.specs.Writer.{form_in, form_shown, fields_of, row_shown}
-use Rattle.digits.specs.Shown.{shown}
-use Rattle.page.specs.Pages.{Page, page_of, put_text, put_filled, padded, right_at}
+use Rattle.page.specs.Pages.{Page, page_of, put_text, put_filled, padded}
 use Rattle.page.proofs.PageLaws.{text-put}
 use Rattle.steps.specs.Entries.{entry_read, entries}
 use Rattle.outcome.specs.Comes.{came_of_step}
 use Rattle.outcome.specs.declared.Came.{Came}
 use Rattle.row_text.specs.Rows.{row_words, row_said}
 use Rattle.listing.specs.Words.{put_came}
-use Rattle.listing.specs.Steps.{row_of_step, widest, width_of, rows_end, put_head, put_slot, slots_in, put_offer, put_each, put_offers, put_numbers, put_slots, put_step, is_shown, put_between}
+use Rattle.listing.specs.Steps.{row_of_step, larger, widest, width_of, rows_end, put_head, slots_in, put_offer, put_each, put_numbers, put_slots, put_step, put_between}
 
 -- A row's length
 
@@ -71,17 +71,17 @@ row-long table trace i bytes page to put =
 
 -- The longest row
 
-module _ (table trace : List ℕ) (i most width : ℕ) (most-is : most ≡ widest table trace i) (width_is : width ≡ length (row_of_step table trace i)) where
-  pub widest-more : most < width → width ≡ widest table trace (i + 1)
-  unfolding widest
-  widest-more h = rw (add-one i, ← most-is, ← width_is, lt-ltb most width h)
+max-larger : (m n : ℕ) → max m n ≡ larger m n
+max-larger m n =
+    elim (dec_lt m n) [
+      | yes h ↦ rw (lt-ltb m n h) (max-eq_right (omega arith))
+      | no h ↦ rw (le-ltb m n (omega arith)) (max-eq_left (omega arith))
+    ]
 
-  pub widest-same : width ≤ most → most ≡ widest table trace (i + 1)
-  unfolding widest
-  widest-same h = rw (add-one i, ← most-is, ← width_is, le-ltb most width h)
-
-pub widest-all : (table trace : List ℕ) (n i most : ℕ) → most ≡ widest table trace i → n ≡ entries trace → i ≤ n → n ≤ i → most ≡ width_of table trace
-widest-all table trace n i most is all h k = let e : i ≡ entries trace = omega arith in is ∙ ap (widest table trace) e
+pub widest-more : (table trace : List ℕ) (i most width : ℕ) → most ≡ widest table trace i → width ≡ length (row_of_step table trace i) →
+    {m : ℕ} → m ≡ max most width → m ≡ widest table trace (i + 1)
+unfolding widest
+widest-more table trace i most width is row h = rw (add-one i, ← is, ← row) (h ∙ max-larger most width)
 
 widest-low : (table trace : List ℕ) (n : ℕ) → widest table trace n ≤ 253
 unfolding widest
@@ -105,46 +105,12 @@ pub head-put : (width end : ℕ) (l p q r s m : Page) → end ≡ rows_end width
 unfolding put_head
 head-put width end l p q r s m e e1 e2 e3 e4 e5 = rw (e5, e4, e3, e2, e1, e)
 
-module _ (table trace : List ℕ) (i : ℕ) where
-  pub row_put : (thread row : ℕ) (l m : Page) → thread ≡ (entry_read trace i).thread → row ≡ (entry_read trace i).row →
-      m ≡ put_text l (row_said table thread row) → m ≡ put_text l (row_of_step table trace i)
-  row_put thread row l m t n put = rw (put, t, n)
-
-  pub step-put : (held : List ℕ) (width end : ℕ) (came : Came) (l p q r s t u m : Page) → end ≡ rows_end width →
-      p ≡ put_numbers l i (entry_read trace i) → q ≡ padded p 19 → r ≡ put_text q (row_of_step table trace i) →
-      s ≡ put_slots r end (entry_read trace i) → t ≡ padded s (end + 23) → came ≡ came_of_step table trace held i →
-      u ≡ put_came t came → m ≡ put_text u (bytes_of "\n") → m ≡ put_step l table trace held width i
-  unfolding put_step
-  step-put held width end came l p q r s t u m e e1 e2 e3 e4 e5 e6 e7 e8 = rw (e8, e7, e6, e5, e4, e3, e2, e1, e)
-
-module _ (trace : List ℕ) (i : ℕ) where
-  pub numbers-put : (thread row : ℕ) (l p q m : Page) → p ≡ right_at l 4 (i % 65536 + 1) → thread ≡ (entry_read trace i).thread →
-      q ≡ right_at p 12 thread → row ≡ (entry_read trace i).row → m ≡ right_at q 17 row → m ≡ put_numbers l i (entry_read trace i)
-  unfolding put_numbers
-  numbers-put thread row l p q m e1 t e2 n e3 = rw (e3, e2, e1, t, n)
-
-  pub slots-put : (slot mask end : ℕ) (l p q m : Page) → slot ≡ (entry_read trace i).slot → p ≡ put_slot l end slot →
-      q ≡ padded p (end + 8) → mask ≡ (entry_read trace i).mask → m ≡ put_offers q mask → m ≡ put_slots l end (entry_read trace i)
-  unfolding put_slots
-  slots-put slot mask end l p q m s e1 e2 k e3 = rw (e3, e2, e1, s, k)
-
-module _ (l m : Page) (end slot : ℕ) where
-  pub slot-none : (p : Page) → slot ≡ 255 → p ≡ padded l (end + 5) → m ≡ put_text p (bytes_of "-") → m ≡ put_slot l end slot
-  unfolding put_slot
-  slot-none p h pad put = rw (put, pad, eq-eqb slot 255 h)
-
-  pub slot-some : (slot ≡ 255 → ⊥) → m ≡ right_at l (end + 6) slot → m ≡ put_slot l end slot
-  unfolding put_slot
-  slot-some h put = rw (ne_eqb slot 255 h) put
-
-module _ (l m : Page) (first : Bool) (slot : ℕ) where
-  pub offer-first : first ≡ true → m ≡ put_text l (shown slot) → m ≡ put_offer l first slot
-  unfolding put_offer
-  offer-first h put = rw h put
-
-  pub offer-next : first ≡ false → m ≡ put_text (put_text l (bytes_of " ")) (shown slot) → m ≡ put_offer l first slot
-  unfolding put_offer
-  offer-next h put = rw h put
+pub step-put : (table trace : List ℕ) (i : ℕ) (held : List ℕ) (width end : ℕ) (came : Came) (l p q r s t u m : Page) → end ≡ rows_end width →
+    p ≡ put_numbers l i (entry_read trace i) → q ≡ padded p 19 → r ≡ put_text q (row_of_step table trace i) →
+    s ≡ put_slots r end (entry_read trace i) → t ≡ padded s (end + 23) → came ≡ came_of_step table trace held i →
+    u ≡ put_came t came → m ≡ put_text u (bytes_of "\n") → m ≡ put_step l table trace held width i
+unfolding put_step
+step-put table trace i held width end came l p q r s t u m e e1 e2 e3 e4 e5 e6 e7 e8 = rw (e8, e7, e6, e5, e4, e3, e2, e1, e)
 
 -- The slots of a mask: those that are left to be put at slot i
 
@@ -175,16 +141,6 @@ module _ (l whole : Page) (first : Bool) (rest i : ℕ) (left : put_each l first
   each-end h e = rw (slots-none rest i h, e) at left
 
 -- An execution that is shortened
-
-module _ (i n : ℕ) where
-  pub shown-first : i < 10 → true ≡ is_shown n i
-  shown-first h = rw (lt-ltb i 10 h)
-
-  pub shown-last : 10 ≤ i → leb (n - i) 10 ≡ is_shown n i
-  shown-last h = rw (le-ltb i 10 h)
-
-  pub shown-past : 10 ≤ i → n ≤ i → true ≡ is_shown n i
-  shown-past h k = let e : n - i ≤ 10 = omega arith in rw (le-ltb i 10 h, le-leb (n - i) 10 e)
 
 module _ (l : Page) (n : ℕ) where
   pub between-some : (m : Page) → 20 < n → m ≡ put_filled l (bytes_of "   ..  # steps between; --all-rows shows them\n") (n - 20) 0 0 → m ≡ put_between l n

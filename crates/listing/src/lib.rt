@@ -18,15 +18,9 @@ mod came;
 pub fn width(table: &[u8], trace: &[u8]) -> usize
     ensures { result ≡ width_of table.now trace.now }
 {
-    let n = steps::count(trace);
     let mut most = HEADING;
-    let mut i = 0;
-    while i < n {
-        let width = row_width(table, trace, i);
-        if most < width {
-            most = width;
-        }
-        i += 1;
+    for i in 0..steps::count(trace) {
+        most = most.max(row_width(table, trace, i));
     }
     most
 }
@@ -152,14 +146,12 @@ fn put_offers(page: &mut Page, at: usize, mask: u8) -> usize
     let mut to = at;
     let mut first = true;
     let mut rest = mask;
-    let mut slot = 0;
-    while slot < MAX_ATOMIC_HISTORY as u64 {
+    for slot in 0..MAX_ATOMIC_HISTORY as u64 {
         if rest % 2 == 1 {
             to = put_offer(page, to, slot, first);
             first = false;
         }
         rest = rest / 2;
-        slot += 1;
     }
     if first {
         return page::put(page, to, b"-");
@@ -185,13 +177,7 @@ pub const SHOWN: usize = 10;
 pub fn is_shown(n: usize, i: usize) -> bool
     ensures { result ≡ is_shown n i }
 {
-    if i < SHOWN {
-        return true;
-    }
-    if i < n {
-        return n - i <= SHOWN;
-    }
-    true
+    i < SHOWN || n.saturating_sub(i) <= SHOWN
 }
 
 // Puts how many of `n` steps are not shown; nothing where all are.

@@ -1,16 +1,9 @@
 // The buffers of a case: what they hold before a run, and what the list says of them after it.
+use crate::compare::{Difference, Place};
 use crate::fields;
-use decimal::Parsed;
 
 // How long the two buffers are: as the settings' most, and more, for the cases that ask for a wrong length.
 pub const BUFFER_ROOM: usize = 70000;
-
-// The first place where a buffer is not as the list says, or none.
-#[derive(Clone, Copy)]
-pub enum Compared {
-    Same,
-    Differs { at: usize, listed: u8 },
-}
 
 // What byte `i` of a buffer is before a run.
 pub fn pattern(i: usize) -> u8 {
@@ -19,42 +12,47 @@ pub fn pattern(i: usize) -> u8 {
 
 // Gives a buffer the bytes that it has before a run.
 pub fn fill(buffer: &mut [u8]) {
-    let mut i = 0;
-    while i < buffer.len() {
-        buffer[i] = pattern(i);
-        i += 1;
+    for (i, byte) in buffer.iter_mut().enumerate() {
+        *byte = pattern(i);
     }
 }
 
-// Holds a buffer to the list's text of it: `=` for unchanged, else hex without the zero bytes at the end, `-` for none.
-pub fn compare(buffer: &[u8], text: &[u8]) -> Compared {
-    let mut i = 0;
-    while i < buffer.len() {
+// Holds a buffer to the list's text of it: `=` for unchanged, else hex without the zero bytes at the end, `-` for none. A text that is
+// longer than the buffer differs behind its end.
+pub fn compare<F: Fn(usize) -> Place>(
+    buffer: &[u8],
+    text: &[u8],
+    place: F,
+) -> Result<(), Difference>
+    requires { F.IsAlwaysCallable place }
+{
+    for (i, byte) in buffer.iter().enumerate() {
         let listed = listed_byte(text, i);
-        if buffer[i] != listed {
-            return Compared::Differs { at: i, listed };
+        if *byte != listed {
+            return Err(Difference {
+                place: place(i),
+                given: u64::from(*byte),
+                listed: u64::from(listed),
+            });
         }
-        i += 1;
     }
-    if fields::is_byte(text, b'=') || text.len() / 2 <= buffer.len() {
-        return Compared::Same;
+    if matches!(text, b"=") || text.len() / 2 <= buffer.len() {
+        return Ok(());
     }
-    Compared::Differs {
-        at: i,
-        listed: listed_byte(text, i),
-    }
+    Err(Difference {
+        place: place(buffer.len()),
+        given: 0,
+        listed: u64::from(listed_byte(text, buffer.len())),
+    })
 }
 
 // Byte `i` of the buffer that a text describes.
 fn listed_byte(text: &[u8], i: usize) -> u8 {
-    if fields::is_byte(text, b'=') {
+    if matches!(text, b"=") {
         return pattern(i);
     }
-    if text.len() / 2 <= i {
-        return 0;
+    match text.as_chunks::<2>().0.get(i) {
+        Some([high, low]) => fields::hex_byte(*high, *low).unwrap_or(0),
+        None => 0,
     }
-    let Parsed::Number(byte) = fields::hex_byte(text[2 * i], text[2 * i + 1]) else {
-        return 0;
-    };
-    (byte % 256) as u8
 }

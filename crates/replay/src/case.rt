@@ -1,41 +1,13 @@
 // A case of the list: what a run is given, and what the list says that it answers.
 use crate::fields;
-use crate::fields::{FIELDS, NOT_GIVEN, Starts};
-use decimal::Parsed;
+use crate::fields::{FIELDS, Fields, NoCase};
 use numbers::REPORT_NUMBERS;
 use settings::{MAX_BOUND, Settings, bound_of};
 
-// The fields' places. From ANSWER on stand the report's numbers.
-pub const BRANCHES: usize = 1;
+// The numbers of two fields, counted from 1: the table and the condition.
+pub const TABLE: usize = 10;
 
-pub const OPERATIONS: usize = 2;
-
-pub const EXECUTIONS: usize = 3;
-
-pub const BOUND: usize = 4;
-
-pub const EXPLORING: usize = 5;
-
-pub const PATH: usize = 6;
-
-pub const TRACE: usize = 7;
-
-pub const LIST: usize = 8;
-
-pub const TABLE: usize = 9;
-
-pub const ANSWER: usize = 10;
-
-pub const DIGEST: usize = ANSWER + REPORT_NUMBERS;
-
-pub const LIST_LEFT: usize = DIGEST + 1;
-
-pub const PATH_LEFT: usize = LIST_LEFT + 1;
-
-pub const TRACE_LEFT: usize = PATH_LEFT + 1;
-
-// Where a case has a condition, it stands behind the answer.
-pub const CONDITION: usize = FIELDS;
+pub const CONDITION: usize = FIELDS + 1;
 
 // The longest table that a line may hold, longer than any that is accepted.
 pub const MOST_TABLE: usize = 8192;
@@ -45,98 +17,93 @@ const MOST_BUFFER: u64 = 1000000;
 
 const MOST_LIST: u64 = 1000;
 
-// The number in each field that has one.
-pub type FieldNumbers = [u64; FIELDS];
+// The numbers of a report.
+pub type Numbers = [u64; REPORT_NUMBERS];
 
-// Reads every field that is a number and looks at the others; answers the first field that is wrong, or FIELDS.
-pub fn read_fields(line: &[u8], starts: &Starts, numbers: &mut FieldNumbers) -> usize {
-    let mut k = 0;
-    while k < FIELDS {
-        let from = starts[k];
-        let next = starts[k + 1];
-        let Parsed::Number(value) = read_field(fields::text(line, from, next), k) else {
-            return k;
+// What a line says.
+#[derive(Clone, Copy)]
+pub struct Case<'a> {
+    pub settings: Settings,
+    // How long the two buffers are, and the thread list, where there is one.
+    pub path: usize,
+    pub trace: usize,
+    pub list: Option<usize>,
+    // The bytes in hex, `-` or nothing for none.
+    pub table: &'a [u8],
+    pub condition: &'a [u8],
+    pub answer: Numbers,
+    // What the two buffers then hold (buffers).
+    pub path_left: &'a [u8],
+    pub trace_left: &'a [u8],
+}
+
+impl<'a> Case<'a> {
+    // Reads a line. Of the fields that are wrong, the first is told.
+    pub fn read(line: &'a [u8]) -> Result<Self, NoCase> {
+        let count = line.split(|byte| *byte == b' ').count();
+        if count != FIELDS && count != FIELDS + 1 {
+            return Err(NoCase::Count(count));
+        }
+        let mut fields = Fields::of(line);
+        fields.text(|name| !name.is_empty())?;
+        let branches = fields.number(u64::MAX)?;
+        let operations = fields.number(u64::MAX)?;
+        let executions = fields.number(u64::MAX)?;
+        let bound = fields.number_or_none(MAX_BOUND)?;
+        let settings = Settings {
+            branches,
+            operations,
+            executions,
+            bound: bound_of(bound.unwrap_or(u64::MAX)),
+            exploring: fields.number(1)? == 1,
         };
-        numbers[k] = value;
-        k += 1;
-    }
-    FIELDS
-}
-
-// The number in field `k`, or 0 where a field that is no number has the right form.
-fn read_field(text: &[u8], k: usize) -> Parsed {
-    match k {
-        0 => good(text.len() != 0),
-        BOUND | LIST => number_or_none(text, k),
-        TABLE => good(fields::is_byte(text, b'-') || fields::is_hex(text)),
-        DIGEST => good(fields::is_hex(text)),
-        LIST_LEFT => good(
-            fields::is_byte(text, b'-')
-                || fields::is_byte(text, b'=')
-                || fields::is_byte(text, b'+'),
-        ),
-        PATH_LEFT | TRACE_LEFT => good(
-            fields::is_byte(text, b'-') || fields::is_byte(text, b'=') || fields::is_hex(text),
-        ),
-        _ => fields::number(text, most(k)),
-    }
-}
-
-// The 0 that stands for a field of the right form.
-fn good(is_good: bool) -> Parsed {
-    if is_good {
-        return Parsed::Number(0);
-    }
-    Parsed::Bad
-}
-
-// The number in field `k`, which may be left out.
-fn number_or_none(text: &[u8], k: usize) -> Parsed {
-    if fields::is_byte(text, b'-') {
-        return Parsed::Number(NOT_GIVEN);
-    }
-    fields::number(text, most(k))
-}
-
-// The largest number that field `k` may hold.
-fn most(k: usize) -> u64 {
-    match k {
-        BOUND => MAX_BOUND,
-        EXPLORING => 1,
-        PATH | TRACE => MOST_BUFFER,
-        LIST => MOST_LIST,
-        _ => NOT_GIVEN,
-    }
-}
-
-// The settings of a case.
-pub fn settings(numbers: &FieldNumbers) -> Settings {
-    let bound = bound_of(numbers[BOUND]);
-    Settings {
-        branches: numbers[BRANCHES],
-        operations: numbers[OPERATIONS],
-        executions: numbers[EXECUTIONS],
-        bound,
-        exploring: numbers[EXPLORING] == 1,
-    }
-}
-
-// Writes a table's or a condition's bytes; answers how many there are, or more than fit.
-pub fn read_table(text: &[u8], table: &mut [u8; MOST_TABLE]) -> usize {
-    if fields::is_byte(text, b'-') {
-        return 0;
-    }
-    let n = text.len() / 2;
-    if MOST_TABLE < n {
-        return MOST_TABLE + 1;
-    }
-    let mut i = 0;
-    while i < n {
-        let Parsed::Number(byte) = fields::hex_byte(text[2 * i], text[2 * i + 1]) else {
-            return MOST_TABLE + 1;
+        let path = fields.number(MOST_BUFFER)? as usize;
+        let trace = fields.number(MOST_BUFFER)? as usize;
+        let list = fields.number_or_none(MOST_LIST)?.map(|n| n as usize);
+        let table = fields.text(|text| matches!(text, b"-") || fields::is_hex(text))?;
+        let answer = read_answer(&mut fields)?;
+        fields.text(fields::is_hex)?;
+        fields.text(|left| matches!(left, b"-" | b"=" | b"+"))?;
+        let path_left = fields.text(is_left)?;
+        let trace_left = fields.text(is_left)?;
+        let condition = match count {
+            FIELDS => fields.next(),
+            _ => fields.text(fields::is_hex)?,
         };
-        table[i] = (byte % 256) as u8;
-        i += 1;
+        Ok(Case {
+            settings,
+            path,
+            trace,
+            list,
+            table,
+            condition,
+            answer,
+            path_left,
+            trace_left,
+        })
     }
-    n
+}
+
+// The report's numbers.
+fn read_answer(fields: &mut Fields<'_>) -> Result<Numbers, NoCase> {
+    let mut answer = [0u64; REPORT_NUMBERS];
+    for number in answer.iter_mut() {
+        *number = fields.number(u64::MAX)?;
+    }
+    Ok(answer)
+}
+
+// Whether a text can say what a buffer holds after a run.
+fn is_left(text: &[u8]) -> bool {
+    matches!(text, b"-" | b"=") || fields::is_hex(text)
+}
+
+// A table's or a condition's bytes, if there is room for them.
+pub fn bytes<'a>(text: &[u8], room: &'a mut [u8; MOST_TABLE]) -> Option<&'a [u8]> {
+    let (pairs, _) = text.as_chunks::<2>();
+    let bytes = room.get_mut(..pairs.len())?;
+    for (byte, [high, low]) in bytes.iter_mut().zip(pairs) {
+        *byte = fields::hex_byte(*high, *low)?;
+    }
+    Some(bytes)
 }

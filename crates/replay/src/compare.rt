@@ -1,198 +1,126 @@
 // One case: asked again, and its answer held to the list's.
-use crate::buffers::Compared;
-use crate::case::{FieldNumbers, MOST_TABLE};
-use crate::fields::{FIELDS, NOT_GIVEN, STARTS, Starts};
-use crate::{buffers, case, fields};
-use layout::long8;
-use numbers::{REPORT_NUMBERS, of_report};
+use crate::case::{Case, MOST_TABLE, Numbers};
+use crate::fields::NoCase;
+use crate::{buffers, case};
+use numbers::{BEFORE_SUMMARIES, SUMMARY, of_report, places};
 use report::Report;
+use std::fmt;
 
-// The numbers of a report.
-pub type Given = [u64; REPORT_NUMBERS];
-
-// How a case comes out.
+// How a case comes out: `Unread` if it asks for longer buffers than this program has.
 #[derive(Clone, Copy)]
 pub enum Agreement {
     Agrees,
-    // The report's number `place` is `given` and not `listed`.
-    Number {
-        place: usize,
-        given: u64,
-        listed: u64,
-    },
-    // A byte of the path, or of the trace, is `given` and not `listed`.
-    Path {
-        at: usize,
-        given: u64,
-        listed: u64,
-    },
-    Trace {
-        at: usize,
-        given: u64,
-        listed: u64,
-    },
-    // It asks for longer buffers than this program has.
+    Differs(Difference),
     Unread,
-    // The line is no case: it has another number of fields, or this field is wrong.
-    Count(usize),
-    Field(usize),
 }
 
-// Asks the case of a line again.
-pub fn replay_line(line: &[u8], path: &mut [u8], trace: &mut [u8]) -> Agreement {
-    let mut starts = [0usize; STARTS];
-    let count = fields::split(line, &mut starts);
-    if count != FIELDS && count != FIELDS + 1 {
-        return Agreement::Count(count);
-    }
-    let mut numbers = [0u64; FIELDS];
-    let wrong = case::read_fields(line, &starts, &mut numbers);
-    if wrong != FIELDS {
-        return Agreement::Field(wrong);
-    }
-    if count != FIELDS && !fields::is_hex(condition_text(line, &starts)) {
-        return Agreement::Field(case::CONDITION);
-    }
-    let mut table = [0u8; MOST_TABLE];
-    let size = case::read_table(
-        fields::text(line, starts[case::TABLE], starts[case::TABLE + 1]),
-        &mut table,
-    );
-    let path_len = numbers[case::PATH] as usize;
-    let trace_len = numbers[case::TRACE] as usize;
-    if path.len() < path_len || trace.len() < trace_len {
-        return Agreement::Unread;
-    }
-    run_case(
-        line,
-        &starts,
-        &table,
-        &numbers,
-        &mut path[0..path_len],
-        &mut trace[0..trace_len],
-        size,
-    )
+// What differs first: a number of the report, or a byte of the path or of the trace.
+#[derive(Clone, Copy)]
+pub struct Difference {
+    pub place: Place,
+    pub given: u64,
+    pub listed: u64,
 }
 
-// The condition's field, or nothing where there is none: then no field begins there.
-fn condition_text<'a>(line: &'a [u8], starts: &Starts) -> &'a [u8] {
-    fields::text(line, starts[case::CONDITION], starts[case::CONDITION + 1])
+#[derive(Clone, Copy)]
+pub enum Place {
+    Number(usize),
+    Path(usize),
+    Trace(usize),
 }
 
-// The first `n` bytes, or all if there are fewer.
-fn first_bytes(bytes: &[u8; MOST_TABLE], n: usize) -> &[u8] {
-    let all: &[u8] = bytes;
-    if n <= all.len() {
-        return &all[0..n];
+impl fmt::Display for Difference {
+    fn fmt<W: fmt::Write>(&self, f: &mut fmt::Formatter<W>) -> fmt::Result {
+        let Difference {
+            place,
+            given,
+            listed,
+        } = *self;
+        write!(f, "{place} is {given}, the list says {listed}")
     }
-    all
 }
 
-// Asks a case whose buffers have the lengths that it states, and holds the answer to the list's.
-fn run_case(
-    line: &[u8],
-    starts: &Starts,
-    table: &[u8; MOST_TABLE],
-    numbers: &FieldNumbers,
-    path: &mut [u8],
-    trace: &mut [u8],
-    size: usize,
-) -> Agreement {
-    let bytes: &[u8] = table;
-    if bytes.len() < size {
-        return Agreement::Field(case::TABLE);
+impl fmt::Display for Place {
+    fn fmt<W: fmt::Write>(&self, f: &mut fmt::Formatter<W>) -> fmt::Result {
+        match *self {
+            Place::Number(number) => match number {
+                places::ANSWER => write!(f, "the answer"),
+                places::BEGUN => write!(f, "executions begun"),
+                places::OPENED => write!(f, "choices opened"),
+                places::STILL_OPEN => write!(f, "choices open"),
+                places::ROWS => write!(f, "rows begun"),
+                places::THREAD => write!(f, "the thread at fault"),
+                places::ROW => write!(f, "the row at fault"),
+                places::KIND => write!(f, "the race kind"),
+                places::OTHER => write!(f, "the other thread"),
+                _ => write_summary(f, number.saturating_sub(BEFORE_SUMMARIES)),
+            },
+            Place::Path(at) => write!(f, "byte {at} of the path"),
+            Place::Trace(at) => write!(f, "byte {at} of the trace"),
+        }
     }
-    let mut condition = [0u8; MOST_TABLE];
-    let claimed = case::read_table(condition_text(line, starts), &mut condition);
-    if MOST_TABLE < claimed {
-        return Agreement::Field(case::CONDITION);
-    }
-    let claim = first_bytes(&condition, claimed);
-    let given = ask(&bytes[0..size], claim, numbers, path, trace);
-    judge(line, starts, numbers, &given, path, trace)
 }
 
-// What the explorer answers.
-fn ask(
-    table: &[u8],
-    condition: &[u8],
-    numbers: &FieldNumbers,
-    path: &mut [u8],
-    trace: &mut [u8],
-) -> Given {
+// The name of a number of a thread's summary, counted from the first thread's first.
+fn write_summary<W: fmt::Write>(f: &mut fmt::Formatter<W>, number: usize) -> fmt::Result {
+    let thread = number / SUMMARY;
+    let name = match number % SUMMARY {
+        places::STATE => "state",
+        places::THREAD_ROWS => "rows begun",
+        places::YIELDS => "yields",
+        _ => "own version",
+    };
+    write!(f, "thread {thread}'s {name}")
+}
+
+// Asks the case of a line again, in as much of the two buffers as it asks for.
+pub fn replay_line(line: &[u8], path: &mut [u8], trace: &mut [u8]) -> Result<Agreement, NoCase> {
+    let case = Case::read(line)?;
+    let Some(path) = path.get_mut(..case.path) else {
+        return Ok(Agreement::Unread);
+    };
+    let Some(trace) = trace.get_mut(..case.trace) else {
+        return Ok(Agreement::Unread);
+    };
+    let mut room = [0u8; MOST_TABLE];
+    let table = case::bytes(case.table, &mut room).ok_or(NoCase::Field(case::TABLE))?;
+    let mut room = [0u8; MOST_TABLE];
+    let condition = case::bytes(case.condition, &mut room).ok_or(NoCase::Field(case::CONDITION))?;
     buffers::fill(path);
     buffers::fill(trace);
-    of_report(explored(table, condition, numbers, path, trace))
+    let given = of_report(explored(&case, table, condition, path, trace));
+    match judge(&case, &given, path, trace) {
+        Ok(()) => Ok(Agreement::Agrees),
+        Err(difference) => Ok(Agreement::Differs(difference)),
+    }
 }
 
-// By the first entry, or by the second where the case has a thread list: that one judges its length.
+// What the explorer answers: by the first entry, or by the second where the case has a thread list: that one judges its length.
 fn explored(
+    case: &Case<'_>,
     table: &[u8],
     condition: &[u8],
-    numbers: &FieldNumbers,
     path: &mut [u8],
     trace: &mut [u8],
 ) -> Report {
-    let settings = case::settings(numbers);
-    let listed = numbers[case::LIST];
-    if listed == NOT_GIVEN {
-        return explorer::explore(table, condition, path, trace, settings);
+    let settings = case.settings;
+    match case.list {
+        None => explorer::explore(table, condition, path, trace, settings),
+        Some(listed) => into::explore_counted(table, condition, path, trace, settings, listed),
     }
-    into::explore_counted(table, condition, path, trace, settings, listed as usize)
 }
 
 // Holds what a run gave to what the list says.
-fn judge(
-    line: &[u8],
-    starts: &Starts,
-    numbers: &FieldNumbers,
-    given: &Given,
-    path: &[u8],
-    trace: &[u8],
-) -> Agreement {
-    let place = first_other(numbers, given);
-    if place < REPORT_NUMBERS {
-        return Agreement::Number {
-            place,
-            given: given[place],
-            listed: numbers[case::ANSWER + place],
-        };
-    }
-    let path_text = fields::text(line, starts[case::PATH_LEFT], starts[case::PATH_LEFT + 1]);
-    if let Compared::Differs { at, listed } = buffers::compare(path, path_text) {
-        return Agreement::Path {
-            at,
-            given: byte_at(path, at),
-            listed: listed as u64,
-        };
-    }
-    let trace_text = fields::text(line, starts[case::TRACE_LEFT], starts[case::TRACE_LEFT + 1]);
-    if let Compared::Differs { at, listed } = buffers::compare(trace, trace_text) {
-        return Agreement::Trace {
-            at,
-            given: byte_at(trace, at),
-            listed: listed as u64,
-        };
-    }
-    Agreement::Agrees
-}
-
-// A byte of a buffer, or 0 past its end.
-fn byte_at(buffer: &[u8], at: usize) -> u64 {
-    if at < buffer.len() {
-        return long8(buffer[at]);
-    }
-    0
-}
-
-// The first of the numbers that is not the list's, or REPORT_NUMBERS.
-fn first_other(numbers: &FieldNumbers, given: &Given) -> usize {
-    let mut i = 0;
-    while i < REPORT_NUMBERS {
-        if given[i] != numbers[case::ANSWER + i] {
-            return i;
+fn judge(case: &Case<'_>, given: &Numbers, path: &[u8], trace: &[u8]) -> Result<(), Difference> {
+    for (i, (given, listed)) in given.iter().zip(&case.answer).enumerate() {
+        if given != listed {
+            return Err(Difference {
+                place: Place::Number(i),
+                given: *given,
+                listed: *listed,
+            });
         }
-        i += 1;
     }
-    i
+    buffers::compare(path, case.path_left, |at| Place::Path(at))?;
+    buffers::compare(trace, case.trace_left, |at| Place::Trace(at))
 }

@@ -1,100 +1,136 @@
 // The fields of a line of the list: texts between single spaces, decimal numbers and lowercase hex.
-use crate::case::TRACE_LEFT;
+ghost use Rattle.std.specs.Prelude.{◌<◌, IfSome};
+
 use decimal::Parsed;
+use numbers::REPORT_NUMBERS;
+use std::fmt;
 
 // A line with its answer has this many fields; a condition is one more, the last.
-pub const FIELDS: usize = TRACE_LEFT + 1;
+pub const FIELDS: usize = 10 + REPORT_NUMBERS + 4;
 
-// The places that are kept of a line.
-pub const STARTS: usize = FIELDS + 2;
+// The longest line.
+pub const LONGEST_LINE: usize = 262144;
 
-// The largest number. It stands for the `-` of a number that is not given too.
-pub const MAX_U64: u64 = 18446744073709551615;
+// Why a line is no case: it has another number of fields, the field of this number is wrong, or it is too long. Fields count from 1.
+#[derive(Clone, Copy)]
+pub enum NoCase {
+    Count(usize),
+    Field(usize),
+    TooLong,
+}
 
-pub const NOT_GIVEN: u64 = MAX_U64;
-
-// Where each field begins, and behind the last one past the line's end.
-pub type Starts = [usize; STARTS];
-
-// Finds where the fields begin; answers how many there are, FIELDS + 2 standing for every count above FIELDS + 1.
-pub fn split(line: &[u8], starts: &mut Starts) -> usize {
-    let mut count = 1;
-    starts[0] = 0;
-    let mut i = 0;
-    while i < line.len() {
-        if line[i] == b' ' {
-            if FIELDS < count {
-                return FIELDS + 2;
+impl fmt::Display for NoCase {
+    fn fmt<W: fmt::Write>(&self, f: &mut fmt::Formatter<W>) -> fmt::Result {
+        match *self {
+            NoCase::Count(count) => {
+                let most = FIELDS + 1;
+                write!(
+                    f,
+                    "an answered case has {FIELDS} fields, or {most} with a condition, and this line "
+                )?;
+                if FIELDS < count {
+                    return write!(f, "more");
+                }
+                write!(f, "{count}")
             }
-            starts[count] = i + 1;
-            count += 1;
-        }
-        i += 1;
-    }
-    starts[count] = line.len() + 1;
-    count
-}
-
-// The text from `from` up to the byte before `next`, or nothing if the line has no such part.
-pub fn text(line: &[u8], from: usize, next: usize) -> &[u8] {
-    if from < next {
-        let end = next - 1;
-        if end <= line.len() {
-            return &line[from..end];
+            NoCase::Field(field) => {
+                write!(f, "field {field} is not what an answered case has there")
+            }
+            NoCase::TooLong => write!(f, "it is longer than {LONGEST_LINE} bytes"),
         }
     }
-    &line[..0]
 }
 
-// Whether a text is this one byte.
-pub fn is_byte(text: &[u8], byte: u8) -> bool {
-    if text.len() == 1 {
-        return text[0] == byte;
+// The fields of a line that are not read yet, and how many were.
+#[derive(Clone, Copy)]
+pub struct Fields<'a> {
+    rest: &'a [u8],
+    read: usize,
+}
+
+impl<'a> Fields<'a> {
+    // Those of a line.
+    pub fn of(line: &'a [u8]) -> Self {
+        Fields {
+            rest: line,
+            read: 0,
+        }
     }
-    false
+
+    // The next one; nothing behind the last.
+    pub fn next(&mut self) -> &'a [u8] {
+        let rest = self.rest;
+        self.read = self.read.saturating_add(1);
+        match rest.iter().position(|byte| *byte == b' ') {
+            Some(end) => {
+                self.rest = &rest[end + 1..];
+                &rest[..end]
+            }
+            None => {
+                self.rest = &rest[..0];
+                rest
+            }
+        }
+    }
+
+    // The next one, which must be good.
+    pub fn text<F: FnOnce(&[u8]) -> bool>(&mut self, is_good: F) -> Result<&'a [u8], NoCase>
+        requires { F.IsAlwaysCallable is_good }
+    {
+        let text = self.next();
+        if is_good(text) {
+            return Ok(text);
+        }
+        Err(NoCase::Field(self.read))
+    }
+
+    // The number in the next one, from 0 to `most`.
+    pub fn number(&mut self, most: u64) -> Result<u64, NoCase> {
+        let text = self.next();
+        number(text, most).ok_or(NoCase::Field(self.read))
+    }
+
+    // The number in the next one, which may be left out.
+    pub fn number_or_none(&mut self, most: u64) -> Result<Option<u64>, NoCase> {
+        let text = self.next();
+        if matches!(text, b"-") {
+            return Ok(None);
+        }
+        match number(text, most) {
+            Some(value) => Ok(Some(value)),
+            None => Err(NoCase::Field(self.read)),
+        }
+    }
 }
 
 // The decimal number that a text spells, from 0 to `most`, in the one way to write it: with no zero in front.
-pub fn number(text: &[u8], most: u64) -> Parsed {
-    if 1 < text.len() {
-        if text[0] == b'0' {
-            return Parsed::Bad;
-        }
+fn number(text: &[u8], most: u64) -> Option<u64> {
+    if matches!(text, [b'0', _, ..]) {
+        return None;
     }
-    decimal::number_between(text, 0, most)
+    match decimal::number_between(text, 0, most) {
+        Parsed::Number(value) => Some(value),
+        Parsed::Bad => None,
+    }
 }
 
 // The byte that two lowercase hex digits spell.
-pub fn hex_byte(high: u8, low: u8) -> Parsed {
-    let Parsed::Number(h) = hex_digit(high) else {
-        return Parsed::Bad;
-    };
-    let Parsed::Number(l) = hex_digit(low) else {
-        return Parsed::Bad;
-    };
-    Parsed::Number(16 * (h % 16) + l % 16)
+pub fn hex_byte(high: u8, low: u8) -> Option<u8> {
+    Some(16 * hex_digit(high)? + hex_digit(low)?)
 }
 
 // The number that a lowercase hex digit spells.
-pub fn hex_digit(byte: u8) -> Parsed {
+fn hex_digit(byte: u8) -> Option<u8>
+    ensures { IfSome result (λ n. n < 16) }
+{
     match byte {
-        b'0'..=b'9' => Parsed::Number((byte - b'0') as u64),
-        b'a'..=b'f' => Parsed::Number((byte - b'a') as u64 + 10),
-        _ => Parsed::Bad,
+        b'0'..=b'9' => Some(byte - b'0'),
+        b'a'..=b'f' => Some(byte - b'a' + 10),
+        _ => None,
     }
 }
 
 // Whether a text is an even number of lowercase hex digits, at least two.
 pub fn is_hex(text: &[u8]) -> bool {
-    if text.len() == 0 || text.len() % 2 != 0 {
-        return false;
-    }
-    let mut i = 0;
-    while i < text.len() {
-        let Parsed::Number(_) = hex_digit(text[i]) else {
-            return false;
-        };
-        i += 1;
-    }
-    true
+    !text.is_empty() && text.len() % 2 == 0 && text.iter().all(|byte| hex_digit(*byte).is_some())
 }

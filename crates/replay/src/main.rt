@@ -17,6 +17,8 @@ fn main(rt: HostRuntime) -> io::Result<()> {
     let mut text = [0u8; LINE_ROOM];
     let mut path = [0u8; BUFFER_ROOM];
     let mut trace = [0u8; BUFFER_ROOM];
-    let found = lines::replay(&rt, &mut rt.stdin(), &mut text, &mut path, &mut trace)?;
-    tally::print(&rt, found)
+    match lines::replay(&rt, &mut rt.stdin(), &mut text, &mut path, &mut trace)? {
+        Some(tally) => println!(&rt; "{tally}"),
+        None => Ok(()),
+    }
 }

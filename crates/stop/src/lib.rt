@@ -16,10 +16,7 @@ use thread::BLOCKED;
 pub fn put_place(page: &mut Page, at: usize, table: &[u8], site: AtFault, limited: bool) -> usize
     ensures { page_of page.new result ≡ put_place (page_of page.old at) table.now limited site.thread site.row }
 {
-    if MAX_THREADS as u64 <= site.thread {
-        return at;
-    }
-    if (MAX_ROWS as u64) < site.row {
+    if MAX_THREADS as u64 <= site.thread || (MAX_ROWS as u64) < site.row {
         return at;
     }
     let to = put_how(page, at, limited);

@@ -6,9 +6,11 @@ use std::io;
 use steps::held;
 use steps::held::Held;
 
-// How wide the rows of the listing are, how many steps the execution has, and whether all are shown.
+// The execution that is listed: how wide its rows are, how many steps it has, and whether all are shown.
 #[derive(Clone, Copy)]
-struct Frame {
+struct Frame<'a> {
+    table: &'a [u8],
+    trace: &'a [u8],
     width: usize,
     n: usize,
     whole: bool,
@@ -27,37 +29,33 @@ pub fn execution(
         return out::line(rt, b"\nthe last execution completed no row");
     }
     out::line(rt, b"\nthe last execution")?;
-    let width = listing::width(table, trace);
-    let to = listing::put_head(page, 0, width);
-    out::write(rt, page, to)?;
-    let frame = Frame { width, n, whole };
+    let frame = Frame {
+        table,
+        trace,
+        width: listing::width(table, trace),
+        n,
+        whole,
+    };
+    out::put(rt, page, |page| listing::put_head(page, 0, frame.width))?;
     let mut held = held::start(table);
-    let mut i = 0;
-    while i < n {
-        step(rt, page, table, trace, &held, frame, i)?;
+    for i in 0..n {
+        frame.step(rt, page, &held, i)?;
         held::take(table, trace, &mut held, i);
-        i += 1;
     }
     Ok(())
 }
 
-// Writes a step, if it is among those that are shown, and in the place of the others one line.
-fn step(
-    rt: &impl Print,
-    page: &mut Page,
-    table: &[u8],
-    trace: &[u8],
-    held: &Held,
-    frame: Frame,
-    i: usize,
-) -> io::Result<()> {
-    if frame.whole || listing::is_shown(frame.n, i) {
-        let to = listing::put_step(page, 0, table, trace, held, frame.width, i);
-        return out::write(rt, page, to);
+impl<'a> Frame<'a> {
+    // Writes a step, if it is among those that are shown, and in the place of the others one line.
+    fn step(self, rt: &impl Print, page: &mut Page, held: &Held, i: usize) -> io::Result<()> {
+        if self.whole || listing::is_shown(self.n, i) {
+            return out::put(rt, page, |page| {
+                listing::put_step(page, 0, self.table, self.trace, held, self.width, i)
+            });
+        }
+        if i == SHOWN {
+            out::put(rt, page, |page| listing::put_between(page, 0, self.n))?;
+        }
+        Ok(())
     }
-    if i == SHOWN {
-        let to = listing::put_between(page, 0, frame.n);
-        out::write(rt, page, to)?;
-    }
-    Ok(())
 }

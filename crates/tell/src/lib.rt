@@ -23,20 +23,19 @@ pub fn print_report(
     report: Report,
 ) -> io::Result<()> {
     let mut page = [0u8; PAGE_BYTES];
-    let to = verdict::put(&mut page, 0, table, condition, trace, settings, report);
-    out::write(rt, &page, to)?;
+    out::put(rt, &mut page, |page| {
+        verdict::put(page, 0, table, condition, trace, settings, report)
+    })?;
     if 0 < report.begun {
-        let threads = report.threads;
         let counts = Counts {
             begun: report.begun,
             opened: report.opened,
             still_open: report.still_open,
         };
         put_counts(rt, &mut page, counts, report.rows)?;
-        threads::summaries(rt, &mut page, threads)?;
+        threads::summaries(rt, &mut page, report.threads)?;
         ran(rt, &mut page, table, trace, whole, report)?;
-        let to = summary::put_legend(&mut page, 0);
-        out::write(rt, &page, to)?;
+        out::put(rt, &mut page, |page| summary::put_legend(page, 0))?;
     }
     Ok(())
 }
@@ -52,13 +51,16 @@ fn ran(
 ) -> io::Result<()> {
     let answer = report.answer;
     let number = report::number(answer);
-    let threads = report.threads;
     let is_limit = limit::is_limit(number);
     last::execution(rt, page, table, trace, whole || !is_limit)?;
-    let to = stop::put_place(page, 0, table, report::at_fault(answer), is_limit);
-    out::write(rt, page, to)?;
+    let site = report::at_fault(answer);
+    out::put(
+        rt,
+        page,
+        |page| stop::put_place(page, 0, table, site, is_limit),
+    )?;
     if number == answers::DEADLOCK {
-        threads::waiting(rt, page, table, trace, threads)?;
+        threads::waiting(rt, page, table, trace, report.threads)?;
     }
     Ok(())
 }
@@ -72,8 +74,9 @@ pub fn print_refusal(
     column: usize,
 ) -> io::Result<()> {
     let mut page = [0u8; PAGE_BYTES];
-    let to = excerpt::put(&mut page, 0, name, text, line, column);
-    out::write(rt, &page, to)
+    out::put(rt, &mut page, |page| {
+        excerpt::put(page, 0, name, text, line, column)
+    })
 }
 
 // Writes the four counts and the ledger.
@@ -83,12 +86,10 @@ fn put_counts(rt: &impl Print, page: &mut Page, counts: Counts, rows: u64) -> io
     count(rt, page, b"choices opened", counts.opened)?;
     count(rt, page, b"choices open", counts.still_open)?;
     count(rt, page, b"rows begun", rows)?;
-    let to = summary::put_ledger(page, 0, counts);
-    out::write(rt, page, to)
+    out::put(rt, page, |page| summary::put_ledger(page, 0, counts))
 }
 
 // Writes one count.
 fn count(rt: &impl Print, page: &mut Page, name: &[u8], n: u64) -> io::Result<()> {
-    let to = summary::put_count(page, 0, name, n);
-    out::write(rt, page, to)
+    out::put(rt, page, |page| summary::put_count(page, 0, name, n))
 }

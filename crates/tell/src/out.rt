@@ -2,13 +2,19 @@
 use page::Page;
 use std::io;
 
-// Writes so many bytes of a page.
-pub fn write(rt: &impl Print, page: &Page, to: usize) -> io::Result<()> {
-    let text: &[u8] = page;
-    if to <= text.len() {
-        rt.write_all(&text[0..to])?;
+// Writes what a function puts on a page; it answers how many bytes that are.
+pub fn put<F: FnOnce(&mut Page) -> usize>(
+    rt: &impl Print,
+    page: &mut Page,
+    put: F,
+) -> io::Result<()>
+    requires { F.IsAlwaysCallable put }
+{
+    let to = put(page);
+    match page.get(..to) {
+        Some(text) => rt.write_all(text),
+        None => Ok(()),
     }
-    Ok(())
 }
 
 // Writes a line that is one text.

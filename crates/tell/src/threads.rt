@@ -11,13 +11,9 @@ pub fn summaries(
     page: &mut Page,
     threads: [Summary; MAX_THREADS],
 ) -> io::Result<()> {
-    let to = summary::put_heading(page, 0);
-    out::write(rt, page, to)?;
-    let mut t = 0;
-    while t < MAX_THREADS {
-        let to = summary::put_thread(page, 0, t, threads[t]);
-        out::write(rt, page, to)?;
-        t += 1;
+    out::put(rt, page, |page| summary::put_heading(page, 0))?;
+    for (t, end) in threads.iter().enumerate() {
+        out::put(rt, page, |page| summary::put_thread(page, 0, t, *end))?;
     }
     Ok(())
 }
@@ -31,12 +27,10 @@ pub fn waiting(
     threads: [Summary; MAX_THREADS],
 ) -> io::Result<()> {
     let held = steps::held::after(table, trace, steps::count(trace));
-    let mut t = 0;
-    while t < MAX_THREADS {
-        let end = threads[t];
-        let to = stop::put_waits(page, 0, table, &held, (t % 256) as u8, end.state);
-        out::write(rt, page, to)?;
-        t += 1;
+    for (t, end) in threads.iter().enumerate() {
+        out::put(rt, page, |page| {
+            stop::put_waits(page, 0, table, &held, t as u8, end.state)
+        })?;
     }
     Ok(())
 }

@@ -59,7 +59,7 @@ fn put_passed(
     ensures { page_of page.new result ≡ put_passed (page_of page.old at) table.now condition.now (settings_of settings) begun }
 {
     let to = coverage::put(page, at, table, settings, begun);
-    if condition.len() == 0 {
+    if condition.is_empty() {
         return to;
     }
     page::put(

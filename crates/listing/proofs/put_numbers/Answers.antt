@@ -1,6 +1,7 @@
-use Rattle.listing.proofs.StepLaws.{numbers-put}
+use borrow.Author.Rules.{rules}
+use Rattle.listing.specs.Steps.{put_numbers}
 use Rattle.listing.proofs.put_numbers.Goals as goal
 
 pub returns : goal.returns
-returns c =
-    numbers-put _ _ _ _ _ _ _ _ c.put_right-to.ensures c.thread.ensures c.put_right-to-2.ensures c.row.ensures c.put_right.ensures
+unfolding put_numbers
+returns c = search rules

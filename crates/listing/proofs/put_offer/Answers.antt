@@ -1,10 +1,12 @@
+use borrow.Author.Rules.{rules}
 use Rattle.rules.specs.Token.{bytes_of}
-use Rattle.listing.proofs.StepLaws.{offer-first, offer-next}
+use Rattle.listing.specs.Steps.{put_offer}
 use Rattle.listing.proofs.put_offer.Goals as goal
 
 pub returns-then-first : goal.returns-then-first
-returns-then-first c = offer-first _ _ _ _ c.if-first.true c.put_number.ensures
+unfolding put_offer bytes_of
+returns-then-first c = search rules
 
 pub returns : goal.returns
-unfolding bytes_of
-returns c = offer-next _ _ _ _ c.if-first.false c.put_with.ensures
+unfolding put_offer bytes_of
+returns c = search rules

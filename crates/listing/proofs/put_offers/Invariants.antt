@@ -1,4 +1,4 @@
-use Prim.Native.Nat.{◌≤◌, ◌-◌}
+use Prim.Native.Nat.{◌-◌}
 use mathlib.Core.Path.{◌≡◌}
 use Rattle.page.specs.Pages.{page_of}
 use Rattle.listing.specs.Steps.{slots_in, put_each, put_offers}
@@ -6,7 +6,4 @@ use Rattle.listing.proofs.put_offers.Given as goal
 
 abbrev pub invariant-loop-slot : goal.invariant-loop-slot
 invariant-loop-slot l =
-    (l.slot ≤ 7) × (put_each (page_of l.page l.to) l.first (slots_in l.rest (7 - l.slot) l.slot) ≡ put_offers (page_of l.initial.page l.at) l.mask)
-
-abbrev pub decreases-loop-slot : goal.decreases-loop-slot
-decreases-loop-slot l = 7 - l.slot
+    put_each (page_of l.page l.to) l.first (slots_in l.rest (7 - l.slot) l.slot) ≡ put_offers (page_of l.initial.page l.at) l.mask

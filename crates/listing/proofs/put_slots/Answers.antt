@@ -1,6 +1,7 @@
-use Rattle.listing.proofs.StepLaws.{slots-put}
+use borrow.Author.Rules.{rules}
+use Rattle.listing.specs.Steps.{put_slots}
 use Rattle.listing.proofs.put_slots.Goals as goal
 
 pub returns : goal.returns
-returns c =
-    slots-put _ _ _ _ _ _ _ _ _ c.slot.ensures c.put_slot-to.ensures c.pad-to.ensures c.mask.ensures c.put_offers.ensures
+unfolding put_slots
+returns c = search rules

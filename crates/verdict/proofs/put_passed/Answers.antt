@@ -1,13 +1,15 @@
-use Rattle.rules.specs.Token.{bytes_of}
+use lib.ListN.{length}
+use borrow.Author.Rules.{rules}
 use borrow.Author.Tests.{ne_eqb}
+use Rattle.rules.specs.Token.{bytes_of}
 use Rattle.verdict.specs.Verdicts.{put_passed}
 use Rattle.verdict.proofs.put_passed.Goals as goal
 
-pub returns-then-condition-eq0 : goal.returns-then-condition-eq0
+pub returns-then-is_empty : goal.returns-then-is_empty
 unfolding put_passed
-returns-then-condition-eq0 c = rw c.if-condition-eq0.true c.put-to.ensures
+returns-then-is_empty c = search rules
 
 pub returns : goal.returns
 unfolding put_passed bytes_of
 returns c =
-    rw (ne_eqb _ 0 c.if-condition-eq0.false, ← c.put-to.ensures) c.put.ensures
+    rw (ne_eqb (length c.args.condition.now) 0 (search rules), ← c.put-to.ensures) c.put.ensures
