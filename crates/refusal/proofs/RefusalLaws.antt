@@ -2,18 +2,16 @@
 --     fine_at, told     whether a thread may have its rows, by what the code found of them
 --     unnamed          what is put where the table is not accepted
 use Prim.Native.Nat.{ℕ, ◌+◌}
-use mathlib.Core.Bool.{Bool}
-use mathlib.Core.List.{List, [], ◌∷◌}
+use mathlib.Core.Bool.{Bool, true, false, true≢false}
+use mathlib.Core.List.{List}
 use mathlib.Core.Path.{◌≡◌, refl, sym, ◌∙◌}
-use types.Run.{OneOf, miss}
-use denote.Enum.Declared.{tag_of}
 use lib.ListN.{get_or}
-use Rattle.rules.specs.Table.{count_fine}
+use Rattle.rules.specs.Table.{count_fine, good}
 use Rattle.page.specs.Pages.{Page}
-use Rattle.table.specs.contracts.Judged.{the_type}
 use Rattle.table.specs.Answers.{judged_of}
-use Rattle.table.specs.declared.Judged.{Judged}
-use Rattle.table.specs.declared.Judged.TheVariants as judged
+use Rattle.std.specs.Prelude.{Result, Ok, Err, is_ok}
+use Rattle.table.specs.declared.BadTable.{BadTable}
+use Rattle.table.specs.declared.BadTable.TheVariants as bad
 use Rattle.refusal.specs.Headers.{put_header}
 use Rattle.refusal.specs.Refusals.{put_unnamed}
 
@@ -24,11 +22,12 @@ pub told : (t : List ℕ) (threads i : ℕ) {count : ℕ} {r b : Bool} → count
     fine_at t threads i ≡ b
 told t threads i p q s = rw (← p) (sym q ∙ s)
 
--- the places among the variants of what is not accepted
-abbrev bad : List ℕ
-bad = 1 ∷ 2 ∷ []
+pub unnamed : (l : Page) (t condition : List ℕ) (j : Result (Unit {0}) BadTable) {b : Bool} → b ≡ is_ok j → b ≡ false →
+    put_header l t ≡ put_unnamed l t condition (judged_of j)
+unnamed l t condition (Ok done) e f = absurd (true≢false (sym e ∙ f))
+unnamed l t condition (Err bad.Header) e f = refl
+unnamed l t condition (Err (bad.Row thread row)) e f = refl
 
-pub unnamed : (l : Page) (t condition : List ℕ) (j : Judged) → OneOf bad (tag_of the_type j) → put_header l t ≡ put_unnamed l t condition (judged_of j)
-unnamed l t condition judged.Good k = absurd (miss bad 0 tt k)
-unnamed l t condition judged.BadHeader k = refl
-unnamed l t condition (judged.BadRow thread row) k = refl
+pub good_named : (j : Result (Unit {0}) BadTable) {b : Bool} → b ≡ is_ok j → b ≡ true → judged_of j ≡ good
+good_named (Ok done) e f = refl
+good_named (Err why) e f = absurd (true≢false (sym f ∙ e))

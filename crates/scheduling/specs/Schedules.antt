@@ -2,15 +2,14 @@
 --     point_of            a branch's position
 --     OperationMeans     a thread's pending operation
 --     or_five             a thread as an index
-use Rattle.std.specs.Prelude.{ℕ, ◌<◌, ◌≡◌, ◌≢◌}
+use Rattle.std.specs.Prelude.{ℕ, ◌<◌, ◌≡◌, ◌≢◌, Option, Some, None}
 use Rattle.rules.specs.Event as rules
 use Rattle.rules.specs.State.{State}
 use Rattle.rules.specs.Vector.{Whom, nobody, thread}
 use Rattle.rules.specs.Machine.{operation_of, cell_of, no_operation}
 use Rattle.scheduling.specs.declared.Point.{Point}
 use Rattle.scheduling.specs.declared.Point.TheVariants as place
-use Rattle.event.specs.declared.Pending.{Pending}
-use Rattle.event.specs.declared.Pending.TheVariants as operation
+use Rattle.layout.specs.declared.Operation.{Operation}
 pub use Rattle.layout.specs.Threads.{or_five}
 
 abbrev pub point_of : Point → rules.Point
@@ -24,6 +23,6 @@ pub record On (st : State) (t action cell : ℕ) : Type 0 where
   pub on : cell_of st t ≡ cell
   pub within : cell < 4
 
-abbrev pub OperationMeans : Pending → State → ℕ → Type 0
-OperationMeans operation.Nothing st t = operation_of st t ≡ no_operation
-OperationMeans (operation.On o) st t = On st t o.action o.cell
+abbrev pub OperationMeans : Option Operation → State → ℕ → Type 0
+OperationMeans None st t = operation_of st t ≡ no_operation
+OperationMeans (Some o) st t = On st t o.action o.cell
