@@ -102,7 +102,13 @@ pub fn holds(bytes: &[u8], values: &Values, threads: usize) -> bool
 
 // The condition that begins here, with at most so many groups in each other.
 #[cycle(condition_group)]
-fn condition(bytes: &[u8], values: &Values, threads: usize, deep: usize, at: usize) -> Result<Read, BadByte>
+fn condition(
+    bytes: &[u8],
+    values: &Values,
+    threads: usize,
+    deep: usize,
+    at: usize,
+) -> Result<Read, BadByte>
     requires { at ≤ length bytes.now }
     ensures { ReadsCondition bytes.now at result (rules.condition_at threads (register_value values.now) deep (drop at bytes.now)) }
 {
@@ -117,7 +123,13 @@ fn condition(bytes: &[u8], values: &Values, threads: usize, deep: usize, at: usi
 
 // The rest of a group, behind its opening bracket. All its members are joined by the same joint.
 #[cycle(condition_group)]
-fn group(bytes: &[u8], values: &Values, threads: usize, deep: usize, start: usize) -> Result<Read, BadByte>
+fn group(
+    bytes: &[u8],
+    values: &Values,
+    threads: usize,
+    deep: usize,
+    start: usize,
+) -> Result<Read, BadByte>
     requires { start ≤ length bytes.now }
     ensures { ReadsCondition bytes.now start result (rules.group_at (rules.condition_at threads (register_value values.now) deep) (drop start bytes.now)) }
 {
