@@ -4,14 +4,13 @@
 --     put_bad              the byte that cannot stand at a place
 --     put_found            that byte, or what goes on behind the condition's end
 --     put_bad_condition     the length, or else what was found, behind a page's end
-use Rattle.std.specs.Prelude.{ℕ, ◌+◌, List, cond, ltb, leb, eqb, length, get_or}
+use Rattle.std.specs.Prelude.{ℕ, ◌+◌, List, cond, ltb, leb, eqb, length, get_or, Result, Ok, Err}
 use Rattle.rules.specs.Token.{bytes_of}
 use Rattle.rules.specs.Table.{registers, shape_of}
 use Rattle.rules.specs.Condition.{opens, comparison_bytes, condition_bytes, groups_deep, is_sign, condition_at}
 use Rattle.page.specs.Pages.{Page, put_text, put_filled}
 use Rattle.condition.specs.Reads.{found_in}
-use Rattle.condition.specs.declared.Extent.{Extent}
-use Rattle.condition.specs.declared.Extent.TheVariants.{Bad, Ends}
+use Rattle.condition.specs.declared.BadByte.{BadByte}
 
 -- its eleven bytes are there, and its second and third name a thread and a register: what of that is not so first
 unfoldable pub put_bad_comparison : Page → List ℕ → ℕ → ℕ → Page
@@ -42,9 +41,9 @@ put_bad p condition at threads =
     condition at threads)
     (bytes_of "\n"))
 
-unfoldable pub put_found : Page → List ℕ → ℕ → Extent → Page
-put_found p condition threads (Bad at) = put_bad p condition at threads
-put_found p condition threads (Ends at) =
+unfoldable pub put_found : Page → List ℕ → ℕ → Result ℕ BadByte → Page
+put_found p condition threads (Err bad) = put_bad p condition bad.at threads
+put_found p condition threads (Ok at) =
     put_filled p (bytes_of "answer 5: refused: the condition ends before byte #, and # bytes were given\n") at (length condition) 0
 
 -- the number of threads is the first of the table's shape

@@ -5,7 +5,7 @@ ghost use Rattle.std.specs.Prelude.{◌≡◌, ◌<◌, length};
 ghost use Rattle.page.specs.Pages.{page_of};
 ghost use Rattle.bad_condition.specs.Conditions.{put_bad_comparison, put_reason, put_bad, put_bad_condition};
 
-use condition::{COMPARISON, CONDITION_BYTES, DEEP, Extent, OPENS, REGISTER_AT, THREAD_AT};
+use condition::{COMPARISON, CONDITION_BYTES, DEEP, OPENS, REGISTER_AT, THREAD_AT};
 use layout::{REGISTERS, wide8, wide16};
 use page::Page;
 use table::THREADS;
@@ -27,8 +27,8 @@ pub fn put(page: &mut Page, at: usize, table: &[u8], condition: &[u8]) -> usize
     let shape = table::shape(table);
     let threads = wide16(shape[THREADS]);
     match condition::first_bad(condition, threads) {
-        Extent::Bad(from) => put_bad(page, at, condition, threads, from),
-        Extent::Ends(end) => page::fill(
+        Err(bad) => put_bad(page, at, condition, threads, bad.at),
+        Ok(end) => page::fill(
             page,
             at,
             b"answer 5: refused: the condition ends before byte #, and # bytes were given\n",

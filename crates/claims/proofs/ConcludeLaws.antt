@@ -13,10 +13,14 @@ use Rattle.rules.specs.Token.{is_empty}
 use Rattle.rules.specs.Text.{Draft, Claimed, claimed, TextRead, refused_at, accepted, concluded, table_of}
 use Rattle.token.specs.Places.{part}
 use Rattle.condition.specs.Reads.{found_in}
-use Rattle.condition.specs.declared.Extent.TheVariants.{Bad, Ends}
+use Rattle.std.specs.Prelude.{Ok, Err}
+use Rattle.condition.specs.declared.BadByte.{BadByte}
 use Rattle.claims.specs.Units.{most_claimed, Claims, Concludes, concluded_of}
 use Rattle.claims.specs.declared.Claim.{Claim}
 use Rattle.claims.specs.declared.Conclusion.{Conclusion}
+
+abbrev bad_at : ℕ → BadByte
+bad_at stop = record { at = stop }
 
 abbrev judged : ℕ → List ℕ → Read
 judged threads made = condition_at threads (λ t r. 0) groups_deep made
@@ -33,11 +37,13 @@ module _ (lines : ℕ) (bs : List ℕ) (table : List ℕ) where
       elim r [ bad rest ↦ refused_by (length made - length rest) | read v rest ↦ ends_then made rest (is_empty rest && whole) ]
 
   module _ (made : List ℕ) (whole : Bool) (stop : ℕ) where
-    bad-by : (r : Read) → Bad stop ≡ found_in (length made) r → refused_by stop ≡ conclude_then made whole r
-    bad-by (bad rest) e = let s : stop ≡ length made - length rest = cc in ap refused_by s
+    bad-by : (r : Read) → Err (bad_at stop) ≡ found_in (length made) r → refused_by stop ≡ conclude_then made whole r
+    bad-by (bad rest) e =
+        let there : bad_at stop ≡ bad_at (length made - length rest) = cc in
+        ap (λ (b : BadByte). refused_by b.at) there
     bad-by (read v rest) e = let z : ◌≡◌ {A = ℕ} 0 1 = cc in absurd (omega arith)
 
-    ends_by : (r : Read) → Ends stop ≡ found_in (length made) r → (stop ≡ length made → ⊥) → refused_by stop ≡ conclude_then made whole r
+    ends_by : (r : Read) → Ok stop ≡ found_in (length made) r → (stop ≡ length made → ⊥) → refused_by stop ≡ conclude_then made whole r
     ends_by (bad rest) e n = let z : ◌≡◌ {A = ℕ} 0 1 = cc in absurd (omega arith)
     ends_by (read v rest) e n =
         let s : stop ≡ length made - length rest = cc in
@@ -48,13 +54,13 @@ module _ (lines : ℕ) (bs : List ℕ) (table : List ℕ) where
     and-false true = refl
     and-false false = refl
 
-    broken-by : (r : Read) → Ends stop ≡ found_in (length made) r → whole ≡ false → refused_by stop ≡ conclude_then made whole r
+    broken-by : (r : Read) → Ok stop ≡ found_in (length made) r → whole ≡ false → refused_by stop ≡ conclude_then made whole r
     broken-by (bad rest) e w = let z : ◌≡◌ {A = ℕ} 0 1 = cc in absurd (omega arith)
     broken-by (read v rest) e w =
         let s : stop ≡ length made - length rest = cc in
         ap refused_by s ∙ ap (ends_then made rest) (sym (ap (λ (t : Bool). is_empty rest && t) w ∙ and-false (is_empty rest)))
 
-    taken-by : (r : Read) → Ends stop ≡ found_in (length made) r → (length made ≡ 0 → ⊥) → stop ≡ length made → whole ≡ true → accepted table made ≡ conclude_then made whole r
+    taken-by : (r : Read) → Ok stop ≡ found_in (length made) r → (length made ≡ 0 → ⊥) → stop ≡ length made → whole ≡ true → accepted table made ≡ conclude_then made whole r
     taken-by (bad rest) e n h w = let z : ◌≡◌ {A = ℕ} 0 1 = cc in absurd (omega arith)
     taken-by (read v rest) e n h w =
         let s : stop ≡ length made - length rest = cc in
@@ -63,7 +69,7 @@ module _ (lines : ℕ) (bs : List ℕ) (table : List ℕ) where
         ap (ends_then made rest) (sym (ap (λ (t : Bool). t && whole) none ∙ w))
 
 -- no byte is no condition
-some_read : (threads stop : ℕ) (made : List ℕ) → Ends stop ≡ found_in (length made) (judged threads made) → length made ≡ 0 → ⊥
+some_read : (threads stop : ℕ) (made : List ℕ) → Ok stop ≡ found_in (length made) (judged threads made) → length made ≡ 0 → ⊥
 unfolding condition_at comparison_at
 some_read threads stop [] e h = let z : ◌≡◌ {A = ℕ} 0 1 = cc in omega arith
 some_read threads stop (b ∷ bs) e h = omega arith
@@ -98,17 +104,17 @@ module _ (text : List ℕ) (lines at threads : ℕ) (c : Claim) (claims : Claims
         long = ap length says.2 ∙ length-replicate {A = ℕ} most_claimed 0;
       }
 
-      pub bad-refused : Bad stop ≡ found_in (length piece) (judged threads piece) → Concludes text at lines threads r
+      pub bad-refused : Err (bad_at stop) ≡ found_in (length piece) (judged threads piece) → Concludes text at lines threads r
       bad-refused e = so-refused (λ table. bad-by lines (drop at text) table piece c.whole stop (judged threads piece) e)
 
-      pub ends-refused : Ends stop ≡ found_in (length piece) (judged threads piece) → (stop ≡ c.length → ⊥) → Concludes text at lines threads r
+      pub ends-refused : Ok stop ≡ found_in (length piece) (judged threads piece) → (stop ≡ c.length → ⊥) → Concludes text at lines threads r
       ends-refused e n =
           so-refused (λ table. ends_by lines (drop at text) table piece c.whole stop (judged threads piece) e (λ (z : stop ≡ length piece). n (z ∙ piece-long)))
 
-      pub broken-refused : Ends stop ≡ found_in (length piece) (judged threads piece) → c.whole ≡ false → Concludes text at lines threads r
+      pub broken-refused : Ok stop ≡ found_in (length piece) (judged threads piece) → c.whole ≡ false → Concludes text at lines threads r
       broken-refused e w = so-refused (λ table. broken-by lines (drop at text) table piece c.whole stop (judged threads piece) e w)
 
-    pub ends-taken : Ends stop ≡ found_in (length piece) (judged threads piece) → stop ≡ c.length → c.whole ≡ true
+    pub ends-taken : Ok stop ≡ found_in (length piece) (judged threads piece) → stop ≡ c.length → c.whole ≡ true
         → Concludes text at lines threads (record { taken = true; at = at; length = c.length; bytes = c.bytes })
     ends-taken e h w = record {
       is = λ m t. ap (accepted (table_of m)) (sym piece_is)

@@ -7,7 +7,7 @@ ghost use Rattle.rules.specs.Text as rules;
 ghost use Rattle.token.specs.Finds.{owned_at};
 ghost use Rattle.claims.specs.Units.{most_claimed, IsOwned, UnitStands, ended_at, with_unit, Claims, Concludes, symbol_at, broken_of};
 
-use condition::{AT_LEAST, COMPARISON, CONDITION_BYTES, EQUALS, Extent};
+use condition::{AT_LEAST, COMPARISON, CONDITION_BYTES, EQUALS};
 use little::low_bytes;
 use token::{Found, FoundOwned, Owned};
 
@@ -51,8 +51,8 @@ pub fn concluded(text: &[u8], lines: usize, threads: usize, at: usize) -> Conclu
     let bytes = all.bytes;
     let length = all.length;
     match condition::first_bad(token::part(&bytes, 0, length), threads) {
-        Extent::Bad(stop) => refused(text, lines, stop, at),
-        Extent::Ends(stop) => {
+        Err(bad) => refused(text, lines, bad.at, at),
+        Ok(stop) => {
             if stop != length {
                 return refused(text, lines, stop, at);
             }

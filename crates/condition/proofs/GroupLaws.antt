@@ -13,8 +13,9 @@ use lib.Seq.{drop-drop}
 use borrow.Author.Tests.{eq-eqb, ne_eqb}
 use Rattle.rules.specs.Condition.{Read, bad, read, next_byte, closes, group_at, behind, may_join, joined_by}
 use Rattle.condition.specs.Reads.{ReadsCondition, NextByte}
+use Rattle.std.specs.Prelude.{Result, Ok, Err}
 use Rattle.condition.specs.declared.Read as code
-use Rattle.condition.specs.declared.Read.TheVariants.{Bad, Value}
+use Rattle.condition.specs.declared.BadByte.{BadByte}
 
 -- a byte that joins is there, and no bracket
 pub joins-there : (joint b : ℕ) → may_join joint b ≡ true → 0 < b
@@ -59,10 +60,10 @@ pub record Goes (bytes : List ℕ) (start : ℕ) (member : List ℕ → Read) (a
   pub within : at ≤ length bytes
   pub left : Left member joint v (drop at bytes) (group_at member (drop start bytes))
 
-module _ (bytes : List ℕ) (start : ℕ) (member : List ℕ → Read) {r : code.Read} where
-  pub begun : {v : Bool} {at : ℕ} → ReadsCondition bytes start r (member (drop start bytes)) → r ≡ Value v at → Goes bytes start member at 0 v
-  begun {v} {at} h e =
-      let first : ReadsCondition bytes start (Value v at) (member (drop start bytes)) = rw e at h in
+module _ (bytes : List ℕ) (start : ℕ) (member : List ℕ → Read) {r : Result code.Read BadByte} where
+  pub begun : {w : code.Read} → ReadsCondition bytes start r (member (drop start bytes)) → r ≡ Ok w → Goes bytes start member w.end 0 w.holds
+  begun {w} h e =
+      let first : ReadsCondition bytes start (Ok w) (member (drop start bytes)) = rw e at h in
       record {
         from = first.on;
         within = first.within;
@@ -73,10 +74,11 @@ module _ (bytes : List ℕ) (start : ℕ) (member : List ℕ → Read) {r : code
         };
       }
 
-  pub first-bad : {at : ℕ} → ReadsCondition bytes start r (member (drop start bytes)) → r ≡ Bad at → ReadsCondition bytes start r (group_at member (drop start bytes))
-  first-bad {at} h e =
-      let first : ReadsCondition bytes start (Bad at) (member (drop start bytes)) = rw e at h in
-      rw e (record { is = rw (sym first.is, group_at); on = first.on; within = first.within })
+  pub first-bad : {bad : BadByte} {q : Result code.Read BadByte} → ReadsCondition bytes start r (member (drop start bytes)) → r ≡ Err bad → q ≡ Err bad →
+      ReadsCondition bytes start q (group_at member (drop start bytes))
+  first-bad {bad} {q} h e f =
+      let first : ReadsCondition bytes start (Err bad) (member (drop start bytes)) = rw e at h in
+      rw f (record { is = rw (sym first.is, group_at); on = first.on; within = first.within })
 
 module _ (bytes : List ℕ) (start : ℕ) (member : List ℕ → Read) (at joint : ℕ) (v : Bool) (goes : Goes bytes start member at joint v) where
   more : at < length bytes → 0 < length (drop at bytes)
@@ -89,10 +91,10 @@ module _ (bytes : List ℕ) (start : ℕ) (member : List ℕ → Read) (at joint
     pub there : m ≡ true → at < length bytes
     there e = byte.there (joins-there joint b (sym joins ∙ e))
 
-    module _ (e : m ≡ true) {r : code.Read} (h : ReadsCondition bytes (at + 1) r (member (drop (at + 1) bytes))) where
-      pub goes-on : {w j : Bool} {place b' : ℕ} → NextByte bytes at b' → r ≡ Value w place → j ≡ joined_by b' v w → Goes bytes start member place b' j
-      goes-on {w} {j} {place} {b'} byte' d q =
-          let one : ReadsCondition bytes (at + 1) (Value w place) (member (drop (at + 1) bytes)) = rw d at h in
+    module _ (e : m ≡ true) {r : Result code.Read BadByte} (h : ReadsCondition bytes (at + 1) r (member (drop (at + 1) bytes))) where
+      pub goes-on : {w : code.Read} {j : Bool} {b' : ℕ} → NextByte bytes at b' → r ≡ Ok w → j ≡ joined_by b' v w.holds → Goes bytes start member w.end b' j
+      goes-on {w} {j} {b'} byte' d q =
+          let one : ReadsCondition bytes (at + 1) (Ok w) (member (drop (at + 1) bytes)) = rw d at h in
           let l = there e in
           record {
             from = omega (arith, one.on, goes.from);
@@ -100,23 +102,23 @@ module _ (bytes : List ℕ) (start : ℕ) (member : List ℕ → Read) (at joint
             left = rw (q, byte'.is) (turn_on member joint v _ (drop at bytes) goes.left.turns goes.left.same goes.left.enough (joined e) (rw drop-drop (sym one.is)) (simp length-drop (omega (arith, one.on))));
           }
 
-      pub further : {w : Bool} {place : ℕ} → r ≡ Value w place → length bytes - place < length bytes - at
-      further {w} {place} d =
-          let one : ReadsCondition bytes (at + 1) (Value w place) (member (drop (at + 1) bytes)) = rw d at h in
+      pub further : {w : code.Read} → r ≡ Ok w → length bytes - w.end < length bytes - at
+      further {w} d =
+          let one : ReadsCondition bytes (at + 1) (Ok w) (member (drop (at + 1) bytes)) = rw d at h in
           let l = there e in
           omega (arith, one.on)
 
-      pub goes-bad : {place : ℕ} → r ≡ Bad place → ReadsCondition bytes start r (group_at member (drop start bytes))
-      goes-bad {place} d =
-          let one : ReadsCondition bytes (at + 1) (Bad place) (member (drop (at + 1) bytes)) = rw d at h in
-          rw d (record {
+      pub goes-bad : {bad : BadByte} {q : Result code.Read BadByte} → r ≡ Err bad → q ≡ Err bad → ReadsCondition bytes start q (group_at member (drop start bytes))
+      goes-bad {bad} {q} d f =
+          let one : ReadsCondition bytes (at + 1) (Err bad) (member (drop (at + 1) bytes)) = rw d at h in
+          rw f (record {
             is = turn-bad member joint v _ (drop at bytes) goes.left.turns goes.left.same goes.left.enough (more (there e)) (joined e) (rw drop-drop (sym one.is));
             on = omega (arith, one.on, goes.from);
             within = one.within;
           })
 
     module _ (e : m ≡ false) {b' : ℕ} (byte' : NextByte bytes at b') where
-      pub stuck : (b' ≡ closes → ⊥) → ReadsCondition bytes start (Bad at) (group_at member (drop start bytes))
+      pub stuck : (b' ≡ closes → ⊥) → ReadsCondition bytes start (Err (record { at = at })) (group_at member (drop start bytes))
       stuck d =
           record {
             is = turn-stuck member joint v _ (drop at bytes) goes.left.turns goes.left.same (cc byte.is) (λ q. d (byte'.is ∙ q));
@@ -124,7 +126,7 @@ module _ (bytes : List ℕ) (start : ℕ) (member : List ℕ → Read) (at joint
             within = goes.within;
           }
 
-      pub closed : b' ≡ closes → ReadsCondition bytes start (Value v (at + 1)) (group_at member (drop start bytes))
+      pub closed : b' ≡ closes → ReadsCondition bytes start (Ok (record { holds = v; end = at + 1 })) (group_at member (drop start bytes))
       closed d =
           let l : at < length bytes = byte'.there (omega arith) in
           record {

@@ -16,8 +16,9 @@ use borrow.Author.Tests.{lt-leb, le-leb, eq-eqb, ne_eqb}
 use Rattle.rules.specs.Table.{u16_at, u32_at, u64_at, is_register}
 use Rattle.rules.specs.Condition.{bad, read, next_byte, opens, is_sign, compared, comparison_at, condition_at, group_at}
 use Rattle.condition.specs.Reads.{ReadsCondition, NextByte, read_of}
+use Rattle.std.specs.Prelude.{Result, Ok, Err}
 use Rattle.condition.specs.declared.Read as code
-use Rattle.condition.specs.declared.Read.TheVariants.{Bad, Value}
+use Rattle.condition.specs.declared.BadByte.{BadByte}
 
 module _ (bytes : List ℕ) (at : ℕ) where
   pub here : get_or bytes at 0 ≡ next_byte (drop at bytes)
@@ -33,7 +34,7 @@ module _ (bytes : List ℕ) (at : ℕ) where
 -- A comparison
 
 module _ (threads : ℕ) (register : ℕ → ℕ → ℕ) (bytes : List ℕ) (at : ℕ) where
-  pub short : at ≤ length bytes → length bytes - at < 11 → ReadsCondition bytes at (Bad at) (comparison_at threads register (drop at bytes))
+  pub short : at ≤ length bytes → length bytes - at < 11 → ReadsCondition bytes at (Err (record { at = at })) (comparison_at threads register (drop at bytes))
   unfolding comparison_at
   short l h = record { is = rw (length-drop, lt-leb 11 (length bytes - at) h); on = omega arith; within = l }
 
@@ -45,16 +46,16 @@ module _ (threads : ℕ) (register : ℕ → ℕ → ℕ) (bytes : List ℕ) (at
     fields = rw (s, t, p, here bytes at, number bytes at, length-drop, le-leb 11 (length bytes - at) h) (simp (get_or-drop, drop-drop))
 
     module _ {i : Bool} (d : i ≡ is_sign sign) where
-      pub wrong : ((i && ltb thread threads) && is_register place) ≡ false → ReadsCondition bytes at (Bad at) (comparison_at threads register (drop at bytes))
+      pub wrong : ((i && ltb thread threads) && is_register place) ≡ false → ReadsCondition bytes at (Err (record { at = at })) (comparison_at threads register (drop at bytes))
       wrong e = record { is = rw (fields, ← d, e); on = omega arith; within = omega arith }
 
       pub right : ((i && ltb thread threads) && is_register place) ≡ true → {x n : ℕ} {v : Bool} → x ≡ register thread place → n ≡ u64_at bytes (at + 3) → v ≡ compared sign x n →
-          ReadsCondition bytes at (Value v (at + 11)) (comparison_at threads register (drop at bytes))
+          ReadsCondition bytes at (Ok (record { holds = v; end = at + 11 })) (comparison_at threads register (drop at bytes))
       right e q m r = record { is = rw (fields, ← d, e, r, q, m); on = omega arith; within = omega arith }
 
 -- A condition
 
-module _ (threads : ℕ) (register : ℕ → ℕ → ℕ) (bytes : List ℕ) (at : ℕ) {r : code.Read} where
+module _ (threads : ℕ) (register : ℕ → ℕ → ℕ) (bytes : List ℕ) (at : ℕ) {r : Result code.Read BadByte} where
   pub bare : {deep : ℕ} → deep ≡ 0 → ReadsCondition bytes at r (comparison_at threads register (drop at bytes)) → ReadsCondition bytes at r (condition_at threads register deep (drop at bytes))
   unfolding condition_at
   bare e h = rw e h

@@ -49,18 +49,17 @@ pub const NUMBER_AT: usize = 3;
 // How deep groups stand in each other at most.
 pub const DEEP: usize = 8;
 
-// A condition that was read: whether it holds, and where it ends; or the first byte that cannot stand where it does.
+// A condition that was read: whether it holds, and where it ends.
 #[derive(Clone, Copy)]
-enum Read {
-    Bad(usize),
-    Value(bool, usize),
+struct Read {
+    holds: bool,
+    end: usize,
 }
 
-// The same without its value.
+// Why nothing was read: the place of the first byte that cannot stand where it does.
 #[derive(Clone, Copy)]
-pub enum Extent {
-    Bad(usize),
-    Ends(usize),
+pub struct BadByte {
+    pub at: usize,
 }
 
 // Whether these bytes are one condition, or none, in a program of so many threads.
@@ -74,20 +73,18 @@ pub fn is_condition(bytes: &[u8], threads: usize) -> bool
         return false;
     }
     match first_bad(bytes, threads) {
-        Extent::Bad(_) => false,
-        Extent::Ends(at) => at == bytes.len(),
+        Ok(end) => end == bytes.len(),
+        Err(_) => false,
     }
 }
 
 // Where the condition ends with which these bytes begin, or which byte of it is the first bad one.
-pub fn first_bad(bytes: &[u8], threads: usize) -> Extent
+pub fn first_bad(bytes: &[u8], threads: usize) -> Result<usize, BadByte>
     ensures { result ≡ found_in (length bytes.now) (rules.condition_at threads (λ t r. 0) rules.groups_deep bytes.now) }
 {
     let zeros = [0u64; VALUES];
-    match condition(bytes, &zeros, threads, DEEP, 0) {
-        Read::Bad(at) => Extent::Bad(at),
-        Read::Value(_, at) => Extent::Ends(at),
-    }
+    let read = condition(bytes, &zeros, threads, DEEP, 0)?;
+    Ok(read.end)
 }
 
 // Whether the condition holds with which these bytes begin. No byte is no condition, and holds.
@@ -98,14 +95,20 @@ pub fn holds(bytes: &[u8], values: &Values, threads: usize) -> bool
         return true;
     }
     match condition(bytes, values, threads, DEEP, 0) {
-        Read::Bad(_) => false,
-        Read::Value(holds, _) => holds,
+        Ok(read) => read.holds,
+        Err(_) => false,
     }
 }
 
 // The condition that begins here, with at most so many groups in each other.
 #[cycle(condition_group)]
-fn condition(bytes: &[u8], values: &Values, threads: usize, deep: usize, at: usize) -> Read
+fn condition(
+    bytes: &[u8],
+    values: &Values,
+    threads: usize,
+    deep: usize,
+    at: usize,
+) -> Result<Read, BadByte>
     requires { at ≤ length bytes.now }
     ensures { ReadsCondition bytes.now at result (rules.condition_at threads (register_value values.now) deep (drop at bytes.now)) }
 {
@@ -120,39 +123,39 @@ fn condition(bytes: &[u8], values: &Values, threads: usize, deep: usize, at: usi
 
 // The rest of a group, behind its opening bracket. All its members are joined by the same joint.
 #[cycle(condition_group)]
-fn group(bytes: &[u8], values: &Values, threads: usize, deep: usize, start: usize) -> Read
+fn group(
+    bytes: &[u8],
+    values: &Values,
+    threads: usize,
+    deep: usize,
+    start: usize,
+) -> Result<Read, BadByte>
     requires { start ≤ length bytes.now }
     ensures { ReadsCondition bytes.now start result (rules.group_at (rules.condition_at threads (register_value values.now) deep) (drop start bytes.now)) }
 {
-    let first = condition(bytes, values, threads, deep, start);
-    let Read::Value(value, behind) = first else {
-        return first;
-    };
-    let mut holds = value;
-    let mut at = behind;
+    let first = condition(bytes, values, threads, deep, start)?;
+    let mut holds = first.holds;
+    let mut at = first.end;
     let mut joint = NO_PART;
     while may_join(joint, byte_at(bytes, at)) {
         joint = byte_at(bytes, at);
-        let member = condition(bytes, values, threads, deep, at + 1);
-        let Read::Value(value, behind) = member else {
-            return member;
-        };
-        holds = joined_by(joint, holds, value);
-        at = behind;
+        let member = condition(bytes, values, threads, deep, at + 1)?;
+        holds = joined_by(joint, holds, member.holds);
+        at = member.end;
     }
     if byte_at(bytes, at) == CLOSES {
-        return Read::Value(holds, at + 1);
+        return Ok(Read { holds, end: at + 1 });
     }
-    Read::Bad(at)
+    Err(BadByte { at })
 }
 
 // The comparison that begins here.
-fn comparison(bytes: &[u8], values: &Values, threads: usize, at: usize) -> Read
+fn comparison(bytes: &[u8], values: &Values, threads: usize, at: usize) -> Result<Read, BadByte>
     requires { at ≤ length bytes.now }
     ensures { ReadsCondition bytes.now at result (rules.comparison_at threads (register_value values.now) (drop at bytes.now)) }
 {
     if bytes.len() - at < COMPARISON {
-        return Read::Bad(at);
+        return Err(BadByte { at });
     }
     let sign = bytes[at];
     let thread = wide8(bytes[at + THREAD_AT]);
@@ -160,9 +163,12 @@ fn comparison(bytes: &[u8], values: &Values, threads: usize, at: usize) -> Read
     if is_sign(sign) & (thread < threads) & (register < REGISTERS) {
         let n = u64_at(bytes, at + NUMBER_AT);
         let x = register_of(values, thread, register);
-        return Read::Value(compared(sign, x, n), at + COMPARISON);
+        return Ok(Read {
+            holds: compared(sign, x, n),
+            end: at + COMPARISON,
+        });
     }
-    Read::Bad(at)
+    Err(BadByte { at })
 }
 
 // The byte that stands here; 0, which is none of a condition's, at the end.

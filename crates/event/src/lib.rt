@@ -6,7 +6,6 @@ ghost use Rattle.std.specs.Prelude.{◌≡◌};
 ghost use Rattle.event.specs.declared.Fault.TheVariants as fault;
 
 use decode::Op;
-use layout::Operation;
 use track::Race;
 
 // Why a run stops within an execution: document 01's answers from 10 on. Impossible stands for a number read back that
@@ -47,13 +46,6 @@ pub struct Site {
 pub struct Here {
     pub site: Site,
     pub row: Option<Op>,
-}
-
-// A pending operation, what a thread is about to do and to which cell: the one that a row sets, or that a thread has.
-#[derive(Clone, Copy)]
-pub enum Pending {
-    Nothing,
-    On(Operation),
 }
 
 // What is asked: which thread runs, which store is read, whether `branch_spurious` is set.

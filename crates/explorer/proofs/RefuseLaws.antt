@@ -15,8 +15,9 @@ use Rattle.rules.specs.Explored as rules
 use Rattle.rules.specs.Explored.{refused, settings_fine}
 use Rattle.rules.proofs.ExploredLaws.{explored-2, explored-3, explored-4, explored-5-header, explored-5-row, explored-5-condition, explored-ran}
 use Rattle.table.specs.Answers.{judged_of}
-use Rattle.table.specs.declared.Judged.{Judged}
-use Rattle.table.specs.declared.Judged.TheVariants as code
+use Rattle.std.specs.Prelude.{Result, Ok, Err}
+use Rattle.table.specs.declared.BadTable.{BadTable}
+use Rattle.table.specs.declared.BadTable.TheVariants as code
 use Rattle.report.specs.Answers.{report_of, refusal}
 use Rattle.report.specs.declared.Report.{Report}
 use Rattle.report.specs.declared.Answer.TheVariants as answer
@@ -49,17 +50,17 @@ module _ (r : Report) (table condition : List ℕ) (s : Settings) (path trace : 
       refuse-trace c e =
           refused-is 4 255 255 (e ∙ bad-trace path trace) ∙ sym (explored-4 table condition (settings_of s) path trace a (eqb-true (length path) (16 * s.branches) b) (eqb-false (length trace) (16 * s.operations) c))
 
-      module _ (c : eqb (length trace) (16 * s.operations) ≡ true) (j : Judged) (judges : judged_of j ≡ judged table) where
-        pub refuse-header : j ≡ code.BadHeader → report_of r ≡ refusal (answer.BadTable 255 255) → explored_of r path trace ≡ rules.explored table condition (settings_of s) path trace
+      module _ (c : eqb (length trace) (16 * s.operations) ≡ true) (j : Result (Unit {0}) BadTable) (judges : judged_of j ≡ judged table) where
+        pub refuse-header : j ≡ Err code.Header → report_of r ≡ refusal (answer.BadTable 255 255) → explored_of r path trace ≡ rules.explored table condition (settings_of s) path trace
         refuse-header i e =
             refused-is 5 255 255 (e ∙ bad-table path trace 255 255) ∙ sym (explored-5-header table condition (settings_of s) path trace a (eqb-true (length path) (16 * s.branches) b) (eqb-true (length trace) (16 * s.operations) c) (sym judges ∙ ap judged_of i))
 
-        pub refuse-row : (t k : ℕ) → j ≡ code.BadRow t k → report_of r ≡ refusal (answer.BadTable t k) → explored_of r path trace ≡ rules.explored table condition (settings_of s) path trace
+        pub refuse-row : (t k : ℕ) → j ≡ Err (code.Row t k) → report_of r ≡ refusal (answer.BadTable t k) → explored_of r path trace ≡ rules.explored table condition (settings_of s) path trace
         refuse-row t k i e =
             refused-is 5 t k (e ∙ bad-table path trace t k) ∙ sym (explored-5-row table condition (settings_of s) path trace a (eqb-true (length path) (16 * s.branches) b) (eqb-true (length trace) (16 * s.operations) c) t k (sym judges ∙ ap judged_of i))
 
 module _ (table : List ℕ) (s : Settings) (path trace : List ℕ) where
-  pub ready_made : settings_fine (settings_of s) ≡ true → eqb (length path) (16 * s.branches) ≡ true → eqb (length trace) (16 * s.operations) ≡ true → (j : Judged) → judged_of j ≡ judged table → j ≡ code.Good → RunReady table (settings_of s) path trace
+  pub ready_made : settings_fine (settings_of s) ≡ true → eqb (length path) (16 * s.branches) ≡ true → eqb (length trace) (16 * s.operations) ≡ true → (j : Result (Unit {0}) BadTable) → judged_of j ≡ judged table → j ≡ Ok tt → RunReady table (settings_of s) path trace
   ready_made a b c j judges i =
       record {
         in-range = a;

@@ -10,7 +10,7 @@ use ending::threads_of;
 use event::NOWHERE;
 use report::{Answer, Report};
 use settings::{Settings, holds_exactly, settings_fine};
-use table::Judged;
+use table::BadTable;
 
 mod run;
 
@@ -35,7 +35,7 @@ pub fn explore(
         return report::refused(Answer::BadTrace);
     }
     match table::judge(table) {
-        Judged::Good => {
+        Ok(()) => {
             if !condition::is_condition(condition, threads_of(table)) {
                 return report::refused(Answer::BadTable {
                     thread: NOWHERE,
@@ -44,10 +44,12 @@ pub fn explore(
             }
             run::run(table, condition, path, trace, settings)
         }
-        Judged::BadHeader => report::refused(Answer::BadTable {
+        Err(BadTable::Header) => report::refused(Answer::BadTable {
             thread: NOWHERE,
             row: NOWHERE,
         }),
-        Judged::BadRow { thread, row } => report::refused(Answer::BadTable { thread, row }),
+        Err(BadTable::Row { thread, row }) => {
+            report::refused(Answer::BadTable { thread, row })
+        }
     }
 }

@@ -6,19 +6,16 @@ use Prim.Native.Nat.{ℕ, ◌+◌, ◌<◌}
 use native.Mathlib.Omega.{arith}
 use lib.Dec.{ltb}
 use borrow.Author.Tests.{lt-ltb, le-ltb}
-use Rattle.std.specs.Prelude.{Some, None}
-use mathlib.Core.Bool.{Bool, true, false}
-use mathlib.Core.List.{List, [], ◌∷◌}
+use mathlib.Core.Bool.{Bool, true, false, true≢false}
+use mathlib.Core.List.{List}
 use mathlib.Core.Path.{◌≡◌, refl, sym, ◌∙◌}
-use types.Run.{OneOf, miss}
-use denote.Enum.Declared.{tag_of}
 use lib.ListN.{get_or}
-use Rattle.rules.specs.Table.{count_fine}
+use Rattle.rules.specs.Table.{count_fine, good}
 use Rattle.page.specs.Pages.{Page}
-use Rattle.table.specs.contracts.Judged.{the_type}
 use Rattle.table.specs.Answers.{judged_of}
-use Rattle.table.specs.declared.Judged.{Judged}
-use Rattle.table.specs.declared.Judged.TheVariants as judged
+use Rattle.std.specs.Prelude.{Some, None, Result, Ok, Err, is_ok}
+use Rattle.table.specs.declared.BadTable.{BadTable}
+use Rattle.table.specs.declared.BadTable.TheVariants as bad
 use Rattle.refusal.specs.Headers.{one_below, put_header}
 use Rattle.refusal.specs.Refusals.{put_unnamed}
 
@@ -36,11 +33,12 @@ module _ (n : ℕ) where
   pub below-none : (k : ℕ) → k ≡ n → one_below n k ≡ None
   below-none k p = let e : ltb n n ≡ false = le-ltb n n (omega arith) in rw (p, e)
 
--- the places among the variants of what is not accepted
-abbrev bad : List ℕ
-bad = 1 ∷ 2 ∷ []
+pub unnamed : (l : Page) (t condition : List ℕ) (j : Result (Unit {0}) BadTable) {b : Bool} → b ≡ is_ok j → b ≡ false →
+    put_header l t ≡ put_unnamed l t condition (judged_of j)
+unnamed l t condition (Ok done) e f = absurd (true≢false (sym e ∙ f))
+unnamed l t condition (Err bad.Header) e f = refl
+unnamed l t condition (Err (bad.Row thread row)) e f = refl
 
-pub unnamed : (l : Page) (t condition : List ℕ) (j : Judged) → OneOf bad (tag_of the_type j) → put_header l t ≡ put_unnamed l t condition (judged_of j)
-unnamed l t condition judged.Good k = absurd (miss bad 0 tt k)
-unnamed l t condition judged.BadHeader k = refl
-unnamed l t condition (judged.BadRow thread row) k = refl
+pub good_named : (j : Result (Unit {0}) BadTable) {b : Bool} → b ≡ is_ok j → b ≡ true → judged_of j ≡ good
+good_named (Ok done) e f = refl
+good_named (Err why) e f = absurd (true≢false (sym f ∙ e))

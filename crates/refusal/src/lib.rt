@@ -9,7 +9,6 @@ ghost use Rattle.refusal.specs.Refusals.{put_refusal};
 use event::NO_PLACE;
 use page::Page;
 use report::AtFault;
-use table::Judged;
 
 mod header;
 
@@ -27,7 +26,7 @@ pub fn put(page: &mut Page, at: usize, table: &[u8], condition: &[u8], site: AtF
             (site.row % 256) as u8,
         );
     }
-    if let Judged::Good = table::judge(table) {
+    if table::judge(table).is_ok() {
         return bad_condition::put(page, at, table, condition);
     }
     header::put(page, at, table)

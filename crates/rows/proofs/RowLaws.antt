@@ -38,9 +38,8 @@ use Rattle.decode.specs.declared.Op.{Op}
 use Rattle.decode.specs.declared.Op.TheVariants as code
 use Rattle.std.specs.Prelude.{Option, Some, None}
 use Rattle.decode.specs.Ops.{op_of, decoded_of, InRange, OpWithin}
+use Rattle.std.specs.Prelude.{Option, Some, None}
 use Rattle.layout.specs.declared.Operation.{Operation}
-use Rattle.event.specs.declared.Pending.{Pending}
-use Rattle.event.specs.declared.Pending.TheVariants as pending
 use Rattle.rows.specs.Begins.{pending_set, begun_to, then_acts}
 use Rattle.rows.specs.Pendings.{Pends}
 
@@ -48,13 +47,13 @@ use Rattle.rows.specs.Pendings.{Pends}
 abbrev others : List ℕ
 others = all_but (0 ∷ 1 ∷ 2 ∷ 3 ∷ [])
 
-pub pends-none : (op : Op) → OneOf others (tag_of Op.the_type op) → Pends pending.Nothing (pending_of (op_of op))
+pub pends-none : (op : Op) → OneOf others (tag_of Op.the_type op) → Pends None (pending_of (op_of op))
 pends-none op k = by-role (role_of (op_of op)) (told (op_of op))
   where
     not-this : (m : rules.Op) → op_of op ≡ m → T (not (has_key others (opcode_of m))) → ⊥
     not-this m e h = missed others (op_of op) m e h (by_number others op k)
 
-    by-role : (role : Role) → Told role (op_of op) → Pends pending.Nothing (pending_as role)
+    by-role : (role : Role) → Told role (op_of op) → Pends None (pending_as role)
     by-role (loads c o r) e = absurd (not-this (rules.load c o r) e tt)
     by-role (stores_operand c o a) e = absurd (not-this (rules.store c o a) e tt)
     by-role (stores_register c o r) e = absurd (not-this (rules.store_register c o r) e tt)
@@ -62,19 +61,19 @@ pends-none op k = by-role (role_of (op_of op)) (told (op_of op))
     by-role (takes_bit r) e = record { is = refl; within = tt }
     by-role otherwise e = record { is = refl; within = tt }
 
-pub pends-as : (op m : Op) (r s : Pending) → op ≡ m → r ≡ s → InRange (op_of op) → (InRange (op_of m) → Pends s (pending_of (op_of m))) → Pends r (pending_of (op_of op))
+pub pends-as : (op m : Op) (r s : Option Operation) → op ≡ m → r ≡ s → InRange (op_of op) → (InRange (op_of m) → Pends s (pending_of (op_of m))) → Pends r (pending_of (op_of op))
 pends-as op m r s e f within g = rw (e, f) (g (rw e at within))
 
-module _ (r : Pending) (op : rules.Op) (means : Pends r (pending_of op)) where
-  pub sets-none : r ≡ pending.Nothing → pending_of op ≡ machine.nothing
-  sets-none e = let m : Pends pending.Nothing (pending_of op) = rw e at means in sym m.is
+module _ (r : Option Operation) (op : rules.Op) (means : Pends r (pending_of op)) where
+  pub sets-none : r ≡ None → pending_of op ≡ machine.nothing
+  sets-none e = let m : Pends None (pending_of op) = rw e at means in sym m.is
 
-  module _ (o : Operation) (e : r ≡ pending.On o) where
+  module _ (o : Operation) (e : r ≡ Some o) where
     pub sets-one : pending_of op ≡ machine.pends o.action o.cell
-    sets-one = let m : Pends (pending.On o) (pending_of op) = rw e at means in sym m.is
+    sets-one = let m : Pends (Some o) (pending_of op) = rw e at means in sym m.is
 
     pub sets-within : o.cell < 4
-    sets-within = let m : Pends (pending.On o) (pending_of op) = rw e at means in m.within
+    sets-within = let m : Pends (Some o) (pending_of op) = rw e at means in m.within
 
 -- A row begins
 

@@ -1,18 +1,17 @@
 -- The pending operation that a row sets, as the function answers it. Assumes nothing.
-use Rattle.std.specs.Prelude.{ℕ, ◌<◌, ◌≡◌}
+use Rattle.std.specs.Prelude.{ℕ, ◌<◌, ◌≡◌, Option, Some, None}
 use Rattle.rules.specs.Machine as rules
-use Rattle.event.specs.declared.Pending.{Pending}
-use Rattle.event.specs.declared.Pending.TheVariants as code
+use Rattle.layout.specs.declared.Operation.{Operation}
 
-abbrev pub pending_meant : Pending → rules.Pending
-pending_meant code.Nothing = rules.nothing
-pending_meant (code.On o) = rules.pends o.action o.cell
+abbrev pub pending_meant : Option Operation → rules.Pending
+pending_meant None = rules.nothing
+pending_meant (Some o) = rules.pends o.action o.cell
 
 -- its cell is one
-abbrev pub CellWithin : Pending → Type 0
-CellWithin code.Nothing = Unit
-CellWithin (code.On o) = o.cell < 4
+abbrev pub CellWithin : Option Operation → Type 0
+CellWithin None = Unit
+CellWithin (Some o) = o.cell < 4
 
-pub record Pends (r : Pending) (pending : rules.Pending) : Type 0 where
+pub record Pends (r : Option Operation) (pending : rules.Pending) : Type 0 where
   pub is : pending_meant r ≡ pending
   pub within : CellWithin r

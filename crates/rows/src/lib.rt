@@ -14,7 +14,7 @@ ghost use Rattle.rows.specs.Begins.{begun_to};
 ghost use Rattle.rows.specs.Pendings.{Pends};
 
 use decode::Op;
-use event::{BARE_DONE, Fault, Here, Moved, NO_SLOT, Pending, Question, Site};
+use event::{BARE_DONE, Fault, Here, Moved, NO_SLOT, Question, Site};
 use layout::of_run::{EXPLORING, ROWS_BEGUN, SKIPPING};
 use layout::of_thread::{CAUSALITY, OPERATES_ON, OPERATION, PHASE, REGISTER, ROWS, SCHEDULE};
 use layout::{Clocks, Marks, Numbers, Operation, Values, action, register_at};
@@ -32,7 +32,7 @@ pub fn begin(numbers: &mut Numbers, limit: u16, thread: usize, op: Op) -> Moved
     numbers[ROWS_BEGUN] = vv::one_more(numbers[ROWS_BEGUN]);
     numbers[ROWS + thread] = vv::one_more(numbers[ROWS + thread]);
     numbers[PHASE + thread] = thread::TO_ACT;
-    let Pending::On(operation) = pending_of(op) else {
+    let Some(operation) = pending_of(op) else {
         return Moved::Moves;
     };
     numbers[OPERATION + thread] = operation.action;
@@ -44,7 +44,7 @@ pub fn begin(numbers: &mut Numbers, limit: u16, thread: usize, op: Op) -> Moved
 }
 
 // The pending operation that a row sets, with its cell; a row of opcodes from 4 on sets none.
-fn pending_of(op: Op) -> Pending
+fn pending_of(op: Op) -> Option<Operation>
     requires { InRange (op_of op) }
     ensures { Pends result (machine.pending_of (op_of op)) }
 {
@@ -53,14 +53,14 @@ fn pending_of(op: Op) -> Pending
         Op::Store { cell, .. } => on(action::A_STORE, cell),
         Op::StoreRegister { cell, .. } => on(action::A_STORE, cell),
         Op::Rmw { cell, .. } => on(action::A_RMW, cell),
-        _ => Pending::Nothing,
+        _ => None,
     }
 }
 
-fn on(action: u16, cell: usize) -> Pending
-    ensures { result ≡ Pending.On (record { action = action; cell = cell }) }
+fn on(action: u16, cell: usize) -> Option<Operation>
+    ensures { result ≡ Some (record { action = action; cell = cell }) }
 {
-    Pending::On(Operation { action, cell })
+    Some(Operation { action, cell })
 }
 
 // A row that leaves neither slot nor value in the trace.

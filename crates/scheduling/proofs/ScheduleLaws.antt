@@ -16,7 +16,6 @@ use mathlib.Core.Path.{◌≡◌, refl, ap, sym, ◌∙◌}
 use mathlib.Core.Logic.{◌≢◌, ◌⊎◌, inl, inr, ⊎_elim}
 use native.Mathlib.Omega.{arith}
 use lib.Dec.{ltb, eqb}
-use Rattle.std.specs.Prelude.{Option, Some}
 use borrow.Author.Tests.{lt-ltb, le-ltb, ltb-true, eq-eqb, ne_eqb, not-true, not-false}
 use Rattle.rules.specs.Event as rules
 use Rattle.rules.specs.Event.{Point, nowhere, branch}
@@ -29,8 +28,7 @@ use Rattle.layout.specs.declared.Operation.{Operation}
 use Rattle.track.specs.LastAccess.{grown_by, accessed}
 use Rattle.thread.proofs.ThreadLaws.{one_left, none_left}
 use Rattle.scheduling.specs.Schedules.{On, OperationMeans, whom_of}
-use Rattle.event.specs.declared.Pending.{Pending}
-use Rattle.event.specs.declared.Pending.TheVariants as answer
+use Rattle.std.specs.Prelude.{Option, Some, None}
 
 -- A thread's pending operation
 
@@ -52,11 +50,11 @@ module _ (clocks : Clocks) (marks : Marks) (values : Values) (numbers : Numbers)
   pub operation-some : c < 4 → number numbers (operation t) ≢ no_operation → On here t (number numbers (operation t)) c
   operation-some h n = record { is = rw (← on, lt-ltb c 4 h); some = n; on = sym on; within = h }
 
-module _ (r : Pending) (st : State) (t : ℕ) (means : OperationMeans r st t) where
-  pub means-none : r ≡ answer.Nothing → operation_of st t ≡ no_operation
+module _ (r : Option Operation) (st : State) (t : ℕ) (means : OperationMeans r st t) where
+  pub means-none : r ≡ None → operation_of st t ≡ no_operation
   means-none e = rw e at means
 
-  pub means-on : (o : Operation) → r ≡ answer.On o → On st t o.action o.cell
+  pub means-on : (o : Operation) → r ≡ Some o → On st t o.action o.cell
   means-on o e = rw e at means
 
 -- Rule (a)

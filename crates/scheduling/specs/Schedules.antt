@@ -8,8 +8,7 @@ use Rattle.rules.specs.Event as rules
 use Rattle.rules.specs.State.{State}
 use Rattle.rules.specs.Vector.{Whom, nobody, thread}
 use Rattle.rules.specs.Machine.{operation_of, cell_of, no_operation}
-use Rattle.event.specs.declared.Pending.{Pending}
-use Rattle.event.specs.declared.Pending.TheVariants as operation
+use Rattle.layout.specs.declared.Operation.{Operation}
 
 abbrev pub point_of : Option ℕ → rules.Point
 point_of None = rules.nowhere
@@ -31,6 +30,6 @@ pub record On (st : State) (t action cell : ℕ) : Type 0 where
   pub on : cell_of st t ≡ cell
   pub within : cell < 4
 
-abbrev pub OperationMeans : Pending → State → ℕ → Type 0
-OperationMeans operation.Nothing st t = operation_of st t ≡ no_operation
-OperationMeans (operation.On o) st t = On st t o.action o.cell
+abbrev pub OperationMeans : Option Operation → State → ℕ → Type 0
+OperationMeans None st t = operation_of st t ≡ no_operation
+OperationMeans (Some o) st t = On st t o.action o.cell

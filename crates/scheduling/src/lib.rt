@@ -13,7 +13,7 @@ ghost use Rattle.layout.specs.Tables.{state};
 ghost use Rattle.event.specs.Moves.{move_of};
 ghost use Rattle.scheduling.specs.Schedules.{point_of, OperationMeans, whom_of, BestWithin};
 
-use event::{Fault, Moved, Pending};
+use event::{Fault, Moved};
 use layout::action::NO_OPERATION;
 use layout::of_run::ACTIVE_THREAD;
 use layout::of_thread::{OPERATES_ON, OPERATION, STATE, YIELDS};
@@ -22,19 +22,19 @@ use thread::{RUNNABLE, YIELDED};
 use track::access;
 
 // A thread's pending operation. One on a cell that is none, which no row sets, counts as none.
-pub fn pending_operation(numbers: &Numbers, thread: usize) -> Pending
+pub fn pending_operation(numbers: &Numbers, thread: usize) -> Option<Operation>
     requires { thread < 5 }
     ensures { (clocks : rules.Clocks) (marks : rules.Marks) (values : rules.Values) → OperationMeans result (state clocks marks values numbers.now) thread }
 {
     let action = numbers[OPERATION + thread];
     if action == NO_OPERATION {
-        return Pending::Nothing;
+        return None;
     }
     let cell = wide16(numbers[OPERATES_ON + thread]);
     if MAX_CELLS <= cell {
-        return Pending::Nothing;
+        return None;
     }
-    Pending::On(Operation { action, cell })
+    Some(Operation { action, cell })
 }
 
 // Rule (a): the branch of the access that a thread's pending operation is concurrent with. That branch is to be backtracked
@@ -43,7 +43,7 @@ pub fn conflict(clocks: &Clocks, numbers: &Numbers, thread: usize) -> Option<u16
     requires { thread < 5 }
     ensures { (marks : rules.Marks) (values : rules.Values) → point_of result ≡ machine.conflict (state clocks.now marks values numbers.now) thread }
 {
-    let Pending::On(operation) = pending_operation(numbers, thread) else {
+    let Some(operation) = pending_operation(numbers, thread) else {
         return None;
     };
     if access::is_concurrent(clocks, numbers, thread, operation) {
@@ -131,7 +131,7 @@ fn choose(clocks: &mut Clocks, numbers: &mut Numbers, chosen: usize, branch: u16
     ensures { (marks : rules.Marks) (values : rules.Values) → state clocks.new marks values numbers.new ≡ machine.switched (state clocks.old marks values numbers.old) chosen branch }
 {
     numbers[ACTIVE_THREAD] = chosen as u16;
-    if let Pending::On(operation) = pending_operation(numbers, chosen) {
+    if let Some(operation) = pending_operation(numbers, chosen) {
         access::set_last_access(clocks, numbers, chosen, operation, branch);
     }
     thread::reactivate(numbers, chosen);

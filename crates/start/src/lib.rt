@@ -73,10 +73,8 @@ fn make_cells(
     requires { cells ≤ 4 }
     ensures { state clocks.new marks.new values.new numbers.new ≡ machine.cells_made table.now (state clocks.old marks.old values.old numbers.old) cells 0 }
 {
-    let mut cell = 0;
-    while cell < cells {
+    for cell in 0..cells {
         make_cell(table, clocks, marks, values, numbers, cell);
-        cell += 1;
     }
 }
 
@@ -117,10 +115,8 @@ fn make_plains(table: &[u8], clocks: &mut Clocks, values: &mut Values, cells: us
     requires { (cells ≤ 4) × (plains ≤ 4) }
     ensures { (marks : rules.Marks) (numbers : rules.Numbers) → cells_of table.now ≡ cells → state clocks.new marks values.new numbers ≡ machine.plains_made table.now (state clocks.old marks values.old numbers) plains 0 }
 {
-    let mut plain = 0;
-    while plain < plains {
+    for plain in 0..plains {
         make_plain(table, clocks, values, plain, cells);
-        plain += 1;
     }
 }
 
@@ -139,11 +135,9 @@ fn start_threads(clocks: &mut Clocks, numbers: &mut Numbers, threads: usize)
     requires { threads ≤ 5 }
     ensures { (marks : rules.Marks) (values : rules.Values) → state clocks.new marks values numbers.new ≡ machine.threads_started (state clocks.old marks values numbers.old) threads 0 }
 {
-    let mut t = 0;
-    while t < threads {
+    for t in 0..threads {
         clocks[CAUSALITY + t] = first_causality(t);
         numbers[STATE + t] = RUNNABLE;
-        t += 1;
     }
 }
 
@@ -165,10 +159,8 @@ fn first_causality(thread: usize) -> [u16; MAX_THREADS]
 fn clear_yields(numbers: &mut Numbers)
     ensures { numbers.new ≡ machine.for_threads machine.no_yield 5 0 numbers.old }
 {
-    let mut t = 0;
-    while t < MAX_THREADS {
+    for t in 0..MAX_THREADS {
         numbers[LAST_YIELD + t] = NONE;
-        t += 1;
     }
 }
 
@@ -176,10 +168,8 @@ fn clear_yields(numbers: &mut Numbers)
 fn clear_branches(numbers: &mut Numbers)
     ensures { numbers.new ≡ machine.for_threads machine.no_access 4 0 numbers.old }
 {
-    let mut cell = 0;
-    while cell < MAX_CELLS {
+    for cell in 0..MAX_CELLS {
         numbers[ACCESS_BRANCH + cell] = NONE;
         numbers[NON_LOAD_BRANCH + cell] = NONE;
-        cell += 1;
     }
 }

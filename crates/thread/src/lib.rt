@@ -113,12 +113,10 @@ pub fn end(numbers: &mut Numbers, thread: usize)
 {
     numbers[STATE + thread] = ENDED;
     numbers[OPERATION + thread] = NO_OPERATION;
-    let mut t = 0;
-    while t < MAX_THREADS {
+    for t in 0..MAX_THREADS {
         if numbers[STATE + t] == BLOCKED && wide16(numbers[AWAITS + t]) == thread {
             numbers[STATE + t] = RUNNABLE;
         }
-        t += 1;
     }
 }
 
@@ -127,12 +125,10 @@ pub fn end(numbers: &mut Numbers, thread: usize)
 pub fn reactivate(numbers: &mut Numbers, chosen: usize)
     ensures { numbers.new ≡ others_awake chosen numbers.old }
 {
-    let mut t = 0;
-    while t < MAX_THREADS {
+    for t in 0..MAX_THREADS {
         if numbers[STATE + t] == YIELDED && t != chosen {
             numbers[STATE + t] = RUNNABLE;
         }
-        t += 1;
     }
 }
 
@@ -140,13 +136,11 @@ pub fn reactivate(numbers: &mut Numbers, chosen: usize)
 pub fn all_ended(numbers: &Numbers) -> bool
     ensures { result ≡ all_over numbers.now 5 0 }
 {
-    let mut t = 0;
-    while t < MAX_THREADS {
+    for t in 0..MAX_THREADS {
         let state = numbers[STATE + t];
         if state != ENDED && state != ABSENT {
             return false;
         }
-        t += 1;
     }
     true
 }
@@ -155,12 +149,10 @@ pub fn all_ended(numbers: &Numbers) -> bool
 pub fn some_can_run(numbers: &Numbers) -> bool
     ensures { result ≡ some_can_run numbers.now 5 0 }
 {
-    let mut t = 0;
-    while t < MAX_THREADS {
+    for t in 0..MAX_THREADS {
         if can_run(numbers, t) {
             return true;
         }
-        t += 1;
     }
     false
 }

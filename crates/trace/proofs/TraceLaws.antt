@@ -1,16 +1,20 @@
 -- The laws of the code that writes entries: an entry's bytes, zeros. Assumes nothing.
 --     entry-bytes               an entry's bytes, its value's one by one
 --     note-none, note-one       no room, and an entry written
---     clear_none, clear-on, clear-all      zeros put one after the other, up to the end or to that of the bytes
-use Prim.Native.Nat.{ℕ, ◌+◌, ◌*◌, ◌/◌, ◌%◌, ◌≤◌, ◌<◌}
+--     cleared-part              zeros put in a part, up to its end or to that of the bytes
+use Prim.Native.Nat.{ℕ, ◌-◌, ◌*◌, ◌/◌, ◌%◌, ◌≤◌, ◌<◌}
 use mathlib.Core.List.{List, [], ◌∷◌}
-use mathlib.Core.Bool.{Bool, true, false}
+use mathlib.Core.Bool.{true, false}
 use mathlib.Core.Path.{◌≡◌, refl, ap, sym, ◌∙◌}
 use borrow.Author.Tests.{lt-ltb, le-ltb}
 use native.Mathlib.Omega.{arith}
-use native.Mathlib.Decide.{dec_lt}
-use lib.ListN.{length, get_or, set, length-set, get_or-eq_default}
-use lib.Seq.{paste, get_or-set_same, get_or-set_other}
+use lib.ListN.{length, get_or, take, drop, replicate, length-replicate, length-drop}
+use lib.Seq.{paste, length-take-le}
+use borrow.Rule.Slice.PartMut.{put_mid}
+use borrow.Author.Rules.{rules}
+use Rattle.std.specs.Prelude.{min}
+use Rattle.std.proofs.Math.Nat.{min-le_right}
+use Rattle.std.proofs.lemmas.List.{places}
 use Rattle.rules.specs.Event.{Entry, little, entry_bytes}
 use Rattle.rules.proofs.LittleLaws.{eight-bytes}
 use Rattle.trace.specs.Entries.{Notes, Cleared}
@@ -28,71 +32,25 @@ pub length-entry_bytes : (e : Entry) → length (entry_bytes e) ≡ 16
 unfolding entry_bytes little
 length-entry_bytes e = refl
 
--- Zeros put one after the other
+-- Zeros in a part
 
--- zeros from `from` up to i, and i not past `to` unless nothing was put
-pub record Clearing (entry now : List ℕ) (from to i : ℕ) : Type 0 where
-  pub started : from ≤ i
-  pub within : from < i → i ≤ to
-  pub cleared : Cleared entry now from i
+module _ (bytes filled : List ℕ) (from to end : ℕ) (least : end ≡ min to (length bytes)) (some : from < end) (filling : filled ≡ replicate (length (take (end - from) (drop from bytes))) 0) where
+  within : end ≤ length bytes
+  within = omega (arith, least, min-le_right to (length bytes))
 
-pub clear_none : (bytes : List ℕ) (from to : ℕ) → Clearing bytes bytes from to from
-clear_none bytes from to =
-    record {
-      started = omega arith;
-      within = λ h. absurd (omega arith);
-      cleared = record { long = refl; zero = λ i l h. absurd (omega arith); below = λ i h. refl; above = λ i h. refl };
-    }
+  zeros : filled ≡ replicate (end - from) 0
+  zeros = filling ∙ ap (λ (n : ℕ). replicate n 0) (length-take-le (end - from) (drop from bytes) (omega (arith, length-drop from bytes, within)))
 
-module _ (entry now : List ℕ) (from to i : ℕ) (p : Clearing entry now from to i) where
-  one-more : i < length now → Cleared entry (set now i 0) from (i + 1)
-  one-more h =
-      record {
-        long = length-set now i 0 ∙ p.cleared.long;
-        zero = λ j l u. elim (dec_lt j i) [
-          | yes b ↦ get_or-set_other now i j 0 0 (λ (e : j ≡ i). omega arith) ∙ p.cleared.zero j l b
-          | no b ↦ let e : j ≡ i = omega arith in ap (λ (x : ℕ). get_or (set now i 0) x 0) e ∙ get_or-set_same now i 0 0 h
-        ];
-        below = λ j u. get_or-set_other now i j 0 0 (λ (e : j ≡ i). omega (arith, p.started)) ∙ p.cleared.below j u;
-        above = λ j l. get_or-set_other now i j 0 0 (λ (e : j ≡ i). omega arith) ∙ p.cleared.above j (omega arith);
-      }
+  long : length filled ≡ end - from
+  long = ap length zeros ∙ length-replicate {A = ℕ} (end - from) 0
 
-  pub clear-on : i < to → i < length now → Clearing entry (set now i 0) from to (i + 1)
-  clear-on b h = record { started = omega (arith, p.started); within = λ (u : from < i + 1). omega arith; cleared = one-more h }
-
-  past_to : to ≤ i → (j : ℕ) → to ≤ j → get_or now j 0 ≡ get_or entry j 0
-  past_to h j l =
-      elim (dec_lt j i) [
-        | no b ↦ p.cleared.above j (omega arith)
-        | yes b ↦
-            elim (dec_lt from i) [
-              | yes u ↦ absurd (omega (arith, p.within u))
-              | no u ↦ p.cleared.below j (omega arith)
-            ]
-      ]
-
-  -- at `to`
-  pub clear-all : to ≤ i → Cleared entry now from to
-  clear-all h =
-      record {
-        long = p.cleared.long;
-        zero = λ j l u. p.cleared.zero j l (omega arith);
-        below = p.cleared.below;
-        above = past_to h;
-      }
-
-  -- at the end of the bytes, past which there is nothing
-  pub clear-past : i < to → length now ≤ i → Cleared entry now from to
-  clear-past h e =
-      record {
-        long = p.cleared.long;
-        zero = λ j l u. elim (dec_lt j i) [
-          | yes b ↦ p.cleared.zero j l b
-          | no b ↦ get_or-eq_default now 0 (omega arith)
-        ];
-        below = p.cleared.below;
-        above = λ j l. p.cleared.above j (omega arith);
-      }
+  pub cleared-part : Cleared bytes (put_mid from (end - from) bytes filled) from to
+  cleared-part = record {
+    long = search (rules, places, long, within, some);
+    zero = λ i l u. search (rules, places, zeros, long, within, least);
+    below = λ i u. search (rules, places);
+    above = λ i l. search (rules, places, long, within, least);
+  }
 
 -- Whether there is room
 

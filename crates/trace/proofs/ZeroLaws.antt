@@ -1,7 +1,7 @@
 -- The laws of a buffer that is cleared whole. Assumes nothing.
 --     all-zeros       all of its bytes are zero
 --     zero-at         each is, and so is what stands past them
-use Prim.Native.Nat.{ℕ, ◌≤◌, ◌<◌}
+use Prim.Native.Nat.{ℕ}
 use mathlib.Core.Bool.{Bool, true, false}
 use mathlib.Core.List.{List}
 use mathlib.Core.Path.{◌≡◌, refl, ap, sym, ◌∙◌}

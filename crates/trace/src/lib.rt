@@ -62,21 +62,16 @@ fn write(trace: &mut [u8], at: usize, bytes: [u8; RECORD])
     requires { at + 16 ≤ length trace.old }
     ensures { trace.new ≡ paste trace.old at bytes 16 }
 {
-    let mut i = 0;
-    while i < RECORD {
-        trace[at + i] = bytes[i];
-        i += 1;
-    }
+    trace[at..at + RECORD].copy_from_slice(&bytes);
 }
 
 // Sets the bytes from `from` up to `to` to zero, as far as there are any.
 pub fn clear(bytes: &mut [u8], from: usize, to: usize)
     ensures { Cleared bytes.old bytes.new from to }
 {
-    let mut i = from;
-    while i < to && i < bytes.len() {
-        bytes[i] = 0;
-        i += 1;
+    let end = to.min(bytes.len());
+    if from < end {
+        bytes[from..end].fill(0);
     }
 }
 

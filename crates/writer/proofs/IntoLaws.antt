@@ -17,8 +17,9 @@ use Rattle.rules.specs.Condition.{is_condition}
 use Rattle.rules.specs.Text.{filled}
 use Rattle.rules.specs.Writer.{WrittenInto, unfit, short, written, written_text, written_into}
 use Rattle.rules.proofs.MeasureAccepted.{good-header}
-use Rattle.table.specs.declared.Judged.{Judged}
-use Rattle.table.specs.declared.Judged.TheVariants.{BadHeader, BadRow}
+use Rattle.std.specs.Prelude.{Result, Err}
+use Rattle.table.specs.declared.BadTable.{BadTable}
+use Rattle.table.specs.declared.BadTable.TheVariants.{Header, Row}
 use Rattle.table.specs.Answers.{judged_of}
 use Rattle.put.specs.Puts.{last, up_to_last, Puts}
 use Rattle.condition_line.proofs.FineLaws.{fine-claim}
@@ -65,11 +66,9 @@ module _ (t c text : List ℕ) where
   unfolding written_into
   into-all = refl
 
-  pub into-header : (r : Judged) → judged_of r ≡ judged t → r ≡ BadHeader → with_text Unfit text ≡ written_into t c text
-  into-header r e h = sym (into-all ∙ ap into (sym e ∙ ap judged_of h))
-
-  pub into-row : (r : Judged) (k n : ℕ) → judged_of r ≡ judged t → r ≡ BadRow k n → with_text Unfit text ≡ written_into t c text
-  into-row r k n e h = sym (into-all ∙ ap into (sym e ∙ ap judged_of h))
+  pub into_bad : (r : Result (Unit {0}) BadTable) (why : BadTable) → judged_of r ≡ judged t → r ≡ Err why → with_text Unfit text ≡ written_into t c text
+  into_bad r Header e h = sym (into-all ∙ ap into (sym e ∙ ap judged_of h))
+  into_bad r (Row k n) e h = sym (into-all ∙ ap into (sym e ∙ ap judged_of h))
 
   module _ (accepted : judged t ≡ good) where
     to-claim : (s : Bool) → is_condition (threads_of t) c ≡ s → into-claim s ≡ written_into t c text

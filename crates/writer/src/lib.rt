@@ -14,7 +14,7 @@ use layout::{wide8, wide16};
 use put::{put_byte, put_bytes, put_number};
 use row_line::put_row;
 use table::limits::{CELL_COUNT, PLAIN_COUNT, THREAD_COUNT};
-use table::{COUNTS, FIRSTS, Judged};
+use table::{COUNTS, FIRSTS};
 
 // What became of it: a table or a condition that is none; too small a buffer, with the bytes that are needed; or the text's length.
 #[derive(Clone, Copy)]
@@ -29,9 +29,8 @@ pub fn write(table: &[u8], condition: &[u8], text: &mut [u8]) -> Written
     ensures { with_text result text.new ≡ written_into table.now condition.now text.old }
 {
     match table::judge(table) {
-        Judged::Good => write_fit(table, condition, text),
-        Judged::BadHeader => Written::Unfit,
-        Judged::BadRow { thread, row } => Written::Unfit,
+        Ok(()) => write_fit(table, condition, text),
+        Err(_) => Written::Unfit,
     }
 }
 

@@ -7,12 +7,12 @@ pub returns-then-condition-gt-CONDITION_BYTES : goal.returns-then-condition-gt-C
 unfolding put_bad_condition bytes_of
 returns-then-condition-gt-CONDITION_BYTES c = rw (lt-ltb 1024 _ c.if-condition-gt-CONDITION_BYTES.true) c.fill.ensures
 
-pub returns-in-Bad : goal.returns-in-Bad
+pub returns-in-Err : goal.returns-in-Err
 unfolding put_bad_condition put_found
-returns-in-Bad c =
-    rw (le-ltb 1024 _ c.if-condition-gt-CONDITION_BYTES.false, ← c.shape-shape.ensures, ← c.wide16-threads.ensures.same, ← c.first_bad.ensures, c.in-Bad.is) c.put_bad.ensures
+returns-in-Err c =
+    rw (le-ltb 1024 _ c.if-condition-gt-CONDITION_BYTES.false, ← c.shape-shape.ensures, ← c.wide16-threads.ensures.same, ← c.first_bad.ensures, c.in-Err.is) c.put_bad.ensures
 
-pub returns-in-Ends : goal.returns-in-Ends
+pub returns-in-Ok : goal.returns-in-Ok
 unfolding put_bad_condition put_found bytes_of
-returns-in-Ends c =
-    rw (le-ltb 1024 _ c.if-condition-gt-CONDITION_BYTES.false, ← c.shape-shape.ensures, ← c.wide16-threads.ensures.same, ← c.first_bad.ensures, c.in-Ends.is) c.fill-in-Ends.ensures
+returns-in-Ok c =
+    rw (le-ltb 1024 _ c.if-condition-gt-CONDITION_BYTES.false, ← c.shape-shape.ensures, ← c.wide16-threads.ensures.same, ← c.first_bad.ensures, c.in-Ok.is) c.fill-in-Ok.ensures

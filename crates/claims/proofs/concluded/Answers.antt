@@ -6,19 +6,19 @@ use Rattle.claims.proofs.concluded.Goals as goal
 pub returns-then-stop-length : goal.returns-then-stop-length
 returns-then-stop-length c =
     let a = c.args in
-    ends-refused a.text.now a.lines a.at a.threads c.claimed-all.result c.claimed-all.ensures c.part.result.now c.part.ensures _ _ c.refused-then-stop-length.ensures (sym c.in-Ends.is ∙ c.first_bad.ensures) c.if-stop-length.true
+    ends-refused a.text.now a.lines a.at a.threads c.claimed-all.result c.claimed-all.ensures c.part.result.now c.part.ensures _ _ c.refused-then-stop-length.ensures (sym c.in-Ok.is ∙ c.first_bad.ensures) c.if-stop-length.true
 
 pub returns-then-not-all : goal.returns-then-not-all
 returns-then-not-all c =
     let a = c.args in
-    broken-refused a.text.now a.lines a.at a.threads c.claimed-all.result c.claimed-all.ensures c.part.result.now c.part.ensures _ _ c.refused-then-not-all.ensures (sym c.in-Ends.is ∙ c.first_bad.ensures) (not-true _ c.if-not-all.true)
+    broken-refused a.text.now a.lines a.at a.threads c.claimed-all.result c.claimed-all.ensures c.part.result.now c.part.ensures _ _ c.refused-then-not-all.ensures (sym c.in-Ok.is ∙ c.first_bad.ensures) (not-true _ c.if-not-all.true)
 
-pub returns-in-Bad : goal.returns-in-Bad
-returns-in-Bad c =
+pub returns-in-Err : goal.returns-in-Err
+returns-in-Err c =
     let a = c.args in
-    bad-refused a.text.now a.lines a.at a.threads c.claimed-all.result c.claimed-all.ensures c.part.result.now c.part.ensures _ _ c.refused.ensures (sym c.in-Bad.is ∙ c.first_bad.ensures)
+    bad-refused a.text.now a.lines a.at a.threads c.claimed-all.result c.claimed-all.ensures c.part.result.now c.part.ensures _ _ c.refused.ensures (sym c.in-Err.is ∙ c.first_bad.ensures)
 
 pub returns-else-not-all : goal.returns-else-not-all
 returns-else-not-all c =
     let a = c.args in
-    ends-taken a.text.now a.lines a.at a.threads c.claimed-all.result c.claimed-all.ensures c.part.result.now c.part.ensures _ (sym c.in-Ends.is ∙ c.first_bad.ensures) c.if-stop-length.false (not-false _ c.if-not-all.false)
+    ends-taken a.text.now a.lines a.at a.threads c.claimed-all.result c.claimed-all.ensures c.part.result.now c.part.ensures _ (sym c.in-Ok.is ∙ c.first_bad.ensures) c.if-stop-length.false (not-false _ c.if-not-all.false)

@@ -4,12 +4,12 @@ use Rattle.condition.proofs.holds.Goals as goal
 pub returns-then-bytes-eq0 : goal.returns-then-bytes-eq0
 returns-then-bytes-eq0 c = none-holds _ _ c.args.bytes.now c.if-bytes-eq0.true
 
-pub returns-in-Bad : goal.returns-in-Bad
-returns-in-Bad c =
+pub returns-in-Err : goal.returns-in-Err
+returns-in-Err c =
     let g = c.args in
-    bad-fails g.threads _ g.bytes.now c.if-bytes-eq0.false c.condition.ensures c.in-Bad.is
+    bad-fails g.threads _ g.bytes.now c.if-bytes-eq0.false c.condition.ensures c.in-Err.is
 
-pub returns-in-Value : goal.returns-in-Value
-returns-in-Value c =
+pub returns-in-Ok : goal.returns-in-Ok
+returns-in-Ok c =
     let g = c.args in
-    read-holds g.threads _ g.bytes.now c.if-bytes-eq0.false c.condition.ensures c.in-Value.is
+    read-holds g.threads _ g.bytes.now c.if-bytes-eq0.false c.condition.ensures c.in-Ok.is

@@ -7,10 +7,10 @@ returns-then-bytes-eq0 c = none-fine _ c.args.bytes.now c.if-bytes-eq0.true
 pub returns-then-bytes-gt-CONDITION_BYTES : goal.returns-then-bytes-gt-CONDITION_BYTES
 returns-then-bytes-gt-CONDITION_BYTES c = long-bad _ _ c.if-bytes-gt-CONDITION_BYTES.true
 
-pub returns-in-Bad : goal.returns-in-Bad
-returns-in-Bad c =
-    bad-bad _ c.args.bytes.now c.if-bytes-gt-CONDITION_BYTES.false c.if-bytes-eq0.false c.first_bad.ensures c.in-Bad.is
+pub returns-in-Err : goal.returns-in-Err
+returns-in-Err c =
+    bad-bad _ c.args.bytes.now c.if-bytes-gt-CONDITION_BYTES.false c.if-bytes-eq0.false c.first_bad.ensures c.in-Err.is
 
-pub returns-in-Ends : goal.returns-in-Ends
-returns-in-Ends c =
-    end-fine _ c.args.bytes.now c.if-bytes-gt-CONDITION_BYTES.false c.if-bytes-eq0.false c.first_bad.ensures c.in-Ends.is
+pub returns-in-Ok : goal.returns-in-Ok
+returns-in-Ok c =
+    end-fine _ c.args.bytes.now c.if-bytes-gt-CONDITION_BYTES.false c.if-bytes-eq0.false c.first_bad.ensures c.in-Ok.is

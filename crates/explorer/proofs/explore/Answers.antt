@@ -39,7 +39,7 @@ returns-then-not-is_condition c =
     let trace-held : eqb (length c.args.trace.now) (16 * c.args.settings.operations) ≡ true =
     sym c.holds_exactly-2.ensures ∙ not-false _ c.if-not-holds_exactly-2.false-raw in
     let ready : RunReady c.args.table.now (settings_of c.args.settings) c.args.path.now c.args.trace.now =
-    ready_made _ c.args.settings _ _ fine path-held trace-held _ c.judge.ensures c.in-Good.is in
+    ready_made _ c.args.settings _ _ fine path-held trace-held _ c.judge.ensures c.in-Ok.is in
     let judged : let g = c.args in c.is_condition.result ≡ is_condition (threads_of g.table.now) g.condition.now =
     let g = c.args in
     judged-by g.table.now g.condition.now c.threads_of.ensures c.is_condition.ensures in
@@ -54,7 +54,7 @@ run-requires c =
     let trace-held : eqb (length c.args.trace.now) (16 * c.args.settings.operations) ≡ true =
     sym c.holds_exactly-2.ensures ∙ not-false _ c.if-not-holds_exactly-2.false-raw in
     let ready : RunReady c.args.table.now (settings_of c.args.settings) c.args.path.now c.args.trace.now =
-    ready_made _ c.args.settings _ _ fine path-held trace-held _ c.judge.ensures c.in-Good.is in
+    ready_made _ c.args.settings _ _ fine path-held trace-held _ c.judge.ensures c.in-Ok.is in
     ready
 
 pub returns-else-not-is_condition : goal.returns-else-not-is_condition
@@ -66,7 +66,7 @@ returns-else-not-is_condition c =
     let trace-held : eqb (length c.args.trace.now) (16 * c.args.settings.operations) ≡ true =
     sym c.holds_exactly-2.ensures ∙ not-false _ c.if-not-holds_exactly-2.false-raw in
     let ready : RunReady c.args.table.now (settings_of c.args.settings) c.args.path.now c.args.trace.now =
-    ready_made _ c.args.settings _ _ fine path-held trace-held _ c.judge.ensures c.in-Good.is in
+    ready_made _ c.args.settings _ _ fine path-held trace-held _ c.judge.ensures c.in-Ok.is in
     let judged : let g = c.args in c.is_condition.result ≡ is_condition (threads_of g.table.now) g.condition.now =
     let g = c.args in
     judged-by g.table.now g.condition.now c.threads_of.ensures c.is_condition.ensures in

@@ -1,19 +1,18 @@
-use borrow.Enum.Refused.{opened}
 use borrow.Author.Tests.{eq-eqb, ne_eqb}
 use Rattle.refusal.specs.Refusals.{put_refusal}
-use Rattle.refusal.proofs.RefusalLaws.{unnamed}
+use Rattle.refusal.proofs.RefusalLaws.{good_named, unnamed}
 use Rattle.refusal.proofs.put.Goals as goal
 
 pub returns-then-site-ne-NO_PLACE : goal.returns-then-site-ne-NO_PLACE
 unfolding put_refusal
 returns-then-site-ne-NO_PLACE c = rw (ne_eqb _ 255 c.if-site-ne-NO_PLACE.true) c.put.ensures
 
-pub returns-in-Good : goal.returns-in-Good
+pub returns-then-is_ok : goal.returns-then-is_ok
 unfolding put_refusal
-returns-in-Good c =
-    rw (eq-eqb _ 255 c.if-site-ne-NO_PLACE.false, ← c.judge.ensures, c.in-Good.is) c.put-in-Good.ensures
+returns-then-is_ok c =
+    rw (eq-eqb _ 255 c.if-site-ne-NO_PLACE.false, ← c.judge.ensures, good_named _ c.is_ok.ensures.value c.if-is_ok.true) c.put-then-is_ok.ensures
 
 pub returns : goal.returns
 unfolding put_refusal
 returns c =
-    rw (eq-eqb _ 255 c.if-site-ne-NO_PLACE.false, ← c.judge.ensures, ← unnamed _ _ _ _ (opened c.in_default.in_default-own.keys2)) c.put-2.ensures
+    rw (eq-eqb _ 255 c.if-site-ne-NO_PLACE.false, ← c.judge.ensures, ← unnamed _ _ _ _ c.is_ok.ensures.value c.if-is_ok.false) c.put-2.ensures

@@ -19,11 +19,11 @@ returns-in_default c =
 pub overflow_cast-numbers : goal.overflow_cast-numbers
 overflow_cast-numbers c =
     let args = c.args in
-    omega (arith, sets-within _ (op_of args.op) c.pending_of.ensures _ c.in-On.is)
+    omega (arith, sets-within _ (op_of args.op) c.pending_of.ensures _ c.in-Some.is)
 
 pub returns : goal.returns
 returns c =
     let args = c.args in
     λ clocks marks values k opcode m.
     begun-asking clocks marks values args.numbers.now args.thread _ _ args.limit (op_of args.op) c.one_more.ensures c.one_more-2.ensures c.if-limit-numbers.false _ _
-    (sets-one _ (op_of args.op) c.pending_of.ensures _ c.in-On.is)
+    (sets-one _ (op_of args.op) c.pending_of.ensures _ c.in-Some.is)

@@ -13,18 +13,18 @@ returns-in_default c =
 
 pub is_concurrent-requires : goal.is_concurrent-requires
 is_concurrent-requires c =
-    (search rules, (means-on _ _ c.args.thread (c.pending_operation.ensures [] [] []) _ c.in-On.is).within)
+    (search rules, (means-on _ _ c.args.thread (c.pending_operation.ensures [] [] []) _ c.in-Some.is).within)
 
 pub last_dependent_branch-requires : goal.last_dependent_branch-requires
 last_dependent_branch-requires c =
-    (means-on _ _ c.args.thread (c.pending_operation.ensures [] [] []) _ c.in-On.is).within
+    (means-on _ _ c.args.thread (c.pending_operation.ensures [] [] []) _ c.in-Some.is).within
 
 pub returns-then-is_concurrent : goal.returns-then-is_concurrent
 returns-then-is_concurrent c =
     let args = c.args in
     λ marks values.
     let st = state args.clocks.now marks values args.numbers.now in
-    let on = means-on _ st args.thread (c.pending_operation.ensures args.clocks.now marks values) _ c.in-On.is in
+    let on = means-on _ st args.thread (c.pending_operation.ensures args.clocks.now marks values) _ c.in-Some.is in
     conflict-there st args.thread _ _ on _ c.is_concurrent.ensures c.if-is_concurrent.true _ c.last_dependent_branch.ensures
 
 pub returns : goal.returns
@@ -32,5 +32,5 @@ returns c =
     let args = c.args in
     λ marks values.
     let st = state args.clocks.now marks values args.numbers.now in
-    let on = means-on _ st args.thread (c.pending_operation.ensures args.clocks.now marks values) _ c.in-On.is in
+    let on = means-on _ st args.thread (c.pending_operation.ensures args.clocks.now marks values) _ c.in-Some.is in
     conflict-apart st args.thread _ _ on _ c.is_concurrent.ensures c.if-is_concurrent.false

@@ -1,12 +1,10 @@
-use Prim.Native.Nat.{◌-◌}
 use mathlib.Core.Path.{refl, ◌∙◌}
 use Rattle.rules.specs.Machine.{no_access}
 use Rattle.thread.proofs.ThreadLaws.{for-on, for-end}
-use borrow.Author.Rules.{rules}
 use Rattle.start.proofs.clear_branches.Goals as goal
 
 pub loop-cell-preserved : goal.loop-cell-preserved
-loop-cell-preserved c = (search rules, for-on no_access c.loop-cell.numbers 4 c.loop-cell.cell c.loop-cell-test.true _ refl ∙ c.loop-cell.invariant.1)
+loop-cell-preserved c = for-on no_access c.loop-cell.numbers 4 c.loop-cell.cell c.loop-cell-test.true _ refl ∙ c.loop-cell.invariant
 
 pub returns : goal.returns
-returns c = for-end no_access c.loop-cell.numbers 4 c.loop-cell.cell c.loop-cell-test.false ∙ c.loop-cell.invariant.1
+returns c = for-end no_access c.loop-cell.numbers 4 c.loop-cell.cell c.loop-cell-test.false ∙ c.loop-cell.invariant

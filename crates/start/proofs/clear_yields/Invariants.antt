@@ -1,10 +1,7 @@
-use Prim.Native.Nat.{◌≤◌, ◌-◌}
+use Prim.Native.Nat.{◌-◌}
 use mathlib.Core.Path.{◌≡◌}
 use Rattle.rules.specs.Machine.{for_threads, no_yield}
 use Rattle.start.proofs.clear_yields.Given as goal
 
 abbrev pub invariant-loop-t : goal.invariant-loop-t
-invariant-loop-t l = (l.t ≤ 5) × (for_threads no_yield (5 - l.t) l.t l.numbers ≡ for_threads no_yield 5 0 l.initial.numbers)
-
-abbrev pub decreases-loop-t : goal.decreases-loop-t
-decreases-loop-t l = 5 - l.t
+invariant-loop-t l = for_threads no_yield (5 - l.t) l.t l.numbers ≡ for_threads no_yield 5 0 l.initial.numbers

@@ -1,11 +1,8 @@
-use Prim.Native.Nat.{◌≤◌, ◌-◌}
+use Prim.Native.Nat.{◌-◌}
 use mathlib.Core.Path.{◌≡◌}
 use Rattle.rules.specs.Machine.{cells_made}
 use Rattle.layout.specs.Tables.{state}
 use Rattle.start.proofs.make_cells.Given as goal
 
 abbrev pub invariant-loop-cell : goal.invariant-loop-cell
-invariant-loop-cell l = (l.cell ≤ l.cells) × (cells_made l.table (state l.clocks l.marks l.values l.numbers) (l.cells - l.cell) l.cell ≡ cells_made l.table (state l.initial.clocks l.initial.marks l.initial.values l.initial.numbers) l.cells 0)
-
-abbrev pub decreases-loop-cell : goal.decreases-loop-cell
-decreases-loop-cell l = l.cells - l.cell
+invariant-loop-cell l = cells_made l.table (state l.clocks l.marks l.values l.numbers) (l.cells - l.cell) l.cell ≡ cells_made l.table (state l.initial.clocks l.initial.marks l.initial.values l.initial.numbers) l.cells 0

@@ -1,4 +1,4 @@
-use Prim.Native.Nat.{◌≤◌, ◌-◌}
+use Prim.Native.Nat.{◌-◌}
 use mathlib.Core.Path.{◌≡◌}
 use Rattle.rules.specs.State.{Marks, Numbers}
 use Rattle.rules.specs.Table.{cells_of}
@@ -8,8 +8,4 @@ use Rattle.start.proofs.make_plains.Given as goal
 
 abbrev pub invariant-loop-plain : goal.invariant-loop-plain
 invariant-loop-plain l =
-    (l.plain ≤ l.plains)
-    × ((marks : Marks) (numbers : Numbers) → cells_of l.table ≡ l.cells → plains_made l.table (state l.clocks marks l.values numbers) (l.plains - l.plain) l.plain ≡ plains_made l.table (state l.initial.clocks marks l.initial.values numbers) l.plains 0)
-
-abbrev pub decreases-loop-plain : goal.decreases-loop-plain
-decreases-loop-plain l = l.plains - l.plain
+    (marks : Marks) (numbers : Numbers) → cells_of l.table ≡ l.cells → plains_made l.table (state l.clocks marks l.values numbers) (l.plains - l.plain) l.plain ≡ plains_made l.table (state l.initial.clocks marks l.initial.values numbers) l.plains 0

@@ -1,4 +1,4 @@
-use Prim.Native.Nat.{◌≤◌, ◌-◌}
+use Prim.Native.Nat.{◌-◌}
 use mathlib.Core.Path.{◌≡◌}
 use Rattle.rules.specs.State.{Marks, Values}
 use Rattle.rules.specs.Machine.{threads_started}
@@ -7,8 +7,4 @@ use Rattle.start.proofs.start_threads.Given as goal
 
 abbrev pub invariant-loop-t : goal.invariant-loop-t
 invariant-loop-t l =
-    (l.t ≤ l.threads)
-    × ((marks : Marks) (values : Values) → threads_started (state l.clocks marks values l.numbers) (l.threads - l.t) l.t ≡ threads_started (state l.initial.clocks marks values l.initial.numbers) l.threads 0)
-
-abbrev pub decreases-loop-t : goal.decreases-loop-t
-decreases-loop-t l = l.threads - l.t
+    (marks : Marks) (values : Values) → threads_started (state l.clocks marks values l.numbers) (l.threads - l.t) l.t ≡ threads_started (state l.initial.clocks marks values l.initial.numbers) l.threads 0
