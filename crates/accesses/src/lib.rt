@@ -27,7 +27,7 @@ use layout::{
     Access, Clocks, MAX_ATOMIC_HISTORY, MAX_THREADS, Marks, Numbers, Values, register_at, slots,
     store_at, wide16,
 };
-use matches::Matched;
+use matches::EqualOrders;
 use track::Race;
 
 // What a row reads, if it is a load or a read-modify-write.
@@ -170,14 +170,14 @@ pub fn offers(
     numbers: &Numbers,
     dst: &mut [u8; MAX_ATOMIC_HISTORY],
     here: Here,
-) -> Matched
+) -> Result<usize, EqualOrders>
     requires { HereWithin here }
     ensures { (values : rules.Values) → scanned result dst.new ≡ offered (matched_for (state clocks.now marks.now values numbers.now) here.site.thread (decoded_of here.row)) dst.old }
 {
     let site = here.site;
     let row = here.row;
     let Some(op) = row else {
-        return Matched::Offers(0);
+        return Ok(0);
     };
     match op {
         Op::Load { cell, order, .. } => {
@@ -189,7 +189,7 @@ pub fn offers(
             matches::match_load_to_stores(clocks, numbers, dst, act, marks[cell])
         }
         Op::Rmw { cell, .. } => matches::match_rmw_to_stores(clocks, numbers, dst, cell),
-        _ => Matched::Offers(0),
+        _ => Ok(0),
     }
 }
 

@@ -2,9 +2,10 @@
 --     compared-told, all-seq-cst      two stores, as they were read
 --     fate-..                         one store more is met in the scan of a store's fate
 --     offer-..                        one store more is offered or not, and written
+use Rattle.std.specs.Prelude.{Result, Ok, Err, IsErr}
 use Prim.Native.Nat.{ℕ, suc, ◌+◌, ◌-◌, ◌≤◌, ◌<◌}
 use mathlib.Core.List.{List, []}
-use mathlib.Core.Bool.{Bool, true, false, cond, ◌&&◌, ◌||◌}
+use mathlib.Core.Bool.{Bool, true, false, cond, ◌&&◌, ◌||◌, true≢false}
 use mathlib.Core.Path.{◌≡◌, refl, ap, sym, ◌∙◌}
 use mathlib.Core.Logic.{◌≢◌, ◌⊎◌, ⊎_elim}
 use native.Mathlib.Omega.{arith}
@@ -23,9 +24,8 @@ use Rattle.rules.specs.Event.{slots_from}
 use Rattle.vv.specs.declared.Ordering.{Ordering}
 use Rattle.vv.specs.declared.Ordering.TheVariants as Orders
 use Rattle.vv.specs.Compared.{ordering_of}
-use Rattle.matches.specs.declared.Fate.{Fate}
-use Rattle.matches.specs.declared.Fate.TheVariants as Fates
-use Rattle.matches.specs.Offers.{fate_of, drops, Scan, slots, equal_met, offered}
+use Rattle.matches.specs.declared.EqualOrders.{EqualOrders}
+use Rattle.matches.specs.Offers.{fate_of, drops, Scan, slots, equal_met, scanned, offered}
 use Rattle.synchronize.proofs.SeenLaws.{seen_slots-at}
 
 -- Two stores, as they were read
@@ -151,22 +151,22 @@ module _ (fate : ℕ → rules.Fate) (l i : ℕ) (dst : List ℕ) (n : ℕ) (who
       let e : n + 0 ≡ n = omega arith in
       sym (ap (λ (k : ℕ). slots k dst) e) ∙ (sym (ap (offering dst n i) (matched-none fate l i h)) ∙ left)
 
-  module _ (h : i < l) (r s : Fate) (e : fate_of r ≡ fate i) (told : r ≡ s) where
-    offer-told : offering dst n i (rules.by_fate (fate_of s) (matched_from fate (l - (i + 1)) (i + 1))) ≡ whole
-    offer-told =
-        ap (λ (f : rules.Fate). offering dst n i (rules.by_fate f (matched_from fate (l - (i + 1)) (i + 1)))) (sym (ap fate_of told) ∙ e)
-        ∙ (sym (ap (offering dst n i) (matched-here fate l i h)) ∙ left)
+  offer-told : i < l → (f : rules.Fate) → f ≡ fate i → offering dst n i (rules.by_fate f (matched_from fate (l - (i + 1)) (i + 1))) ≡ whole
+  offer-told h f e =
+      ap (λ (f : rules.Fate). offering dst n i (rules.by_fate f (matched_from fate (l - (i + 1)) (i + 1)))) e
+      ∙ (sym (ap (offering dst n i) (matched-here fate l i h)) ∙ left)
 
   -- the list and the count as they then are
-  module _ (h : i < l) (r : Fate) (e : fate_of r ≡ fate i) (to : List ℕ) (m : ℕ) where
-    pub offer-kept : r ≡ Fates.Kept → to ≡ set dst n i → m ≡ n + 1 → offering to m (i + 1) (matched_from fate (l - (i + 1)) (i + 1)) ≡ whole
-    offer-kept told f g = rw (f, g) (sym (offer-one dst n i (matched_from fate (l - (i + 1)) (i + 1))) ∙ offer-told h r Fates.Kept e told)
+  module _ (h : i < l) (b : Bool) (e : fate_of (Ok b) ≡ fate i) (to : List ℕ) (m : ℕ) where
+    pub offer-kept : b ≡ true → to ≡ set dst n i → m ≡ n + 1 → offering to m (i + 1) (matched_from fate (l - (i + 1)) (i + 1)) ≡ whole
+    offer-kept told f g = rw (f, g) (sym (offer-one dst n i (matched_from fate (l - (i + 1)) (i + 1))) ∙ offer-told h rules.kept (rw told at e))
 
-    pub offer-dropped : r ≡ Fates.Dropped → to ≡ dst → m ≡ n → offering to m (i + 1) (matched_from fate (l - (i + 1)) (i + 1)) ≡ whole
-    offer-dropped told f g = rw (f, g) (sym (offer-not dst n i (matched_from fate (l - (i + 1)) (i + 1))) ∙ offer-told h r Fates.Dropped e told)
+    pub offer-dropped : b ≡ false → to ≡ dst → m ≡ n → offering to m (i + 1) (matched_from fate (l - (i + 1)) (i + 1)) ≡ whole
+    offer-dropped told f g = rw (f, g) (sym (offer-not dst n i (matched_from fate (l - (i + 1)) (i + 1))) ∙ offer-told h rules.dropped (rw told at e))
 
-  pub offer-equal : i < l → (r : Fate) → fate_of r ≡ fate i → r ≡ Fates.Equal → equal_met ≡ whole
-  offer-equal h r e told = offer-told h r Fates.Equal e told
+  pub offer-equal : i < l → rules.equal_met ≡ fate i → (r : Result ℕ EqualOrders) → IsErr r → scanned r dst ≡ whole
+  offer-equal h e (Ok m) up = absurd (true≢false (sym up))
+  offer-equal h e (Err equal) up = offer-told h rules.equal_met e
 
 start : (dst : List ℕ) (m : Event.Matched) → offering dst 0 0 m ≡ offered m dst
 start dst (Event.offers os) = let e : 0 + length (slots_from 0 os) ≡ length (slots_from 0 os) = omega arith in rw e

@@ -14,21 +14,10 @@ use layout::{Access, Clocks, MAX_ATOMIC_HISTORY, MAX_THREADS, Numbers, order, st
 use synchronize::first_seen::{FirstSeen, seen_slots};
 use vv::{Ordering, VersionVec};
 
-// How many stores are offered, or that equal orders were met: answer 13. There loom asserts that no two stores of a cell have
-// the same order, with the remark that this sometimes fails; here it is an answer.
+// Equal orders were met: answer 13. There loom asserts that no two stores of a cell have the same order, with the remark that
+// this sometimes fails; here it is an answer.
 #[derive(Clone, Copy)]
-pub enum Matched {
-    Offers(usize),
-    Equal,
-}
-
-// What a scan says of one store.
-#[derive(Clone, Copy)]
-pub enum Fate {
-    Kept,
-    Dropped,
-    Equal,
-}
+pub struct EqualOrders;
 
 // Find all stores that could be returned by an atomic load: their slots, rising, at the start of `dst`. A store is offered
 // unless a newer one has been seen in the thread's causality: then to return it would go back in modification order.
@@ -38,7 +27,7 @@ pub fn match_load_to_stores(
     dst: &mut [u8; MAX_ATOMIC_HISTORY],
     access: Access,
     marks: [[u16; MAX_THREADS]; MAX_ATOMIC_HISTORY],
-) -> Matched
+) -> Result<usize, EqualOrders>
     requires { (access.thread < 5) × (access.cell < 4) }
     ensures { scanned result dst.new ≡ offered (matched_load clocks.now marks numbers.now access.thread access.cell access.order) dst.old }
 {
@@ -49,26 +38,20 @@ pub fn match_load_to_stores(
     let last_yield = numbers[LAST_YIELD + thread];
     let live = live_stores(numbers[COUNT + cell]);
     let mut n = 0;
-    let mut i = 0;
-    while i < live {
+    for i in 0..live {
         let row = marks[i];
         let first = FirstSeen { versions: row };
         let before_yield = first.is_seen_before_yield(thread, last_yield);
-        match load_fate(clocks, numbers, access, i, seen, before_yield) {
-            Fate::Kept => {
-                dst[n] = i as u8;
-                n += 1;
-            }
-            Fate::Dropped => {}
-            Fate::Equal => return Matched::Equal,
+        if load_fate(clocks, numbers, access, i, seen, before_yield)? {
+            dst[n] = i as u8;
+            n += 1;
         }
-        i += 1;
     }
-    Matched::Offers(n)
+    Ok(n)
 }
 
-// Store i is dropped at the first newer live one that is seen, or if i was seen before the yield, or if the load and
-// both stores are SeqCst. A thread yields to wait for another, so what it saw before it is not returned again where there is
+// Whether store i is kept: it is dropped at the first newer live one that is seen, or if i was seen before the yield, or if the
+// load and both stores are SeqCst. A thread yields to wait for another, so what it saw before it is not returned again where there is
 // a newer store: else a loop that waits for the newer one could read the older for ever. Equal orders count only if they are
 // met before the store is dropped, since loom's scan asserts and drops in one walk.
 fn load_fate(
@@ -78,28 +61,26 @@ fn load_fate(
     i: usize,
     seen: [bool; MAX_ATOMIC_HISTORY],
     before_yield: bool,
-) -> Fate
+) -> Result<bool, EqualOrders>
     requires { (access.cell < 4) × (i < 7) }
     ensures { fate_of result ≡ fate_from clocks.now access.cell i (drops seen before_yield numbers.now access.cell access.order i) (live_in numbers.now access.cell) 0 }
 {
     let cell = access.cell;
     let live = live_stores(numbers[COUNT + cell]);
-    let mut j = 0;
-    while j < live {
+    for j in 0..live {
         if j != i {
             match compare_orders(clocks, cell, i, j) {
-                Ordering::Equal => return Fate::Equal,
+                Ordering::Equal => return Err(EqualOrders),
                 Ordering::Less => {
                     if seen[j] || before_yield || all_seq_cst(numbers, access, i, j) {
-                        return Fate::Dropped;
+                        return Ok(false);
                     }
                 }
                 Ordering::Neither => {}
             }
         }
-        j += 1;
     }
-    Fate::Kept
+    Ok(true)
 }
 
 // Find all stores that a read-modify-write could read: unlike a load, only the newest, those below no other.
@@ -108,45 +89,37 @@ pub fn match_rmw_to_stores(
     numbers: &Numbers,
     dst: &mut [u8; MAX_ATOMIC_HISTORY],
     cell: usize,
-) -> Matched
+) -> Result<usize, EqualOrders>
     requires { cell < 4 }
     ensures { scanned result dst.new ≡ offered (matched_rmw clocks.now numbers.now cell) dst.old }
 {
     let live = live_stores(numbers[COUNT + cell]);
     let mut n = 0;
-    let mut i = 0;
-    while i < live {
-        match rmw_fate(clocks, numbers, cell, i) {
-            Fate::Kept => {
-                dst[n] = i as u8;
-                n += 1;
-            }
-            Fate::Dropped => {}
-            Fate::Equal => return Matched::Equal,
+    for i in 0..live {
+        if rmw_fate(clocks, numbers, cell, i)? {
+            dst[n] = i as u8;
+            n += 1;
         }
-        i += 1;
     }
-    Matched::Offers(n)
+    Ok(n)
 }
 
-// Store i is dropped at the first newer live one.
-fn rmw_fate(clocks: &Clocks, numbers: &Numbers, cell: usize, i: usize) -> Fate
+// Whether store i is kept: it is dropped at the first newer live one.
+fn rmw_fate(clocks: &Clocks, numbers: &Numbers, cell: usize, i: usize) -> Result<bool, EqualOrders>
     requires { (cell < 4) × (i < 7) }
     ensures { fate_of result ≡ rmw_fate clocks.now numbers.now cell i }
 {
     let live = live_stores(numbers[COUNT + cell]);
-    let mut j = 0;
-    while j < live {
+    for j in 0..live {
         if j != i {
             match compare_orders(clocks, cell, i, j) {
-                Ordering::Equal => return Fate::Equal,
-                Ordering::Less => return Fate::Dropped,
+                Ordering::Equal => return Err(EqualOrders),
+                Ordering::Less => return Ok(false),
                 Ordering::Neither => {}
             }
         }
-        j += 1;
     }
-    Fate::Kept
+    Ok(true)
 }
 
 // Store i against store j in modification order.

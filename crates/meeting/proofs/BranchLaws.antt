@@ -2,6 +2,7 @@
 --     pushes-comes, thread-reaches, bit-reaches, slot-reaches      a branch is added, or none can be
 --     offers-reaches, equal-reaches                                of a load, by what it is offered
 --     reach-there, reach-adds                                      where one stands, and where none does
+use Rattle.std.specs.Prelude.{Result, Ok, Err}
 use Prim.Native.Nat.{ℕ, zero, suc, ◌+◌, ◌*◌, ◌≤◌}
 use mathlib.Core.List.{List, [], ◌∷◌, ◌++◌, map}
 use mathlib.Core.Bool.{Bool, true, false, cond}
@@ -19,8 +20,7 @@ use Rattle.rules.specs.Table as Table
 use Rattle.decode.specs.Ops.{decoded_of}
 use Rattle.event.specs.Moves.{offered_as, matched_for}
 use Rattle.matches.specs.Offers.{Scan, slots, equal_met, scanned, offered}
-use Rattle.matches.specs.declared.Matched.{Matched}
-use Rattle.matches.specs.declared.Matched.TheVariants as match
+use Rattle.matches.specs.declared.EqualOrders.{EqualOrders}
 use Rattle.rules.specs.Path as paths
 use Rattle.rules.specs.Path.{Branch, Added, thread_added, load_added, spurious_added, open_at}
 use Rattle.rules.specs.Machine.{Role, loads, stores_operand, stores_register, modifies, takes_bit, otherwise, role_in, exploring_now, initial, standing, every_thread}
@@ -238,7 +238,7 @@ read_back n seed dst (rules.offers os) long few e =
     ∙ take-sets dst (slots_of os) (omega (arith, few, few-slots os 0))
 read_back n seed dst rules.equal long few e = subst IsSlots e tt
 
-module _ (c : Cursor) (r : Ticked) (h : Here) (clocks : Clocks) (marks : MarkTable) (numbers : Numbers) (entry exit : List ℕ) (dst seed : List ℕ) (m : Matched)
+module _ (c : Cursor) (r : Ticked) (h : Here) (clocks : Clocks) (marks : MarkTable) (numbers : Numbers) (entry exit : List ℕ) (dst seed : List ℕ) (m : Result ℕ EqualOrders)
     (says : (values : Values) → scanned m seed ≡ offered (matched_for (state clocks marks values numbers) h.site.thread (decoded_of h.row)) dst) (met : Met c r exit) where
   offers-comes : (exploring : Bool) → exploring ≡ exploring_now numbers → (n : ℕ) → {p : Result ℕ NotAdded} → Pushes entry exit c.len 6 (λ B bs. load_added B bs exploring (take n seed)) p → AddedTo p h.site c r
       → (L : explorer.Limits) (w : Walk State) (values : Values) (trace : List ℕ) → BranchesHeld L entry → Stands (lent clocks marks values numbers entry trace) c w
@@ -250,7 +250,7 @@ module _ (c : Cursor) (r : Ticked) (h : Here) (clocks : Clocks) (marks : MarkTab
       (pushes-comes c r h.site clocks marks numbers entry exit push to L w values trace room s))
   offers-comes exploring x n push to L w values trace room s rules.equal back = absurd back
 
-  pub offers-reaches : {n : ℕ} (exploring : Bool) {p : Result ℕ NotAdded} → m ≡ match.Offers n → exploring ≡ exploring_now numbers → length dst ≡ 7 → Pushes entry exit c.len 6 (λ B bs. load_added B bs exploring (take n seed)) p → AddedTo p h.site c r
+  pub offers-reaches : {n : ℕ} (exploring : Bool) {p : Result ℕ NotAdded} → m ≡ Ok n → exploring ≡ exploring_now numbers → length dst ≡ 7 → Pushes entry exit c.len 6 (λ B bs. load_added B bs exploring (take n seed)) p → AddedTo p h.site c r
       → Reaches c r clocks marks numbers entry exit (added_at question.Slot h)
   unfolding explorer.pushed
   offers-reaches {n} exploring {p} e x long push to =
@@ -258,20 +258,20 @@ module _ (c : Cursor) (r : Ticked) (h : Here) (clocks : Clocks) (marks : MarkTab
       (λ L w values trace room s.
       let offer : rules.Matched = matched_for (state clocks marks values numbers) h.site.thread (decoded_of h.row) in
       offers-comes exploring x n push to L w values trace room s offer
-      (read_back n seed dst offer long (few-for (state clocks marks values numbers) h.site.thread (decoded_of h.row)) (sym (ap (λ (y : Matched). scanned y seed) e) ∙ says values)))
+      (read_back n seed dst offer long (few-for (state clocks marks values numbers) h.site.thread (decoded_of h.row)) (sym (ap (λ (y : Result ℕ EqualOrders). scanned y seed) e) ∙ says values)))
 
   equal-out : (offer : rules.Matched) → equal_met ≡ offered offer dst → (B : ℕ) (bs : List Branch) (b : Bool) → explorer.load_pushed B bs b offer ≡ faults rules.equal_orders
   equal-out (rules.offers os) e B bs b = absurd (subst IsSlots (sym e) tt)
   equal-out rules.equal e B bs b = refl
 
-module _ (c : Cursor) (r : Ticked) (h : Here) (clocks : Clocks) (marks : MarkTable) (numbers : Numbers) (entry : List ℕ) (dst seed : List ℕ) (m : Matched)
+module _ (c : Cursor) (r : Ticked) (h : Here) (clocks : Clocks) (marks : MarkTable) (numbers : Numbers) (entry : List ℕ) (dst seed : List ℕ) (m : Result ℕ EqualOrders)
     (says : (values : Values) → scanned m seed ≡ offered (matched_for (state clocks marks values numbers) h.site.thread (decoded_of h.row)) dst) (met : Met c r entry) where
-  pub equal-reaches : m ≡ match.Equal → FaultMet fault.EqualOrders h.site c r → Reaches c r clocks marks numbers entry entry (added_at question.Slot h)
+  pub equal-reaches : {equal : EqualOrders} → m ≡ Err equal → FaultMet fault.EqualOrders h.site c r → Reaches c r clocks marks numbers entry entry (added_at question.Slot h)
   unfolding explorer.pushed
   equal-reaches e stop =
       added-reaches c r h question.Slot clocks marks numbers entry entry met question.Slot refl
       (λ L w values trace room s.
       let offer : rules.Matched = matched_for (state clocks marks values numbers) h.site.thread (decoded_of h.row) in
       comes-faulted r _ w fault.EqualOrders h.site _ stop.is
-      (ap (branched (site_of h.site) w) (equal-out c r h clocks marks numbers entry entry dst seed m says met offer (sym (ap (λ (y : Matched). scanned y seed) e) ∙ says values) L.branches w.ledger.path (exploring_now numbers)))
+      (ap (branched (site_of h.site) w) (equal-out c r h clocks marks numbers entry entry dst seed m says met offer (sym (ap (λ (y : Result ℕ EqualOrders). scanned y seed) e) ∙ says values) L.branches w.ledger.path (exploring_now numbers)))
       (same-stands stop.stays s))

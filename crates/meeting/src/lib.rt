@@ -16,7 +16,6 @@ use decode::opcodes::NO_OPCODE;
 use event::{Fault, Here, Moved, NO_SLOT, Picked, Question, Site};
 use layout::of_run::EXPLORING;
 use layout::{Clocks, MAX_ATOMIC_HISTORY, MAX_THREADS, Marks, Numbers, wide16};
-use matches::Matched;
 use path::NotAdded;
 use record::Offered;
 use trace::Entry;
@@ -141,7 +140,7 @@ fn add_load(
 {
     let site = here.site;
     let mut seed = [0u8; MAX_ATOMIC_HISTORY];
-    let Matched::Offers(n) = accesses::offers(clocks, marks, numbers, &mut seed, here) else {
+    let Ok(n) = accesses::offers(clocks, marks, numbers, &mut seed, here) else {
         return faulted(Fault::EqualOrders, site, cursor);
     };
     let exploring = is_exploring(numbers);

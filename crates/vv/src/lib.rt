@@ -9,7 +9,7 @@ ghost use Rattle.vv.specs.Whom.{whom};
 use layout::MAX_THREADS;
 
 // The largest number that a part can be; a mark of this number is unseen, so no version passes it.
-pub const LARGEST: u16 = 65535;
+pub const LARGEST: u16 = u16::MAX;
 
 #[derive(Clone, Copy)]
 pub struct VersionVec {
@@ -17,7 +17,7 @@ pub struct VersionVec {
 }
 
 // How a vector stands to another. Neither is greater, or greater in one part and less in another.
-#[derive(Clone, Copy)]
+#[derive(Clone, Copy, PartialEq)]
 pub enum Ordering {
     Less,
     Equal,
@@ -28,7 +28,7 @@ pub enum Ordering {
 pub fn one_more(n: u16) -> u16
     ensures { result ≡ one_more n }
 {
-    if n < LARGEST { n + 1 } else { n }
+    n.saturating_add(1)
 }
 
 impl VersionVec {
@@ -45,12 +45,10 @@ impl VersionVec {
     pub fn join(mut self, other: VersionVec) -> VersionVec
         ensures { result.versions ≡ joined self.versions other.versions }
     {
-        let mut i = 0;
-        while i < MAX_THREADS {
+        for i in 0..MAX_THREADS {
             if self.versions[i] < other.versions[i] {
                 self.versions[i] = other.versions[i];
             }
-            i += 1;
         }
         self
     }
@@ -60,11 +58,9 @@ impl VersionVec {
     pub fn raise(mut self, thread: usize) -> VersionVec
         ensures { result.versions ≡ raised self.versions thread }
     {
-        let mut i = 0;
-        while i < MAX_THREADS {
+        for i in 0..MAX_THREADS {
             let n = self.versions[i];
             self.versions[i] = if i == thread { one_more(n) } else { n };
-            i += 1;
         }
         self
     }
@@ -73,28 +69,19 @@ impl VersionVec {
     pub fn at_most(self, other: VersionVec) -> bool
         ensures { result ≡ at_most self.versions other.versions }
     {
-        let mut i = 0;
-        while i < MAX_THREADS {
+        for i in 0..MAX_THREADS {
             if self.versions[i] > other.versions[i] {
                 return false;
             }
-            i += 1;
         }
         true
     }
 
-    // Whether all parts are equal. The first that is not ends the walk.
+    // Whether all parts are equal.
     pub fn equal(self, other: VersionVec) -> bool
         ensures { result ≡ equal self.versions other.versions }
     {
-        let mut i = 0;
-        while i < MAX_THREADS {
-            if self.versions[i] != other.versions[i] {
-                return false;
-            }
-            i += 1;
-        }
-        true
+        self.versions == other.versions
     }
 
     // Less, equal or neither. The first part that is greater ends the walk; loom's goes on there to tell greater from neither,
@@ -103,13 +90,11 @@ impl VersionVec {
         ensures { result ≡ ordering_of self.versions other.versions }
     {
         let mut same = true;
-        let mut i = 0;
-        while i < MAX_THREADS {
+        for i in 0..MAX_THREADS {
             if other.versions[i] < self.versions[i] {
                 return Ordering::Neither;
             }
             same = same & (self.versions[i] == other.versions[i]);
-            i += 1;
         }
         if same {
             Ordering::Equal
@@ -122,23 +107,17 @@ impl VersionVec {
     pub fn less(self, other: VersionVec) -> bool
         ensures { result ≡ less self.versions other.versions }
     {
-        match self.partial_cmp(other) {
-            Ordering::Less => true,
-            Ordering::Equal => false,
-            Ordering::Neither => false,
-        }
+        self.partial_cmp(other) == Ordering::Less
     }
 
     // The lowest thread whose part in the other vector is greater. It ends the walk.
     pub fn ahead(self, other: VersionVec) -> Option<u8>
         ensures { whom result ≡ ahead self.versions other.versions }
     {
-        let mut i = 0;
-        while i < MAX_THREADS {
+        for i in 0..MAX_THREADS {
             if self.versions[i] < other.versions[i] {
                 return Some(i as u8);
             }
-            i += 1;
         }
         None
     }

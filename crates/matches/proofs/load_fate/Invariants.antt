@@ -1,5 +1,5 @@
 use mathlib.Core.Path.{◌≡◌}
-use Prim.Native.Nat.{◌≤◌, ◌-◌}
+use Prim.Native.Nat.{◌-◌}
 use Rattle.rules.specs.Cell.{fate_from, live_in}
 use Rattle.matches.specs.Offers.{drops}
 use Rattle.matches.proofs.load_fate.Given as goal
@@ -8,7 +8,4 @@ abbrev pub invariant-loop-j : goal.invariant-loop-j
 invariant-loop-j l =
     let dropping = drops l.seen l.before_yield l.numbers l.access.cell l.access.order l.i in
     let fate = fate_from l.clocks l.access.cell l.i dropping in
-    (l.j ≤ 7) × (fate (l.live - l.j) l.j ≡ fate (live_in l.numbers l.access.cell) 0)
-
-abbrev pub decreases-loop-j : goal.decreases-loop-j
-decreases-loop-j l = 7 - l.j
+    (fate (l.live - l.j) l.j ≡ fate (live_in l.numbers l.access.cell) 0)

@@ -1,26 +1,23 @@
 use borrow.Author.Rules.{rules}
-use Prim.Native.Nat.{◌-◌}
-use Rattle.rules.specs.Cell.{matched_rmw, rmw_fate}
+use Rattle.rules.specs.Cell.{matched_rmw}
 use Rattle.matches.proofs.OfferLaws.{offer-all, offer-none, offer-kept, offer-dropped, offer-equal}
 use Rattle.matches.proofs.match_rmw_to_stores.Goals as goal
-use Rattle.matches.proofs.match_rmw_to_stores.Goals.{in-Dropped, in-Kept}
+use Rattle.matches.proofs.match_rmw_to_stores.Goals.{then-branch, else-branch}
 
 pub loop-i-init : goal.loop-i-init
-loop-i-init c = (search rules, search rules, offer-all _ _ _ _ c.live_stores-live.ensures.is)
+loop-i-init c = (search rules, offer-all _ _ _ _ c.live_stores-live.ensures.is)
 
-pub returns-in-Equal : goal.returns-in-Equal
+pub returns-in_err-rmw_fate : goal.returns-in_err-rmw_fate
 unfolding matched_rmw
-returns-in-Equal c =
-    offer-equal _ _ _ _ _ _ c.loop-i.invariant.2 c.loop-i-test.true _ c.rmw_fate.ensures c.in-Equal.is
+returns-in_err-rmw_fate c = offer-equal _ _ _ _ _ _ c.loop-i.invariant.1 c.loop-i-test.true c.in_err-rmw_fate.ensures _ c.from_residual.ensures.0
 
 pub loop-i-preserved : goal.loop-i-preserved
 loop-i-preserved c =
-    let h = c.loop-i-test.true in
-    elim c.match-rmw_fate.branch [
-      | in-Kept w ↦ (search rules, search rules, offer-kept _ _ _ _ _ _ c.loop-i.invariant.2 h _ c.rmw_fate.ensures _ _ w.in-Kept.is w.dst-is w.n-is)
-      | in-Dropped w ↦ (search rules, search rules, offer-dropped _ _ _ _ _ _ c.loop-i.invariant.2 h _ c.rmw_fate.ensures _ _ w.in-Dropped.is w.dst-is w.n-is)
+    elim c.if-branch.branch [
+      | then-branch w ↦ (search rules, offer-kept _ _ _ _ _ _ c.loop-i.invariant.1 c.loop-i-test.true _ c.in_ok-rmw_fate.ensures _ _ w.if-branch.true w.dst-is w.n-is)
+      | else-branch w ↦ (search rules, offer-dropped _ _ _ _ _ _ c.loop-i.invariant.1 c.loop-i-test.true _ c.in_ok-rmw_fate.ensures _ _ w.if-branch.false w.dst-is w.n-is)
     ]
 
 pub returns : goal.returns
 unfolding matched_rmw
-returns c = offer-none _ _ _ _ _ _ c.loop-i.invariant.2 c.loop-i-test.false
+returns c = offer-none _ _ _ _ _ _ c.loop-i.invariant.1 c.loop-i-test.false

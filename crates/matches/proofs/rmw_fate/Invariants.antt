@@ -1,6 +1,6 @@
 use mathlib.Core.Bool.{Bool, true}
 use mathlib.Core.Path.{◌≡◌}
-use Prim.Native.Nat.{ℕ, ◌≤◌, ◌-◌}
+use Prim.Native.Nat.{ℕ, ◌-◌}
 use Rattle.rules.specs.Cell.{fate_from, live_in}
 use Rattle.matches.proofs.rmw_fate.Given as goal
 
@@ -10,7 +10,4 @@ anyone j = true
 
 abbrev pub invariant-loop-j : goal.invariant-loop-j
 invariant-loop-j l =
-    (l.j ≤ 7) × (fate_from l.clocks l.cell l.i anyone (l.live - l.j) l.j ≡ fate_from l.clocks l.cell l.i anyone (live_in l.numbers l.cell) 0)
-
-abbrev pub decreases-loop-j : goal.decreases-loop-j
-decreases-loop-j l = 7 - l.j
+    (fate_from l.clocks l.cell l.i anyone (l.live - l.j) l.j ≡ fate_from l.clocks l.cell l.i anyone (live_in l.numbers l.cell) 0)

@@ -17,4 +17,4 @@ added-requires c =
 pub returns : goal.returns
 returns c =
     let args = c.args in
-    offers-reaches args.cursor c.added.result args.here args.clocks.now args.marks.now args.numbers.now args.path.now _ _ _ c.offers.result c.offers.ensures (pushes-met args.cursor c.added.result c.requires.1 c.requires.2 args.here.site (omega arith) c.push_load-pushed.ensures c.added.ensures) c.is_exploring-exploring.result c.in-Offers.is c.is_exploring-exploring.ensures refl c.push_load-pushed.ensures c.added.ensures
+    offers-reaches args.cursor c.added.result args.here args.clocks.now args.marks.now args.numbers.now args.path.now _ _ _ c.offers.result c.offers.ensures (pushes-met args.cursor c.added.result c.requires.1 c.requires.2 args.here.site (omega arith) c.push_load-pushed.ensures c.added.ensures) c.is_exploring-exploring.result c.in-Ok.is c.is_exploring-exploring.ensures refl c.push_load-pushed.ensures c.added.ensures

@@ -1,31 +1,21 @@
 use borrow.Author.Rules.{rules}
-use native.Mathlib.Omega.{arith}
-use mathlib.Core.Path.{◌≡◌, sym, ap, ◌∙◌}
-use lib.ListN.{length}
+use mathlib.Core.Path.{sym, ap, ◌∙◌}
 use Rattle.rules.specs.Vector.{ahead}
 use Rattle.vv.proofs.Walks.{left-none, past, past-none, ahead-on, ahead-ends}
 use Rattle.vv.proofs.VersionVec.ahead.Goals as goal
 
 pub loop-i-init : goal.loop-i-init
-loop-i-init c = (search rules, past-none _)
+loop-i-init c = past-none _
 
 pub returns-then-self-i : goal.returns-then-self-i
 returns-then-self-i c =
-    let len2 : length c.args.other.versions ≡ 5 = search rules in
-    let len1 : length c.args.self.versions ≡ 5 = search rules in
-    sym (ahead-ends _ _ c.loop-i.i (omega (arith, len1)) (omega (arith, len2)) c.if-self-i.true) ∙ c.loop-i.invariant.1
+    sym (ahead-ends _ _ _ (search rules) (search rules) c.loop-i-test.true c.if-self-i.true) ∙ c.loop-i.invariant
 
 pub loop-i-preserved : goal.loop-i-preserved
 loop-i-preserved c =
-    let len2 : length c.args.other.versions ≡ 5 = search rules in
-    let len1 : length c.args.self.versions ≡ 5 = search rules in (
-      search rules,
-      ahead-on _ _ c.loop-i.i (omega (arith, len1)) (omega (arith, len2)) c.if-self-i.false ∙ c.loop-i.invariant.1,
-    )
+    ahead-on _ _ _ (search rules) (search rules) c.loop-i-test.true c.if-self-i.false ∙ c.loop-i.invariant
 
 pub returns : goal.returns
 unfolding ahead
 returns c =
-    let len2 : length c.args.other.versions ≡ 5 = search rules in
-    let len1 : length c.args.self.versions ≡ 5 = search rules in
-    sym (ap (past c.loop-i.i) (left-none ahead _ _ c.loop-i.i (omega (arith, len1)) (omega (arith, len2)))) ∙ c.loop-i.invariant.1
+    sym (ap (past c.loop-i.i) (left-none ahead _ _ _ (search rules) (search rules) c.loop-i-test.false)) ∙ c.loop-i.invariant

@@ -1,4 +1,3 @@
-use Prim.Native.Nat.{◌≤◌, ◌-◌}
 use mathlib.Core.Path.{◌≡◌}
 use lib.ListN.{drop}
 use Rattle.rules.specs.Vector.{ahead}
@@ -7,7 +6,4 @@ use Rattle.vv.proofs.VersionVec.ahead.Given as goal
 
 abbrev pub invariant-loop-i : goal.invariant-loop-i
 invariant-loop-i l =
-    (l.i ≤ 5) × (past l.i (ahead (drop l.i l.self.versions) (drop l.i l.other.versions)) ≡ ahead l.self.versions l.other.versions)
-
-abbrev pub decreases-loop-i : goal.decreases-loop-i
-decreases-loop-i l = 5 - l.i
+    past l.i (ahead (drop l.i l.self.versions) (drop l.i l.other.versions)) ≡ ahead l.self.versions l.other.versions

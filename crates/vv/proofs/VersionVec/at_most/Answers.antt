@@ -1,31 +1,21 @@
 use borrow.Author.Rules.{rules}
-use native.Mathlib.Omega.{arith}
-use mathlib.Core.Path.{◌≡◌, refl, sym, ◌∙◌}
-use lib.ListN.{length}
+use mathlib.Core.Path.{refl, sym, ◌∙◌}
 use Rattle.rules.specs.Vector.{at_most}
 use Rattle.vv.proofs.Walks.{left-none, at_most-on, at_most-ends}
 use Rattle.vv.proofs.VersionVec.at_most.Goals as goal
 
 pub loop-i-init : goal.loop-i-init
-loop-i-init c = (search rules, refl)
+loop-i-init c = refl
 
 pub returns-then-self-i : goal.returns-then-self-i
 returns-then-self-i c =
-    let len2 : length c.args.other.versions ≡ 5 = search rules in
-    let len1 : length c.args.self.versions ≡ 5 = search rules in
-    sym (at_most-ends _ _ c.loop-i.i (omega (arith, len1)) (omega (arith, len2)) c.if-self-i.true) ∙ c.loop-i.invariant.1
+    sym (at_most-ends _ _ _ (search rules) (search rules) c.loop-i-test.true c.if-self-i.true) ∙ c.loop-i.invariant
 
 pub loop-i-preserved : goal.loop-i-preserved
 loop-i-preserved c =
-    let len2 : length c.args.other.versions ≡ 5 = search rules in
-    let len1 : length c.args.self.versions ≡ 5 = search rules in (
-      search rules,
-      at_most-on _ _ c.loop-i.i (omega (arith, len1)) (omega (arith, len2)) c.if-self-i.false ∙ c.loop-i.invariant.1,
-    )
+    at_most-on _ _ _ (search rules) (search rules) c.loop-i-test.true c.if-self-i.false ∙ c.loop-i.invariant
 
 pub returns : goal.returns
 unfolding at_most
 returns c =
-    let len2 : length c.args.other.versions ≡ 5 = search rules in
-    let len1 : length c.args.self.versions ≡ 5 = search rules in
-    sym (left-none at_most _ _ c.loop-i.i (omega (arith, len1)) (omega (arith, len2))) ∙ c.loop-i.invariant.1
+    sym (left-none at_most _ _ _ (search rules) (search rules) c.loop-i-test.false) ∙ c.loop-i.invariant

@@ -1,4 +1,3 @@
-use Prim.Native.Nat.{◌≤◌, ◌-◌}
 use mathlib.Core.Path.{◌≡◌}
 use lib.ListN.{drop}
 use Rattle.rules.specs.Vector.{at_most}
@@ -6,7 +5,4 @@ use Rattle.vv.proofs.VersionVec.at_most.Given as goal
 
 abbrev pub invariant-loop-i : goal.invariant-loop-i
 invariant-loop-i l =
-    (l.i ≤ 5) × (at_most (drop l.i l.self.versions) (drop l.i l.other.versions) ≡ at_most l.self.versions l.other.versions)
-
-abbrev pub decreases-loop-i : goal.decreases-loop-i
-decreases-loop-i l = 5 - l.i
+    at_most (drop l.i l.self.versions) (drop l.i l.other.versions) ≡ at_most l.self.versions l.other.versions

@@ -1,4 +1,3 @@
-use Prim.Native.Nat.{◌≤◌, ◌-◌}
 use mathlib.Core.Path.{◌≡◌}
 use lib.ListN.{length}
 use Rattle.rules.specs.Vector.{joined}
@@ -7,7 +6,4 @@ use Rattle.vv.proofs.VersionVec.join.Given as goal
 
 abbrev pub invariant-loop-i : goal.invariant-loop-i
 invariant-loop-i l =
-    (l.i ≤ 5) × (length l.self.versions ≡ 5) × (joining l.self.versions l.other.versions l.i ≡ joined l.initial.self.versions l.other.versions)
-
-abbrev pub decreases-loop-i : goal.decreases-loop-i
-decreases-loop-i l = 5 - l.i
+    (length l.self.versions ≡ 5) × (joining l.self.versions l.other.versions l.i ≡ joined l.initial.self.versions l.other.versions)

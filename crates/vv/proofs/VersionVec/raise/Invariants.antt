@@ -1,4 +1,3 @@
-use Prim.Native.Nat.{◌≤◌, ◌-◌}
 use mathlib.Core.Path.{◌≡◌}
 use lib.ListN.{length}
 use Rattle.vv.proofs.Walks.{raising}
@@ -6,7 +5,4 @@ use Rattle.vv.proofs.VersionVec.raise.Given as goal
 
 abbrev pub invariant-loop-i : goal.invariant-loop-i
 invariant-loop-i l =
-    (l.i ≤ 5) × (length l.self.versions ≡ 5) × (l.self.versions ≡ raising l.initial.self.versions l.thread l.i)
-
-abbrev pub decreases-loop-i : goal.decreases-loop-i
-decreases-loop-i l = 5 - l.i
+    (length l.self.versions ≡ 5) × (l.self.versions ≡ raising l.initial.self.versions l.thread l.i)
