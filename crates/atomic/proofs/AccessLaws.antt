@@ -1,27 +1,29 @@
 -- The laws of whole accesses, for the functions that go through their steps: each step's own promise gives what it leaves, and
 -- the last state is the definition's. Assumes nothing.
 --     flag-set, flag-clear            whether a store was SeqCst
+--     passed_up                       an access that a race stops
 --     stored                          a store
 --     load-raced, load-done           a load
 --     rmw-raced, rmw-failed, rmw-succeeded, then-raced, then-stored      a read-modify-write, and its rest after a change
+use Rattle.std.specs.Prelude.{Result}
+use Rattle.std.specs.Result.{IsErrAnd}
+use Rattle.std.proofs.lemmas.Result.{err_from_is_err_and}
 use Prim.Native.Nat.{ℕ}
 use mathlib.Core.List.{List}
-use mathlib.Core.Path.{◌≡◌, ap, sym, ◌∙◌}
+use mathlib.Core.Path.{◌≡◌}
 use mathlib.Core.Logic.{◌≢◌}
 use borrow.Author.Tests.{eq-eqb, ne_eqb}
 use lib.ListN.{set}
 use Rattle.rules.specs.Vector.{one_more}
 use Rattle.rules.specs.Seen.{touched, unseens}
 use Rattle.rules.specs.State.{State, Clocks, Marks, Values, Numbers, vector, marks_of, with_marks, value, with_value, number, with_number, store_at, threads, causality, sync, of_store, count, is_seq_cst}
-use Rattle.rules.specs.Cell as rules
 use Rattle.rules.specs.Cell.{slot_of, with_store, version, seq_cst_order, seq_cst_flag, store_order, store_synced, store_done, AccessResult, raced, read}
 use Rattle.rules.specs.Cell.{no_race, race_of, load_race, load_tracked, store_race, store_tracked, coherent, touch_done, load_synced}
-use Rattle.rules.specs.Change as Changes
 use Rattle.rules.specs.Change.{Change, success, failure, applied}
 use Rattle.rules.specs.Cell.{sighted, load_done, succeeded, rmw_done}
-use Rattle.change.specs.declared.Changed.{Changed}
+use Rattle.track.specs.declared.Race.{Race}
 use Rattle.layout.specs.Tables.{state}
-use Rattle.change.specs.Changes.{changed_of}
+use Rattle.atomic.specs.Accesses.{access_of}
 
 pub flag-set : (o : ℕ) → o ≡ seq_cst_order → 1 ≡ seq_cst_flag o
 flag-set o e = rw (eq-eqb o seq_cst_order e)
@@ -29,9 +31,11 @@ flag-set o e = rw (eq-eqb o seq_cst_order e)
 pub flag-clear : (o : ℕ) → o ≢ seq_cst_order → 0 ≡ seq_cst_flag o
 flag-clear o n = rw (ne_eqb o seq_cst_order n)
 
--- an answer of a change that was taken apart
-pub changing : (r s : Changed) (x : Changes.Changed) → r ≡ s → changed_of r ≡ x → changed_of s ≡ x
-changing r s x e f = sym (ap changed_of e) ∙ f
+-- an access that a race stops
+pub passed_up : (r : Result ℕ Race) (race : Race) (st : State) (x : AccessResult) → IsErrAnd r (λ e. e ≡ race) → raced race.kind race.other st ≡ x → access_of r st ≡ x
+passed_up r race st x up e =
+    let p = err_from_is_err_and r up in
+    rw (p.1, p.2) e
 
 module _ (clocks : Clocks) (marks : Marks) (values : Values) (numbers : Numbers) (t c : ℕ) where
   -- the slot and the number of the new store, and what is written of it

@@ -10,7 +10,7 @@ ghost use Rattle.change.specs.Changes.{change_meant};
 ghost use Rattle.atomic.specs.Accesses.{access_of};
 ghost use Rattle.atomic.specs.Exclusive.{Mutates};
 
-use change::{Change, Changed};
+use change::Change;
 use coherence::{apply_load_coherence, store_order, touch};
 use layout::of_cell::COUNT;
 use layout::of_store::{HAPPENS_BEFORE, MODIFICATION_ORDER, SEQ_CST, SYNC, VALUE};
@@ -21,18 +21,11 @@ use synchronize::first_seen::fresh_row;
 use synchronize::{sync_load, sync_store};
 use track::Race;
 
-// The value read, or the race that stopped the access.
+// The value that an exclusive change found, and the one it left.
 #[derive(Clone, Copy)]
-pub enum AccessResult {
-    Read(u64),
-    Raced { kind: u8, other: u8 },
-}
-
-// The value that an exclusive change found and the one it left, or the race that stopped it.
-#[derive(Clone, Copy)]
-pub enum Mutated {
-    Values { read: u64, left: u64 },
-    Raced { kind: u8, other: u8 },
+pub struct Mutated {
+    pub read: u64,
+    pub left: u64,
 }
 
 // Loads from a slot: race, coherence, touch, sync, in that order.
@@ -43,19 +36,17 @@ pub fn load(
     numbers: &Numbers,
     access: Access,
     slot: usize,
-) -> AccessResult
+) -> Result<u64, Race>
     requires { (access.thread < 5) × (access.cell < 4) × (slot < 7) }
     ensures { access_of result (state clocks.new marks.new values.now numbers.now) ≡ load_done (state clocks.old marks.old values.now numbers.now) access.thread access.cell slot access.order }
 {
     let thread = access.thread;
     let cell = access.cell;
-    if let Race::With { kind, other } = track::track_load(clocks, thread, cell) {
-        return AccessResult::Raced { kind, other };
-    }
+    track::track_load(clocks, thread, cell)?;
     apply_load_coherence(clocks, marks, numbers, access, slot);
     touch(clocks, marks, access, slot);
     sync_load(clocks, access, slot);
-    AccessResult::Read(values[VALUE + store_at(cell, slot)])
+    Ok(values[VALUE + store_at(cell, slot)])
 }
 
 // Stores a value in the place of the oldest that is kept. The sync vector is that of a fresh store, or of the store that a
@@ -100,26 +91,24 @@ pub fn rmw(
     change: Change,
     failure: u8,
     slot: usize,
-) -> AccessResult
+) -> Result<u64, Race>
     requires { (access.thread < 5) × (access.cell < 4) × (slot < 7) }
     ensures { access_of result (state clocks.new marks.new values.new numbers.new) ≡ rmw_done (state clocks.old marks.old values.old numbers.old) access.thread access.cell slot (change_meant change) access.order failure }
 {
     let thread = access.thread;
     let cell = access.cell;
-    if let Race::With { kind, other } = track::track_load(clocks, thread, cell) {
-        return AccessResult::Raced { kind, other };
-    }
+    track::track_load(clocks, thread, cell)?;
     apply_load_coherence(clocks, marks, numbers, access, slot);
     touch(clocks, marks, access, slot);
     let prev = values[VALUE + store_at(cell, slot)];
-    let Changed::Success(next) = change::apply(change, prev) else {
+    let Some(next) = change::apply(change, prev) else {
         let failed = Access {
             thread,
             cell,
             order: failure,
         };
         sync_load(clocks, failed, slot);
-        return AccessResult::Read(prev);
+        return Ok(prev);
     };
     rmw_store(clocks, marks, values, numbers, access, slot, prev, next)
 }
@@ -134,19 +123,17 @@ fn rmw_store(
     slot: usize,
     prev: u64,
     next: u64,
-) -> AccessResult
+) -> Result<u64, Race>
     requires { (access.thread < 5) × (access.cell < 4) × (slot < 7) }
     ensures { access_of result (state clocks.new marks.new values.new numbers.new) ≡ succeeded (state clocks.old marks.old values.old numbers.old) access.thread access.cell (rules.store_at access.cell slot) prev next access.order }
 {
     let cell = access.cell;
-    if let Race::With { kind, other } = track::track_store(clocks, access.thread, cell) {
-        return AccessResult::Raced { kind, other };
-    }
+    track::track_store(clocks, access.thread, cell)?;
     sync_load(clocks, access, slot);
     // The new store starts from the sync of the one read, which makes a release sequence of the two.
     let sync = clocks[SYNC + store_at(cell, slot)];
     store(clocks, marks, values, numbers, access, sync, next);
-    AccessResult::Read(prev)
+    Ok(prev)
 }
 
 // Reads the newest store without synchronisation.
@@ -156,15 +143,13 @@ pub fn unsync_load(
     numbers: &Numbers,
     thread: usize,
     cell: usize,
-) -> AccessResult
+) -> Result<u64, Race>
     requires { (thread < 5) × (cell < 4) }
     ensures { (marks : rules.Marks) → access_of result (state clocks.new marks values.now numbers.now) ≡ unsync_load_done (state clocks.old marks values.now numbers.now) thread cell }
 {
-    if let Race::With { kind, other } = track::track_unsync_load(clocks, thread, cell) {
-        return AccessResult::Raced { kind, other };
-    }
+    track::track_unsync_load(clocks, thread, cell)?;
     let slot = newest(numbers[COUNT + cell]);
-    AccessResult::Read(values[VALUE + store_at(cell, slot)])
+    Ok(values[VALUE + store_at(cell, slot)])
 }
 
 // Changes the newest store's value in place. A change that fails still counts as a mutation.
@@ -175,22 +160,19 @@ pub fn with_mut(
     thread: usize,
     cell: usize,
     change: Change,
-) -> Mutated
+) -> Result<Mutated, Race>
     requires { (thread < 5) × (cell < 4) }
     ensures { Mutates result clocks.old clocks.new values.old values.new numbers.now thread cell (change_meant change) }
 {
-    if let Race::With { kind, other } = track::track_unsync_mut(clocks, thread, cell) {
-        return Mutated::Raced { kind, other };
-    }
+    track::track_unsync_mut(clocks, thread, cell)?;
     let slot = newest(numbers[COUNT + cell]);
     let at = VALUE + store_at(cell, slot);
     let read = values[at];
-    let changed = change::apply(change, read);
-    let Changed::Success(left) = changed else {
-        return Mutated::Values { read, left: read };
+    let Some(left) = change::apply(change, read) else {
+        return Ok(Mutated { read, left: read });
     };
     values[at] = left;
-    Mutated::Values { read, left }
+    Ok(Mutated { read, left })
 }
 
 fn is_seq_cst(order: u8) -> u16

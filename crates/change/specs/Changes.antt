@@ -1,9 +1,8 @@
 -- What the code's changes and their answers stand for. Assumes nothing.
+use Rattle.std.specs.Prelude.{ℕ, Option, Some, None}
 use Rattle.rules.specs.Change as rules
 use Rattle.change.specs.declared.Change.{Change}
 use Rattle.change.specs.declared.Change.TheVariants as code
-use Rattle.change.specs.declared.Changed.{Changed}
-use Rattle.change.specs.declared.Changed.TheVariants.{Success, Failure}
 
 abbrev pub change_meant : Change → rules.Change
 change_meant (code.Swap a) = rules.swap a
@@ -20,6 +19,6 @@ change_meant (code.SignedMin a) = rules.signed_min a
 change_meant (code.Compare a b) = rules.compare a b
 change_meant code.Decrement = rules.decrement
 
-abbrev pub changed_of : Changed → rules.Changed
-changed_of (Success v) = rules.success v
-changed_of Failure = rules.failure
+abbrev pub changed_of : Option ℕ → rules.Changed
+changed_of (Some v) = rules.success v
+changed_of None = rules.failure

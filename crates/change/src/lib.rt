@@ -23,29 +23,22 @@ pub enum Change {
     Decrement,
 }
 
-// What a change answers: the value to be written, or that it fails.
-#[derive(Clone, Copy)]
-pub enum Changed {
-    Success(u64),
-    Failure,
-}
-
-// Only a comparison and a decrement can fail.
-pub fn apply(change: Change, value: u64) -> Changed
+// What a change answers: the value to be written, or none where it fails. Only a comparison and a decrement can fail.
+pub fn apply(change: Change, value: u64) -> Option<u64>
     ensures { changed_of result ≡ rules.applied (change_meant change) value }
 {
     match change {
-        Change::Swap(a) => Changed::Success(a),
-        Change::Add(a) => Changed::Success(std::num::wrapping_add_u64(value, a)),
-        Change::Subtract(a) => Changed::Success(std::num::wrapping_sub_u64(value, a)),
-        Change::And(a) => Changed::Success(value & a),
-        Change::Or(a) => Changed::Success(value | a),
-        Change::Xor(a) => Changed::Success(value ^ a),
-        Change::Nand(a) => Changed::Success(!(value & a)),
-        Change::Max(a) => Changed::Success(greater(value, a)),
-        Change::Min(a) => Changed::Success(lesser(value, a)),
-        Change::SignedMax(a) => Changed::Success(signed_greater(value, a)),
-        Change::SignedMin(a) => Changed::Success(signed_lesser(value, a)),
+        Change::Swap(a) => Some(a),
+        Change::Add(a) => Some(std::num::wrapping_add_u64(value, a)),
+        Change::Subtract(a) => Some(std::num::wrapping_sub_u64(value, a)),
+        Change::And(a) => Some(value & a),
+        Change::Or(a) => Some(value | a),
+        Change::Xor(a) => Some(value ^ a),
+        Change::Nand(a) => Some(!(value & a)),
+        Change::Max(a) => Some(greater(value, a)),
+        Change::Min(a) => Some(lesser(value, a)),
+        Change::SignedMax(a) => Some(signed_greater(value, a)),
+        Change::SignedMin(a) => Some(signed_lesser(value, a)),
         Change::Compare(a, b) => compare(value, a, b),
         Change::Decrement => decrement(value),
     }
@@ -83,22 +76,22 @@ fn signed_lesser(x: u64, y: u64) -> u64
     if signed_less(x, y) { x } else { y }
 }
 
-fn compare(value: u64, expected: u64, new: u64) -> Changed
+fn compare(value: u64, expected: u64, new: u64) -> Option<u64>
     ensures { changed_of result ≡ rules.applied (rules.compare expected new) value }
 {
     if value == expected {
-        Changed::Success(new)
+        Some(new)
     } else {
-        Changed::Failure
+        None
     }
 }
 
-fn decrement(value: u64) -> Changed
+fn decrement(value: u64) -> Option<u64>
     ensures { changed_of result ≡ rules.applied rules.decrement value }
 {
     if value == 0 {
-        Changed::Failure
+        None
     } else {
-        Changed::Success(value - 1)
+        Some(value - 1)
     }
 }

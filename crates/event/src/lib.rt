@@ -2,8 +2,12 @@
 // how a tick comes out. Each stands for a case of the definition (specs/Moves).
 #![tactic(auto)]
 
+ghost use Rattle.std.specs.Prelude.{◌≡◌};
+ghost use Rattle.event.specs.declared.Fault.TheVariants as fault;
+
 use decode::Decoded;
 use layout::Operation;
+use track::Race;
 
 // Why a run stops within an execution: document 01's answers from 10 on. Impossible stands for a number read back that
 // no run from a fresh start can have written.
@@ -18,6 +22,17 @@ pub enum Fault {
     Flags,
     Preemptions,
     Impossible,
+}
+
+impl From<Race> for Fault {
+    ghost from_gives = { λ race f. f ≡ fault.Race race.kind race.other };
+
+    fn from(race: Race) -> Fault {
+        Fault::Race {
+            kind: race.kind,
+            other: race.other,
+        }
+    }
 }
 
 // Where something happens: a thread, and its row.
@@ -59,7 +74,7 @@ pub enum Picked {
     Bit(bool),
 }
 
-// What a tick, or going on with an answer, comes to.
+// What a tick, or going on with an answer, comes to; an error is the fault that stops it.
 #[derive(Clone, Copy)]
 pub enum Moved {
     // It goes on, and no row is complete.
@@ -70,7 +85,6 @@ pub enum Moved {
     Asks { question: Question, yielded: bool },
     // The execution has ended.
     Ends,
-    Stops(Fault),
 }
 
 // A row without a slot in its trace entry.

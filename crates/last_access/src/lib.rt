@@ -7,7 +7,7 @@ ghost use Rattle.change.specs.Changes.{change_meant};
 ghost use Rattle.decode.specs.Ops.{op_of};
 ghost use Rattle.last_access.specs.Access.{cell_in, is_success, stores_after, accesses, is_access, last_access_step};
 
-use change::{Change, Changed};
+use change::Change;
 use decode::{Decoded, Op};
 
 // The cell of a row that names none.
@@ -156,9 +156,5 @@ fn writes_plain(op: Op) -> bool
 fn succeeds(change: Change, read: u64) -> bool
     ensures { result ≡ is_success (applied (change_meant change) read) }
 {
-    if let Changed::Success(_) = change::apply(change, read) {
-        true
-    } else {
-        false
-    }
+    change::apply(change, read).is_some()
 }

@@ -7,7 +7,7 @@ ghost use Rattle.change.specs.Changes.{change_meant};
 ghost use Rattle.decode.specs.Ops.{op_of};
 ghost use Rattle.outcome.specs.Comes.{change_came, came_of, came_of_step};
 
-use change::{Change, Changed};
+use change::Change;
 use decode::{Decoded, Op};
 use steps::held;
 use steps::held::Held;
@@ -68,7 +68,7 @@ fn of_row(held: &Held, thread: u8, op: Op, slot: u8, value: u64) -> Came
 fn of_change(change: Change, read: u64, writer: u64) -> Came
     ensures { result ≡ change_came read writer (applied (change_meant change) read) }
 {
-    let Changed::Success(value) = change::apply(change, read) else {
+    let Some(value) = change::apply(change, read) else {
         return Came::Failed(read, writer);
     };
     Came::Wrote(read, writer, value)

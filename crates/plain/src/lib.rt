@@ -10,7 +10,6 @@ ghost use Rattle.track.specs.Tracked.{race_meant, Tracked};
 ghost use Rattle.atomic.specs.Accesses.{access_of};
 ghost use Rattle.plain.specs.Writes.{Writes};
 
-use atomic::AccessResult;
 use layout::of_plain::{READ_ACCESS, VALUE, WRITE_ACCESS};
 use layout::of_thread::CAUSALITY;
 use layout::races::{
@@ -21,44 +20,36 @@ use synchronize::join_into;
 use track::{Race, race_with};
 
 // Track a read: no write may be ahead.
-pub fn track_read(clocks: &mut Clocks, thread: usize, plain: usize) -> Race
+pub fn track_read(clocks: &mut Clocks, thread: usize, plain: usize) -> Result<(), Race>
     requires { (thread < 5) × (plain < 4) }
     ensures { Tracked (race_meant result) clocks.new (plain_read_race clocks.old thread plain) (plain_read_tracked clocks.old thread plain) }
 {
     let at = WRITE_ACCESS + plain;
-    if let Race::With { kind, other } = race_with(clocks, thread, at, PLAIN_READ_AGAINST_WRITE) {
-        return Race::With { kind, other };
-    }
+    race_with(clocks, thread, at, PLAIN_READ_AGAINST_WRITE)?;
     join_into(clocks, READ_ACCESS + plain, CAUSALITY + thread);
-    Race::Nothing
+    Ok(())
 }
 
 // Track a write: no read and no write may be ahead.
-pub fn track_write(clocks: &mut Clocks, thread: usize, plain: usize) -> Race
+pub fn track_write(clocks: &mut Clocks, thread: usize, plain: usize) -> Result<(), Race>
     requires { (thread < 5) × (plain < 4) }
     ensures { Tracked (race_meant result) clocks.new (plain_write_race clocks.old thread plain) (plain_write_tracked clocks.old thread plain) }
 {
     let at = READ_ACCESS + plain;
-    if let Race::With { kind, other } = race_with(clocks, thread, at, PLAIN_WRITE_AGAINST_READ) {
-        return Race::With { kind, other };
-    }
+    race_with(clocks, thread, at, PLAIN_WRITE_AGAINST_READ)?;
     let at = WRITE_ACCESS + plain;
-    if let Race::With { kind, other } = race_with(clocks, thread, at, PLAIN_WRITE_AGAINST_WRITE) {
-        return Race::With { kind, other };
-    }
+    race_with(clocks, thread, at, PLAIN_WRITE_AGAINST_WRITE)?;
     join_into(clocks, WRITE_ACCESS + plain, CAUSALITY + thread);
-    Race::Nothing
+    Ok(())
 }
 
 // Reads the value.
-pub fn read(clocks: &mut Clocks, values: &Values, thread: usize, plain: usize) -> AccessResult
+pub fn read(clocks: &mut Clocks, values: &Values, thread: usize, plain: usize) -> Result<u64, Race>
     requires { (thread < 5) × (plain < 4) }
     ensures { (marks : rules.Marks) (numbers : rules.Numbers) → access_of result (state clocks.new marks values.now numbers) ≡ plain_read_done (state clocks.old marks values.now numbers) thread plain }
 {
-    if let Race::With { kind, other } = track_read(clocks, thread, plain) {
-        return AccessResult::Raced { kind, other };
-    }
-    AccessResult::Read(values[VALUE + plain])
+    track_read(clocks, thread, plain)?;
+    Ok(values[VALUE + plain])
 }
 
 // Writes a value; with a race nothing changes.
@@ -68,13 +59,11 @@ pub fn write(
     thread: usize,
     plain: usize,
     value: u64,
-) -> Race
+) -> Result<(), Race>
     requires { (thread < 5) × (plain < 4) }
     ensures { Writes (race_meant result) clocks.old clocks.new values.old values.new thread plain value }
 {
-    if let Race::With { kind, other } = track_write(clocks, thread, plain) {
-        return Race::With { kind, other };
-    }
+    track_write(clocks, thread, plain)?;
     values[VALUE + plain] = value;
-    Race::Nothing
+    Ok(())
 }

@@ -1,5 +1,5 @@
 -- The pending operation that a row sets, as the function answers it. Assumes nothing.
-use Rattle.std.specs.Prelude.{ℕ, ◌<◌, ◌≡◌}
+use Rattle.std.specs.Prelude.{◌<◌, ◌≡◌}
 use Rattle.rules.specs.Machine as rules
 use Rattle.event.specs.declared.Pending.{Pending}
 use Rattle.event.specs.declared.Pending.TheVariants as code

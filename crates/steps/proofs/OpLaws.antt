@@ -1,6 +1,7 @@
 -- The laws of a row that was taken apart, and of the arm of a match that takes all other rows together. Assumes nothing.
 --     op-as, op-in, says, refuses, changed-as      what is said of a row or a change, from what it was found to be
 --     no_jump, no-act                       the rows that do not jump, that change nothing
+use Rattle.std.specs.Prelude.{Option}
 use Prim.Native.Nat.{ℕ, ◌+◌}
 use mathlib.Core.List.{List, [], ◌∷◌}
 use mathlib.Core.Path.{◌≡◌, refl, ap, sym, ◌∙◌}
@@ -8,7 +9,6 @@ use types.Run.{OneOf, miss}
 use denote.Enum.Declared.{tag_of}
 use Rattle.rules.specs.Change as changes
 use Rattle.rules.specs.Table as rules
-use Rattle.change.specs.declared.Changed.{Changed}
 use Rattle.change.specs.Changes.{changed_of}
 use Rattle.decode.proofs.NumberLaws.{all_but}
 use Rattle.decode.specs.contracts.Op.{the_type}
@@ -32,7 +32,7 @@ module _ {d : Decoded} {x : rules.Decoded rules.Op} (is : decoded_of d ≡ x) wh
   pub refuses : d ≡ Refused → x ≡ rules.refused
   refuses e = sym is ∙ ap decoded_of e
 
-pub changed-as : {A : Type 0} (f : changes.Changed → A) {r m : Changed} {x : changes.Changed} → changed_of r ≡ x → r ≡ m → f (changed_of m) ≡ f x
+pub changed-as : {A : Type 0} (f : changes.Changed → A) {r m : Option ℕ} {x : changes.Changed} → changed_of r ≡ x → r ≡ m → f (changed_of m) ≡ f x
 changed-as f is e = ap f (sym (ap changed_of e) ∙ is)
 
 -- the places among the variants of the rows that do not jump

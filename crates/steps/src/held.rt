@@ -7,7 +7,7 @@ ghost use Rattle.layout.specs.Slots.{Next, Newest};
 ghost use Rattle.rules.specs.Vector.{one_more};
 ghost use Rattle.steps.specs.Holds as holds;
 
-use change::{Change, Changed};
+use change::Change;
 use decode::{Decoded, Op};
 use layout::{
     ALL_REGISTERS, MAX_ATOMIC_HISTORY, MAX_CELLS, MAX_PLAINS, MAX_THREADS, REGISTERS, STORES,
@@ -275,7 +275,7 @@ fn rmw(
     ensures { held.new ≡ holds.rmw_held held.old thread cell (change_meant change) register read step }
 {
     put(held, thread, register, read);
-    if let Changed::Success(value) = change::apply(change, read) {
+    if let Some(value) = change::apply(change, read) {
         store(held, cell, value, step);
     }
 }
@@ -287,7 +287,7 @@ fn with_mut(held: &mut Held, thread: usize, cell: usize, change: Change, registe
 {
     let before = held[NEWEST + cell];
     put(held, thread, register, before);
-    if let Changed::Success(value) = change::apply(change, before) {
+    if let Some(value) = change::apply(change, before) {
         write_over(held, cell, value, step);
     }
 }

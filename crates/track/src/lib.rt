@@ -16,19 +16,19 @@ use layout::races::{
     UNSYNC_LOAD_AGAINST_STORE,
 };
 use synchronize::join_into;
-use vv::{Ahead, VersionVec};
+use vv::VersionVec;
 
 pub mod access;
 
-// No race, or the kind of race by document 01's number and the lowest thread that is ahead.
+// A race: its kind by document 01's number, and the lowest thread that is ahead.
 #[derive(Clone, Copy)]
-pub enum Race {
-    Nothing,
-    With { kind: u8, other: u8 },
+pub struct Race {
+    pub kind: u8,
+    pub other: u8,
 }
 
 // A race of this kind where the accesses recorded at `at` have a thread ahead of the current one.
-pub fn race_with(clocks: &Clocks, thread: usize, at: usize, kind: u8) -> Race
+pub fn race_with(clocks: &Clocks, thread: usize, at: usize, kind: u8) -> Result<(), Race>
     requires { (thread < 5) × (at < 132) }
     ensures { race_meant result ≡ of_kind kind (rules.ahead (vector clocks.now (causality thread)) (get_or clocks.now at [])) }
 {
@@ -36,79 +36,61 @@ pub fn race_with(clocks: &Clocks, thread: usize, at: usize, kind: u8) -> Race
     let recorded = clocks[at];
     let current = VersionVec { versions: current };
     match current.ahead(VersionVec { versions: recorded }) {
-        Ahead::Thread(other) => Race::With { kind, other },
-        Ahead::Nobody => Race::Nothing,
+        Some(other) => Err(Race { kind, other }),
+        None => Ok(()),
     }
 }
 
 // Track an atomic load.
-pub fn track_load(clocks: &mut Clocks, thread: usize, cell: usize) -> Race
+pub fn track_load(clocks: &mut Clocks, thread: usize, cell: usize) -> Result<(), Race>
     requires { (thread < 5) × (cell < 4) }
     ensures { Tracked (race_meant result) clocks.new (load_race clocks.old thread cell) (load_tracked clocks.old thread cell) }
 {
     let at = UNSYNC_MUT_AT + cell;
-    if let Race::With { kind, other } = race_with(clocks, thread, at, LOAD_AGAINST_MUT) {
-        return Race::With { kind, other };
-    }
+    race_with(clocks, thread, at, LOAD_AGAINST_MUT)?;
     join_into(clocks, LOADED_AT + cell, CAUSALITY + thread);
-    Race::Nothing
+    Ok(())
 }
 
 // Track an unsynchronised load.
-pub fn track_unsync_load(clocks: &mut Clocks, thread: usize, cell: usize) -> Race
+pub fn track_unsync_load(clocks: &mut Clocks, thread: usize, cell: usize) -> Result<(), Race>
     requires { (thread < 5) × (cell < 4) }
     ensures { Tracked (race_meant result) clocks.new (unsync_load_race clocks.old thread cell) (unsync_load_tracked clocks.old thread cell) }
 {
     let at = UNSYNC_MUT_AT + cell;
-    if let Race::With { kind, other } = race_with(clocks, thread, at, UNSYNC_LOAD_AGAINST_MUT) {
-        return Race::With { kind, other };
-    }
+    race_with(clocks, thread, at, UNSYNC_LOAD_AGAINST_MUT)?;
     let at = STORED_AT + cell;
-    if let Race::With { kind, other } = race_with(clocks, thread, at, UNSYNC_LOAD_AGAINST_STORE) {
-        return Race::With { kind, other };
-    }
+    race_with(clocks, thread, at, UNSYNC_LOAD_AGAINST_STORE)?;
     join_into(clocks, UNSYNC_LOADED_AT + cell, CAUSALITY + thread);
-    Race::Nothing
+    Ok(())
 }
 
 // Track an atomic store.
-pub fn track_store(clocks: &mut Clocks, thread: usize, cell: usize) -> Race
+pub fn track_store(clocks: &mut Clocks, thread: usize, cell: usize) -> Result<(), Race>
     requires { (thread < 5) × (cell < 4) }
     ensures { Tracked (race_meant result) clocks.new (store_race clocks.old thread cell) (store_tracked clocks.old thread cell) }
 {
     let at = UNSYNC_MUT_AT + cell;
-    if let Race::With { kind, other } = race_with(clocks, thread, at, STORE_AGAINST_MUT) {
-        return Race::With { kind, other };
-    }
+    race_with(clocks, thread, at, STORE_AGAINST_MUT)?;
     let at = UNSYNC_LOADED_AT + cell;
-    if let Race::With { kind, other } = race_with(clocks, thread, at, STORE_AGAINST_UNSYNC_LOAD) {
-        return Race::With { kind, other };
-    }
+    race_with(clocks, thread, at, STORE_AGAINST_UNSYNC_LOAD)?;
     join_into(clocks, STORED_AT + cell, CAUSALITY + thread);
-    Race::Nothing
+    Ok(())
 }
 
 // Track an exclusive change.
-pub fn track_unsync_mut(clocks: &mut Clocks, thread: usize, cell: usize) -> Race
+pub fn track_unsync_mut(clocks: &mut Clocks, thread: usize, cell: usize) -> Result<(), Race>
     requires { (thread < 5) × (cell < 4) }
     ensures { Tracked (race_meant result) clocks.new (mut_race clocks.old thread cell) (mut_tracked clocks.old thread cell) }
 {
     let at = LOADED_AT + cell;
-    if let Race::With { kind, other } = race_with(clocks, thread, at, MUT_AGAINST_LOAD) {
-        return Race::With { kind, other };
-    }
+    race_with(clocks, thread, at, MUT_AGAINST_LOAD)?;
     let at = UNSYNC_LOADED_AT + cell;
-    if let Race::With { kind, other } = race_with(clocks, thread, at, MUT_AGAINST_UNSYNC_LOAD) {
-        return Race::With { kind, other };
-    }
+    race_with(clocks, thread, at, MUT_AGAINST_UNSYNC_LOAD)?;
     let at = STORED_AT + cell;
-    if let Race::With { kind, other } = race_with(clocks, thread, at, MUT_AGAINST_STORE) {
-        return Race::With { kind, other };
-    }
+    race_with(clocks, thread, at, MUT_AGAINST_STORE)?;
     let at = UNSYNC_MUT_AT + cell;
-    if let Race::With { kind, other } = race_with(clocks, thread, at, MUT_AGAINST_MUT) {
-        return Race::With { kind, other };
-    }
+    race_with(clocks, thread, at, MUT_AGAINST_MUT)?;
     join_into(clocks, UNSYNC_MUT_AT + cell, CAUSALITY + thread);
-    Race::Nothing
+    Ok(())
 }

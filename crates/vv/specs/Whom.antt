@@ -1,8 +1,7 @@
 -- What each answer of `ahead` stands for. Assumes nothing.
+use Rattle.std.specs.Prelude.{ℕ, Option, Some, None}
 use Rattle.rules.specs.Vector as rules
-use Rattle.vv.specs.declared.Ahead.{Ahead}
-use Rattle.vv.specs.declared.Ahead.TheVariants.{Nobody, Thread}
 
-abbrev pub whom : Ahead → rules.Whom
-whom Nobody = rules.nobody
-whom (Thread t) = rules.thread t
+abbrev pub whom : Option ℕ → rules.Whom
+whom None = rules.nobody
+whom (Some t) = rules.thread t

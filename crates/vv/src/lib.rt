@@ -16,13 +16,6 @@ pub struct VersionVec {
     pub versions: [u16; MAX_THREADS],
 }
 
-// The thread that is ahead, or none.
-#[derive(Clone, Copy)]
-pub enum Ahead {
-    Nobody,
-    Thread(u8),
-}
-
 // How a vector stands to another. Neither is greater, or greater in one part and less in another.
 #[derive(Clone, Copy)]
 pub enum Ordering {
@@ -137,16 +130,16 @@ impl VersionVec {
     }
 
     // The lowest thread whose part in the other vector is greater. It ends the walk.
-    pub fn ahead(self, other: VersionVec) -> Ahead
+    pub fn ahead(self, other: VersionVec) -> Option<u8>
         ensures { whom result ≡ ahead self.versions other.versions }
     {
         let mut i = 0;
         while i < MAX_THREADS {
             if self.versions[i] < other.versions[i] {
-                return Ahead::Thread(i as u8);
+                return Some(i as u8);
             }
             i += 1;
         }
-        Ahead::Nobody
+        None
     }
 }

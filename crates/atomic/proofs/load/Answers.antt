@@ -1,11 +1,11 @@
-use Rattle.atomic.proofs.AccessLaws.{load-raced, load-done}
-use Rattle.track.proofs.TrackLaws.{answered}
+use Rattle.atomic.proofs.AccessLaws.{passed_up, load-raced, load-done}
 use Rattle.atomic.proofs.load.Goals as goal
 
-pub returns-in-With : goal.returns-in-With
-returns-in-With c =
+pub returns-in_err-track_load : goal.returns-in_err-track_load
+returns-in_err-track_load c =
     let args = c.args in
-    load-raced
+    passed_up _ _ _ _ c.from_residual.ensures.1
+    (load-raced
     args.clocks.now
     args.marks.now
     args.values.now
@@ -17,8 +17,8 @@ returns-in-With c =
     c.track_load.ensures.left
     _
     _
-    (answered _ _ _ c.in-With.is c.track_load.ensures.answer)
-    args.access.order
+    c.in_err-track_load.ensures.answer
+    args.access.order)
 
 pub returns : goal.returns
 returns c =
@@ -33,7 +33,7 @@ returns c =
     args.slot
     _
     c.track_load.ensures.left
-    (answered _ _ _ c.in_default.is c.track_load.ensures.answer)
+    c.in_ok-track_load.ensures.answer
     _
     c.store_at.ensures
     _

@@ -1,12 +1,12 @@
 use Rattle.change.specs.Changes.{change_meant}
-use Rattle.atomic.proofs.AccessLaws.{changing, rmw-raced, rmw-failed, rmw-succeeded}
-use Rattle.track.proofs.TrackLaws.{answered}
+use Rattle.atomic.proofs.AccessLaws.{passed_up, rmw-raced, rmw-failed, rmw-succeeded}
 use Rattle.atomic.proofs.rmw.Goals as goal
 
-pub returns-in-With : goal.returns-in-With
-returns-in-With c =
+pub returns-in_err-track_load : goal.returns-in_err-track_load
+returns-in_err-track_load c =
     let args = c.args in
-    rmw-raced
+    passed_up _ _ _ _ c.from_residual.ensures.1
+    (rmw-raced
     args.clocks.now
     args.marks.now
     args.values.now
@@ -18,13 +18,13 @@ returns-in-With c =
     c.track_load.ensures.left
     _
     _
-    (answered _ _ _ c.in-With.is c.track_load.ensures.answer)
+    c.in_err-track_load.ensures.answer
     (change_meant args.change)
     args.access.order
-    args.failure
+    args.failure)
 
-pub returns-in_default-apply : goal.returns-in_default-apply
-returns-in_default-apply c =
+pub returns-in_default : goal.returns-in_default
+returns-in_default c =
     let args = c.args in
     rmw-failed
     args.clocks.now
@@ -36,7 +36,7 @@ returns-in_default-apply c =
     args.slot
     _
     c.track_load.ensures.left
-    (answered _ _ _ c.in_default.is c.track_load.ensures.answer)
+    c.in_ok-track_load.ensures.answer
     _
     c.store_at.ensures
     _
@@ -46,7 +46,7 @@ returns-in_default-apply c =
     (change_meant args.change)
     args.access.order
     args.failure
-    (changing _ _ _ c.in_default-apply.is c.apply.ensures)
+    c.in_default.ensures
     _
     c.sync_load.ensures
 
@@ -63,7 +63,7 @@ returns c =
     args.slot
     _
     c.track_load.ensures.left
-    (answered _ _ _ c.in_default.is c.track_load.ensures.answer)
+    c.in_ok-track_load.ensures.answer
     _
     c.store_at.ensures
     _
@@ -74,6 +74,6 @@ returns c =
     args.access.order
     args.failure
     _
-    (changing _ _ _ c.in-Success.is c.apply.ensures)
+    c.in-Some.ensures
     _
     c.rmw_store.ensures

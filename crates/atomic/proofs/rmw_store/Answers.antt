@@ -1,12 +1,12 @@
-use Rattle.atomic.proofs.AccessLaws.{then-raced, then-stored}
+use Rattle.atomic.proofs.AccessLaws.{passed_up, then-raced, then-stored}
 use Rattle.rules.specs.State.{store_at}
-use Rattle.track.proofs.TrackLaws.{answered}
 use Rattle.atomic.proofs.rmw_store.Goals as goal
 
-pub returns-in-With : goal.returns-in-With
-returns-in-With c =
+pub returns-in_err-track_store : goal.returns-in_err-track_store
+returns-in_err-track_store c =
     let args = c.args in
-    then-raced
+    passed_up _ _ _ _ c.from_residual.ensures.1
+    (then-raced
     args.clocks.now
     args.marks.now
     args.values.now
@@ -21,7 +21,7 @@ returns-in-With c =
     c.track_store.ensures.left
     _
     _
-    (answered _ _ _ c.in-With.is c.track_store.ensures.answer)
+    c.in_err-track_store.ensures.answer)
 
 pub returns : goal.returns
 returns c =
@@ -39,7 +39,7 @@ returns c =
     args.access.order
     _
     c.track_store.ensures.left
-    (answered _ _ _ c.in_default.is c.track_store.ensures.answer)
+    c.in_ok-track_store.ensures.answer
     _
     c.sync_load.ensures
     _

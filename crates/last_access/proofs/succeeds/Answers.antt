@@ -1,9 +1,14 @@
+use Rattle.std.specs.Prelude.{ℕ, ◌≡◌, Option, Some, None}
+use Rattle.std.specs.Option.{is_some}
+use mathlib.Core.Path.{refl, ap, ◌∙◌}
+use Rattle.change.specs.Changes.{changed_of}
 use Rattle.last_access.specs.Access.{is_success}
-use Rattle.steps.proofs.OpLaws.{changed-as}
 use Rattle.last_access.proofs.succeeds.Goals as goal
 
-pub returns-in-Success : goal.returns-in-Success
-returns-in-Success c = changed-as is_success c.apply.ensures c.in-Success.is
+-- a change succeeds where it answers a value
+answers : (r : Option ℕ) → is_some r ≡ is_success (changed_of r)
+answers None = refl
+answers (Some v) = refl
 
-pub returns-in_default : goal.returns-in_default
-returns-in_default c = changed-as is_success c.apply.ensures c.in_default.is
+pub returns : goal.returns
+returns c = c.is_some.ensures ∙ answers _ ∙ ap is_success c.apply.ensures

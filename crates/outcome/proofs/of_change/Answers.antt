@@ -8,4 +8,4 @@ returns-in_default c = changed-as (change_came _ _) c.apply.ensures c.in_default
 
 pub returns : goal.returns
 unfolding change_came
-returns c = changed-as (change_came _ _) c.apply.ensures c.in-Success.is
+returns c = changed-as (change_came _ _) c.apply.ensures c.in-Some.is

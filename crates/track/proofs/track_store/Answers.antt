@@ -1,22 +1,16 @@
 use Rattle.rules.specs.Cell.{store_race, store_tracked}
 use Rattle.rules.specs.State.{stored}
-use Rattle.track.proofs.TrackLaws.{answered, here, past, raced, clear}
+use Rattle.track.proofs.TrackLaws.{here, past, raced, clear}
 use Rattle.track.proofs.track_store.Goals as goal
 
-pub returns-in-With : goal.returns-in-With
+pub returns-in_err-race_with : goal.returns-in_err-race_with
 unfolding store_race store_tracked
-returns-in-With c =
-    let args = c.args in
-    raced _ (stored args.cell) args.thread _ _ _ (here _ _ _ _ (answered _ _ _ c.in-With.is c.race_with.ensures))
+returns-in_err-race_with c = raced _ (stored c.args.cell) c.args.thread _ _ _ c.from_residual.ensures.1 (here _ _ _ _ c.in_err-race_with.ensures)
 
-pub returns-in-With-race_with : goal.returns-in-With-race_with
+pub returns-in_err-race_with-2 : goal.returns-in_err-race_with-2
 unfolding store_race store_tracked
-returns-in-With-race_with c =
-    let args = c.args in
-    raced _ (stored args.cell) args.thread _ _ _ (past _ _ _ (answered _ _ _ c.in_default.is c.race_with.ensures) (answered _ _ _ c.in-With-race_with.is c.race_with-2.ensures))
+returns-in_err-race_with-2 c = raced _ (stored c.args.cell) c.args.thread _ _ _ c.from_residual-in_err-race_with-2.ensures.1 (past _ _ _ c.in_ok-race_with.ensures c.in_err-race_with-2.ensures)
 
 pub returns : goal.returns
 unfolding store_race store_tracked
-returns c =
-    let args = c.args in
-    clear _ (stored args.cell) args.thread _ _ (past _ _ _ (answered _ _ _ c.in_default.is c.race_with.ensures) (answered _ _ _ c.in_default-race_with.is c.race_with-2.ensures)) c.join_into.ensures
+returns c = clear _ (stored c.args.cell) c.args.thread _ _ (past _ _ _ c.in_ok-race_with.ensures c.in_ok-race_with-2.ensures) c.join_into.ensures

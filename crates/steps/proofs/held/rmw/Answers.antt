@@ -4,10 +4,10 @@ use Rattle.steps.proofs.HoldLaws.{left-from}
 use Rattle.steps.proofs.OpLaws.{changed-as}
 use Rattle.steps.proofs.held.rmw.Goals as goal
 
-pub returns-in-Success : goal.returns-in-Success
+pub returns-in-Some : goal.returns-in-Some
 unfolding rmw_held
-returns-in-Success c =
-    left-from rmw_left _ _ _ _ _ _ refl c.put.ensures (c.store.ensures ∙ changed-as (rmw_left _ _ _) c.apply.ensures c.in-Success.is)
+returns-in-Some c =
+    left-from rmw_left _ _ _ _ _ _ refl c.put.ensures (c.store.ensures ∙ changed-as (rmw_left _ _ _) c.apply.ensures c.in-Some.is)
 
 pub returns-in_default : goal.returns-in_default
 unfolding rmw_held
