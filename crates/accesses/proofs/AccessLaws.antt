@@ -1,5 +1,6 @@
 -- The laws of the rows that access a cell or a plain cell: each step's own promise gives what it leaves, and the last state is the
 -- definition's. Assumes nothing.
+--     raced                     a race that is passed up as the fault
 --     put-raced, put-done       a value that was read, or the race that stopped it
 --     reads_as                  of the newest slot, by what an unsynchronised load came to; of none, by what a plain read did
 --     store-raced, store-done   a store
@@ -19,16 +20,23 @@ use Rattle.atomic.specs.Accesses.{access_of}
 use Rattle.atomic.specs.Exclusive.{mutated_of}
 use Rattle.track.specs.declared.Race as tracks
 use Rattle.atomic.specs.declared.Mutated.{Mutated}
-use Rattle.event.specs.Moves.{fault_of}
+use Rattle.event.specs.Moves.{Came, move_of}
+use Rattle.std.specs.Result.{IsErrAnd}
+use Rattle.std.proofs.lemmas.Result.{err_from_is_err_and}
 use Rattle.event.specs.declared.Fault.{Fault}
 use Rattle.event.specs.declared.Fault.TheVariants as fault
 use Rattle.plain.specs.Writes.{unless_raced}
 
+-- a race that is passed up as the fault
+pub raced : (out : Came) (race : tracks.Race) → IsErrAnd out (λ (f : Fault). f ≡ fault.Race race.kind race.other) → (t k opcode : ℕ) (m : Event.Matched) (st : State) →
+    move_of out t k opcode m st ≡ stops st (Event.race race.kind race.other)
+raced out race h t k opcode m st = let e = err_from_is_err_and out h in rw (e.1, e.2)
+
 module _ (t k opcode r : ℕ) where
   module _ (slot mask : ℕ) (loaded : Result ℕ tracks.Race) where
-    pub put-raced : (race : tracks.Race) → loaded ≡ Err race → (f : Fault) → f ≡ fault.Race race.kind race.other → (st : State) →
-        stops st (fault_of f) ≡ reads (access_of loaded st) t k opcode r slot mask
-    put-raced race e f g st = rw (g, e)
+    pub put-raced : (race : tracks.Race) → loaded ≡ Err race → (st : State) →
+        stops st (Event.race race.kind race.other) ≡ reads (access_of loaded st) t k opcode r slot mask
+    put-raced race e st = rw e
 
     -- the register's place, and the row after this one
     pub put-done : (v : ℕ) → loaded ≡ Ok v → (clocks : Clocks) (marks : Marks) (values : Values) (numbers : Numbers) (at next : ℕ) →
@@ -43,9 +51,8 @@ module _ (t k opcode r : ℕ) where
 
   module _ (c : ℕ) (m : Result Mutated tracks.Race) (clocks : Clocks) (marks : Marks) (values : Values) (numbers : Numbers) (x : AccessResult)
       (access : mutated_of m (state clocks marks values numbers) ≡ x) where
-    pub mut-raced : (race : tracks.Race) → m ≡ Err race → (f : Fault) → f ≡ fault.Race race.kind race.other →
-        stops (state clocks marks values numbers) (fault_of f) ≡ leaves_in x t k opcode c r
-    mut-raced race e f g = rw (← access, g, e)
+    pub mut-raced : (race : tracks.Race) → m ≡ Err race → stops (state clocks marks values numbers) (Event.race race.kind race.other) ≡ leaves_in x t k opcode c r
+    mut-raced race e = rw (← access, e)
 
     pub mut-done : (found : Mutated) → m ≡ Ok found → (slot store at next : ℕ) →
         slot ≡ newest (number numbers (count c)) → store ≡ store_at c slot → at ≡ register_at t r → next ≡ one_more k → (st : State) →
@@ -55,9 +62,9 @@ module _ (t k opcode r : ℕ) where
 
 -- by the race that was found, and what was left
 module _ (t k opcode v : ℕ) (race whole : Race) (answer : race ≡ whole) (st written left : State) (is : left ≡ unless_raced race st written) where
-  pub write-raced : (found : tracks.Race) → race ≡ race_of found.kind found.other → (f : Fault) → f ≡ fault.Race found.kind found.other →
-      stops left (fault_of f) ≡ writes_unless whole st written t k opcode v
-  write-raced found e f g = rw (g, is, ← answer, e)
+  pub write-raced : (found : tracks.Race) → race ≡ race_of found.kind found.other →
+      stops left (Event.race found.kind found.other) ≡ writes_unless whole st written t k opcode v
+  write-raced found e = rw (is, ← answer, e)
 
   pub write_done : race ≡ no_race → (next : ℕ) (out : State) → next ≡ one_more k → out ≡ completed left t next →
       moves out (entry t k opcode no_slot 0 v) ≡ writes_unless whole st written t k opcode v
@@ -84,9 +91,8 @@ module _ (t k opcode c o v : ℕ) where
     done-up answer slot next e f stored st g h = rw (← answer, h, g, left, f, e)
 
     module _ (before : State) (up : state clocks marks values numbers ≡ version_raised before t) where
-      pub store-raced : (race : tracks.Race) → race_of race.kind race.other ≡ store_race clocks t c → (f : Fault) → f ≡ fault.Race race.kind race.other →
-          stops (state tracked marks values numbers) (fault_of f) ≡ stores before t k opcode c o v
-      store-raced race answer f g = rw g (raced-up race.kind race.other answer ∙ up_first before (state clocks marks values numbers) up)
+      pub store-raced : (race : tracks.Race) → race_of race.kind race.other ≡ store_race clocks t c → stops (state tracked marks values numbers) (Event.race race.kind race.other) ≡ stores before t k opcode c o v
+      store-raced race answer = raced-up race.kind race.other answer ∙ up_first before (state clocks marks values numbers) up
 
       pub store-done : no_race ≡ store_race clocks t c → (slot next : ℕ) → slot ≡ slot_of (number numbers (count c)) → next ≡ one_more k →
           (stored st : State) → stored ≡ store_done (state tracked marks values numbers) t c (zeros threads) v o → st ≡ completed stored t next →

@@ -46,16 +46,14 @@ pub fn store_row(
     access: Access,
     row: u16,
     value: u64,
-) -> Moved
+) -> Result<Moved, Fault>
     requires { (access.thread < 5) × (access.cell < 4) }
     ensures { (opcode : ℕ) (m : events.Matched) → move_of result access.thread row opcode m (state clocks.new marks.new values.new numbers.new) ≡ machine.stores (state clocks.old marks.old values.old numbers.old) access.thread row opcode access.cell access.order value }
 {
     let thread = access.thread;
     let cell = access.cell;
     thread::raise(clocks, thread);
-    if let Err(race) = track::track_store(clocks, thread, cell) {
-        return Moved::Stops(Fault::from(race));
-    }
+    track::track_store(clocks, thread, cell)?;
     let slot = slots::index(numbers[COUNT + cell]);
     atomic::store(
         clocks,
@@ -67,11 +65,11 @@ pub fn store_row(
         value,
     );
     thread::complete(numbers, thread, vv::one_more(row));
-    Moved::Done {
+    Ok(Moved::Done {
         slot: slot as u8,
         mask: 0,
         value,
-    }
+    })
 }
 
 // An unsynchronised load of the newest store.
@@ -82,7 +80,7 @@ pub fn unsync_load_row(
     site: Site,
     cell: usize,
     register: usize,
-) -> Moved
+) -> Result<Moved, Fault>
     requires { (site.thread < 5) × (cell < 4) × (register < 4) }
     ensures { (marks : rules.Marks) (opcode : ℕ) (m : events.Matched) → move_of result site.thread site.row opcode m (state clocks.new marks values.new numbers.new) ≡ machine.reads (cells.unsync_load_done (state clocks.old marks values.old numbers.old) site.thread cell) site.thread site.row opcode register (cells.newest (rules.number numbers.old (rules.count cell))) 0 }
 {
@@ -101,25 +99,21 @@ pub fn with_mut_row(
     cell: usize,
     change: Change,
     register: usize,
-) -> Moved
+) -> Result<Moved, Fault>
     requires { (site.thread < 5) × (cell < 4) × (register < 4) }
     ensures { (marks : rules.Marks) (opcode : ℕ) (m : events.Matched) → move_of result site.thread site.row opcode m (state clocks.new marks values.new numbers.new) ≡ machine.leaves_in (cells.mut_done (state clocks.old marks values.old numbers.old) site.thread cell (change_meant change)) site.thread site.row opcode cell register }
 {
     let thread = site.thread;
-    match atomic::with_mut(clocks, values, numbers, thread, cell, change) {
-        Err(race) => Moved::Stops(Fault::from(race)),
-        Ok(mutated) => {
-            let slot = slots::newest(numbers[COUNT + cell]);
-            let left = values[VALUE + store_at(cell, slot)];
-            values[REGISTER + register_at(thread, register)] = mutated.read;
-            thread::complete(numbers, thread, vv::one_more(site.row));
-            Moved::Done {
-                slot: slot as u8,
-                mask: 0,
-                value: left,
-            }
-        }
-    }
+    let mutated = atomic::with_mut(clocks, values, numbers, thread, cell, change)?;
+    let slot = slots::newest(numbers[COUNT + cell]);
+    let left = values[VALUE + store_at(cell, slot)];
+    values[REGISTER + register_at(thread, register)] = mutated.read;
+    thread::complete(numbers, thread, vv::one_more(site.row));
+    Ok(Moved::Done {
+        slot: slot as u8,
+        mask: 0,
+        value: left,
+    })
 }
 
 // A read of a plain cell. It has no slot, and raises no version.
@@ -130,7 +124,7 @@ pub fn plain_read_row(
     site: Site,
     plain: usize,
     register: usize,
-) -> Moved
+) -> Result<Moved, Fault>
     requires { (site.thread < 5) × (plain < 4) × (register < 4) }
     ensures { (marks : rules.Marks) (opcode : ℕ) (m : events.Matched) → move_of result site.thread site.row opcode m (state clocks.new marks values.new numbers.new) ≡ machine.reads (plain_read_done (state clocks.old marks values.old numbers.old) site.thread plain) site.thread site.row opcode register machine.no_slot 0 }
 {
@@ -146,20 +140,18 @@ pub fn plain_write_row(
     site: Site,
     plain: usize,
     value: u64,
-) -> Moved
+) -> Result<Moved, Fault>
     requires { (site.thread < 5) × (plain < 4) }
     ensures { (marks : rules.Marks) (opcode : ℕ) (m : events.Matched) → move_of result site.thread site.row opcode m (state clocks.new marks values.new numbers.new) ≡ machine.writes_unless (plain_write_race clocks.old site.thread plain) (state clocks.old marks values.old numbers.old) (plain_write_done (state clocks.old marks values.old numbers.old) site.thread plain value) site.thread site.row opcode value }
 {
     let thread = site.thread;
-    if let Err(race) = plain::write(clocks, values, thread, plain, value) {
-        return Moved::Stops(Fault::from(race));
-    }
+    plain::write(clocks, values, thread, plain, value)?;
     thread::complete(numbers, thread, vv::one_more(site.row));
-    Moved::Done {
+    Ok(Moved::Done {
         slot: NO_SLOT,
         mask: 0,
         value,
-    }
+    })
 }
 
 // The stores that a load or a read-modify-write is offered, their slots at the start of `dst`; a row of another kind is
@@ -202,20 +194,20 @@ pub fn read_from(
     here: Here,
     slot: usize,
     mask: u8,
-) -> Moved
+) -> Result<Moved, Fault>
     requires { HereWithin here × (slot < 7) }
     ensures { (m : events.Matched) → move_of result here.site.thread here.site.row (opcode_in (decoded_of here.row)) m (state clocks.new marks.new values.new numbers.new) ≡ machine.read_from (state clocks.old marks.old values.old numbers.old) here.site.thread here.site.row slot mask (machine.role_in (decoded_of here.row)) }
 {
     let site = here.site;
     let row = here.row;
     let Some(op) = row else {
-        return Moved::Stops(Fault::Impossible);
+        return Err(Fault::Impossible);
     };
     let Some(Reading { cell, register }) = to_read(op) else {
-        return Moved::Stops(Fault::Impossible);
+        return Err(Fault::Impossible);
     };
     if !is_live(numbers, cell, slot) {
-        return Moved::Stops(Fault::Impossible);
+        return Err(Fault::Impossible);
     }
     let loaded = read(clocks, marks, values, numbers, site.thread, op, slot);
     put_value(values, numbers, site, register, slot as u8, mask, loaded)
@@ -290,17 +282,13 @@ fn put_value(
     slot: u8,
     mask: u8,
     loaded: Result<u64, Race>,
-) -> Moved
+) -> Result<Moved, Fault>
     requires { (site.thread < 5) × (register < 4) }
     ensures { (clocks : rules.Clocks) (marks : rules.Marks) (opcode : ℕ) (m : events.Matched) → move_of result site.thread site.row opcode m (state clocks marks values.new numbers.new) ≡ machine.reads (access_of loaded (state clocks marks values.old numbers.old)) site.thread site.row opcode register slot mask }
 {
     let thread = site.thread;
-    match loaded {
-        Err(race) => Moved::Stops(Fault::from(race)),
-        Ok(value) => {
-            values[REGISTER + register_at(thread, register)] = value;
-            thread::complete(numbers, thread, vv::one_more(site.row));
-            Moved::Done { slot, mask, value }
-        }
-    }
+    let value = loaded?;
+    values[REGISTER + register_at(thread, register)] = value;
+    thread::complete(numbers, thread, vv::one_more(site.row));
+    Ok(Moved::Done { slot, mask, value })
 }

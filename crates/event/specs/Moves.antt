@@ -4,8 +4,9 @@
 --     fault_of       a fault
 --     matched_for    what a row that asks for a slot is offered
 --     entry_if       the entry of a row that asks, if it is complete
---     move_of        an event, with the state that it leaves
-use Rattle.std.specs.Prelude.{ℕ, ◌<◌, List, [], Bool, true, false}
+--     Came          what a tick answers
+--     move_of        what it answers, with the state that it leaves
+use Rattle.std.specs.Prelude.{ℕ, ◌<◌, List, [], Bool, true, false, Result, Ok, Err}
 use Rattle.rules.specs.Event as rules
 use Rattle.rules.specs.Event.{Entry, Matched, Move}
 use Rattle.rules.specs.State.{State, marks_of}
@@ -62,10 +63,14 @@ asked_by question.Thread es m st = schedules st es
 asked_by question.Slot es m st = rules.asks st es (exploring_now st.numbers) (rules.which_slot m)
 asked_by question.Bit es m st = rules.asks st es (exploring_now st.numbers) rules.which_bit
 
+-- what a tick answers: how it comes out, or the fault that stops it
+abbrev pub Came : Type 0
+Came = Result Moved Fault
+
 -- of a thread at a row with this opcode, which is offered this where it asks for a slot; the state is the one left
-abbrev pub move_of : Moved → ℕ → ℕ → ℕ → Matched → State → Move State
-move_of event.Moves t k opcode m st = rules.moves st []
-move_of (event.Done slot mask value) t k opcode m st = rules.moves st (entry t k opcode slot mask value)
-move_of (event.Asks q yielded) t k opcode m st = asked_by q (entry_if yielded t k opcode) m st
-move_of event.Ends t k opcode m st = rules.ends st
-move_of (event.Stops f) t k opcode m st = rules.stops st (fault_of f)
+abbrev pub move_of : Came → ℕ → ℕ → ℕ → Matched → State → Move State
+move_of (Ok event.Moves) t k opcode m st = rules.moves st []
+move_of (Ok (event.Done slot mask value)) t k opcode m st = rules.moves st (entry t k opcode slot mask value)
+move_of (Ok (event.Asks q yielded)) t k opcode m st = asked_by q (entry_if yielded t k opcode) m st
+move_of (Ok event.Ends) t k opcode m st = rules.ends st
+move_of (Err f) t k opcode m st = rules.stops st (fault_of f)

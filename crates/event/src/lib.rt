@@ -66,7 +66,7 @@ pub enum Picked {
     Bit(bool),
 }
 
-// What a tick, or going on with an answer, comes to.
+// What a tick, or going on with an answer, comes to; an error is the fault that stops it.
 #[derive(Clone, Copy)]
 pub enum Moved {
     // It goes on, and no row is complete.
@@ -77,7 +77,6 @@ pub enum Moved {
     Asks { question: Question, yielded: bool },
     // The execution has ended.
     Ends,
-    Stops(Fault),
 }
 
 // A row without a slot in its trace entry.

@@ -19,11 +19,13 @@ use Rattle.rules.specs.State.{State}
 use Rattle.rules.specs.Machine.{Program, row_count, row_of, is_to_begin, schedules, thread_ended, begins, acts, next_at}
 use Rattle.rules.specs.Table as rules
 use Rattle.rules.specs.Table.{cells_of, opcode_of, opcode_in}
-use Rattle.event.specs.declared.Moved as code
+use Rattle.event.specs.declared.Fault.{Fault}
+use Rattle.event.specs.declared.Moved.{Moved}
 use Rattle.event.specs.declared.Moved.TheVariants as event
 use Rattle.event.specs.contracts.Moved as Event'
 use Rattle.event.specs.declared.Question.TheVariants as question
-use Rattle.event.specs.Moves.{move_of, matched_for}
+use Rattle.std.specs.Prelude.{Ok, Err}
+use Rattle.event.specs.Moves.{Came, move_of, matched_for}
 use Rattle.decode.specs.declared.Op.{Op}
 use Rattle.std.specs.Prelude.{Option, Some, None}
 use Rattle.decode.specs.Ops.{op_of, decoded_of, InRange, OpWithin}
@@ -36,11 +38,11 @@ row_within row op e h = rw e at h
 
 -- the places of the events that are not that it moves, among the variants
 abbrev comes : List ℕ
-comes = 1 ∷ 2 ∷ 3 ∷ 4 ∷ []
+comes = 1 ∷ 2 ∷ 3 ∷ []
 
 -- what begins and does not move is not acted on
-stays-so : (p : Program) (t k opcode : ℕ) (op : rules.Op) (m : Matched) (left : State) (r : code.Moved) → OneOf comes (tag_of Event'.the_type r) →
-    move_of r t k opcode m left ≡ then_acts p t k op (move_of r t k opcode m left)
+stays-so : (p : Program) (t k opcode : ℕ) (op : rules.Op) (m : Matched) (left : State) (e : Moved) → OneOf comes (tag_of Event'.the_type e) →
+    move_of (Ok e) t k opcode m left ≡ then_acts p t k op (move_of (Ok e) t k opcode m left)
 unfolding schedules
 stays-so p t k opcode op m left event.Moves h = absurd (miss comes 0 tt h)
 stays-so p t k opcode op m left (event.Done slot mask value) h = refl
@@ -48,18 +50,21 @@ stays-so p t k opcode op m left (event.Asks question.Thread yielded) h = refl
 stays-so p t k opcode op m left (event.Asks question.Slot yielded) h = refl
 stays-so p t k opcode op m left (event.Asks question.Bit yielded) h = refl
 stays-so p t k opcode op m left event.Ends h = refl
-stays-so p t k opcode op m left (event.Stops fault) h = refl
 
-module _ (p : Program) (st left : State) (t k opcode limit : ℕ) (op : rules.Op) (m : Matched) (r : code.Moved) (limited : p.operations ≡ limit)
+module _ (p : Program) (st left : State) (t k opcode limit : ℕ) (op : rules.Op) (m : Matched) (r : Came) (limited : p.operations ≡ limit)
     (begun : move_of r t k opcode m left ≡ begun_to limit st t op) where
   begins-by : then_acts p t k op (move_of r t k opcode m left) ≡ begins p st t k op
   begins-by =
       ap (then_acts p t k op) (begun ∙ ap (λ (n : ℕ). begun_to n st t op) (sym limited)) ∙ sym (begins-to p t k op st)
 
-  pub begun-other : OneOf comes (tag_of Event'.the_type r) → move_of r t k opcode m left ≡ begins p st t k op
-  begun-other h = stays-so p t k opcode op m left r h ∙ begins-by
+  -- the row is at fault, or begins and does not move
+  pub begun-stops : (f g : Fault) (out : Came) → r ≡ Err f → out ≡ Err g → g ≡ f → move_of out t k opcode m left ≡ begins p st t k op
+  begun-stops f g out is e same = rw (e, same) (rw is at begins-by)
 
-  pub begun-acts : r ≡ event.Moves → (now : State) → now ≡ left → acts p now t k op ≡ begins p st t k op
+  pub begun-other : (e : Moved) → r ≡ Ok e → OneOf comes (tag_of Event'.the_type e) → move_of (Ok e) t k opcode m left ≡ begins p st t k op
+  begun-other e is h = stays-so p t k opcode op m left e h ∙ (rw is at begins-by)
+
+  pub begun-acts : r ≡ Ok event.Moves → (now : State) → now ≡ left → acts p now t k op ≡ begins p st t k op
   begun-acts e now s = rw s (rw e at begins-by)
 
 not-both : (x y : Bool) → y ≡ false → x && y ≡ false
@@ -120,7 +125,7 @@ module _ (p : Program) (st : State) (t k count : ℕ) (b : Bool) (asked : b ≡ 
       acting now (inr w) = ap (λ (s : State). acts p s t k (op_of op)) w.1 ∙ acts-on w.0
 
       pub next-acts : (now : State) → ((b ≡ true) × (acts p now t k (op_of op) ≡ begins p st t k (op_of op))) ⊎ ((b ≡ false) × (now ≡ st)) →
-          (r : code.Moved) (left : State) →
+          (r : Came) (left : State) →
           move_of r t k (opcode_of (op_of op)) (matched_for left t (decoded_of (Some op))) left ≡ acts p now t k (op_of op) →
           move_of r t k (opcode_in (decoded_of row)) (matched_for left t (decoded_of row)) left ≡ next_with p st t k count (decoded_of row)
       next-acts now came r left h = rw e (h ∙ (rw e at (acting now came)))

@@ -2,7 +2,7 @@
 // is to be made it asks, and goes on with the answer. `next` and `answered` are the definition's.
 #![tactic(auto)]
 
-ghost use Rattle.std.specs.Prelude.{◌≡◌, ℕ, ◌<◌, ◌≤◌, ◌+◌, get_or};
+ghost use Rattle.std.specs.Prelude.{◌≡◌, ℕ, ◌<◌, ◌≤◌, ◌+◌, get_or, Ok};
 ghost use Rattle.rules.specs.Event.{Matched};
 ghost use Rattle.rules.specs.Machine as machine;
 ghost use Rattle.rules.specs.State as rules;
@@ -38,7 +38,7 @@ pub fn next(
     numbers: &mut Numbers,
     limit: u16,
     here: Here,
-) -> Moved
+) -> Result<Moved, Fault>
     requires { HereWithin here × (get_or shape.now 1 0 ≤ 4) }
     ensures { (p : machine.Program) → p.operations ≡ limit → cells_of p.table ≡ get_or shape.now 1 0 → move_of result here.site.thread here.site.row (opcode_in (decoded_of here.row)) (matched_for (state clocks.new marks.new values.new numbers.new) here.site.thread (decoded_of here.row)) (state clocks.new marks.new values.new numbers.new) ≡ next_with p (state clocks.old marks.old values.old numbers.old) here.site.thread here.site.row (get_or shape.now (2 + here.site.thread) 0) (decoded_of here.row) }
 {
@@ -49,19 +49,19 @@ pub fn next(
     if to_begin {
         if shape[COUNTS + thread] <= site.row {
             thread::end(numbers, thread);
-            return Moved::Asks {
+            return Ok(Moved::Asks {
                 question: Question::Thread,
                 yielded: false,
-            };
+            });
         }
     }
     let Some(op) = row else {
-        return Moved::Stops(Fault::Impossible);
+        return Err(Fault::Impossible);
     };
     if to_begin {
-        let event = rows::begin(numbers, limit, thread, op);
+        let event = rows::begin(numbers, limit, thread, op)?;
         let Moved::Moves = event else {
-            return event;
+            return Ok(event);
         };
     }
     let cells = wide16(shape[CELLS]);
@@ -77,16 +77,16 @@ pub fn act(
     site: Site,
     op: Op,
     cells: usize,
-) -> Moved
+) -> Result<Moved, Fault>
     requires { (site.thread < 5) × (cells ≤ 4) × InRange (op_of op) }
     ensures { (p : machine.Program) → cells_of p.table ≡ cells → move_of result site.thread site.row (opcode_of (op_of op)) (matched_for (state clocks.new marks.new values.new numbers.new) site.thread (decoded_of (Some op))) (state clocks.new marks.new values.new numbers.new) ≡ machine.acts p (state clocks.old marks.old values.old numbers.old) site.thread site.row (op_of op) }
 {
     match op {
-        Op::Load { .. } => ask_slot(clocks, site.thread),
-        Op::Rmw { .. } => ask_slot(clocks, site.thread),
-        Op::Fence { order } => rows::fence_row(clocks, marks, numbers, site, order, cells),
-        Op::Yield => rows::yield_row(clocks, numbers, site),
-        Op::Join { thread: target } => rows::join_row(clocks, numbers, site, target),
+        Op::Load { .. } => Ok(ask_slot(clocks, site.thread)),
+        Op::Rmw { .. } => Ok(ask_slot(clocks, site.thread)),
+        Op::Fence { order } => Ok(rows::fence_row(clocks, marks, numbers, site, order, cells)),
+        Op::Yield => Ok(rows::yield_row(clocks, numbers, site)),
+        Op::Join { thread: target } => Ok(rows::join_row(clocks, numbers, site, target)),
         _ => act_store(clocks, marks, values, numbers, site, op),
     }
 }
@@ -100,7 +100,7 @@ fn act_store(
     numbers: &mut Numbers,
     site: Site,
     op: Op,
-) -> Moved
+) -> Result<Moved, Fault>
     requires { (site.thread < 5) × InRange (op_of op) × Storing (op_of op) }
     ensures { (p : machine.Program) (m : Matched) → move_of result site.thread site.row (opcode_of (op_of op)) m (state clocks.new marks.new values.new numbers.new) ≡ machine.acts p (state clocks.old marks.old values.old numbers.old) site.thread site.row (op_of op) }
 {
@@ -148,7 +148,7 @@ fn act_unsync(
     numbers: &mut Numbers,
     site: Site,
     op: Op,
-) -> Moved
+) -> Result<Moved, Fault>
     requires { (site.thread < 5) × InRange (op_of op) × Unsync (op_of op) }
     ensures { (p : machine.Program) (marks : rules.Marks) (m : Matched) → move_of result site.thread site.row (opcode_of (op_of op)) m (state clocks.new marks values.new numbers.new) ≡ machine.acts p (state clocks.old marks values.old numbers.old) site.thread site.row (op_of op) }
 {
@@ -172,20 +172,20 @@ fn act_unsync(
 }
 
 // The rows that concern their own thread alone.
-fn act_alone(values: &Values, numbers: &mut Numbers, site: Site, op: Op) -> Moved
+fn act_alone(values: &Values, numbers: &mut Numbers, site: Site, op: Op) -> Result<Moved, Fault>
     requires { (site.thread < 5) × InRange (op_of op) × Alone (op_of op) }
     ensures { (p : machine.Program) (clocks : rules.Clocks) (marks : rules.Marks) (m : Matched) → move_of result site.thread site.row (opcode_of (op_of op)) m (state clocks marks values.now numbers.new) ≡ machine.acts p (state clocks marks values.now numbers.old) site.thread site.row (op_of op) }
 {
     let thread = site.thread;
     match op {
-        Op::Jump { target } => rows::jump_row(numbers, site, true, target),
+        Op::Jump { target } => Ok(rows::jump_row(numbers, site, true, target)),
         Op::JumpIf {
             register,
             a,
             target,
         } => {
             let equal = register_of(values, thread, register) == a;
-            rows::jump_row(numbers, site, equal, target)
+            Ok(rows::jump_row(numbers, site, equal, target))
         }
         Op::JumpUnless {
             register,
@@ -193,7 +193,7 @@ fn act_alone(values: &Values, numbers: &mut Numbers, site: Site, op: Op) -> Move
             target,
         } => {
             let equal = register_of(values, thread, register) == a;
-            rows::jump_row(numbers, site, !equal, target)
+            Ok(rows::jump_row(numbers, site, !equal, target))
         }
         Op::Check { register, a } => {
             let equal = register_of(values, thread, register) == a;
@@ -201,11 +201,11 @@ fn act_alone(values: &Values, numbers: &mut Numbers, site: Site, op: Op) -> Move
         }
         Op::Critical => rows::explore_row(numbers, site, false),
         Op::ExploreState => rows::explore_row(numbers, site, true),
-        Op::SkipBranch => rows::skip_branch(numbers, site),
-        _ => Moved::Asks {
+        Op::SkipBranch => Ok(rows::skip_branch(numbers, site)),
+        _ => Ok(Moved::Asks {
             question: Question::Bit,
             yielded: false,
-        },
+        }),
     }
 }
 
@@ -221,7 +221,7 @@ fn register_of(values: &Values, thread: usize, register: usize) -> u64
 // raised offers.
 fn ask_slot(clocks: &mut Clocks, thread: usize) -> Moved
     requires { thread < 5 }
-    ensures { (marks : rules.Marks) (values : rules.Values) (numbers : rules.Numbers) (t k opcode : ℕ) (offered : rules.State → Matched) → move_of result t k opcode (offered (state clocks.new marks values numbers)) (state clocks.new marks values numbers) ≡ machine.asks_slot (machine.version_raised (state clocks.old marks values numbers) thread) (offered (machine.version_raised (state clocks.old marks values numbers) thread)) }
+    ensures { (marks : rules.Marks) (values : rules.Values) (numbers : rules.Numbers) (t k opcode : ℕ) (offered : rules.State → Matched) → move_of (Ok result) t k opcode (offered (state clocks.new marks values numbers)) (state clocks.new marks values numbers) ≡ machine.asks_slot (machine.version_raised (state clocks.old marks values numbers) thread) (offered (machine.version_raised (state clocks.old marks values numbers) thread)) }
 {
     thread::raise(clocks, thread);
     Moved::Asks {
@@ -238,7 +238,7 @@ pub fn answered(
     numbers: &mut Numbers,
     here: Here,
     choice: Picked,
-) -> Moved
+) -> Result<Moved, Fault>
     requires { HereWithin here × ChoiceWithin choice }
     ensures { (m : Matched) → Answers choice (decoded_of here.row) here.site.thread here.site.row (state clocks.old marks.old values.old numbers.old) (move_of result here.site.thread here.site.row (opcode_in (decoded_of here.row)) m (state clocks.new marks.new values.new numbers.new)) }
 {

@@ -2,7 +2,7 @@
 ghost use Rattle.std.specs.Prelude.{◌≡◌, ◌+◌, ◌*◌, ◌^◌, ◌<◌};
 ghost use Rattle.settings.specs.Given.{settings_of};
 ghost use Rattle.iteration.specs.Executes.{RunReady, TermsGiven};
-ghost use Rattle.explorer.specs.Runs.{Greater, Further, Stepped, RunStopped, Empty, Ran};
+ghost use Rattle.explorer.specs.Runs.{Further, Stepped, RunStopped, Empty, Ran};
 
 use ending::{finish, judge_end};
 use iteration::{Terms, execute};
@@ -117,21 +117,12 @@ fn further(progress: Progress, over: Ticked) -> Progress
     ensures { Further progress over result }
 {
     let cursor = over.cursor;
-    let longest = greater(progress.longest, cursor.entries);
+    let longest = progress.longest.max(cursor.entries);
     Progress {
         cursor,
         longest,
         begun: progress.begun + 1,
     }
-}
-
-fn greater(x: usize, y: usize) -> usize
-    ensures { Greater x y result }
-{
-    if x < y {
-        return y;
-    }
-    x
 }
 
 // The report of a run that stops here. What longer traces left past the last one's entries goes.

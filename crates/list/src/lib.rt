@@ -13,6 +13,7 @@ pub fn copy_into(list: &mut [Summary], ran: bool, threads: [Summary; MAX_THREADS
     if !(ran & (list.len() == MAX_THREADS)) {
         return;
     }
+    // Place by place: a rule of the project.
     list[0] = threads[0];
     list[1] = threads[1];
     list[2] = threads[2];

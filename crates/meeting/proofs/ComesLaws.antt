@@ -14,9 +14,6 @@ use Rattle.rules.specs.State.{State}
 use Rattle.rules.specs.Machine.{Program, schedules, no_slot}
 use Rattle.rules.specs.Explorer as explorer
 use Rattle.rules.specs.Explorer.{Walk, Tick, goes, over, faulted}
-use types.Run.{OneOf, miss}
-use denote.Enum.Declared.{tag_of}
-use Rattle.event.specs.contracts.Moved.{the_type as happened}
 use Rattle.trace.specs.Entries.{Notes, Front, Appended}
 use Rattle.trace.proofs.FrontLaws.{front-more}
 use Rattle.trace.proofs.TraceLaws.{length-entry_bytes}
@@ -24,8 +21,8 @@ use Rattle.rules.specs.Table.{opcode_of, opcode_in}
 use Rattle.decode.specs.Ops.{op_of, decoded_of}
 use Rattle.decode.specs.declared.Op.{Op}
 use Rattle.std.specs.Prelude.{Option, Some, None}
-use Rattle.event.specs.Moves.{fault_of}
-use Rattle.event.specs.declared.Moved.{Moved}
+use Rattle.event.specs.Moves.{fault_of, Came}
+use Rattle.std.specs.Prelude.{Ok, Err}
 use Rattle.event.specs.declared.Moved.TheVariants as event
 use Rattle.event.specs.declared.Fault.{Fault}
 use Rattle.event.specs.declared.Fault.TheVariants as fault
@@ -214,41 +211,34 @@ module _ (c : Cursor) (r : Ticked) (h : Here) (opcode slot mask v : ℕ) (is : o
 -- What an event comes to that asks nothing more
 
 module _ (h : Here) where
-  abbrev concluded : Moved → Program → explorer.Limits → Walk State → Tick State
+  abbrev concluded : Came → Program → explorer.Limits → Walk State → Tick State
   concluded e = concluded_at e h
 
-  asked-again : (q : Question) (yielded : Bool) (p : Program) (L : explorer.Limits) (w : Walk State) → concluded (event.Asks q yielded) p L w ≡ faulted rules.impossible (site_of h.site) w
+  asked-again : (q : Question) (yielded : Bool) (p : Program) (L : explorer.Limits) (w : Walk State) → concluded (Ok (event.Asks q yielded)) p L w ≡ faulted rules.impossible (site_of h.site) w
   unfolding schedules
   asked-again question.Thread yielded p L w = refl
   asked-again question.Slot yielded p L w = refl
   asked-again question.Bit yielded p L w = refl
 
-  asked_by : (e : Moved) → OneOf (2 ∷ []) (tag_of happened e) → (p : Program) (L : explorer.Limits) (w : Walk State) → concluded e p L w ≡ faulted rules.impossible (site_of h.site) w
-  asked_by event.Moves k p L w = absurd (miss (2 ∷ []) 0 tt k)
-  asked_by (event.Done slot mask v) k p L w = absurd (miss (2 ∷ []) 1 tt k)
-  asked_by (event.Asks q yielded) k p L w = asked-again q yielded p L w
-  asked_by event.Ends k p L w = absurd (miss (2 ∷ []) 3 tt k)
-  asked_by (event.Stops f) k p L w = absurd (miss (2 ∷ []) 4 tt k)
+  module _ (c : Cursor) (r : Ticked) (e : Came) where
+    done-lands : (f : Came) {entry exit : List ℕ} → e ≡ f → Lands c r entry exit (concluded f) → Lands c r entry exit (concluded e)
+    done-lands f {entry} {exit} is l = subst (λ (y : Came). Lands c r entry exit (concluded y)) (sym is) l
 
-  module _ (c : Cursor) (r : Ticked) (e : Moved) where
-    done-lands : (f : Moved) {entry exit : List ℕ} → e ≡ f → Lands c r entry exit (concluded f) → Lands c r entry exit (concluded e)
-    done-lands f {entry} {exit} is l = subst (λ (y : Moved). Lands c r entry exit (concluded y)) (sym is) l
-
-    pub conclude-done : {entry exit : List ℕ} {slot mask v : ℕ} → e ≡ event.Done slot mask v → Lands c r entry exit (noted_at h slot mask v) → Lands c r entry exit (concluded e)
-    conclude-done {entry} {exit} {slot} {mask} {v} is l = done-lands (event.Done slot mask v) is (lands_as (concluded (event.Done slot mask v)) (λ p L w. refl) l)
+    pub conclude-done : {entry exit : List ℕ} {slot mask v : ℕ} → e ≡ Ok (event.Done slot mask v) → Lands c r entry exit (noted_at h slot mask v) → Lands c r entry exit (concluded e)
+    conclude-done {entry} {exit} {slot} {mask} {v} is l = done-lands (Ok (event.Done slot mask v)) is (lands_as (concluded (Ok (event.Done slot mask v))) (λ p L w. refl) l)
 
     module _ (trace : List ℕ) (room : 16 * c.entries ≤ length trace) where
-      pub conclude-moves : e ≡ event.Moves → GoesOn c r → Lands c r trace trace (concluded e)
-      conclude-moves is g = done-lands event.Moves is (lands-goes c r trace room (concluded event.Moves) g (λ p L w fits. landed_none L (site_of h.site) w fits))
+      pub conclude-moves : e ≡ Ok event.Moves → GoesOn c r → Lands c r trace trace (concluded e)
+      conclude-moves is g = done-lands (Ok event.Moves) is (lands-goes c r trace room (concluded (Ok event.Moves)) g (λ p L w fits. landed_none L (site_of h.site) w fits))
 
-      pub conclude-asks : OneOf (2 ∷ []) (tag_of happened e) → FaultMet fault.Impossible h.site c r → Lands c r trace trace (concluded e)
-      conclude-asks k s = lands-faulted c r trace room (concluded e) s (asked_by e k)
+      pub conclude-asks : {q : Question} {yielded : Bool} → e ≡ Ok (event.Asks q yielded) → FaultMet fault.Impossible h.site c r → Lands c r trace trace (concluded e)
+      conclude-asks {q} {yielded} is s = done-lands (Ok (event.Asks q yielded)) is (lands-faulted c r trace room (concluded (Ok (event.Asks q yielded))) s (asked-again q yielded))
 
-      pub conclude-ends : e ≡ event.Ends → r.outcome ≡ code.Over → SameCursor c r.cursor → Lands c r trace trace (concluded e)
-      conclude-ends is o s = done-lands event.Ends is (lands-over c r trace room (concluded event.Ends) o s (λ p L w. refl))
+      pub conclude-ends : e ≡ Ok event.Ends → r.outcome ≡ code.Over → SameCursor c r.cursor → Lands c r trace trace (concluded e)
+      conclude-ends is o s = done-lands (Ok event.Ends) is (lands-over c r trace room (concluded (Ok event.Ends)) o s (λ p L w. refl))
 
-      pub conclude-stops : {f : Fault} → e ≡ event.Stops f → FaultMet f h.site c r → Lands c r trace trace (concluded e)
-      conclude-stops {f} is s = done-lands (event.Stops f) is (lands-faulted c r trace room (concluded (event.Stops f)) s (λ p L w. refl))
+      pub conclude-stops : {f : Fault} → e ≡ Err f → FaultMet f h.site c r → Lands c r trace trace (concluded e)
+      conclude-stops {f} is s = done-lands (Err f) is (lands-faulted c r trace room (concluded (Err f)) s (λ p L w. refl))
 
 -- The entry of a row that is complete before it asks
 

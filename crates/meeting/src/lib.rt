@@ -192,20 +192,20 @@ pub fn answer(path: &[u8], pos: usize, question: Question) -> Option<Picked>
 }
 
 // What a tick comes to that asks nothing more.
-pub fn conclude(trace: &mut [u8], here: Here, event: Moved, cursor: Cursor) -> Ticked
+pub fn conclude(trace: &mut [u8], here: Here, event: Result<Moved, Fault>, cursor: Cursor) -> Ticked
     requires { 16 * cursor.entries ≤ length trace.old }
     ensures { Lands cursor result trace.old trace.new (concluded_at event here) }
 {
     let site = here.site;
     match event {
-        Moved::Moves => goes(cursor),
-        Moved::Done { slot, mask, value } => note(trace, here, slot, mask, value, cursor),
-        Moved::Asks { .. } => faulted(Fault::Impossible, site, cursor),
-        Moved::Ends => Ticked {
+        Ok(Moved::Moves) => goes(cursor),
+        Ok(Moved::Done { slot, mask, value }) => note(trace, here, slot, mask, value, cursor),
+        Ok(Moved::Asks { .. }) => faulted(Fault::Impossible, site, cursor),
+        Ok(Moved::Ends) => Ticked {
             outcome: Outcome::Over,
             cursor,
         },
-        Moved::Stops(fault) => faulted(fault, site, cursor),
+        Err(fault) => faulted(fault, site, cursor),
     }
 }
 

@@ -30,7 +30,8 @@ pub enum Answer {
     Unmet,
 }
 
-// Where a run was stopped, or a table is refused: a thread and its row, as a report has them.
+// Where a run was stopped, or a table is refused: a thread and its row, as a report has them, both 255 where there is none. The C
+// interface has these numbers.
 #[derive(Clone, Copy)]
 pub struct AtFault {
     pub thread: u64,
@@ -136,7 +137,7 @@ pub fn is_refusal(number: u64) -> bool
     (answers::BAD_SETTINGS <= number) & (number <= answers::BAD_TABLE)
 }
 
-// The race kind, or 0.
+// The race kind, or 0: a number of document 01's report, which the C interface has.
 pub fn race_kind(answer: Answer) -> u8
     ensures { result ≡ race_kind_of answer }
 {
@@ -149,7 +150,7 @@ pub fn race_kind(answer: Answer) -> u8
     kind
 }
 
-// The race's other thread, or 255.
+// The race's other thread, or 255, as in that report.
 pub fn other_thread(answer: Answer) -> u64
     ensures { result ≡ other_of answer }
 {

@@ -6,13 +6,14 @@
 --     fences-as, yields-as          the fence, the yield
 --     joins-..                      a join that goes through, and one that blocks
 --     jumps-.., checks-..           by their test
---     flag_true, flag-false         the flag of each row that switches exploring
+--     number-of                     the number that a truth value is put as
 --     explores-..                   the flag that is meant, and what comes of it
 --     bit-..                        a row that is refused, one of another kind, and the bit
 use Prim.Native.Nat.{ℕ, ◌+◌, ◌*◌, ◌≤◌, ◌<◌}
 use mathlib.Core.List.{List, [], ◌∷◌}
 use mathlib.Core.Bool.{Bool, true, false, cond, not}
 use lib.Dec.{T, leb}
+use Rattle.std.specs.Int.{from_bool}
 use mathlib.Core.Path.{◌≡◌, refl, ap, sym, ◌∙◌}
 use mathlib.Core.Logic.{◌≢◌}
 use lib.ListN.{get_or, set}
@@ -23,7 +24,6 @@ use denote.Enum.Declared.{tag_of}
 use Rattle.rules.specs.Event as Event
 use Rattle.rules.specs.Event.{Move, moves, stops}
 use Rattle.rules.specs.Cell.{fenced}
-use Rattle.rules.specs.State as State
 use Rattle.rules.specs.State.{State, Clocks, Marks, Values, Numbers, number, with_number, rows_begun, rows_of, phase, operation, operates_on, exploring, skipping}
 use Rattle.rules.specs.Machine as machine
 use Rattle.rules.specs.Machine.{Role, loads, stores_operand, stores_register, modifies, takes_bit, otherwise, role_of, role_in, pending_as, Program, begins, begun_as, row_begun, with_operation, pending_of, done, completed, entry, no_slot, version_raised, fences, yield_done, schedules, joins, joined_with, blocked_on, jumps, checks, explores, bit_taken, is_in, ended, with_numbers}
@@ -178,11 +178,9 @@ module _ (st : State) (t k opcode : ℕ) where
         rw (ne_eqb (number st.numbers skipping) 1 live, ne_eqb (number st.numbers exploring) (cond on 1 0) (λ h. n (h ∙ sym meant)), ← meant) e
 
 -- the number that a truth value is put as
-pub flag_true : (b : Bool) (n : ℕ) → b ≡ true → n ≡ 1 → n ≡ cond b 1 0
-flag_true b n e f = rw (e, f)
-
-pub flag-false : (b : Bool) (n : ℕ) → b ≡ false → n ≡ 0 → n ≡ cond b 1 0
-flag-false b n e f = rw (e, f)
+pub number-of : (b : Bool) (n : ℕ) → n ≡ from_bool b → n ≡ cond b 1 0
+number-of true n e = e
+number-of false n e = e
 
 -- The bit
 

@@ -1,5 +1,5 @@
 -- The pending operation that a row sets, as the function answers it. Assumes nothing.
-use Rattle.std.specs.Prelude.{ℕ, ◌<◌, ◌≡◌, Option, Some, None}
+use Rattle.std.specs.Prelude.{◌<◌, ◌≡◌, Option, Some, None}
 use Rattle.rules.specs.Machine as rules
 use Rattle.layout.specs.declared.Operation.{Operation}
 

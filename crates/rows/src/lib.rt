@@ -1,7 +1,7 @@
 // The rows that access no cell, each once it has begun, and how a row begins.
 #![tactic(auto)]
 
-ghost use Rattle.std.specs.Prelude.{◌≡◌, cond, ℕ, ◌<◌, ◌≤◌};
+ghost use Rattle.std.specs.Prelude.{◌≡◌, cond, ℕ, ◌<◌, ◌≤◌, Ok};
 ghost use Rattle.rules.specs.Event.{Matched};
 ghost use Rattle.rules.specs.Machine as machine;
 ghost use Rattle.rules.specs.State as rules;
@@ -22,25 +22,25 @@ use synchronize::join_into;
 
 // Begins a row, if fewer than the limit have begun. Opcodes 0 to 3 set their operation and call the scheduling first; where the
 // event is that it moves, the row is to act at once.
-pub fn begin(numbers: &mut Numbers, limit: u16, thread: usize, op: Op) -> Moved
+pub fn begin(numbers: &mut Numbers, limit: u16, thread: usize, op: Op) -> Result<Moved, Fault>
     requires { (thread < 5) × InRange (op_of op) }
     ensures { (clocks : rules.Clocks) (marks : rules.Marks) (values : rules.Values) (k opcode : ℕ) (m : Matched) → move_of result thread k opcode m (state clocks marks values numbers.new) ≡ begun_to limit (state clocks marks values numbers.old) thread (op_of op) }
 {
     if limit <= numbers[ROWS_BEGUN] {
-        return Moved::Stops(Fault::Rows);
+        return Err(Fault::Rows);
     }
     numbers[ROWS_BEGUN] = vv::one_more(numbers[ROWS_BEGUN]);
     numbers[ROWS + thread] = vv::one_more(numbers[ROWS + thread]);
     numbers[PHASE + thread] = thread::TO_ACT;
     let Some(operation) = pending_of(op) else {
-        return Moved::Moves;
+        return Ok(Moved::Moves);
     };
     numbers[OPERATION + thread] = operation.action;
     numbers[OPERATES_ON + thread] = operation.cell as u16;
-    Moved::Asks {
+    Ok(Moved::Asks {
         question: Question::Thread,
         yielded: false,
-    }
+    })
 }
 
 // The pending operation that a row sets, with its cell; a row of opcodes from 4 on sets none.
@@ -66,7 +66,7 @@ fn on(action: u16, cell: usize) -> Option<Operation>
 // A row that leaves neither slot nor value in the trace.
 pub fn done(numbers: &mut Numbers, site: Site) -> Moved
     requires { site.thread < 5 }
-    ensures { (clocks : rules.Clocks) (marks : rules.Marks) (values : rules.Values) (opcode : ℕ) (m : Matched) → move_of result site.thread site.row opcode m (state clocks marks values numbers.new) ≡ machine.done (state clocks marks values numbers.old) site.thread site.row opcode }
+    ensures { (clocks : rules.Clocks) (marks : rules.Marks) (values : rules.Values) (opcode : ℕ) (m : Matched) → move_of (Ok result) site.thread site.row opcode m (state clocks marks values numbers.new) ≡ machine.done (state clocks marks values numbers.old) site.thread site.row opcode }
 {
     thread::complete(numbers, site.thread, vv::one_more(site.row));
     BARE_DONE
@@ -81,7 +81,7 @@ pub fn fence_row(
     cells: usize,
 ) -> Moved
     requires { (site.thread < 5) × (cells ≤ 4) }
-    ensures { (p : machine.Program) (values : rules.Values) (opcode : ℕ) (m : Matched) → cells_of p.table ≡ cells → move_of result site.thread site.row opcode m (state clocks.new marks.now values numbers.new) ≡ machine.done (machine.fences p (state clocks.old marks.now values numbers.old) site.thread order) site.thread site.row opcode }
+    ensures { (p : machine.Program) (values : rules.Values) (opcode : ℕ) (m : Matched) → cells_of p.table ≡ cells → move_of (Ok result) site.thread site.row opcode m (state clocks.new marks.now values numbers.new) ≡ machine.done (machine.fences p (state clocks.old marks.now values numbers.old) site.thread order) site.thread site.row opcode }
 {
     let thread = site.thread;
     thread::raise(clocks, thread);
@@ -92,7 +92,7 @@ pub fn fence_row(
 // The row is complete before its scheduling, which alone can fault.
 pub fn yield_row(clocks: &Clocks, numbers: &mut Numbers, site: Site) -> Moved
     requires { site.thread < 5 }
-    ensures { (marks : rules.Marks) (values : rules.Values) (opcode : ℕ) (m : Matched) → move_of result site.thread site.row opcode m (state clocks.now marks values numbers.new) ≡ machine.schedules (machine.completed (machine.yield_done (state clocks.now marks values numbers.old) site.thread) site.thread (one_more site.row)) (machine.entry site.thread site.row opcode machine.no_slot 0 0) }
+    ensures { (marks : rules.Marks) (values : rules.Values) (opcode : ℕ) (m : Matched) → move_of (Ok result) site.thread site.row opcode m (state clocks.now marks values numbers.new) ≡ machine.schedules (machine.completed (machine.yield_done (state clocks.now marks values numbers.old) site.thread) site.thread (one_more site.row)) (machine.entry site.thread site.row opcode machine.no_slot 0 0) }
 {
     let thread = site.thread;
     thread::set_yield(clocks, numbers, thread);
@@ -106,7 +106,7 @@ pub fn yield_row(clocks: &Clocks, numbers: &mut Numbers, site: Site) -> Moved
 // Goes through if the target has ended, and takes its causality and schedule vector; else blocks within the row.
 pub fn join_row(clocks: &mut Clocks, numbers: &mut Numbers, site: Site, target: usize) -> Moved
     requires { (site.thread < 5) × (target < 5) }
-    ensures { (marks : rules.Marks) (values : rules.Values) (opcode : ℕ) (m : Matched) → move_of result site.thread site.row opcode m (state clocks.new marks values numbers.new) ≡ machine.joins (state clocks.old marks values numbers.old) site.thread site.row opcode target }
+    ensures { (marks : rules.Marks) (values : rules.Values) (opcode : ℕ) (m : Matched) → move_of (Ok result) site.thread site.row opcode m (state clocks.new marks values numbers.new) ≡ machine.joins (state clocks.old marks values numbers.old) site.thread site.row opcode target }
 {
     let thread = site.thread;
     if thread::is_ended(numbers, target) {
@@ -125,7 +125,7 @@ pub fn join_row(clocks: &mut Clocks, numbers: &mut Numbers, site: Site, target: 
 // A jump that is taken goes to its target, another to the next row.
 pub fn jump_row(numbers: &mut Numbers, site: Site, taken: bool, target: u16) -> Moved
     requires { site.thread < 5 }
-    ensures { (clocks : rules.Clocks) (marks : rules.Marks) (values : rules.Values) (opcode : ℕ) (m : Matched) → move_of result site.thread site.row opcode m (state clocks marks values numbers.new) ≡ machine.jumps (state clocks marks values numbers.old) site.thread site.row opcode taken target }
+    ensures { (clocks : rules.Clocks) (marks : rules.Marks) (values : rules.Values) (opcode : ℕ) (m : Matched) → move_of (Ok result) site.thread site.row opcode m (state clocks marks values numbers.new) ≡ machine.jumps (state clocks marks values numbers.old) site.thread site.row opcode taken target }
 {
     if !taken {
         return done(numbers, site);
@@ -134,37 +134,37 @@ pub fn jump_row(numbers: &mut Numbers, site: Site, taken: bool, target: u16) -> 
     BARE_DONE
 }
 
-pub fn check_row(numbers: &mut Numbers, site: Site, holds: bool) -> Moved
+pub fn check_row(numbers: &mut Numbers, site: Site, holds: bool) -> Result<Moved, Fault>
     requires { site.thread < 5 }
     ensures { (clocks : rules.Clocks) (marks : rules.Marks) (values : rules.Values) (opcode : ℕ) (m : Matched) → move_of result site.thread site.row opcode m (state clocks marks values numbers.new) ≡ machine.checks (state clocks marks values numbers.old) site.thread site.row opcode holds }
 {
     if !holds {
-        return Moved::Stops(Fault::Check);
+        return Err(Fault::Check);
     }
-    done(numbers, site)
+    Ok(done(numbers, site))
 }
 
 // `critical` stops exploring, `explore_state` explores again; each is wrong where it would change nothing. While skipping they
 // do nothing.
-pub fn explore_row(numbers: &mut Numbers, site: Site, on: bool) -> Moved
+pub fn explore_row(numbers: &mut Numbers, site: Site, on: bool) -> Result<Moved, Fault>
     requires { site.thread < 5 }
     ensures { (clocks : rules.Clocks) (marks : rules.Marks) (values : rules.Values) (opcode : ℕ) (m : Matched) → move_of result site.thread site.row opcode m (state clocks marks values numbers.new) ≡ machine.explores (state clocks marks values numbers.old) site.thread site.row opcode on }
 {
-    let flag = if on { 1 } else { 0 };
+    let flag = u16::from(on);
     if numbers[SKIPPING] == 1 {
-        return done(numbers, site);
+        return Ok(done(numbers, site));
     }
     if numbers[EXPLORING] == flag {
-        return Moved::Stops(Fault::Flags);
+        return Err(Fault::Flags);
     }
     numbers[EXPLORING] = flag;
-    done(numbers, site)
+    Ok(done(numbers, site))
 }
 
 // Explores no more in this execution.
 pub fn skip_branch(numbers: &mut Numbers, site: Site) -> Moved
     requires { site.thread < 5 }
-    ensures { (clocks : rules.Clocks) (marks : rules.Marks) (values : rules.Values) (opcode : ℕ) (m : Matched) → move_of result site.thread site.row opcode m (state clocks marks values numbers.new) ≡ machine.done (machine.skipped (state clocks marks values numbers.old)) site.thread site.row opcode }
+    ensures { (clocks : rules.Clocks) (marks : rules.Marks) (values : rules.Values) (opcode : ℕ) (m : Matched) → move_of (Ok result) site.thread site.row opcode m (state clocks marks values numbers.new) ≡ machine.done (machine.skipped (state clocks marks values numbers.old)) site.thread site.row opcode }
 {
     numbers[EXPLORING] = 0;
     numbers[SKIPPING] = 1;
@@ -172,7 +172,12 @@ pub fn skip_branch(numbers: &mut Numbers, site: Site) -> Moved
 }
 
 // Goes on with the bit that was answered for `branch_spurious`. No other row is given one.
-pub fn take_bit(values: &mut Values, numbers: &mut Numbers, here: Here, bit: bool) -> Moved
+pub fn take_bit(
+    values: &mut Values,
+    numbers: &mut Numbers,
+    here: Here,
+    bit: bool,
+) -> Result<Moved, Fault>
     requires { HereWithin here }
     ensures { (clocks : rules.Clocks) (marks : rules.Marks) (m : Matched) → move_of result here.site.thread here.site.row (opcode_in (decoded_of here.row)) m (state clocks marks values.new numbers.new) ≡ machine.bit_taken (state clocks marks values.old numbers.old) here.site.thread here.site.row (cond bit 1 0) (machine.role_in (decoded_of here.row)) }
 {
@@ -180,17 +185,17 @@ pub fn take_bit(values: &mut Values, numbers: &mut Numbers, here: Here, bit: boo
     let row = here.row;
     let thread = site.thread;
     let Some(op) = row else {
-        return Moved::Stops(Fault::Impossible);
+        return Err(Fault::Impossible);
     };
     let Op::Spurious { register } = op else {
-        return Moved::Stops(Fault::Impossible);
+        return Err(Fault::Impossible);
     };
-    let value = if bit { 1 } else { 0 };
+    let value = u64::from(bit);
     values[REGISTER + register_at(thread, register)] = value;
     thread::complete(numbers, thread, vv::one_more(site.row));
-    Moved::Done {
+    Ok(Moved::Done {
         slot: NO_SLOT,
         mask: 0,
         value,
-    }
+    })
 }

@@ -27,7 +27,8 @@ use Rattle.layout.specs.Tables.{state}
 use Rattle.layout.specs.declared.Operation.{Operation}
 use Rattle.track.specs.LastAccess.{grown_by, accessed}
 use Rattle.thread.proofs.ThreadLaws.{one_left, none_left}
-use Rattle.scheduling.specs.Schedules.{On, OperationMeans, whom_of}
+use Rattle.scheduling.specs.Schedules.{On, OperationMeans}
+use Rattle.vv.specs.Whom.{whom}
 use Rattle.std.specs.Prelude.{Option, Some, None}
 
 -- A thread's pending operation
@@ -98,23 +99,23 @@ module _ (st : State) (t : ℕ) where
 
 module _ (numbers : Numbers) (best : Option ℕ) (n t : ℕ) (more : t < n) where
   -- one turn, with what is best after it
-  turn : (left : Whom) → left ≡ cond (is_in numbers runnable t && yields_less numbers t (whom_of best)) (thread t) (whom_of best) →
-      fewest_from numbers left (n - (t + 1)) (t + 1) ≡ fewest_from numbers (whom_of best) (n - t) t
+  turn : (left : Whom) → left ≡ cond (is_in numbers runnable t && yields_less numbers t (whom best)) (thread t) (whom best) →
+      fewest_from numbers left (n - (t + 1)) (t + 1) ≡ fewest_from numbers (whom best) (n - t) t
   unfolding fewest_from
   turn left e = rw (one_left n t more, e)
 
   pub fewest-not : (left : Option ℕ) → number numbers (names.state t) ≢ runnable → left ≡ best →
-      fewest_from numbers (whom_of left) (n - (t + 1)) (t + 1) ≡ fewest_from numbers (whom_of best) (n - t) t
-  fewest-not left e f = turn (whom_of left) (rw (ne_eqb (number numbers (names.state t)) runnable e, f))
+      fewest_from numbers (whom left) (n - (t + 1)) (t + 1) ≡ fewest_from numbers (whom best) (n - t) t
+  fewest-not left e f = turn (whom left) (rw (ne_eqb (number numbers (names.state t)) runnable e, f))
 
-  module _ (less : Bool) (asked : less ≡ yields_less numbers t (whom_of best)) (e : number numbers (names.state t) ≡ runnable) (left : Option ℕ) where
+  module _ (less : Bool) (asked : less ≡ yields_less numbers t (whom best)) (e : number numbers (names.state t) ≡ runnable) (left : Option ℕ) where
     pub fewest-fewer : less ≡ true → left ≡ Some t →
-        fewest_from numbers (whom_of left) (n - (t + 1)) (t + 1) ≡ fewest_from numbers (whom_of best) (n - t) t
-    fewest-fewer f g = turn (whom_of left) (rw (g, e, ← asked, f))
+        fewest_from numbers (whom left) (n - (t + 1)) (t + 1) ≡ fewest_from numbers (whom best) (n - t) t
+    fewest-fewer f g = turn (whom left) (rw (g, e, ← asked, f))
 
     pub fewest-as_many : less ≡ false → left ≡ best →
-        fewest_from numbers (whom_of left) (n - (t + 1)) (t + 1) ≡ fewest_from numbers (whom_of best) (n - t) t
-    fewest-as_many f g = turn (whom_of left) (rw (g, e, ← asked, f))
+        fewest_from numbers (whom left) (n - (t + 1)) (t + 1) ≡ fewest_from numbers (whom best) (n - t) t
+    fewest-as_many f g = turn (whom left) (rw (g, e, ← asked, f))
 
 pub fewest-end : (numbers : Numbers) (best : Whom) (n t : ℕ) → n ≤ t → best ≡ fewest_from numbers best (n - t) t
 unfolding fewest_from

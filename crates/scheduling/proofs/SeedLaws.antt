@@ -10,7 +10,7 @@ use native.Mathlib.Omega.{arith}
 use lib.Dec.{eqb}
 use Rattle.std.specs.Prelude.{Option, None, Some}
 use Rattle.std.specs.Option.{option_eq}
-use Rattle.scheduling.specs.Schedules.{whom_of}
+use Rattle.vv.specs.Whom.{whom}
 use lib.ListN.{length, get_or, set, length-set}
 use lib.Seq.{get_or-set_same, get_or-set_other}
 use borrow.Author.Tests.{ne_eqb, eqb-true, eqb-false}
@@ -59,7 +59,7 @@ put-at l i t x h e =
     (λ (f : eqb i t ≡ false). rw (f, get_or-set_other l i t active 0 (λ g. eqb-false i t f (sym g))) e)
     (flag (eqb i t))
 
-active-at : (first : Option ℕ) (numbers : Numbers) (t : ℕ) → t < 5 → cond (option_eq eqb first (Some t)) active (seed_state (standing numbers t)) ≡ get_or (to_active (whom_of first) (states numbers)) t 0
+active-at : (first : Option ℕ) (numbers : Numbers) (t : ℕ) → t < 5 → cond (option_eq eqb first (Some t)) active (seed_state (standing numbers t)) ≡ get_or (to_active (whom first) (states numbers)) t 0
 active-at None numbers t h = state-at numbers t h
 active-at (Some i) numbers t h = put-at (states numbers) i t (seed_state (standing numbers t)) h (state-at numbers t h)
 
@@ -67,7 +67,7 @@ active-at (Some i) numbers t h = put-at (states numbers) i t (seed_state (standi
 abbrev pub seeded : Numbers → List ℕ
 seeded numbers = seed_of (initial numbers) (map (standing numbers) every_thread)
 
-pub seed-at : (numbers : Numbers) (first : Option ℕ) (t : ℕ) (b : Bool) → t < 5 → whom_of first ≡ initial numbers → b ≡ option_eq eqb first (Some t) →
+pub seed-at : (numbers : Numbers) (first : Option ℕ) (t : ℕ) (b : Bool) → t < 5 → whom first ≡ initial numbers → b ≡ option_eq eqb first (Some t) →
     cond b active (seed_state (standing numbers t)) ≡ get_or (seeded numbers) t 0
 unfolding seed_of
 seed-at numbers first t b h e f = rw (f, ← e) (active-at first numbers t h)

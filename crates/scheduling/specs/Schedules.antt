@@ -1,22 +1,16 @@
 -- What the answers of this crate stand for in the definition. Assumes nothing.
 --     point_of            a branch's position
 --     OperationMeans     a thread's pending operation
---     whom_of             a thread, or none
 --     BestWithin         the thread is one
 use Rattle.std.specs.Prelude.{ℕ, ◌<◌, ◌≡◌, ◌≢◌, Option, Some, None}
 use Rattle.rules.specs.Event as rules
 use Rattle.rules.specs.State.{State}
-use Rattle.rules.specs.Vector.{Whom, nobody, thread}
 use Rattle.rules.specs.Machine.{operation_of, cell_of, no_operation}
 use Rattle.layout.specs.declared.Operation.{Operation}
 
 abbrev pub point_of : Option ℕ → rules.Point
 point_of None = rules.nowhere
 point_of (Some n) = rules.branch n
-
-abbrev pub whom_of : Option ℕ → Whom
-whom_of None = nobody
-whom_of (Some t) = thread t
 
 -- a thread, if it is one, is one of the five
 abbrev pub BestWithin : Option ℕ → Type 0

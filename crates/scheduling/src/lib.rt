@@ -11,7 +11,8 @@ ghost use Rattle.rules.specs.State as rules;
 ghost use Rattle.rules.specs.Vector.{nobody, thread};
 ghost use Rattle.layout.specs.Tables.{state};
 ghost use Rattle.event.specs.Moves.{move_of};
-ghost use Rattle.scheduling.specs.Schedules.{point_of, OperationMeans, whom_of, BestWithin};
+ghost use Rattle.scheduling.specs.Schedules.{point_of, OperationMeans, BestWithin};
+ghost use Rattle.vv.specs.Whom.{whom};
 
 use event::{Fault, Moved};
 use layout::action::NO_OPERATION;
@@ -55,7 +56,7 @@ pub fn conflict(clocks: &Clocks, numbers: &Numbers, thread: usize) -> Option<u16
 // Rule (b): the active thread if it is runnable, so that a thread that can go on is not preempted unless a mark asks for it;
 // else the runnable one with fewest yields, the lowest on a tie.
 pub fn initial(numbers: &Numbers) -> Option<usize>
-    ensures { whom_of result ≡ machine.initial numbers.now }
+    ensures { whom result ≡ machine.initial numbers.now }
 {
     let active = wide16(numbers[ACTIVE_THREAD]);
     if active < MAX_THREADS {
@@ -67,7 +68,7 @@ pub fn initial(numbers: &Numbers) -> Option<usize>
 }
 
 fn fewest_yields(numbers: &Numbers) -> Option<usize>
-    ensures { whom_of result ≡ machine.fewest_from numbers.now nobody 5 0 }
+    ensures { whom result ≡ machine.fewest_from numbers.now nobody 5 0 }
 {
     let mut best = None;
     for t in 0..MAX_THREADS {
@@ -81,7 +82,7 @@ fn fewest_yields(numbers: &Numbers) -> Option<usize>
 // Whether a thread has yielded less than the best so far; any thread, where there is none.
 fn yields_less(numbers: &Numbers, thread: usize, best: Option<usize>) -> bool
     requires { (thread < 5) × BestWithin best }
-    ensures { result ≡ machine.yields_less numbers.now thread (whom_of best) }
+    ensures { result ≡ machine.yields_less numbers.now thread (whom best) }
 {
     let Some(best) = best else {
         return true;
@@ -116,14 +117,19 @@ fn seed_of(state: u16, first: bool) -> u8
 
 // Rules (d) and (e), where a branch chooses a thread: it becomes active, its operation its cell's last access at this branch,
 // and every other yielded thread is runnable again. A thread that cannot run is chosen by no branch of a run.
-pub fn switch(clocks: &mut Clocks, numbers: &mut Numbers, chosen: usize, branch: u16) -> Moved
+pub fn switch(
+    clocks: &mut Clocks,
+    numbers: &mut Numbers,
+    chosen: usize,
+    branch: u16,
+) -> Result<Moved, Fault>
     ensures { (marks : rules.Marks) (values : rules.Values) (t k opcode : ℕ) (m : events.Matched) → move_of result t k opcode m (state clocks.new marks values numbers.new) ≡ machine.scheduled (state clocks.old marks values numbers.old) (thread chosen) branch }
 {
     if !thread::can_run(numbers, chosen) {
-        return Moved::Stops(Fault::Impossible);
+        return Err(Fault::Impossible);
     }
     choose(clocks, numbers, chosen, branch);
-    Moved::Moves
+    Ok(Moved::Moves)
 }
 
 fn choose(clocks: &mut Clocks, numbers: &mut Numbers, chosen: usize, branch: u16)
@@ -139,14 +145,14 @@ fn choose(clocks: &mut Clocks, numbers: &mut Numbers, chosen: usize, branch: u16
 
 // Rule (d), where a branch chooses none: the execution has ended, or it is a deadlock. No branch of a run chooses none where a
 // thread can run.
-pub fn nobody(numbers: &Numbers) -> Moved
+pub fn nobody(numbers: &Numbers) -> Result<Moved, Fault>
     ensures { (clocks : rules.Clocks) (marks : rules.Marks) (values : rules.Values) (t k opcode at : ℕ) (m : events.Matched) → move_of result t k opcode m (state clocks marks values numbers.now) ≡ machine.scheduled (state clocks marks values numbers.now) nobody at }
 {
     if thread::all_ended(numbers) {
-        return Moved::Ends;
+        return Ok(Moved::Ends);
     }
     if thread::some_can_run(numbers) {
-        return Moved::Stops(Fault::Impossible);
+        return Err(Fault::Impossible);
     }
-    Moved::Stops(Fault::Deadlock)
+    Err(Fault::Deadlock)
 }

@@ -125,7 +125,7 @@ fn make_plain(table: &[u8], clocks: &mut Clocks, values: &mut Values, plain: usi
     requires { (cells ≤ 4) × (plain < 4) }
     ensures { (marks : rules.Marks) (numbers : rules.Numbers) → cells_of table.now ≡ cells → state clocks.new marks values.new numbers ≡ machine.plain_made table.now (state clocks.old marks values.old numbers) plain }
 {
-    // A cell that is made has nothing before it to race with.
+    // No thread has read or written before, so there is nothing to race with.
     let _ = plain::track_write(clocks, 0, plain);
     values[of_plain::VALUE + plain] = table::start_value(table, cells + plain);
 }

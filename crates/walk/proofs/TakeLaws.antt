@@ -20,7 +20,10 @@ use Rattle.rules.specs.Explorer.{Walk, Tick, goes, faulted}
 use Rattle.path.specs.Bounds.{bound_of}
 use Rattle.std.specs.Prelude.{Option}
 use Rattle.event.specs.contracts.Moved.{the_type as happened}
+use Rattle.event.specs.declared.Fault.{Fault}
 use Rattle.event.specs.declared.Moved.{Moved}
+use Rattle.event.specs.Moves.{Came}
+use Rattle.std.specs.Prelude.{Ok, Err}
 use Rattle.event.specs.declared.Moved.TheVariants as event
 use Rattle.event.specs.declared.Question.{Question}
 use Rattle.event.specs.declared.Question.TheVariants as question
@@ -37,13 +40,33 @@ use Rattle.walk.specs.Parts.{then_on, AsksAt, Rooms, Goes, MeetsNeeds, met_at, T
 use Rattle.walk.proofs.WalkLaws.{take_on}
 use Rattle.walk.proofs.MeetLaws.{stays_then, went_on}
 
+-- a tick that asks nothing
+abbrev pub AsksNothing : Came → Type 0
+AsksNothing (Ok event.Moves) = Unit
+AsksNothing (Ok (event.Done slot mask v)) = Unit
+AsksNothing (Ok (event.Asks q yielded)) = ⊥
+AsksNothing (Ok event.Ends) = Unit
+AsksNothing (Err f) = Unit
+
+nothing-of : (m : Moved) → OneOf (0 ∷ 1 ∷ 3 ∷ []) (tag_of happened m) → AsksNothing (Ok m)
+nothing-of event.Moves k = tt
+nothing-of (event.Done slot mask v) k = tt
+nothing-of (event.Asks q yielded) k = absurd (miss (0 ∷ 1 ∷ 3 ∷ []) 2 tt k)
+nothing-of event.Ends k = tt
+
+pub asks-nothing : (e : Came) (m : Moved) → e ≡ Ok m → OneOf (0 ∷ 1 ∷ 3 ∷ []) (tag_of happened m) → AsksNothing e
+asks-nothing e m is k = rw is (nothing-of m k)
+
+pub stops-only : (e : Came) (f : Fault) → e ≡ Err f → AsksNothing e
+stops-only e f is = rw is tt
+
 module _ (h : Here) where
-  concluded-taken : (e : Moved) → OneOf (0 ∷ 1 ∷ 3 ∷ 4 ∷ []) (tag_of happened e) → (p : Program) (L : explorer.Limits) (w : Walk State) → concluded_at e h p L w ≡ taken_at e h p L w
-  concluded-taken event.Moves k p L w = refl
-  concluded-taken (event.Done slot mask v) k p L w = refl
-  concluded-taken (event.Asks q yielded) k p L w = absurd (miss (0 ∷ 1 ∷ 3 ∷ 4 ∷ []) 2 tt k)
-  concluded-taken event.Ends k p L w = refl
-  concluded-taken (event.Stops f) k p L w = refl
+  concluded-taken : (e : Came) → AsksNothing e → (p : Program) (L : explorer.Limits) (w : Walk State) → concluded_at e h p L w ≡ taken_at e h p L w
+  concluded-taken (Ok event.Moves) k p L w = refl
+  concluded-taken (Ok (event.Done slot mask v)) k p L w = refl
+  concluded-taken (Ok (event.Asks q yielded)) k p L w = absurd k
+  concluded-taken (Ok event.Ends) k p L w = refl
+  concluded-taken (Err f) k p L w = refl
 
   abbrev asking : Question → Program → explorer.Limits → State → Walk State → Tick State
   asking q p L st v = explorer.asked (machine p) L (site_of h.site) v (exploring_now st.numbers) (asked_at q h st)
@@ -52,13 +75,13 @@ module _ (h : Here) where
   by-fit f true v w = refl
   by-fit f false v w = refl
 
-  taken-asks : (q : Question) (yielded : Bool) (p : Program) (L : explorer.Limits) (w : Walk State) → taken_at (event.Asks q yielded) h p L w ≡ then_on (asking q p L w.state) (completed_at yielded h p L w)
+  taken-asks : (q : Question) (yielded : Bool) (p : Program) (L : explorer.Limits) (w : Walk State) → taken_at (Ok (event.Asks q yielded)) h p L w ≡ then_on (asking q p L w.state) (completed_at yielded h p L w)
   unfolding schedules
   taken-asks question.Thread yielded p L w = by-fit (asking question.Thread p L w.state) (leb (length w.trace + length (completed_by yielded h)) L.operations) (explorer.noted w w.state (completed_by yielded h)) w
   taken-asks question.Slot yielded p L w = by-fit (asking question.Slot p L w.state) (leb (length w.trace + length (completed_by yielded h)) L.operations) (explorer.noted w w.state (completed_by yielded h)) w
   taken-asks question.Bit yielded p L w = by-fit (asking question.Bit p L w.state) (leb (length w.trace + length (completed_by yielded h)) L.operations) (explorer.noted w w.state (completed_by yielded h)) w
 
-module _ (c : Cursor) (h : Here) (ev : Moved) (bound : Option ℕ) (clocks : Clocks) (marks : MarkTable) (values : Values) (numbers : Numbers) (path trace : List ℕ) (placed : CursorPlaced c path trace) where
+module _ (c : Cursor) (h : Here) (ev : Came) (bound : Option ℕ) (clocks : Clocks) (marks : MarkTable) (values : Values) (numbers : Numbers) (path trace : List ℕ) (placed : CursorPlaced c path trace) where
   abbrev before : Lent
   before = lent clocks marks values numbers path trace
 
@@ -69,7 +92,7 @@ module _ (c : Cursor) (h : Here) (ev : Moved) (bound : Option ℕ) (clocks : Clo
         few = omega (arith, k.same-opened);
       }
 
-  pub take-concludes : (r : Ticked) (left : List ℕ) → OneOf (0 ∷ 1 ∷ 3 ∷ 4 ∷ []) (tag_of happened ev) → Lands c r trace left (concluded_at ev h)
+  pub take-concludes : (r : Ticked) (left : List ℕ) → AsksNothing ev → Lands c r trace left (concluded_at ev h)
       → Goes before (lent clocks marks values numbers path left) c r 60 h (TakesNeeds ev h bound) (taken_at ev h)
   take-concludes r left k l =
       record {
@@ -80,12 +103,12 @@ module _ (c : Cursor) (h : Here) (ev : Moved) (bound : Option ℕ) (clocks : Clo
             (l.comes p L before w rooms.room s);
       }
 
-  module _ (q : Question) (yielded : Bool) (e : ev ≡ event.Asks q yielded) (n : Ticked) (left : List ℕ) (l : Lands c n trace left (completed_at yielded h)) where
+  module _ (q : Question) (yielded : Bool) (e : ev ≡ Ok (event.Asks q yielded)) (n : Ticked) (left : List ℕ) (l : Lands c n trace left (completed_at yielded h)) where
     abbrev noted : Lent
     noted = lent clocks marks values numbers path left
 
-    for-event : {exit : Lent} {r : Ticked} → Goes before exit c r 60 h (TakesNeeds (event.Asks q yielded) h bound) (taken_at (event.Asks q yielded) h) → Goes before exit c r 60 h (TakesNeeds ev h bound) (taken_at ev h)
-    for-event {exit} {r} g = subst (λ (x : Moved). Goes before exit c r 60 h (TakesNeeds x h bound) (taken_at x h)) (sym e) g
+    for-event : {exit : Lent} {r : Ticked} → Goes before exit c r 60 h (TakesNeeds (Ok (event.Asks q yielded)) h bound) (taken_at (Ok (event.Asks q yielded)) h) → Goes before exit c r 60 h (TakesNeeds ev h bound) (taken_at ev h)
+    for-event {exit} {r} g = subst (λ (x : Came). Goes before exit c r 60 h (TakesNeeds x h bound) (taken_at x h)) (sym e) g
 
     pub take-stays : OneOf (1 ∷ 2 ∷ []) (tag_of outcomes n.outcome) → Goes before noted c n 60 h (TakesNeeds ev h bound) (taken_at ev h)
     take-stays k =

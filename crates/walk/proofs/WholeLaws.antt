@@ -16,7 +16,6 @@ use Rattle.rules.specs.Table.{op_at, room_of, shape_of, cells_of, counts_of, fir
 use Rattle.rules.specs.Machine.{Program, machine, current, next, row_of}
 use Rattle.rules.specs.Explorer as explorer
 use Rattle.rules.specs.Explorer.{Walk, Tick, faulted}
-use Rattle.layout.specs.Tables.{state}
 use Rattle.decode.specs.Ops.{decoded_of}
 use Rattle.table.specs.Answers.{OpAt, room_in}
 use Rattle.event.specs.declared.Fault.TheVariants as fault

@@ -2,7 +2,7 @@
 --     then_on, then_replied             the definition's tick in parts: what comes next, the branch's answer
 --     AtRow, AsksAt, MovesAt          where the active thread's row is looked at
 --     Goes, with met_at, taken_at, ticked_at      what the functions promise
-use Rattle.std.specs.Prelude.{ℕ, ◌+◌, ◌*◌, List, ◌≡◌, length, get_or, Option}
+use Rattle.std.specs.Prelude.{ℕ, ◌+◌, ◌*◌, List, ◌≡◌, length, get_or, Option, Ok, Err}
 use Rattle.rules.specs.Event as rules
 use Rattle.rules.specs.State.{State}
 use Rattle.rules.specs.Table.{cells_of}
@@ -12,7 +12,7 @@ use Rattle.rules.specs.Explorer as explorer
 use Rattle.rules.specs.Explorer.{Walk, Tick, goes, over, faulted}
 use Rattle.decode.specs.Ops.{decoded_of}
 use Rattle.path.specs.Bounds.{bound_of}
-use Rattle.event.specs.declared.Moved.{Moved}
+use Rattle.event.specs.Moves.{Came}
 use Rattle.event.specs.declared.Moved.TheVariants as event
 use Rattle.event.specs.declared.Question.{Question}
 use Rattle.event.specs.declared.Question.TheVariants as question
@@ -47,12 +47,12 @@ AsksAt question.Thread st h = Unit
 AsksAt question.Slot st h = AtRow st h
 AsksAt question.Bit st h = AtRow st h
 
-abbrev pub MovesAt : Moved → State → Here → Type 0
-MovesAt event.Moves st h = Unit
-MovesAt (event.Done slot mask value) st h = Unit
-MovesAt (event.Asks q yielded) st h = AsksAt q st h
-MovesAt event.Ends st h = Unit
-MovesAt (event.Stops f) st h = Unit
+abbrev pub MovesAt : Came → State → Here → Type 0
+MovesAt (Ok event.Moves) st h = Unit
+MovesAt (Ok (event.Done slot mask value)) st h = Unit
+MovesAt (Ok (event.Asks q yielded)) st h = AsksAt q st h
+MovesAt (Ok event.Ends) st h = Unit
+MovesAt (Err f) st h = Unit
 
 -- the row is that of the table, and the limits are those of the buffers
 pub record Rooms (p : Program) (L : explorer.Limits) (h : Here) (path trace : List ℕ) : Type 0 where
@@ -75,14 +75,14 @@ met_at q h p L w = explorer.met (machine p) L (site_of h.site) w (exploring_now 
 abbrev pub MeetsNeeds : Question → Here → Program → explorer.Limits → State → Type 0
 MeetsNeeds q h p L st = AsksAt q st h
 
-abbrev pub taken_at : Moved → Here → Program → explorer.Limits → Walk State → Tick State
+abbrev pub taken_at : Came → Here → Program → explorer.Limits → Walk State → Tick State
 taken_at e h p L w = explorer.taken (machine p) L (site_of h.site) w (move_at e h w.state)
 
-pub record TakesAt (e : Moved) (h : Here) (bound : Option ℕ) (L : explorer.Limits) (st : State) : Type 0 where
+pub record TakesAt (e : Came) (h : Here) (bound : Option ℕ) (L : explorer.Limits) (st : State) : Type 0 where
   pub moves : MovesAt e st h
   pub is_bound : L.bound ≡ bound_of bound
 
-abbrev pub TakesNeeds : Moved → Here → Option ℕ → Program → explorer.Limits → State → Type 0
+abbrev pub TakesNeeds : Came → Here → Option ℕ → Program → explorer.Limits → State → Type 0
 TakesNeeds e h bound p L st = TakesAt e h bound L st
 
 -- the program's facts that a tick of a thread at its row looks at

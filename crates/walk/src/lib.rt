@@ -95,7 +95,7 @@ fn take(
     path: &mut [u8],
     trace: &mut [u8],
     at: TickAt,
-    event: Moved,
+    event: Result<Moved, Fault>,
 ) -> Ticked
     requires { HereWithin at.here × CursorPlaced at.cursor path.old trace.old × (at.cursor.opened + 60 < 2 ^ 64) }
     ensures { Goes (lent clocks.old marks.old values.old numbers.old path.old trace.old) (lent clocks.new marks.new values.new numbers.new path.new trace.new) at.cursor result 60 at.here (TakesNeeds event at.here at.limits.bound) (taken_at event at.here) }
@@ -104,7 +104,7 @@ fn take(
     let bound = limits.bound;
     let here = at.here;
     let cursor = at.cursor;
-    let Moved::Asks { question, yielded } = event else {
+    let Ok(Moved::Asks { question, yielded }) = event else {
         return conclude(trace, here, event, cursor);
     };
     let noted = note_if(trace, here, yielded, cursor);

@@ -1,5 +1,6 @@
 use borrow.Enum.Refused.{opened}
 use mathlib.Core.Path.{refl}
+use Rattle.std.specs.Prelude.{Ok}
 use Rattle.rules.specs.Machine.{acts_as}
 use Rattle.layout.specs.Tables.{state}
 use Rattle.execution.proofs.ActLaws.{op-within, act-as, asks-as}
@@ -20,7 +21,7 @@ unfolding acts_as
 returns-in-Load c =
     let args = c.args in
     λ p e.
-    asks-as p c.ask_slot.result (state args.clocks.now args.marks.now args.values.now args.numbers.now) _ args.site.thread args.site.row _ _ c.in-Load.is
+    asks-as p (Ok c.ask_slot.result) (state args.clocks.now args.marks.now args.values.now args.numbers.now) _ args.site.thread args.site.row _ _ c.in-Load.is
     (λ offered. c.ask_slot.ensures args.marks.now args.values.now args.numbers.now args.site.thread args.site.row _ offered)
     refl
 
@@ -29,7 +30,7 @@ unfolding acts_as
 returns-in-Rmw c =
     let args = c.args in
     λ p e.
-    asks-as p c.ask_slot-in-Rmw.result (state args.clocks.now args.marks.now args.values.now args.numbers.now) _ args.site.thread args.site.row _ _ c.in-Rmw.is
+    asks-as p (Ok c.ask_slot-in-Rmw.result) (state args.clocks.now args.marks.now args.values.now args.numbers.now) _ args.site.thread args.site.row _ _ c.in-Rmw.is
     (λ offered. c.ask_slot-in-Rmw.ensures args.marks.now args.values.now args.numbers.now args.site.thread args.site.row _ offered)
     refl
 
@@ -37,19 +38,19 @@ pub returns-in-Fence : goal.returns-in-Fence
 unfolding acts_as
 returns-in-Fence c =
     let args = c.args in
-    λ p e. act-as p c.fence_row.result (state args.clocks.now args.marks.now args.values.now args.numbers.now) _ args.site.thread args.site.row _ _ c.in-Fence.is (c.fence_row.ensures p args.values.now 4 _ e)
+    λ p e. act-as p (Ok c.fence_row.result) (state args.clocks.now args.marks.now args.values.now args.numbers.now) _ args.site.thread args.site.row _ _ c.in-Fence.is (c.fence_row.ensures p args.values.now 4 _ e)
 
 pub returns-in-Yield : goal.returns-in-Yield
 unfolding acts_as
 returns-in-Yield c =
     let args = c.args in
-    λ p e. act-as p c.yield_row.result (state args.clocks.now args.marks.now args.values.now args.numbers.now) _ args.site.thread args.site.row _ _ c.in-Yield.is (c.yield_row.ensures args.marks.now args.values.now 7 _)
+    λ p e. act-as p (Ok c.yield_row.result) (state args.clocks.now args.marks.now args.values.now args.numbers.now) _ args.site.thread args.site.row _ _ c.in-Yield.is (c.yield_row.ensures args.marks.now args.values.now 7 _)
 
 pub returns-in-Join : goal.returns-in-Join
 unfolding acts_as
 returns-in-Join c =
     let args = c.args in
-    λ p e. act-as p c.join_row.result (state args.clocks.now args.marks.now args.values.now args.numbers.now) _ args.site.thread args.site.row _ _ c.in-Join.is (c.join_row.ensures args.marks.now args.values.now 8 _)
+    λ p e. act-as p (Ok c.join_row.result) (state args.clocks.now args.marks.now args.values.now args.numbers.now) _ args.site.thread args.site.row _ _ c.in-Join.is (c.join_row.ensures args.marks.now args.values.now 8 _)
 
 pub returns-in_default : goal.returns-in_default
 returns-in_default c = λ p e. c.act_store.ensures p _

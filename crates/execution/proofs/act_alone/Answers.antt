@@ -1,4 +1,5 @@
 use borrow.Enum.Refused.{opened}
+use Rattle.std.specs.Prelude.{Ok}
 use Rattle.rules.specs.Machine.{acts_as}
 use Rattle.layout.specs.Tables.{state}
 use Rattle.execution.proofs.ActLaws.{op-within, asks-bit, alone-as, jumps-from, unless-from, checks-from}
@@ -23,14 +24,14 @@ pub returns-in-Jump : goal.returns-in-Jump
 unfolding acts_as
 returns-in-Jump c =
     let args = c.args in
-    λ p clocks marks m. alone-as p c.jump_row.result (state clocks marks args.values.now args.numbers.now) _ args.site.thread args.site.row _ _ c.in-Jump.is m (c.jump_row.ensures clocks marks args.values.now 9 m)
+    λ p clocks marks m. alone-as p (Ok c.jump_row.result) (state clocks marks args.values.now args.numbers.now) _ args.site.thread args.site.row _ _ c.in-Jump.is m (c.jump_row.ensures clocks marks args.values.now 9 m)
 
 pub returns-in-JumpIf : goal.returns-in-JumpIf
 unfolding acts_as
 returns-in-JumpIf c =
     let args = c.args in
     λ p clocks marks m.
-    alone-as p c.jump_row-in-JumpIf.result (state clocks marks args.values.now args.numbers.now) _ args.site.thread args.site.row _ _ c.in-JumpIf.is m
+    alone-as p (Ok c.jump_row-in-JumpIf.result) (state clocks marks args.values.now args.numbers.now) _ args.site.thread args.site.row _ _ c.in-JumpIf.is m
     (jumps-from _ (state clocks marks args.values.now args.numbers.now) args.site.thread args.site.row 10 _ _ c.register_of.ensures _ _ (c.jump_row-in-JumpIf.ensures clocks marks args.values.now 10 m))
 
 pub returns-in-JumpUnless : goal.returns-in-JumpUnless
@@ -38,7 +39,7 @@ unfolding acts_as
 returns-in-JumpUnless c =
     let args = c.args in
     λ p clocks marks m.
-    alone-as p c.jump_row-in-JumpUnless.result (state clocks marks args.values.now args.numbers.now) _ args.site.thread args.site.row _ _ c.in-JumpUnless.is m
+    alone-as p (Ok c.jump_row-in-JumpUnless.result) (state clocks marks args.values.now args.numbers.now) _ args.site.thread args.site.row _ _ c.in-JumpUnless.is m
     (unless-from _ (state clocks marks args.values.now args.numbers.now) args.site.thread args.site.row 11 _ _ c.register_of-in-JumpUnless.ensures _ _ (c.jump_row-in-JumpUnless.ensures clocks marks args.values.now 11 m))
 
 pub returns-in-Check : goal.returns-in-Check
@@ -65,7 +66,7 @@ pub returns-in-SkipBranch : goal.returns-in-SkipBranch
 unfolding acts_as
 returns-in-SkipBranch c =
     let args = c.args in
-    λ p clocks marks m. alone-as p c.skip_branch.result (state clocks marks args.values.now args.numbers.now) _ args.site.thread args.site.row _ _ c.in-SkipBranch.is m (c.skip_branch.ensures clocks marks args.values.now 15 m)
+    λ p clocks marks m. alone-as p (Ok c.skip_branch.result) (state clocks marks args.values.now args.numbers.now) _ args.site.thread args.site.row _ _ c.in-SkipBranch.is m (c.skip_branch.ensures clocks marks args.values.now 15 m)
 
 pub returns-in_default : goal.returns-in_default
 returns-in_default c =

@@ -1,7 +1,6 @@
 use Rattle.layout.specs.Tables.{state}
-use Rattle.rows.proofs.RowLaws.{flag_true, flag-false, explores-skipping, explores-not, explores-other}
+use Rattle.rows.proofs.RowLaws.{number-of, explores-skipping, explores-not, explores-other}
 use Rattle.rows.proofs.explore_row.Goals as goal
-use Rattle.rows.proofs.explore_row.Goals.{else-on, then-on}
 
 pub returns-then-numbers-eq1 : goal.returns-then-numbers-eq1
 returns-then-numbers-eq1 c =
@@ -13,20 +12,14 @@ pub returns-then-numbers-flag : goal.returns-then-numbers-flag
 returns-then-numbers-flag c =
     let args = c.args in
     λ clocks marks values opcode m.
-    explores-not (state clocks marks values args.numbers.now) args.site.thread args.site.row opcode args.on c.if-on.flag
-    (elim c.if-on.branch [
-      | then-on w ↦ flag_true args.on _ w.if-on.true w.flag-is
-      | else-on w ↦ flag-false args.on _ w.if-on.false w.flag-is
-    ])
+    explores-not (state clocks marks values args.numbers.now) args.site.thread args.site.row opcode args.on _
+    (number-of args.on _ c.from-flag.ensures)
     c.if-numbers-eq1.false c.if-numbers-flag.true
 
 pub returns : goal.returns
 returns c =
     let args = c.args in
     λ clocks marks values opcode m.
-    explores-other (state clocks marks values args.numbers.now) args.site.thread args.site.row opcode args.on c.if-on.flag
-    (elim c.if-on.branch [
-      | then-on w ↦ flag_true args.on _ w.if-on.true w.flag-is
-      | else-on w ↦ flag-false args.on _ w.if-on.false w.flag-is
-    ])
+    explores-other (state clocks marks values args.numbers.now) args.site.thread args.site.row opcode args.on _
+    (number-of args.on _ c.from-flag.ensures)
     c.if-numbers-eq1.false c.if-numbers-flag.false _ (c.done-2.ensures clocks marks values opcode m)

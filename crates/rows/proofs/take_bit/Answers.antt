@@ -4,10 +4,9 @@ use Prim.Native.Nat.{◌+◌}
 use mathlib.Core.Bool.{cond}
 use lib.ListN.{set}
 use Rattle.layout.specs.Tables.{state}
-use Rattle.rows.proofs.RowLaws.{flag_true, flag-false, bit-refused, bit-other, bit-within, bit-taken}
+use Rattle.rows.proofs.RowLaws.{number-of, bit-refused, bit-other, bit-within, bit-taken}
 use borrow.Author.Rules.{rules}
 use Rattle.rows.proofs.take_bit.Goals as goal
-use Rattle.rows.proofs.take_bit.Goals.{else-bit, then-bit}
 
 pub returns-in_default : goal.returns-in_default
 returns-in_default c =
@@ -44,11 +43,8 @@ pub returns : goal.returns
 returns c =
     let args = c.args in
     λ clocks marks m.
-    bit-taken clocks marks args.values.now args.numbers.now _ args.here.site.thread args.here.site.row args.here.row _ _ _ c.if-bit.value (cond args.bit 1 0) _
+    bit-taken clocks marks args.values.now args.numbers.now _ args.here.site.thread args.here.site.row args.here.row _ _ _ _ (cond args.bit 1 0) _
     c.in-Some.is c.in-Spurious.is c.register_at.ensures
-    (elim c.if-bit.branch [
-      | then-bit w ↦ flag_true args.bit _ w.if-bit.true w.value-is
-      | else-bit w ↦ flag-false args.bit _ w.if-bit.false w.value-is
-    ])
+    (number-of args.bit _ c.from-value.ensures)
     c.one_more.ensures
-    (c.complete.ensures clocks marks (set args.values.now (28 + c.register_at.result) c.if-bit.value))
+    (c.complete.ensures clocks marks (set args.values.now (28 + c.register_at.result) c.from-value.result))
