@@ -22,17 +22,7 @@ use Rattle.rules.proofs.RecordLaws.{length-record_at, byte_at}
 use Rattle.record.specs.Answers.{Left}
 use Rattle.record.specs.Choices.{offers, all_slots}
 use Rattle.record.specs.Fields.{record_byte, values_at}
-use Rattle.std.specs.Prelude.{Option, Some, None}
-use Rattle.record.specs.declared.Offered.{Offered}
-
-pub left-many : (pos len : ℕ) → 7 < len → Left pos len 0
-left-many pos len h = record { few = omega arith; is = rw (lt-ltb 7 len h) }
-
-pub left-none : (pos len : ℕ) → len ≤ 7 → len ≤ pos → Left pos len 0
-left-none pos len h k = record { few = omega arith; is = rw (le-ltb 7 len h) (omega arith) }
-
-pub left-some : (pos len : ℕ) → len ≤ 7 → pos < len → Left pos len (len - 1 - pos)
-left-some pos len h k = record { few = omega arith; is = rw (le-ltb 7 len h) }
+use Rattle.std.specs.Prelude.{Some, None}
 
 pub left-of : (p q l m r : ℕ) → p ≡ q → l ≡ m → Left p l r → Left q m r
 left-of p q l m r e f h = rw (← e, ← f) h

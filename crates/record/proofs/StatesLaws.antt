@@ -5,22 +5,19 @@
 --     schedule-states, -put        the states of a schedule's record
 --     first-is                     the lowest place of a state
 --     counts-are                   how many are Pending
-use Prim.Native.Nat.{ℕ, suc, ◌+◌, ◌*◌, ◌/◌, ◌%◌, ◌≤◌, ◌<◌}
+use Prim.Native.Nat.{ℕ, ◌+◌, ◌*◌, ◌/◌, ◌%◌, ◌≤◌, ◌<◌}
 use mathlib.Core.List.{List, [], ◌∷◌, ◌++◌, append_assoc}
 use mathlib.Core.Bool.{Bool, cond, true, false}
 use mathlib.Core.Path.{◌≡◌, refl, ap, sym, ◌∙◌}
-use mathlib.Core.Logic.{◌≢◌}
 use native.Mathlib.Omega.{arith}
-use native.Mathlib.Numerals.{add-one}
-use borrow.Author.Tests.{eq-eqb, ne_eqb}
 use lib.Dec.{eqb, ltb}
 use Rattle.std.specs.List.{position_from, position_or_len, filter, count_by}
 use Rattle.std.proofs.lemmas.Iterator.Adapters.{position_from-zero}
 use Rattle.std.proofs.lemmas.List.Recursion.{is_count_by}
 use Rattle.std.proofs.lemmas.List.Sums.{length-filter, count_by-le-length}
 use Rattle.record.specs.Answers.{CountIs}
-use lib.ListN.{length, get_or, set, take, drop, replicate, length-append, length-take, length-drop, drop_of_length-le}
-use lib.Seq.{take_at, drop_at, drop-cons, get_or-take, get_or-drop, set-append_left, length-take-le}
+use lib.ListN.{length, get_or, set, take, drop, replicate, length-append, length-take, length-drop}
+use lib.Seq.{take_at, drop_at, get_or-take, get_or-drop, set-append_left, length-take-le}
 use Rattle.rules.specs.Vector.{Whom, nobody, thread, one_up}
 use Rattle.rules.specs.Path.{Schedule, schedule, encoded, with_states, first_in, flag, pendings, pending}
 use Rattle.rules.specs.Records.{record_at, with_record}

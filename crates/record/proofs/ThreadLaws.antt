@@ -2,20 +2,14 @@
 --     toggled-..                       the first Yield made Active
 --     initial-..                       the initial active thread
 --     prev-put                         the two bytes of prev
-use Prim.Native.Nat.{ℕ, ◌+◌, ◌*◌, ◌/◌, ◌%◌, ◌≤◌, ◌<◌}
-use mathlib.Core.List.{List, ◌++◌, append_assoc}
+use Prim.Native.Nat.{ℕ, ◌+◌, ◌*◌, ◌/◌, ◌%◌, ◌≤◌}
+use mathlib.Core.List.{List}
 use mathlib.Core.Path.{◌≡◌, refl, ap, sym, ◌∙◌}
-use mathlib.Core.Logic.{◌≢◌}
-use native.Mathlib.Omega.{arith}
-use borrow.Author.Tests.{lt-ltb, le-ltb, eq-eqb, ne_eqb}
 use lib.Dec.{eqb}
-use lib.ListN.{length, get_or, set, take, drop, length-set}
-use lib.Seq.{paste, paste-zero, take_all}
+use lib.ListN.{length, length-set}
 use Rattle.rules.specs.Vector.{Whom, nobody, thread}
 use Rattle.rules.specs.Path.{first_in, active_in, active, yield, or_none, to_active, unless_active, toggled}
-use Rattle.rules.specs.Records.{record_at, with_record}
-use Rattle.rules.proofs.RecordLaws.{put_on, bytes-put}
-use Rattle.record.specs.Fields.{with_record_byte, states_at, with_states_at, with_states_in}
+use Rattle.record.specs.Fields.{with_record_byte, states_at, with_states_at}
 use Rattle.record.specs.Places.{First, found_as}
 use Rattle.record.specs.Schedules.{byte_of, initial_at}
 use Rattle.std.specs.Prelude.{Option, Some, None, is_some, true, false, not}

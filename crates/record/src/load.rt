@@ -27,10 +27,7 @@ pub fn offered(path: &[u8], at: usize) -> Option<Offered>
 {
     let pos = wide8(field(path, at, fields::POS));
     let len = wide8(field(path, at, fields::LEN));
-    if MAX_ATOMIC_HISTORY < len {
-        return None;
-    }
-    if len <= pos {
+    if MAX_ATOMIC_HISTORY < len || len <= pos {
         return None;
     }
     let slot = wide8(field(path, at, fields::VALUES + pos));
@@ -63,10 +60,7 @@ pub fn left(len: usize, pos: usize) -> u64
     if MAX_ATOMIC_HISTORY < len {
         return 0;
     }
-    if len <= pos {
-        return 0;
-    }
-    (len - 1 - pos) as u64
+    len.saturating_sub(1).saturating_sub(pos) as u64
 }
 
 // How many of the record's values are still to be read.
