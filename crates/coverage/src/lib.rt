@@ -88,7 +88,13 @@ fn put_off(page: &mut Page, at: usize, on: Option<Site>, begun: u64) -> usize
 }
 
 // Exploring was on at the start; the program may switch it off.
-fn put_explored(page: &mut Page, at: usize, bound: Option<u8>, switched: Option<Site>, begun: u64) -> usize
+fn put_explored(
+    page: &mut Page,
+    at: usize,
+    bound: Option<u8>,
+    switched: Option<Site>,
+    begun: u64,
+) -> usize
     ensures { page_of page.new result ≡ put_explored (page_of page.old at) (bound_of bound) switched begun }
 {
     let Some(site) = switched else {

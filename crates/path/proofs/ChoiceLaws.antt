@@ -2,7 +2,7 @@
 --     load-..          by whether the record there is a load's
 --     spurious-..      the same for a spurious branch
 --     chosen-..        the same for a schedule
-use Prim.Native.Nat.{ℕ, ◌≤◌, ◌<◌}
+use Prim.Native.Nat.{ℕ, ◌<◌}
 use mathlib.Core.List.{List}
 use mathlib.Core.Bool.{Bool, true, false, not, true≢false, false≢true}
 use mathlib.Core.Path.{◌≡◌, refl, ap, sym, ◌∙◌}
@@ -10,7 +10,6 @@ use native.Mathlib.Omega.{arith}
 use borrow.Author.Tests.{ltb-true, ltb-false}
 use lib.Dec.{ltb, eqb}
 use lib.ListN.{length, get_or, get_or-eq_default}
-use Rattle.rules.specs.Vector.{Whom, nobody, thread}
 use Rattle.rules.specs.Path as rules
 use Rattle.rules.specs.Path.{Branch, encoded, no_branch, flag, schedule_at, the_schedule, active_in, active}
 use Rattle.record.specs.Choices.{offered_by, OfLoad}
@@ -20,12 +19,12 @@ use Rattle.std.specs.Prelude.{Option, Some, None}
 use Rattle.record.specs.Stands.{BranchStands}
 use Rattle.record.specs.declared.Offered.{Offered}
 use Rattle.record.proofs.StandsLaws.{stands-field}
-use Rattle.record.proofs.ScheduleLaws.{active-is, first-of-five}
+use Rattle.record.proofs.ScheduleLaws.{active-is}
 use Rattle.path.specs.Choices.{ReadsSlot, said_by, Says, chosen_of, Chooses}
 use Rattle.path.specs.Holds.{Holds}
 use Rattle.path.specs.Places.{HasKind}
 use Rattle.path.specs.Walks.{HoldsAt}
-use Rattle.path.proofs.HoldsLaws.{holds-stands, at-stands, at_five}
+use Rattle.path.proofs.HoldsLaws.{holds-stands, at-stands}
 use Rattle.path.proofs.KindLaws.{There, there, kind-yes, kind-past, kind-unlike, kind-not, kind-inside}
 use Rattle.path.proofs.PrevLaws.{schedule-there}
 

@@ -1,7 +1,7 @@
 -- The laws of a schedule that is added. Assumes nothing.
 --     thread-refused, -preempted       it is not added
 --     thread-added                     its fields, written one after the other, are its encoded bytes
-use Prim.Native.Nat.{ℕ, ◌+◌, ◌*◌, ◌-◌, ◌/◌, ◌%◌, ◌≤◌, ◌<◌}
+use Prim.Native.Nat.{ℕ, ◌+◌, ◌*◌, ◌/◌, ◌%◌, ◌≤◌, ◌<◌}
 use mathlib.Core.List.{List, [], ◌∷◌, ◌++◌}
 use mathlib.Core.Bool.{Bool, true, false, cond}
 use mathlib.Core.Path.{◌≡◌, refl, ap, sym, subst, ◌∙◌}
@@ -23,7 +23,7 @@ use Rattle.record.specs.Schedules.{position_of, initial_at}
 use Rattle.path.specs.Pushes.{PushesThread, pushed_of, grown}
 use Rattle.path.specs.Places.{records_of}
 use Rattle.path.specs.Walks.{schedule_at_as, StandsIn, LastOf, PreemptionsBefore}
-use Rattle.std.specs.Prelude.{Option, Result, Ok, Err}
+use Rattle.std.specs.Prelude.{Option, Ok, Err}
 use Rattle.path.specs.declared.NotAdded.TheVariants.{Full, Preempted}
 use Rattle.record.proofs.FieldLaws.{put-again}
 use Rattle.record.proofs.ThreadLaws.{length-toggled}

@@ -6,7 +6,7 @@
 --     skeleton, prevs-set              another branch in the place of one that has the same prev
 --     prevs-added, prevs-front         a branch more at the end, and fewer
 --     Standing, switch-stands          what is found stands in the path
-use Prim.Native.Nat.{ℕ, zero, suc, ◌+◌, ◌-◌, ◌≤◌, ◌<◌}
+use Prim.Native.Nat.{ℕ, zero, suc, ◌+◌, ◌≤◌, ◌<◌}
 use mathlib.Core.List.{List, [], ◌∷◌, ◌++◌}
 use mathlib.Core.Bool.{Bool, true, false, cond, not, ◌&&◌}
 use mathlib.Core.Path.{◌≡◌, refl, ap, sym, subst, ◌∙◌}

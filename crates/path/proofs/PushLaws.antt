@@ -4,15 +4,16 @@
 --     added-as                 it was written past the last
 --     spurious-.., load-..     the two that open what they add
 --     seven-..                 as many values as a record can have
-use Prim.Native.Nat.{ℕ, ◌+◌, ◌*◌, ◌-◌, ◌≤◌, ◌<◌}
+use Prim.Native.Nat.{ℕ, min, ◌+◌, ◌*◌, ◌-◌, ◌≤◌}
 use mathlib.Core.List.{List, [], ◌∷◌, ◌++◌}
 use mathlib.Core.Bool.{Bool, true, false, cond}
 use mathlib.Core.Path.{◌≡◌, refl, ap, sym, subst, ◌∙◌}
 use native.Mathlib.Omega.{arith}
+use mir.Val.{bool_byte}
 use borrow.Author.Tests.{le-leb, lt-leb}
 use lib.Dec.{leb}
 use lib.ListN.{length, set, take, replicate}
-use lib.Seq.{paste, length-take-le, take_all}
+use lib.Seq.{paste, length-take-le}
 use Rattle.rules.specs.Path as rules
 use Rattle.rules.specs.Path.{Branch, Schedule, encoded, spurious_added, load_added, open_at, prev_of, last_schedule}
 use Rattle.rules.specs.Records.{record_at, with_record}
@@ -22,10 +23,12 @@ use Rattle.record.specs.Fields.{record_begun, with_offers}
 use Rattle.record.specs.Stands.{shaped}
 use Rattle.record.proofs.LoadLaws.{load-new, left-whole}
 use Rattle.path.specs.Holds.{Holds}
-use Rattle.path.specs.Places.{records_of}
-use Rattle.path.specs.Pushes.{Pushes, Seven, pushed_of, grown}
-use Rattle.std.specs.Prelude.{Result, Ok, Err}
+use Rattle.path.specs.Places.{records_of, HasRoom}
+use Rattle.path.specs.Pushes.{Pushes, pushed_of, grown}
+use Rattle.std.specs.Prelude.{Ok, Err}
+use Rattle.path.specs.declared.NotAdded.{NotAdded}
 use Rattle.path.specs.declared.NotAdded.TheVariants.{Full}
+use Rattle.std.proofs.lemmas.List.{take_min}
 use Rattle.path.proofs.HoldsLaws.{holds-blank, holds-added}
 
 pub no_room : (bytes : List ℕ) (len : ℕ) → records_of bytes ≤ len → leb (records_of bytes) len ≡ true
@@ -70,6 +73,10 @@ module _ (bytes : List ℕ) (len most : ℕ) (answer : ℕ → List Branch → r
       }
 
 -- A spurious branch
+
+pub one-opens : (b : Bool) → bool_byte b ≡ cond b 1 0
+one-opens true = refl
+one-opens false = refl
 
 abbrev new_spurious : Bool → Branch
 new_spurious exploring = rules.spurious (record { exploring = exploring; bit = false })
@@ -143,8 +150,10 @@ module _ (bytes : List ℕ) (len : ℕ) (exploring : Bool) (seed : List ℕ) (n 
         no-prev : (bs : List Branch) (s : Schedule) → new_load exploring (take n seed) ≡ rules.schedule s → s.prev ≡ prev_of (last_schedule bs)
         no-prev bs s q = let z : ◌≡◌ {A = ℕ} 0 1 = cc in absurd (omega arith)
 
-pub seven-many : (n : ℕ) → 7 < n → Seven n 7
-seven-many n h = record { few = omega arith; is = λ seed l. take_all 7 seed (omega arith) ∙ sym (take_all n seed (omega arith)) }
+-- as many of the seven values
+pub seven-of : (n m : ℕ) (seed : List ℕ) → length seed ≡ 7 → m ≡ min n 7 → take m seed ≡ take n seed
+seven-of n m seed l e = ap (λ (x : ℕ). take x seed) (e ∙ ap (min n) (sym l)) ∙ take_min n seed
 
-pub seven-few : (n : ℕ) → n ≤ 7 → Seven n n
-seven-few n h = record { few = h; is = λ seed l. refl }
+-- there is no room for it
+pub full-err : {path : List ℕ} {len : ℕ} {why : NotAdded} → HasRoom path len (Err why) → (why ≡ Full) × (records_of path ≤ len)
+full-err h = h.full

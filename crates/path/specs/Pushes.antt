@@ -2,8 +2,7 @@
 --     pushed_of                 the definition's answer as the function's
 --     grown                    the path after it
 --     Pushes, PushesThread     what a function that adds a branch promises
---     Seven                    as many values as a record can have
-use Rattle.std.specs.Prelude.{ℕ, ◌+◌, ◌*◌, ◌≤◌, ◌<◌, List, [], ◌∷◌, ◌++◌, Bool, ◌≡◌, length, take, Result, Ok, Err}
+use Rattle.std.specs.Prelude.{ℕ, ◌+◌, ◌*◌, ◌≤◌, ◌<◌, List, [], ◌∷◌, ◌++◌, Bool, ◌≡◌, length, Result, Ok, Err}
 use Rattle.rules.specs.Path as rules
 use Rattle.path.specs.Answers.{PushedWithin}
 use Rattle.path.specs.Holds.{Holds}
@@ -38,7 +37,3 @@ pub record PushesThread (entry exit : List ℕ) (len : ℕ) (exploring : Bool) (
   pub holds :
       (bs : List rules.Branch) → Holds entry bs → length bs ≡ len → len ≤ rules.positions
       → Holds exit (grown bs (rules.thread_added (records_of entry) bs exploring seed))
-
-pub record Seven (n r : ℕ) : Type 0 where
-  pub few : r ≤ 7
-  pub is : (seed : List ℕ) → length seed ≡ 7 → take r seed ≡ take n seed

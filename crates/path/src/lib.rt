@@ -9,9 +9,9 @@ ghost use Rattle.rules.specs.Path.{spurious_added, load_added};
 ghost use Rattle.record.specs.Fields.{record_byte};
 ghost use Rattle.record.specs.Places.{FoundBelow};
 ghost use Rattle.path.specs.Choices.{ReadsSlot, Says, Chooses};
-ghost use Rattle.path.specs.Pushes.{Pushes, PushesThread, Seven};
+ghost use Rattle.path.specs.Pushes.{Pushes, PushesThread};
 ghost use Rattle.path.specs.Bounds.{bound_of, reaches};
-ghost use Rattle.path.specs.Places.{Present, Through, HasKind};
+ghost use Rattle.path.specs.Places.{HasRoom, Present, Through, HasKind};
 ghost use Rattle.path.specs.Steps.{AnyOpen, OpenIn, StepsPath};
 ghost use Rattle.path.specs.Walks.{LastOf, PreemptionsBefore, ExploringFrom, SwitchFrom, MarksAt, MarksBefore, Backtracks};
 
@@ -38,9 +38,7 @@ pub fn push_thread(
 ) -> Result<u64, NotAdded>
     ensures { PushesThread path.old path.new len exploring seed result }
 {
-    if path.len() / RECORD <= len {
-        return Err(NotAdded::Full);
-    }
+    room(path, len)?;
     let prev = last_schedule(path, len);
     let preemptions = preemptions_before(path, len, prev);
     if MAX_PREEMPTIONS < preemptions {
@@ -79,10 +77,8 @@ pub fn push_load(
 ) -> Result<u64, NotAdded>
     ensures { Pushes path.old path.new len 6 (λ B bs. load_added B bs exploring (take n seed)) result }
 {
-    if path.len() / RECORD <= len {
-        return Err(NotAdded::Full);
-    }
-    let n = at_most_seven(n);
+    room(path, len)?;
+    let n = n.min(MAX_ATOMIC_HISTORY);
     fields::begin(path, len, fields::KIND_LOAD, exploring);
     load::put_values(path, len, seed, n);
     if exploring {
@@ -105,14 +101,9 @@ pub fn branch_load(path: &[u8], pos: usize) -> Option<Offered>
 pub fn push_spurious(path: &mut [u8], len: usize, exploring: bool) -> Result<u64, NotAdded>
     ensures { Pushes path.old path.new len 1 (λ B bs. spurious_added B bs exploring) result }
 {
-    if path.len() / RECORD <= len {
-        return Err(NotAdded::Full);
-    }
+    room(path, len)?;
     fields::begin(path, len, fields::KIND_SPURIOUS, exploring);
-    if exploring {
-        return Ok(1);
-    }
-    Ok(0)
+    Ok(u64::from(exploring))
 }
 
 // What the branch at a position says now. None where it is no spurious branch.
@@ -180,15 +171,21 @@ pub fn step(path: &mut [u8], len: usize) -> usize
     0
 }
 
+// Whether there is room for one record more.
+fn room(path: &[u8], len: usize) -> Result<(), NotAdded>
+    ensures { HasRoom path.now len result }
+{
+    if path.len() / RECORD <= len {
+        return Err(NotAdded::Full);
+    }
+    Ok(())
+}
+
 // The first records of the buffer: so many, or all where it has fewer.
 fn present(path: &[u8], len: usize) -> usize
     ensures { Present path.now len result }
 {
-    let records = path.len() / RECORD;
-    if records < len {
-        return records;
-    }
-    len
+    len.min(path.len() / RECORD)
 }
 
 // The records up to a point and with it, or all where it lies past them.
@@ -206,20 +203,7 @@ fn through(path: &[u8], point: usize) -> usize
 fn has_kind(path: &[u8], pos: usize, kind: u8) -> bool
     ensures { HasKind path.now pos kind result }
 {
-    if path.len() / RECORD <= pos {
-        return false;
-    }
-    fields::is_kind(path, pos, kind)
-}
-
-// As many values as a record can have.
-fn at_most_seven(n: usize) -> usize
-    ensures { Seven n result }
-{
-    if MAX_ATOMIC_HISTORY < n {
-        return MAX_ATOMIC_HISTORY;
-    }
-    n
+    pos < path.len() / RECORD && fields::is_kind(path, pos, kind)
 }
 
 // The last schedule record of the path.

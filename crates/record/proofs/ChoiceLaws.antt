@@ -14,7 +14,7 @@ use Rattle.record.specs.Choices.{all_slots, offers, offered_by, OfLoad}
 use Rattle.record.specs.Fields.{record_byte, values_at}
 use Rattle.record.specs.Stands.{BranchStands}
 use Rattle.record.specs.declared.Offered.{Offered}
-use Rattle.std.specs.Prelude.{Option, Some, None}
+use Rattle.std.specs.Prelude.{Option, None}
 use Rattle.record.proofs.LoadLaws.{value-at, length-values_at}
 use Rattle.record.proofs.StandsLaws.{stands-pos, stands-len, stands-values, seven-values}
 

@@ -1,18 +1,20 @@
 -- The laws of a record's bytes among those of the path. Assumes nothing.
 --     begun-by         two bytes put one after the other begin a record
---     clear-..         the walk that sets a record to zeros: its first k bytes
---     values-..        the walk that puts a load's values: its first i
-use Prim.Native.Nat.{ℕ, ◌+◌, ◌*◌, ◌≤◌, ◌<◌}
-use mathlib.Core.List.{List}
+--     part-is, part-put          bytes of a record from one on
+--     clear-by, threads-by, offers-by      all of them zeros; the five states; a load's values
+use Prim.Native.Nat.{ℕ, ◌+◌, ◌-◌, ◌*◌, ◌≤◌, ◌<◌}
+use mathlib.Core.List.{List, [], ◌++◌, append_assoc}
 use mathlib.Core.Bool.{Bool}
 use mathlib.Core.Path.{◌≡◌, refl, ap, sym, ◌∙◌}
 use native.Mathlib.Omega.{arith}
-use lib.ListN.{length, get_or, set, replicate, length-set, get_or-replicate}
-use lib.Seq.{paste, paste-zero, length-paste}
+use borrow.Rule.Slice.PartMut.{put_mid}
+use lib.ListN.{length, set, take, drop, replicate, length-set, drop_of_length-le}
+use lib.Seq.{paste, length-paste, drop-drop, take-take, take_all, length-take-le}
+use Rattle.std.proofs.lemmas.Slice.{between_is, put_mid-paste}
 use Rattle.rules.specs.Path.{flag}
 use Rattle.rules.specs.Records.{record_at, with_record}
-use Rattle.rules.proofs.RecordLaws.{byte_put, record-now, record-again, length-record_at, length-with_record, put_on, whole-put, bytes-put}
-use Rattle.record.specs.Fields.{with_record_byte, record_begun, cleared, with_offers}
+use Rattle.rules.proofs.RecordLaws.{byte_put, record-now, record-again, length-record_at, length-with_record, bytes-put}
+use Rattle.record.specs.Fields.{with_record_byte, record_begun, cleared, with_offers, with_states_at, with_states_in}
 
 -- a second byte put into the same record
 pub put-again : (bytes : List ℕ) (at : ℕ) → 16 * at + 16 ≤ length bytes → (r : List ℕ) → length r ≡ 16 → (j v : ℕ) → j < 16 → with_record_byte (with_record bytes at r) at j v ≡ with_record bytes at (set r j v)
@@ -32,42 +34,46 @@ module _ (bytes : List ℕ) (at : ℕ) (fits : 16 * at + 16 ≤ length bytes) wh
       ∙ put-again bytes at fits (set (record_at bytes at) 0 kind) l 1 f (omega arith)
       ∙ ap (λ (x : ℕ). with_record bytes at (set (set (record_at bytes at) 0 kind) 1 x)) c
 
-  pub clear_none : bytes ≡ paste bytes (16 * at) (replicate 16 0) 0
-  clear_none = paste-zero bytes (16 * at) (replicate 16 0)
+  -- n bytes of it from byte k on
 
-  pub clear-on : (p q : List ℕ) (k : ℕ) → k < 16 → p ≡ paste bytes (16 * at) (replicate 16 0) k → q ≡ with_record_byte p at k 0 → q ≡ paste bytes (16 * at) (replicate 16 0) (k + 1)
-  clear-on p q k b e f =
-      f
-      ∙ ap (λ (x : List ℕ). with_record_byte x at k 0) e
-      ∙ put_on bytes (16 * at) (replicate 16 0) k 0 (omega arith) b (sym (get_or-replicate 16 k 0 0 b))
+  pub part-is : (k n m : ℕ) → k + n ≤ 16 → m ≡ n → take m (drop (16 * at + k) bytes) ≡ take n (drop k (record_at bytes at))
+  unfolding record_at
+  part-is k n m b e =
+      let own : List ℕ = drop (16 * at) bytes in
+      ap (λ (x : ℕ). take x (drop (16 * at + k) bytes)) e
+      ∙ ap (take n) (sym (drop-drop k (16 * at) bytes))
+      ∙ sym (take-take n (16 - k) (drop k own) (omega arith))
+      ∙ ap (take n) (between_is own k 16)
 
-  pub clear-all : (p : List ℕ) (k : ℕ) → k ≤ 16 → 16 ≤ k → p ≡ paste bytes (16 * at) (replicate 16 0) k → p ≡ cleared bytes at
+  pub part-put : (k m : ℕ) (s q : List ℕ) → k + length s ≤ 16 → m ≡ length s → q ≡ s → put_mid (16 * at + k) m bytes q ≡ with_record bytes at (paste (record_at bytes at) k s (length s))
+  part-put k m s q b e f =
+      put_mid-paste (16 * at + k) m bytes q s (length s) f (sym e) refl ∙ bytes-put bytes at fits k (length s) s b
+
+  pub clear-by : (q : List ℕ) → q ≡ with_record bytes at (paste (record_at bytes at) 0 (replicate 16 0) 16) → q ≡ cleared bytes at
   unfolding cleared
-  clear-all p k b c e =
-      let n : k ≡ 16 = omega arith in
-      e ∙ ap (paste bytes (16 * at) (replicate 16 0)) n ∙ whole-put bytes at fits (replicate 16 0) refl
+  clear-by q e =
+      let d : drop 16 (record_at bytes at) ≡ [] = drop_of_length-le (record_at bytes at) {i = 16} (omega (arith, length-record_at bytes at fits)) in
+      e ∙ ap (λ (x : List ℕ). with_record bytes at (replicate 16 0 ++ x)) d
 
-  -- the walk that puts a load's values: its first i
-  module _ (seed : List ℕ) (l : length seed ≡ 7) where
-    pub values-none : bytes ≡ paste bytes (16 * at + 2) seed 0
-    values-none = paste-zero bytes (16 * at + 2) seed
+  pub threads-by : (seed q : List ℕ) → length seed ≡ 5 → q ≡ with_record bytes at (paste (record_at bytes at) 2 seed (length seed)) → q ≡ with_states_at bytes at seed
+  unfolding with_states_at with_states_in
+  threads-by seed q l e =
+      let r : List ℕ = record_at bytes at in
+      let w : paste r 2 seed (length seed) ≡ take 2 r ++ (seed ++ drop 7 r) = rw (l, take_all 5 seed (omega arith)) (append_assoc (take 2 r) seed (drop 7 r)) in
+      e ∙ ap (with_record bytes at) w
 
-    pub values-on : (p q : List ℕ) (i v : ℕ) → i < 7 → p ≡ paste bytes (16 * at + 2) seed i → q ≡ with_record_byte p at (2 + i) v → v ≡ get_or seed i 0 → q ≡ paste bytes (16 * at + 2) seed (i + 1)
-    values-on p q i v b e f g =
-        let n : 16 * at + (2 + i) ≡ 16 * at + 2 + i = omega arith in
-        f
-        ∙ ap (λ (x : List ℕ). with_record_byte x at (2 + i) v) e
-        ∙ ap (λ (m : ℕ). set (paste bytes (16 * at + 2) seed i) m v) n
-        ∙ put_on bytes (16 * at + 2) seed i v (omega arith) (omega arith) g
+  -- a load's values: the seed's first n
+  module _ (seed : List ℕ) (n : ℕ) (l : length seed ≡ 7) (few : n ≤ 7) where
+    values-by : paste (record_at bytes at) 2 (take n seed) (length (take n seed)) ≡ paste (record_at bytes at) 2 seed n
+    values-by =
+        let w : length (take n seed) ≡ n = length-take-le n seed (omega arith) in
+        rw (w, take_all n (take n seed) (omega arith))
 
-    pub values-all : (p q : List ℕ) (i n m : ℕ) → i ≤ n → n ≤ i → n ≤ 7 → p ≡ paste bytes (16 * at + 2) seed i → q ≡ with_record_byte p at 10 m → m ≡ n → q ≡ with_offers bytes at seed n
+    pub offers-by : (p q : List ℕ) → p ≡ with_record bytes at (paste (record_at bytes at) 2 (take n seed) (length (take n seed))) → q ≡ with_record_byte p at 10 n → q ≡ with_offers bytes at seed n
     unfolding with_offers
-    values-all p q i n m b c k e f g =
+    offers-by p q e f =
         let own : List ℕ = paste (record_at bytes at) 2 seed n in
-        let h : i ≡ n = omega arith in
-        let w : length (record_at bytes at) ≡ 16 = length-record_at bytes at fits in
-        let r : length own ≡ 16 = length-paste (record_at bytes at) 2 seed n (omega arith) (omega arith) ∙ w in
+        let r : length own ≡ 16 = length-paste (record_at bytes at) 2 seed n (omega (arith, length-record_at bytes at fits)) (omega arith) ∙ length-record_at bytes at fits in
         f
-        ∙ ap (λ (x : List ℕ). with_record_byte x at 10 m) (e ∙ ap (paste bytes (16 * at + 2) seed) h ∙ bytes-put bytes at fits 2 n seed (omega arith))
-        ∙ put-again bytes at fits own r 10 m (omega arith)
-        ∙ ap (λ (x : ℕ). with_record bytes at (set own 10 x)) g
+        ∙ ap (λ (x : List ℕ). with_record_byte x at 10 n) (e ∙ ap (with_record bytes at) values-by)
+        ∙ put-again bytes at fits own r 10 n (omega arith)

@@ -3,7 +3,7 @@
 --     load-new         the record that a new load is given
 --     load-pos, load-len, load-values      the bytes of its record
 --     load_moved       its record with another position
---     mask-..          the walk that makes the mask: what is still to be offered from place i on
+--     offers-..        the walk that makes the mask: what is still to be offered from place i on
 use Prim.Native.Nat.{ℕ, zero, suc, ◌+◌, ◌*◌, ◌-◌, ◌^◌, ◌%◌, ◌≤◌, ◌<◌}
 use mathlib.Core.List.{List, [], ◌∷◌, ◌++◌, append_assoc}
 use mathlib.Core.Bool.{Bool, false}
@@ -14,7 +14,7 @@ use borrow.Author.Tests.{lt-ltb, le-ltb}
 use lib.Bits.{bit_or}
 use lib.Dec.{ltb}
 use lib.ListN.{length, get_or, set, take, drop, replicate, length-append, length-replicate, length-take, length-drop, drop_of_length-le, replicate-append-replicate}
-use lib.Seq.{paste, get_or-take, get_or-drop, drop-cons, get_or_at, set_at, take_at, take-append_seam, length-take-le}
+use lib.Seq.{paste, get_or-take, get_or-drop, drop-cons, get_or_at, set_at, take_at, take-take, take-append_seam, length-take-le}
 use Rattle.rules.specs.Path.{Load, load, encoded, flag}
 use Rattle.rules.specs.Machine.{mask_of}
 use Rattle.rules.specs.Records.{record_at}
@@ -22,17 +22,7 @@ use Rattle.rules.proofs.RecordLaws.{length-record_at, byte_at}
 use Rattle.record.specs.Answers.{Left}
 use Rattle.record.specs.Choices.{offers, all_slots}
 use Rattle.record.specs.Fields.{record_byte, values_at}
-use Rattle.std.specs.Prelude.{Option, Some, None}
-use Rattle.record.specs.declared.Offered.{Offered}
-
-pub left-many : (pos len : ℕ) → 7 < len → Left pos len 0
-left-many pos len h = record { few = omega arith; is = rw (lt-ltb 7 len h) }
-
-pub left-none : (pos len : ℕ) → len ≤ 7 → len ≤ pos → Left pos len 0
-left-none pos len h k = record { few = omega arith; is = rw (le-ltb 7 len h) (omega arith) }
-
-pub left-some : (pos len : ℕ) → len ≤ 7 → pos < len → Left pos len (len - 1 - pos)
-left-some pos len h k = record { few = omega arith; is = rw (le-ltb 7 len h) }
+use Rattle.std.specs.Prelude.{Some, None}
 
 pub left-of : (p q l m r : ℕ) → p ≡ q → l ≡ m → Left p l r → Left q m r
 left-of p q l m r e f h = rw (← e, ← f) h
@@ -117,6 +107,10 @@ module _ (bytes : List ℕ) (at n : ℕ) (fits : 16 * at + 16 ≤ length bytes) 
   unfolding values_at
   length-values_at = simp (length-take, length-drop) (omega (arith, length-record_at bytes at fits))
 
+  pub values-read : take n (drop 2 (record_at bytes at)) ≡ values_at bytes at n
+  unfolding values_at
+  values-read = sym (take-take n 7 (drop 2 (record_at bytes at)) h)
+
   pub value-at : (i : ℕ) → i < n → record_byte bytes at (2 + i) ≡ get_or (values_at bytes at n) i 0
   unfolding values_at
   value-at i b =
@@ -143,34 +137,16 @@ module _ (slot mask : ℕ) (vs : List ℕ) (i : ℕ) where
     offers-cons : offers slot mask (drop i vs) ≡ offers slot mask (get_or vs i 0 ∷ drop (suc i) vs)
     offers-cons = ap (offers slot mask) (drop-cons vs i 0 b)
 
-    offers-on : (v : ℕ) → v ≡ get_or vs i 0 → v < 7 → offers slot (bit_or mask (1 * 2 ^ v % 256)) (drop (i + 1) vs) ≡ offers slot mask (drop i vs)
+    pub offers-on : (v : ℕ) → v ≡ get_or vs i 0 → v < 7 → offers slot (bit_or mask (1 * 2 ^ v % 256)) (drop (i + 1) vs) ≡ offers slot mask (drop i vs)
     unfolding offers all_slots mask_of
     offers-on v e l =
         let k : get_or vs i 0 < 7 = omega arith in
         rw (bit v l, e, add-one) (sym (offers-cons ∙ rw (lt-ltb (get_or vs i 0) 7 k)))
 
-    offers-ends : 7 ≤ get_or vs i 0 → offers slot mask (drop i vs) ≡ None
+    pub offers-ends : 7 ≤ get_or vs i 0 → offers slot mask (drop i vs) ≡ None
     unfolding offers all_slots
     offers-ends l = offers-cons ∙ rw (le-ltb (get_or vs i 0) 7 l)
 
-  offers-all : length vs ≤ i → offers slot mask (drop i vs) ≡ Some (record { slot = slot; mask = mask })
+  pub offers-all : length vs ≤ i → offers slot mask (drop i vs) ≡ Some (record { slot = slot; mask = mask })
   unfolding offers all_slots mask_of
   offers-all l = let e : drop i vs ≡ [] = drop_of_length-le vs {i = i} l in rw e
-
--- the same for the record at a position: v is the byte that was read
-module _ (bytes : List ℕ) (at n : ℕ) (fits : 16 * at + 16 ≤ length bytes) (h : n ≤ 7) (slot mask i : ℕ) where
-  module _ (b : i < n) (v : ℕ) (e : v ≡ record_byte bytes at (2 + i)) where
-    in-values : i < length (values_at bytes at n)
-    in-values = omega (arith, length-values_at bytes at n fits h)
-
-    is-value : v ≡ get_or (values_at bytes at n) i 0
-    is-value = e ∙ value-at bytes at n fits h i b
-
-    pub mask-on : v < 7 → offers slot (bit_or mask (1 * 2 ^ v % 256)) (drop (i + 1) (values_at bytes at n)) ≡ offers slot mask (drop i (values_at bytes at n))
-    mask-on l = offers-on slot mask (values_at bytes at n) i in-values v is-value l
-
-    pub mask-ends : 7 ≤ v → None ≡ offers slot mask (drop i (values_at bytes at n))
-    mask-ends l = sym (offers-ends slot mask (values_at bytes at n) i in-values (omega (arith, is-value)))
-
-  pub mask-all : n ≤ i → Some (record { slot = slot; mask = mask }) ≡ offers slot mask (drop i (values_at bytes at n))
-  mask-all l = sym (offers-all slot mask (values_at bytes at n) i (omega (arith, length-values_at bytes at n fits h)))

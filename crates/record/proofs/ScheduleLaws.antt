@@ -1,5 +1,5 @@
 -- The laws of a schedule's record. Assumes nothing.
---     Fewer, first-of-five, five-byte, five-alike      the threads of five
+--     Fewer, first-of-five, first-by, five-byte, five-alike      the threads of five
 --     stands-exploring, -preemptions, -initial, -prev  what stands in its bytes
 --     active-is, active-byte                           its Active thread
 --     preempts-..                                      its preemptions
@@ -17,7 +17,7 @@ use lib.Seq.{get_or-append-add}
 use Rattle.rules.specs.Vector.{Whom, nobody, thread, one_up}
 use Rattle.rules.specs.Path.{Schedule, schedule, encoded, flag, first_in, active_in, active, active_of, or_none, preemptions_with}
 use Rattle.record.specs.Fields.{record_byte, states_at}
-use Rattle.record.specs.Places.{First, found_as}
+use Rattle.record.specs.Places.{First, FoundBelow, found_as}
 use Rattle.record.specs.Schedules.{byte_of, position_at, prev_in}
 use Rattle.record.specs.Stands.{BranchStands}
 use Rattle.std.specs.Prelude.{Option, Some, None}
@@ -42,6 +42,13 @@ first-fewer x (s ∷ l) = fewer-on (eqb s x) (length l) (first_in x l) (first-fe
 
 pub first-of-five : (x : ℕ) (l : List ℕ) → length l ≡ 5 → Fewer 5 (first_in x l)
 first-of-five x l e = rw e at (first-fewer x l)
+
+pub first-by : (x : ℕ) (l : List ℕ) (r : Option ℕ) → length l ≡ 5 → r ≡ found_as (first_in x l) → First l x r
+first-by x l r n e = record { few = rw e (below-five (first_in x l) (first-of-five x l n)); is = e }
+  where
+    below-five : (w : Whom) → Fewer 5 w → FoundBelow 5 (found_as w)
+    below-five nobody h = tt
+    below-five (thread t) h = h
 
 pub five-byte : (w : Whom) → Fewer 5 w → byte_of (found_as w) ≡ or_none w
 five-byte nobody h = refl

@@ -3,20 +3,23 @@
 --     states-now, states-again     what is read after states were put; a second time
 --     states-same                  the states that stand there already
 --     schedule-states, -put        the states of a schedule's record
---     first-..                     the walk up that looks for a state
---     count-..                     the walk up that counts those that are Pending
-use Prim.Native.Nat.{ℕ, suc, ◌+◌, ◌*◌, ◌/◌, ◌%◌, ◌≤◌, ◌<◌}
+--     first-is                     the lowest place of a state
+--     counts-are                   how many are Pending
+use Prim.Native.Nat.{ℕ, ◌+◌, ◌*◌, ◌/◌, ◌%◌, ◌≤◌, ◌<◌}
 use mathlib.Core.List.{List, [], ◌∷◌, ◌++◌, append_assoc}
-use mathlib.Core.Bool.{Bool, cond}
+use mathlib.Core.Bool.{Bool, cond, true, false}
 use mathlib.Core.Path.{◌≡◌, refl, ap, sym, ◌∙◌}
-use mathlib.Core.Logic.{◌≢◌}
 use native.Mathlib.Omega.{arith}
-use native.Mathlib.Numerals.{add-one}
-use borrow.Author.Tests.{eq-eqb, ne_eqb}
-use lib.ListN.{length, get_or, set, take, drop, replicate, length-append, length-take, length-drop, drop_of_length-le}
-use lib.Seq.{take_at, drop_at, drop-cons, get_or-take, get_or-drop, set-append_left, length-take-le}
+use lib.Dec.{eqb, ltb}
+use Rattle.std.specs.List.{position_from, position_or_len, filter, count_by}
+use Rattle.std.proofs.lemmas.Iterator.Adapters.{position_from-zero}
+use Rattle.std.proofs.lemmas.List.Recursion.{is_count_by}
+use Rattle.std.proofs.lemmas.List.Sums.{length-filter, count_by-le-length}
+use Rattle.record.specs.Answers.{CountIs}
+use lib.ListN.{length, get_or, set, take, drop, replicate, length-append, length-take, length-drop}
+use lib.Seq.{take_at, drop_at, get_or-take, get_or-drop, set-append_left, length-take-le}
 use Rattle.rules.specs.Vector.{Whom, nobody, thread, one_up}
-use Rattle.rules.specs.Path.{Schedule, schedule, encoded, with_states, first_in, flag, pendings, is_pending}
+use Rattle.rules.specs.Path.{Schedule, schedule, encoded, with_states, first_in, flag, pendings, pending}
 use Rattle.rules.specs.Records.{record_at, with_record}
 use Rattle.rules.proofs.RecordLaws.{length-record_at, record_same, length-with_record, record-now, record-again, byte_at, byte_put, set-append-add, three}
 use Rattle.std.specs.Prelude.{Option, Some, None}
@@ -123,87 +126,38 @@ module _ (s : Schedule) (l : length s.states ≡ 5) where
       ap (λ (x : List ℕ). 1 ∷ flag s.exploring ∷ (t ++ x))
       (drop_at s.states (s.preemptions ∷ s.initial ∷ s.prev % 256 ∷ s.prev / 256 ∷ replicate 5 0) 5 l)
 
--- The walk up that looks for a state: what is found from place i on
+-- The lowest place of a state: what is found where the list begins at place i
 
 abbrev from : ℕ → Whom → Option ℕ
 from i nobody = None
 from i (thread t) = Some (i + t)
 
-from_next : (i : ℕ) (w : Whom) → from (suc i) w ≡ from i (one_up w)
-from_next i nobody = refl
-from_next i (thread t) = let e : suc i + t ≡ i + (t + 1) = omega arith in ap Some e
+from-next : (b : Bool) (i : ℕ) (w : Whom) → cond b (Some i) (from (i + 1) w) ≡ from i (cond b (thread 0) (one_up w))
+from-next true i w = let e : i ≡ i + 0 = omega arith in ap Some e
+from-next false i nobody = refl
+from-next false i (thread t) = let e : i + 1 + t ≡ i + (t + 1) = omega arith in ap Some e
 
 from_zero : (w : Whom) → from 0 w ≡ found_as w
 from_zero nobody = refl
 from_zero (thread t) = let e : 0 + t ≡ t = omega arith in ap Some e
 
-module _ (states : List ℕ) (x n : ℕ) (l : length states ≡ 5) (k : n < 5) where
-  from-here : get_or states n 0 ≡ x → Some n ≡ from n (first_in x (drop n states))
-  unfolding first_in
-  from-here e =
-      let b : n < length states = omega arith in
-      let z : n ≡ n + 0 = omega arith in
-      rw (drop-cons states n 0 b, eq-eqb (get_or states n 0) x e) (ap Some z)
-
-  from_on : get_or states n 0 ≢ x → from (n + 1) (first_in x (drop (n + 1) states)) ≡ from n (first_in x (drop n states))
-  unfolding first_in
-  from_on e =
-      let b : n < length states = omega arith in
-      let s : suc n ≡ n + 1 = omega arith in
-      sym
-      (rw (drop-cons states n 0 b, ne_eqb (get_or states n 0) x e)
-      (sym (from_next n (first_in x (drop (suc n) states))) ∙ ap (λ (m : ℕ). from m (first_in x (drop m states))) s))
-
-from-none : (states : List ℕ) (x n : ℕ) → length states ≡ 5 → 5 ≤ n → None ≡ from n (first_in x (drop n states))
+from-first : (x i : ℕ) (l : List ℕ) → position_from (λ s. eqb s x) i l ≡ from i (first_in x l)
 unfolding first_in
-from-none states x n l h = let e : drop n states ≡ [] = drop_of_length-le states {i = n} (omega arith) in rw e
+from-first x i [] = refl
+from-first x i (s ∷ l) = ap (cond (eqb s x) (Some i)) (from-first x (i + 1) l) ∙ from-next (eqb s x) i (first_in x l)
 
-abbrev pub found : List ℕ → ℕ → ℕ → ℕ → Option ℕ
-found bytes at x n = from n (first_in x (drop n (states_at bytes at)))
+-- as `position` answers
+pub first-is : (x : ℕ) (l : List ℕ) (r : Option ℕ) → r ≡ cond (ltb (position_or_len (λ s. eqb s x) l) (length l)) (Some (position_or_len (λ s. eqb s x) l)) None → r ≡ found_as (first_in x l)
+first-is x l r e = e ∙ position_from-zero (λ s. eqb s x) l ∙ from-first x 0 l ∙ from_zero (first_in x l)
 
--- the same in the record at a position: f is the byte that was read
-module _ (bytes : List ℕ) (at x : ℕ) (fits : 16 * at + 16 ≤ length bytes) where
-  pub first-start : found bytes at x 0 ≡ found_as (first_in x (states_at bytes at))
-  first-start = from_zero (first_in x (states_at bytes at))
+-- How many are Pending, as `filter` and `count` answer
 
-  module _ (n f : ℕ) (k : n < 5) (r : f ≡ record_byte bytes at (2 + n)) where
-    pub first-here : f ≡ x → Some n ≡ found bytes at x n
-    first-here e = from-here (states_at bytes at) x n (length-states_at bytes at fits) k (sym (state-at bytes at fits n k) ∙ sym r ∙ e)
+counts-next : (b : Bool) (n : ℕ) → cond b 1 0 + n ≡ cond b (1 + n) n
+counts-next true n = refl
+counts-next false n = omega arith
 
-    pub first_on : f ≢ x → found bytes at x (n + 1) ≡ found bytes at x n
-    first_on e = from_on (states_at bytes at) x n (length-states_at bytes at fits) k (λ q. e (r ∙ state-at bytes at fits n k ∙ q))
-
-  pub first-none : (n : ℕ) → 5 ≤ n → None ≡ found bytes at x n
-  first-none n h = from-none (states_at bytes at) x n (length-states_at bytes at fits) h
-
--- The walk up that counts: what is still to be counted from place i on
-
-counts-cons : (states : List ℕ) (i : ℕ) → i < length states → pendings (drop i states) ≡ is_pending (get_or states i 0) + pendings (drop (i + 1) states)
+pub counts-are : (l : List ℕ) → length l ≡ 5 → CountIs 5 (pendings l) (length (filter (λ s. eqb s pending) l))
 unfolding pendings
-counts-cons states i h = rw (add-one, drop-cons states i 0 h)
-
-module _ (bytes : List ℕ) (at : ℕ) (fits : 16 * at + 16 ≤ length bytes) (i : ℕ) where
-  module _ (b : i < 5) (f : ℕ) (r : f ≡ record_byte bytes at (2 + i)) where
-    count-cons : pendings (drop i (states_at bytes at)) ≡ is_pending f + pendings (drop (i + 1) (states_at bytes at))
-    count-cons =
-        counts-cons (states_at bytes at) i (omega (arith, length-states_at bytes at fits))
-        ∙ ap (λ (x : ℕ). is_pending x + pendings (drop (i + 1) (states_at bytes at))) (sym (r ∙ state-at bytes at fits i b))
-
-    pub count-here : (n m : ℕ) → f ≡ 3 → m ≡ n + 1 → n + pendings (drop i (states_at bytes at)) ≡ pendings (states_at bytes at) → m + pendings (drop (i + 1) (states_at bytes at)) ≡ pendings (states_at bytes at)
-    count-here n m e k v =
-        let t : pendings (drop i (states_at bytes at)) ≡ 1 + pendings (drop (i + 1) (states_at bytes at)) =
-        count-cons ∙ ap (λ (x : Bool). cond x 1 0 + pendings (drop (i + 1) (states_at bytes at))) (eq-eqb f 3 e) in
-        omega arith
-
-    pub count-on : (n m : ℕ) → f ≢ 3 → m ≡ n → n + pendings (drop i (states_at bytes at)) ≡ pendings (states_at bytes at) → m + pendings (drop (i + 1) (states_at bytes at)) ≡ pendings (states_at bytes at)
-    count-on n m e k v =
-        let t : pendings (drop i (states_at bytes at)) ≡ 0 + pendings (drop (i + 1) (states_at bytes at)) =
-        count-cons ∙ ap (λ (x : Bool). cond x 1 0 + pendings (drop (i + 1) (states_at bytes at))) (ne_eqb f 3 e) in
-        omega arith
-
-  pub count-all : (n : ℕ) → 5 ≤ i → n + pendings (drop i (states_at bytes at)) ≡ pendings (states_at bytes at) → n ≡ pendings (states_at bytes at)
-  unfolding pendings
-  count-all n h v =
-      let e : drop i (states_at bytes at) ≡ [] = drop_of_length-le (states_at bytes at) {i = i} (omega (arith, length-states_at bytes at fits)) in
-      let z : n + 0 ≡ pendings (states_at bytes at) = rw e at v in
-      omega arith
+counts-are l e =
+    let is : pendings l ≡ count_by (λ s. eqb s pending) l = is_count_by pendings (λ s. eqb s pending) refl (λ x xs. counts-next (eqb x pending) (pendings xs)) l in
+    record { few = omega (arith, length-filter (λ s. eqb s pending) l, count_by-le-length (λ s. eqb s pending) l); is = length-filter (λ s. eqb s pending) l ∙ sym is }

@@ -2,25 +2,22 @@
 --     visited-..       a schedule's Active is left
 --     turned-..        and its first Pending chosen
 --     moved-..         a load's next value
---     set-.., open-..  a spurious branch's yes
 use Prim.Native.Nat.{ℕ, zero, suc, ◌+◌, ◌*◌, ◌≤◌, ◌<◌}
 use mathlib.Core.List.{List, [], ◌∷◌}
-use mathlib.Core.Bool.{Bool, true, false, cond}
+use mathlib.Core.Bool.{Bool, true, false}
 use mathlib.Core.Path.{◌≡◌, refl, ap, sym, ◌∙◌}
-use mathlib.Core.Logic.{◌≢◌, ◌⊎◌, inl, inr, ⊎_elim}
+use mathlib.Core.Logic.{◌⊎◌, inl, inr, ⊎_elim}
 use native.Mathlib.Omega.{arith}
 use native.Mathlib.Numerals.{add-one}
-use borrow.Author.Tests.{eqb-true, eq-eqb, ne_eqb, lt-ltb, le-ltb}
+use borrow.Author.Tests.{eqb-true, lt-ltb, le-ltb}
 use lib.Dec.{eqb}
 use lib.ListN.{length, get_or, set, length-set}
-use lib.Seq.{set_out}
 use Rattle.rules.specs.Vector.{Whom, nobody, thread, one_up}
 use Rattle.rules.specs.Path.{first_in, active_in, to_visited, to_active, left, turned, pendings, is_pending, active, pending, visited}
-use Rattle.record.specs.Answers.{CountIs}
 use Rattle.record.specs.Fields.{record_byte, with_record_byte, states_at, with_states_at}
 use Rattle.record.specs.Places.{found_as, First}
 use Rattle.std.specs.Prelude.{Option, Some, None}
-use Rattle.record.specs.Steps.{Visits, Moves, Sets}
+use Rattle.record.specs.Steps.{Visits, Moves}
 use Rattle.record.proofs.Places.{none_of, some_of}
 use Rattle.record.proofs.StatesLaws.{length-states_at, state-put, states-same, states-now, states-again, length-with_states_at}
 
@@ -171,24 +168,3 @@ module _ (bytes : List ℕ) (at pos len : ℕ) (ep : pos ≡ record_byte bytes a
 
   pub moved-not : len ≤ pos + 1 → Moves bytes bytes at false
   moved-not h = record { said = sym (le-ltb (record_byte bytes at 9 + 1) (record_byte bytes at 10) (omega arith)); now = refl }
-
--- A spurious branch's record, with its bit as it was read
-
-module _ (bytes : List ℕ) (at f : ℕ) (r : f ≡ record_byte bytes at 2) where
-  unset : f ≡ 0 → eqb (record_byte bytes at 2) 0 ≡ true
-  unset e = eq-eqb (record_byte bytes at 2) 0 (sym r ∙ e)
-
-  is_set : f ≢ 0 → eqb (record_byte bytes at 2) 0 ≡ false
-  is_set e = ne_eqb (record_byte bytes at 2) 0 (λ q. e (r ∙ q))
-
-  pub set-by : f ≡ 0 → (exit : List ℕ) → exit ≡ with_record_byte bytes at 2 1 → Sets bytes exit at true
-  set-by e exit g = record { said = sym (unset e); now = g }
-
-  pub set-not : f ≢ 0 → Sets bytes bytes at false
-  set-not e = record { said = sym (is_set e); now = refl }
-
-  pub open-unset : f ≡ 0 → CountIs 1 (cond (eqb (record_byte bytes at 2) 0) 1 0) 1
-  open-unset e = record { few = omega arith; is = rw (unset e) }
-
-  pub open-set : f ≢ 0 → CountIs 1 (cond (eqb (record_byte bytes at 2) 0) 1 0) 0
-  open-set e = record { few = omega arith; is = rw (is_set e) }

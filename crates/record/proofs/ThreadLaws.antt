@@ -1,22 +1,15 @@
 -- The laws of a schedule that is written. Assumes nothing.
---     threads-..                       the walk up that writes the states
 --     toggled-..                       the first Yield made Active
 --     initial-..                       the initial active thread
 --     prev-put                         the two bytes of prev
-use Prim.Native.Nat.{ℕ, ◌+◌, ◌*◌, ◌/◌, ◌%◌, ◌≤◌, ◌<◌}
-use mathlib.Core.List.{List, ◌++◌, append_assoc}
+use Prim.Native.Nat.{ℕ, ◌+◌, ◌*◌, ◌/◌, ◌%◌, ◌≤◌}
+use mathlib.Core.List.{List}
 use mathlib.Core.Path.{◌≡◌, refl, ap, sym, ◌∙◌}
-use mathlib.Core.Logic.{◌≢◌}
-use native.Mathlib.Omega.{arith}
-use borrow.Author.Tests.{lt-ltb, le-ltb, eq-eqb, ne_eqb}
 use lib.Dec.{eqb}
-use lib.ListN.{length, get_or, set, take, drop, length-set}
-use lib.Seq.{paste, paste-zero, take_all}
+use lib.ListN.{length, length-set}
 use Rattle.rules.specs.Vector.{Whom, nobody, thread}
 use Rattle.rules.specs.Path.{first_in, active_in, active, yield, or_none, to_active, unless_active, toggled}
-use Rattle.rules.specs.Records.{record_at, with_record}
-use Rattle.rules.proofs.RecordLaws.{put_on, bytes-put}
-use Rattle.record.specs.Fields.{with_record_byte, states_at, with_states_at, with_states_in}
+use Rattle.record.specs.Fields.{with_record_byte, states_at, with_states_at}
 use Rattle.record.specs.Places.{First, found_as}
 use Rattle.record.specs.Schedules.{byte_of, initial_at}
 use Rattle.std.specs.Prelude.{Option, Some, None, is_some, true, false, not}
@@ -50,31 +43,6 @@ module _ (bytes : List ℕ) (k : ℕ) (fits : 16 * k + 16 ≤ length bytes) wher
 
   missing : (x : ℕ) → First own x None → first_in x own ≡ nobody
   missing x f = none_of (first_in x own) f.is
-
-  -- The states
-
-  pub threads-none : (seed : List ℕ) → bytes ≡ paste bytes (16 * k + 2) seed 0
-  threads-none seed = paste-zero bytes (16 * k + 2) seed
-
-  module _ (seed : List ℕ) (five : length seed ≡ 5) where
-    pub threads-on : (p q : List ℕ) (j v : ℕ) → j < 5 → p ≡ paste bytes (16 * k + 2) seed j → v ≡ get_or seed j 0 → q ≡ with_record_byte p k (2 + j) v → q ≡ paste bytes (16 * k + 2) seed (j + 1)
-    threads-on p q j v b e g f =
-        let n : 16 * k + (2 + j) ≡ 16 * k + 2 + j = omega arith in
-        f
-        ∙ ap (λ (x : List ℕ). with_record_byte x k (2 + j) v) e
-        ∙ ap (λ (x : ℕ). set (paste bytes (16 * k + 2) seed j) x v) n
-        ∙ put_on bytes (16 * k + 2) seed j v (omega arith) (omega arith) g
-
-    pub threads-all : (p : List ℕ) (j : ℕ) → j ≤ 5 → 5 ≤ j → p ≡ paste bytes (16 * k + 2) seed j → p ≡ with_states_at bytes k seed
-    unfolding with_states_at with_states_in
-    threads-all p j b c e =
-        let n : j ≡ 5 = omega arith in
-        e
-        ∙ ap (paste bytes (16 * k + 2) seed) n
-        ∙ bytes-put bytes k fits 2 5 seed (omega arith)
-        ∙ ap (with_record bytes k)
-        (append_assoc (take 2 (record_at bytes k)) (take 5 seed) (drop 7 (record_at bytes k))
-        ∙ ap (λ (x : List ℕ). take 2 (record_at bytes k) ++ (x ++ drop 7 (record_at bytes k))) (take_all 5 seed (omega arith)))
 
   -- The first Yield
 

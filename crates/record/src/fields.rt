@@ -1,7 +1,9 @@
 // The fields of a path record, and the numbers that stand in them. Nothing else knows where they
 // stand among its 16 bytes.
-ghost use Rattle.std.specs.Prelude.{◌≡◌, ◌+◌, ◌*◌, ◌≤◌, ◌<◌, length, eqb};
+ghost use Rattle.std.specs.Prelude.{◌≡◌, ◌+◌, ◌*◌, ◌≤◌, ◌<◌, length, take, drop, eqb};
+ghost use Rattle.std.proofs.Math.Seq.{paste};
 ghost use Rattle.rules.specs.Path.{flag};
+ghost use Rattle.rules.specs.Records.{record_at, with_record};
 ghost use Rattle.record.specs.Fields.{record_byte, with_record_byte, record_begun, cleared};
 
 pub use layout::RECORD;
@@ -74,6 +76,24 @@ pub fn put(path: &mut [u8], at: usize, k: usize, v: u8)
     path[RECORD * at + k] = v;
 }
 
+// The n bytes of the record at a position from byte k on.
+pub fn part(path: &[u8], at: usize, k: usize, n: usize) -> &[u8]
+    requires { (16 * at + 16 ≤ length path.now) × (k + n ≤ 16) }
+    ensures { result.now ≡ take n (drop k (record_at path.now at)) }
+{
+    let from = RECORD * at + k;
+    &path[from..from + n]
+}
+
+// Sets the bytes of the record at a position from byte k on, and leaves every other byte.
+pub fn put_part(path: &mut [u8], at: usize, k: usize, bytes: &[u8])
+    requires { (16 * at + 16 ≤ length path.old) × (k + length bytes.now ≤ 16) }
+    ensures { path.new ≡ with_record path.old at (paste (record_at path.old at) k bytes.now (length bytes.now)) }
+{
+    let from = RECORD * at + k;
+    path[from..from + bytes.len()].copy_from_slice(bytes);
+}
+
 // Begins a record past the last one, where all bytes are zero: its kind, and whether it is
 // explored. The fields that are to be zero need no more.
 pub fn begin(path: &mut [u8], at: usize, kind: u8, exploring: bool)
@@ -89,9 +109,7 @@ pub fn clear(path: &mut [u8], at: usize)
     requires { 16 * at + 16 ≤ length path.old }
     ensures { path.new ≡ cleared path.old at }
 {
-    for k in 0..RECORD {
-        put(path, at, k, 0);
-    }
+    put_part(path, at, KIND, &[0; RECORD]);
 }
 
 // Whether the record at a position is of a kind.
@@ -113,8 +131,5 @@ pub fn is_exploring(path: &[u8], at: usize) -> bool
 fn flag(exploring: bool) -> u8
     ensures { result ≡ flag exploring }
 {
-    if exploring {
-        return 1;
-    }
-    0
+    u8::from(exploring)
 }

@@ -6,7 +6,7 @@ ghost use Rattle.record.specs.Choices.{offers, OfLoad};
 ghost use Rattle.record.specs.Steps.{Moves};
 ghost use Rattle.record.specs.Answers.{OfferIs, Left};
 
-use crate::fields::{field, put};
+use crate::fields::{field, part, put, put_part};
 use crate::{Offered, fields};
 use layout::{MAX_ATOMIC_HISTORY, wide8};
 
@@ -15,9 +15,7 @@ pub fn put_values(path: &mut [u8], at: usize, seed: [u8; MAX_ATOMIC_HISTORY], n:
     requires { (16 * at + 16 ≤ length path.old) × (n ≤ 7) }
     ensures { path.new ≡ with_offers path.old at seed n }
 {
-    for i in 0..n {
-        put(path, at, fields::VALUES + i, seed[i]);
-    }
+    put_part(path, at, fields::VALUES, &seed[..n]);
     put(path, at, fields::LEN, n as u8);
 }
 
@@ -29,10 +27,7 @@ pub fn offered(path: &[u8], at: usize) -> Option<Offered>
 {
     let pos = wide8(field(path, at, fields::POS));
     let len = wide8(field(path, at, fields::LEN));
-    if MAX_ATOMIC_HISTORY < len {
-        return None;
-    }
-    if len <= pos {
+    if MAX_ATOMIC_HISTORY < len || len <= pos {
         return None;
     }
     let slot = wide8(field(path, at, fields::VALUES + pos));
@@ -48,8 +43,8 @@ fn with_mask(path: &[u8], at: usize, slot: usize, n: usize) -> Option<Offered>
     ensures { OfferIs (offers slot 0 (values_at path.now at n)) result }
 {
     let mut mask = 0;
-    for i in 0..n {
-        let value = wide8(field(path, at, fields::VALUES + i));
+    for value in part(path, at, fields::VALUES, n) {
+        let value = wide8(*value);
         if MAX_ATOMIC_HISTORY <= value {
             return None;
         }
@@ -65,10 +60,7 @@ pub fn left(len: usize, pos: usize) -> u64
     if MAX_ATOMIC_HISTORY < len {
         return 0;
     }
-    if len <= pos {
-        return 0;
-    }
-    (len - 1 - pos) as u64
+    len.saturating_sub(1).saturating_sub(pos) as u64
 }
 
 // How many of the record's values are still to be read.

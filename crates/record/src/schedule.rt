@@ -8,7 +8,7 @@ ghost use Rattle.record.specs.Places.{FoundBelow, First};
 ghost use Rattle.record.specs.Schedules.{byte_of, position_of, initial_at, Explores, ExploresAll, RecordMarked, PrevOf, PreemptionsOf};
 
 use crate::fields;
-use crate::fields::{field, put};
+use crate::fields::{field, part, put, put_part};
 use layout::{MAX_THREADS, seed, wide8};
 
 // The lowest thread in a state.
@@ -16,12 +16,15 @@ pub fn first_in(path: &[u8], at: usize, state: u8) -> Option<usize>
     requires { 16 * at + 16 ≤ length path.now }
     ensures { First (states_at path.now at) state result }
 {
-    for thread in 0..MAX_THREADS {
-        if field(path, at, fields::THREADS + thread) == state {
-            return Some(thread);
-        }
-    }
-    None
+    states(path, at).iter().position(|s| *s == state)
+}
+
+// The five thread states.
+fn states(path: &[u8], at: usize) -> &[u8]
+    requires { 16 * at + 16 ≤ length path.now }
+    ensures { result.now ≡ states_at path.now at }
+{
+    part(path, at, fields::THREADS, MAX_THREADS)
 }
 
 // The thread that is Active.
@@ -93,9 +96,7 @@ pub fn put_threads(path: &mut [u8], at: usize, seed: [u8; MAX_THREADS])
     requires { 16 * at + 16 ≤ length path.old }
     ensures { path.new ≡ with_states_at path.old at seed }
 {
-    for thread in 0..MAX_THREADS {
-        put(path, at, fields::THREADS + thread, seed[thread]);
-    }
+    put_part(path, at, fields::THREADS, &seed);
 }
 
 // Where no thread is Active, the first that is in Yield becomes Active.
@@ -180,13 +181,8 @@ pub fn pending(path: &[u8], at: usize) -> u64
     requires { 16 * at + 16 ≤ length path.now }
     ensures { CountIs 5 (pendings (states_at path.now at)) result }
 {
-    let mut count = 0;
-    for thread in 0..MAX_THREADS {
-        if field(path, at, fields::THREADS + thread) == seed::PENDING {
-            count += 1;
-        }
-    }
-    count
+    let waiting = states(path, at).iter().filter(|s| **s == seed::PENDING);
+    waiting.count() as u64
 }
 
 // The Active thread becomes Visited and the first Pending one Active. Answers whether there was

@@ -1,7 +1,6 @@
 use borrow.Author.Rules.{rules}
 use Rattle.path.proofs.OpenWalks.{sum-start, sum-on, sum-all}
 use native.Mathlib.Omega.{arith}
-use Prim.Native.Nat.{◌-◌}
 use Rattle.path.proofs.open.Goals as goal
 
 pub loop-at-init : goal.loop-at-init

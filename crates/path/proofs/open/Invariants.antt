@@ -1,5 +1,5 @@
 use Rattle.path.proofs.OpenWalks.{Summed}
-use Prim.Native.Nat.{◌≤◌, ◌*◌, ◌-◌}
+use Prim.Native.Nat.{◌≤◌, ◌*◌}
 use Rattle.path.proofs.open.Given as goal
 
 abbrev pub invariant-loop-at : goal.invariant-loop-at

@@ -3,10 +3,15 @@ use Prim.Native.Nat.{◌+◌, ◌*◌, ◌≤◌}
 use lib.ListN.{length}
 use mathlib.Core.Path.{◌≡◌}
 use Rattle.path.proofs.NewLaws.{thread-refused, thread-preempted, thread-added, opens-some, opens-nothing}
+use Rattle.path.proofs.PushLaws.{full-err}
+use Rattle.std.proofs.lemmas.Result.{err_from_is_err_and}
 use Rattle.path.proofs.push_thread.Goals as goal
 
-pub returns-then-path-len : goal.returns-then-path-len
-returns-then-path-len c = thread-refused _ _ _ _ c.if-path-len.true
+pub returns-in_err-room : goal.returns-in_err-room
+returns-in_err-room c =
+    let p = err_from_is_err_and c.from_residual.result c.from_residual.ensures.1 in
+    let full = full-err c.in_err-room.ensures in
+    rw (p.1, p.2, full.0) (thread-refused _ _ _ _ full.1)
 
 pub returns-then-preemptions-gt-MAX_PREEMPTIONS : goal.returns-then-preemptions-gt-MAX_PREEMPTIONS
 returns-then-preemptions-gt-MAX_PREEMPTIONS c =

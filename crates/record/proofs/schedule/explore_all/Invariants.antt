@@ -1,6 +1,6 @@
 use Rattle.record.specs.Fields.{states_at, with_states_at}
 use Rattle.record.proofs.MarkLaws.{explored_to, skips_to}
-use Prim.Native.Nat.{◌≤◌, ◌-◌}
+use Prim.Native.Nat.{◌≤◌}
 use mathlib.Core.Path.{◌≡◌}
 use lib.ListN.{length}
 use Rattle.record.proofs.schedule.explore_all.Given as goal

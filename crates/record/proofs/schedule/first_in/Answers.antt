@@ -1,22 +1,16 @@
 use borrow.Author.Rules.{rules}
-use mathlib.Core.Path.{◌∙◌}
-use Rattle.record.proofs.StatesLaws.{first-start, first-here, first_on, first-none}
+use borrow.Author.Tests.{tests}
+use lib.Dec.{eqb}
+use lib.ListN.{length}
+use mathlib.Core.Path.{ap, ◌∙◌}
+use Rattle.std.proofs.lemmas.Iterator.{YieldsList-from_slice}
+use Rattle.std.proofs.lemmas.Iterator.Search.{position_from_yields_List}
+use Rattle.record.proofs.StatesLaws.{length-states_at, first-is}
+use Rattle.record.proofs.ScheduleLaws.{first-by}
 use Rattle.record.proofs.schedule.first_in.Goals as goal
-
-pub loop-thread-init : goal.loop-thread-init
-loop-thread-init c = (search rules, first-start _ _ _ c.requires)
-
-pub returns-then-field-state : goal.returns-then-field-state
-returns-then-field-state c =
-    record {
-      few = search rules;
-      is = first-here _ _ _ c.requires _ _ c.loop-thread-test.true c.field.ensures c.if-field-state.true ∙ c.loop-thread.invariant.1;
-    }
-
-pub loop-thread-preserved : goal.loop-thread-preserved
-loop-thread-preserved c =
-    (search rules, first_on _ _ _ c.requires _ _ c.loop-thread-test.true c.field.ensures c.if-field-state.false ∙ c.loop-thread.invariant.1)
 
 pub returns : goal.returns
 returns c =
-    record { few = search rules; is = first-none _ _ _ c.requires _ c.loop-thread-test.false ∙ c.loop-thread.invariant.1 }
+    let x = c.args.state in
+    let found = position_from_yields_List (λ s. eqb s x) _ _ c.position.result c.position.ensures.ran (YieldsList-from_slice _ c.iter.ensures.rest) (λ s b q k. search (rules, tests)) in
+    rw c.states.ensures at (first-by x _ _ (ap length c.states.ensures ∙ length-states_at _ _ c.requires) (first-is x _ _ found))
