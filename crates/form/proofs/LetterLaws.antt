@@ -196,7 +196,7 @@ equal-swap (x ∷ xs) (y ∷ ys) = rw (equal-swap xs ys) (ap (λ (t : Bool). t &
     swap a b = case a b (λ e. eq-eqb a b e ∙ sym (eq-eqb b a (sym e))) (λ n. ne_eqb a b n ∙ sym (ne_eqb b a (λ e. n (sym e))))
 
 -- a field that is found, and none
-field-some : (n : ℕ) → n < 9 → found_field n ≡ Some n
+pub field-some : (n : ℕ) → n < 9 → found_field n ≡ Some n
 field-some n h = rw (lt-ltb n 9 h)
 
 field-none-of : (n : ℕ) → 9 ≤ n → found_field n ≡ None
