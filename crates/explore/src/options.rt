@@ -1,5 +1,4 @@
 // The words of the command line: the file's name, what is asked of it, and the settings.
-use decimal::Parsed;
 use path::Bound;
 use settings::{MAX_BOUND, MAX_BRANCHES, MAX_EXECUTIONS, MAX_OPERATIONS, Settings, bound_of};
 use std::env::FillError;
@@ -279,7 +278,7 @@ fn with(options: Options, settings: Settings, task: Task, awaited: Awaited) -> O
 
 // The number of `--branches`.
 fn take_branches(errors: &impl Print, word: &[u8], options: Options) -> io::Result<Asked> {
-    let Parsed::Number(n) = decimal::number_between(word, 1, MAX_BRANCHES) else {
+    let Some(n) = decimal::number_between(word, 1, MAX_BRANCHES) else {
         return no_number(errors, Awaited::Branches);
     };
     let mut settings = options.settings;
@@ -289,7 +288,7 @@ fn take_branches(errors: &impl Print, word: &[u8], options: Options) -> io::Resu
 
 // The number of `--operations`.
 fn take_operations(errors: &impl Print, word: &[u8], options: Options) -> io::Result<Asked> {
-    let Parsed::Number(n) = decimal::number_between(word, 1, MAX_OPERATIONS) else {
+    let Some(n) = decimal::number_between(word, 1, MAX_OPERATIONS) else {
         return no_number(errors, Awaited::Operations);
     };
     let mut settings = options.settings;
@@ -299,7 +298,7 @@ fn take_operations(errors: &impl Print, word: &[u8], options: Options) -> io::Re
 
 // The number of `--executions`.
 fn take_executions(errors: &impl Print, word: &[u8], options: Options) -> io::Result<Asked> {
-    let Parsed::Number(n) = decimal::number_between(word, 1, MAX_EXECUTIONS) else {
+    let Some(n) = decimal::number_between(word, 1, MAX_EXECUTIONS) else {
         return no_number(errors, Awaited::Executions);
     };
     let mut settings = options.settings;
@@ -309,7 +308,7 @@ fn take_executions(errors: &impl Print, word: &[u8], options: Options) -> io::Re
 
 // The number of `--bound`.
 fn take_bound(errors: &impl Print, word: &[u8], options: Options) -> io::Result<Asked> {
-    let Parsed::Number(n) = decimal::number_between(word, 0, MAX_BOUND) else {
+    let Some(n) = decimal::number_between(word, 0, MAX_BOUND) else {
         return no_number(errors, Awaited::Bound);
     };
     let settings = options.settings;

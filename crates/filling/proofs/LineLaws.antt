@@ -1,5 +1,6 @@
 -- How a line comes out. Assumes nothing.
 --     lined-by                   an answer to a line that is the same
+--     passed_up                  what a `?` hands on
 --     bare-on, bare-refused      nothing else may stand in the line
 --     Underway, values-..        start values
 --     thread-.., row-..          a thread, a row
@@ -24,6 +25,12 @@ use Rattle.filling.specs.Steps.{Lined, LineSteps, Bare, a_thread_at, a_row_at}
 use Rattle.filling.specs.declared.Line.{Line}
 use Rattle.filling.specs.declared.Line.TheVariants.{GoesOn, Concludes}
 use Rattle.std.proofs.Common.{Result, Ok, Err}
+use Rattle.std.specs.Result.{IsErrAnd}
+
+-- a place at which something is refused, as `?` passes it up
+pub passed_up : {A : Type 0} (r : Result A ℕ) (at : ℕ) → IsErrAnd r (λ (e : ℕ). e ≡ at) → r ≡ Err at
+passed_up (Ok x) at u = absurd u
+passed_up (Err e) at u = ap Err u
 
 abbrev bare_by : ℕ → Draft → List ℕ → Bool → rules.Line
 bare_by rows m bs t = cond t (rules.goes_on rows m (next_line bs)) (rules.refused_line bs)

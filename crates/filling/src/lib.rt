@@ -58,7 +58,13 @@ const PLAIN_VALUES: StartValues = StartValues {
 };
 
 // One line, in a text of so many lines at most and so many threads.
-pub fn line_of(text: &[u8], table: &mut [u8], lines: usize, all: usize, reached: Reached) -> Result<Line, usize>
+pub fn line_of(
+    text: &[u8],
+    table: &mut [u8],
+    lines: usize,
+    all: usize,
+    reached: Reached,
+) -> Result<Line, usize>
     requires { HoldsTable table.old reached.length }
     ensures { LineSteps text.now table.old table.new reached.length result (λ m. rules.line_of lines all reached.rows m (drop reached.at text.now)) }
 {
@@ -109,7 +115,13 @@ fn the_condition(header: &[u8], first: FirstToken) -> Result<Line, usize>
 }
 
 // `thread`, and its rows.
-fn a_thread(text: &[u8], table: &mut [u8], lines: usize, length: usize, first: FirstToken) -> Result<Line, usize>
+fn a_thread(
+    text: &[u8],
+    table: &mut [u8],
+    lines: usize,
+    length: usize,
+    first: FirstToken,
+) -> Result<Line, usize>
     requires { HoldsTable table.old length }
     ensures { LineSteps text.now table.old table.new length result (λ m. a_thread_at lines m (drop first.here text.now) (drop first.to text.now)) }
 {
@@ -130,7 +142,13 @@ fn a_thread(text: &[u8], table: &mut [u8], lines: usize, length: usize, first: F
 }
 
 // A row: only in a thread, and no more than a thread may have.
-fn a_row(text: &[u8], table: &mut [u8], all: usize, reached: Reached, here: usize) -> Result<Line, usize>
+fn a_row(
+    text: &[u8],
+    table: &mut [u8],
+    all: usize,
+    reached: Reached,
+    here: usize,
+) -> Result<Line, usize>
     requires { HoldsTable table.old reached.length }
     ensures { LineSteps text.now table.old table.new reached.length result (λ m. a_row_at all reached.rows m (drop reached.at text.now) (drop here text.now)) }
 {
@@ -173,7 +191,13 @@ fn is_plain_line(text: &[u8], table: &[u8], first: FirstToken) -> bool
 }
 
 // A line of start values: one at least.
-fn values_line(text: &[u8], table: &mut [u8], values: StartValues, length: usize, at: usize) -> Result<Line, usize>
+fn values_line(
+    text: &[u8],
+    table: &mut [u8],
+    values: StartValues,
+    length: usize,
+    at: usize,
+) -> Result<Line, usize>
     requires { HoldsTable table.old length × CountsAt values.place × (get_or table.old values.place 0 ≡ 0) × (values.most ≤ 4) }
     ensures { LineSteps text.now table.old table.new length result (λ m. rules.values_line (with_cell_or_plain values.place) (how_many values.place) values.most m (drop at text.now)) }
 {

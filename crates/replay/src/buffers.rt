@@ -1,6 +1,5 @@
 // The buffers of a case: what they hold before a run, and what the list says of them after it.
 use crate::fields;
-use decimal::Parsed;
 
 // How long the two buffers are: as the settings' most, and more, for the cases that ask for a wrong length.
 pub const BUFFER_ROOM: usize = 70000;
@@ -53,7 +52,7 @@ fn listed_byte(text: &[u8], i: usize) -> u8 {
     if text.len() / 2 <= i {
         return 0;
     }
-    let Parsed::Number(byte) = fields::hex_byte(text[2 * i], text[2 * i + 1]) else {
+    let Some(byte) = fields::hex_byte(text[2 * i], text[2 * i + 1]) else {
         return 0;
     };
     (byte % 256) as u8

@@ -1,7 +1,6 @@
 // A case of the list: what a run is given, and what the list says that it answers.
 use crate::fields;
 use crate::fields::{FIELDS, NOT_GIVEN, Starts};
-use decimal::Parsed;
 use numbers::REPORT_NUMBERS;
 use settings::{MAX_BOUND, Settings, bound_of};
 
@@ -54,7 +53,7 @@ pub fn read_fields(line: &[u8], starts: &Starts, numbers: &mut FieldNumbers) -> 
     while k < FIELDS {
         let from = starts[k];
         let next = starts[k + 1];
-        let Parsed::Number(value) = read_field(fields::text(line, from, next), k) else {
+        let Some(value) = read_field(fields::text(line, from, next), k) else {
             return k;
         };
         numbers[k] = value;
@@ -64,7 +63,7 @@ pub fn read_fields(line: &[u8], starts: &Starts, numbers: &mut FieldNumbers) -> 
 }
 
 // The number in field `k`, or 0 where a field that is no number has the right form.
-fn read_field(text: &[u8], k: usize) -> Parsed {
+fn read_field(text: &[u8], k: usize) -> Option<u64> {
     match k {
         0 => good(text.len() != 0),
         BOUND | LIST => number_or_none(text, k),
@@ -83,17 +82,14 @@ fn read_field(text: &[u8], k: usize) -> Parsed {
 }
 
 // The 0 that stands for a field of the right form.
-fn good(is_good: bool) -> Parsed {
-    if is_good {
-        return Parsed::Number(0);
-    }
-    Parsed::Bad
+fn good(is_good: bool) -> Option<u64> {
+    is_good.then_some(0)
 }
 
 // The number in field `k`, which may be left out.
-fn number_or_none(text: &[u8], k: usize) -> Parsed {
+fn number_or_none(text: &[u8], k: usize) -> Option<u64> {
     if fields::is_byte(text, b'-') {
-        return Parsed::Number(NOT_GIVEN);
+        return Some(NOT_GIVEN);
     }
     fields::number(text, most(k))
 }
@@ -132,7 +128,7 @@ pub fn read_table(text: &[u8], table: &mut [u8; MOST_TABLE]) -> usize {
     }
     let mut i = 0;
     while i < n {
-        let Parsed::Number(byte) = fields::hex_byte(text[2 * i], text[2 * i + 1]) else {
+        let Some(byte) = fields::hex_byte(text[2 * i], text[2 * i + 1]) else {
             return MOST_TABLE + 1;
         };
         table[i] = (byte % 256) as u8;

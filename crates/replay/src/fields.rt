@@ -1,6 +1,5 @@
 // The fields of a line of the list: texts between single spaces, decimal numbers and lowercase hex.
 use crate::case::TRACE_LEFT;
-use decimal::Parsed;
 
 // A line with its answer has this many fields; a condition is one more, the last.
 pub const FIELDS: usize = TRACE_LEFT + 1;
@@ -55,32 +54,26 @@ pub fn is_byte(text: &[u8], byte: u8) -> bool {
 }
 
 // The decimal number that a text spells, from 0 to `most`, in the one way to write it: with no zero in front.
-pub fn number(text: &[u8], most: u64) -> Parsed {
-    if 1 < text.len() {
-        if text[0] == b'0' {
-            return Parsed::Bad;
-        }
+pub fn number(text: &[u8], most: u64) -> Option<u64> {
+    if 1 < text.len() && text[0] == b'0' {
+        return None;
     }
     decimal::number_between(text, 0, most)
 }
 
 // The byte that two lowercase hex digits spell.
-pub fn hex_byte(high: u8, low: u8) -> Parsed {
-    let Parsed::Number(h) = hex_digit(high) else {
-        return Parsed::Bad;
-    };
-    let Parsed::Number(l) = hex_digit(low) else {
-        return Parsed::Bad;
-    };
-    Parsed::Number(16 * (h % 16) + l % 16)
+pub fn hex_byte(high: u8, low: u8) -> Option<u64> {
+    let h = hex_digit(high)?;
+    let l = hex_digit(low)?;
+    Some(16 * (h % 16) + l % 16)
 }
 
 // The number that a lowercase hex digit spells.
-pub fn hex_digit(byte: u8) -> Parsed {
+pub fn hex_digit(byte: u8) -> Option<u64> {
     match byte {
-        b'0'..=b'9' => Parsed::Number((byte - b'0') as u64),
-        b'a'..=b'f' => Parsed::Number((byte - b'a') as u64 + 10),
-        _ => Parsed::Bad,
+        b'0'..=b'9' => Some((byte - b'0') as u64),
+        b'a'..=b'f' => Some((byte - b'a') as u64 + 10),
+        _ => None,
     }
 }
 
@@ -91,7 +84,7 @@ pub fn is_hex(text: &[u8]) -> bool {
     }
     let mut i = 0;
     while i < text.len() {
-        let Parsed::Number(_) = hex_digit(text[i]) else {
+        let Some(_) = hex_digit(text[i]) else {
             return false;
         };
         i += 1;

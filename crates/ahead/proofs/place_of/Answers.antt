@@ -24,8 +24,7 @@ pub loop-byte-preserved : goal.loop-byte-preserved
 loop-byte-preserved c =
     let a = c.args in
     let b = c.behind-place.ensures in
-    let bytes = c.part-byte-items.ensures ∙ first-part a.text.now a.at in
-    (
+    let bytes = c.part-byte-items.ensures ∙ first-part a.text.now a.at in (
       omega (arith, b.low, c.loop-byte.invariant.0),
       omega (arith, b.near, c.loop-byte.invariant.1),
       way_on (take a.at a.text.now) c.loop-byte.place.line c.loop-byte.place.column c.loop-byte.byte-index c.behind-place.result (rw bytes at c.loop-byte-test.true) (rw bytes at b) ∙ c.loop-byte.invariant.2,

@@ -10,7 +10,7 @@ use Rattle.rules.proofs.LimitLaws.{rows_fit}
 use Rattle.form.specs.Rows.{followed_of}
 use Rattle.filling.specs.Tables.{HeldTable}
 use Rattle.filling.proofs.HeldLaws.{held-threads, held-cells, held-plains, within, begun, count-there}
-use Rattle.filling.proofs.LineLaws.{row-early, row-full, row-stuck, row_fits}
+use Rattle.filling.proofs.LineLaws.{row-early, row-full, row-stuck, row_fits, passed_up}
 use Rattle.filling.proofs.a_row.Goals as goal
 
 -- what a row may name, by the header
@@ -96,7 +96,7 @@ overflow_cast-room-2 c =
 
 pub returns-in_err-row : goal.returns-in_err-row
 returns-in_err-row c =
-    let refused = c.from_residual.ensures in
+    let refused = passed_up c.from_residual.result _ c.from_residual.ensures.1 in
     record {
       is = λ m held.
           let a = c.args in

@@ -13,7 +13,7 @@ use borrow.Author.Rules.{rules}
 use Rattle.filling.proofs.values_line.Goals as goal
 
 pub loop-i-init : goal.loop-i-init
-loop-i-init c = (
+loop-i-init c = let all : c.args.values.most - 0 ≡ c.args.values.most = omega arith in rw all (
   refl,
   λ m held. record {
     made = m;

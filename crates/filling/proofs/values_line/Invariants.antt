@@ -9,4 +9,4 @@ use Rattle.filling.proofs.values_line.Given as goal
 abbrev pub invariant-loop-i : goal.invariant-loop-i
 invariant-loop-i l =
     (length l.table ≡ length l.initial.table)
-    × ((m : Draft) → HeldTable l.initial.table l.length m → Underway l.text l.table l.place l.long (l.values.most - l.i) l.from (values_line (with_cell_or_plain l.place) (how_many l.place) l.values.most m (drop l.at l.text)))
+    × ((m : Draft) → HeldTable l.initial.table l.length m → Underway l.text l.table l.place l.long (l.i-end - l.i) l.from (values_line (with_cell_or_plain l.place) (how_many l.place) l.i-end m (drop l.at l.text)))
