@@ -1,7 +1,7 @@
 -- Counts of lines, and the place behind bytes. Assumes nothing.
 use Prim.Native.Nat.{ℕ, suc, ◌+◌, ◌-◌, ◌≤◌, ◌<◌}
 use mathlib.Core.List.{List, [], ◌∷◌}
-use mathlib.Core.Bool.{Bool, true, false, cond, ◌||◌}
+use mathlib.Core.Bool.{Bool, true, false, cond, not, ◌||◌}
 use mathlib.Core.Path.{◌≡◌, refl, ap, sym, ◌∙◌}
 use native.Mathlib.Omega.{arith}
 use native.Mathlib.Decide.{dec_lt}
@@ -9,6 +9,7 @@ use Prim.Native.String.{String}
 use native.Mathlib.Numerals.{add-one}
 use borrow.Author.Tests.{eq-eqb, ne_eqb}
 use lib.Dec.{eqb}
+use mir.Val.{bool_byte}
 use lib.ListN.{length, get_or, take, drop, length-take, length-drop, drop_of_length-le}
 use lib.Seq.{drop-cons, get_or-take, take_all}
 use Rattle.rules.specs.Vector.{equal}
@@ -141,17 +142,23 @@ says-thread text at to r e t h = ap (equal (part at to text)) thread-bytes ∙ s
 pub says-finally : (text : List ℕ) (at to : ℕ) (r : Bool) → r ≡ equal (part at to text) (102 ∷ 105 ∷ 110 ∷ 97 ∷ 108 ∷ 108 ∷ 121 ∷ []) → (t : Bool) → r ≡ t → is "finally" at to text ≡ t
 says-finally text at to r e t h = ap (equal (part at to text)) finally-bytes ∙ sym e ∙ h
 
-pub row-not : (bs : List ℕ) → ends_line bs ≡ true → LinesCounted 0 1 (row_here bs)
-row-not bs e = record { is = rw e; most = omega arith }
+count-low : (t : Bool) → bool_byte t ≤ 1
+count-low true = omega arith
+count-low false = omega arith
 
-pub row_one : (bs : List ℕ) → ends_line bs ≡ false → LinesCounted 1 1 (row_here bs)
-row_one bs e = record { is = rw e; most = omega arith }
+count-not : (t : Bool) → bool_byte (not t) ≡ cond t 0 1
+count-not true = refl
+count-not false = refl
 
-pub thread-not : (text : List ℕ) (at to : ℕ) → is "thread" at to text ≡ false → LinesCounted 0 1 (thread_here at to text)
-thread-not text at to e = record { is = sym (ap (λ (t : Bool). cond t 1 0) e); most = omega arith }
+count-is : (t : Bool) → bool_byte t ≡ cond t 1 0
+count-is true = refl
+count-is false = refl
 
-pub thread-one : (text : List ℕ) (at to : ℕ) → is "thread" at to text ≡ true → LinesCounted 1 1 (thread_here at to text)
-thread-one text at to e = record { is = sym (ap (λ (t : Bool). cond t 1 0) e); most = omega arith }
+pub row-counted : (bs : List ℕ) (r : ℕ) (t : Bool) → r ≡ bool_byte (not t) → t ≡ ends_line bs → LinesCounted r 1 (row_here bs)
+row-counted bs r t e h = record { is = e ∙ count-not t ∙ ap (λ (b : Bool). cond b 0 1) h; most = omega (arith, e, count-low (not t)) }
+
+pub thread-counted : (text : List ℕ) (at to : ℕ) (r : ℕ) (t : Bool) → r ≡ bool_byte t → t ≡ is "thread" at to text → LinesCounted r 1 (thread_here at to text)
+thread-counted text at to r t e h = record { is = e ∙ count-is t ∙ ap (λ (b : Bool). cond b 1 0) h; most = omega (arith, e, count-low t) }
 
 -- Places
 
@@ -181,18 +188,15 @@ behind-on line column b n = record {
 }
 
 -- a place on the way: what lies between it and the end is still to be passed
-module _ (text : List ℕ) (at line column i : ℕ) where
-  pub way_on : (p : Place) → i < at → i < length text → Behind line column (get_or text i 0) p
-      → place_behind p.line p.column (drop (i + 1) (take at text)) ≡ place_behind line column (drop i (take at text))
-  way_on p h l b =
-      let long : i < length (take at text) = omega (arith, length-take at text) in
-      b.is (drop (i + 1) (take at text))
-      ∙ ap (λ (v : ℕ). place_behind line column (v ∷ drop (i + 1) (take at text))) (sym (get_or-take at text i 0 h))
-      ∙ ap (λ (n : ℕ). place_behind line column (get_or (take at text) i 0 ∷ drop n (take at text))) (add-one i)
-      ∙ ap (place_behind line column) (sym (drop-cons (take at text) i 0 long))
+module _ (bytes : List ℕ) (line column i : ℕ) where
+  pub way_on : (p : Place) → i < length bytes → Behind line column (get_or bytes i 0) p → place_behind p.line p.column (drop (i + 1) bytes) ≡ place_behind line column (drop i bytes)
+  way_on p l b =
+      b.is (drop (i + 1) bytes)
+      ∙ ap (λ (n : ℕ). place_behind line column (get_or bytes i 0 ∷ drop n bytes)) (add-one i)
+      ∙ ap (place_behind line column) (sym (drop-cons bytes i 0 l))
 
-  pub way_end : length (take at text) ≤ i → record { line = line; column = column } ≡ place_behind line column (drop i (take at text))
-  way_end h = sym (ap (place_behind line column) (drop_of_length-le (take at text) {i = i} h) ∙ place_none line column)
+  pub way_end : length bytes ≤ i → record { line = line; column = column } ≡ place_behind line column (drop i bytes)
+  way_end h = sym (ap (place_behind line column) (drop_of_length-le bytes {i = i} h) ∙ place_none line column)
 
 -- the bytes before a place
 pub before-is : (text : List ℕ) (at : ℕ) → take (length text - length (drop at text)) text ≡ take at text

@@ -18,8 +18,7 @@ pub fn rows_ahead(text: &[u8], lines: usize, at: usize) -> usize
 {
     let mut rows = 0;
     let mut from = at;
-    let mut left = lines;
-    while 0 < left {
+    for i in 0..lines {
         let here = token::past_blanks(text, from);
         let to = token::token_end(text, here);
         if text.len() <= here {
@@ -33,7 +32,6 @@ pub fn rows_ahead(text: &[u8], lines: usize, at: usize) -> usize
         }
         rows += row_here(text, here);
         from = token::next_line(text, here);
-        left -= 1;
     }
     rows
 }
@@ -42,10 +40,7 @@ pub fn rows_ahead(text: &[u8], lines: usize, at: usize) -> usize
 fn row_here(text: &[u8], at: usize) -> usize
     ensures { LinesCounted result 1 (row_here (drop at text.now)) }
 {
-    if token::ends_line(text, at) {
-        return 0;
-    }
-    1
+    usize::from(!token::ends_line(text, at))
 }
 
 // The threads from here on; so many lines at most.
@@ -54,8 +49,7 @@ pub fn threads_ahead(text: &[u8], lines: usize, at: usize) -> usize
 {
     let mut threads = 0;
     let mut from = at;
-    let mut left = lines;
-    while 0 < left {
+    for i in 0..lines {
         let here = token::past_blanks(text, from);
         let to = token::token_end(text, here);
         if text.len() <= here {
@@ -66,7 +60,6 @@ pub fn threads_ahead(text: &[u8], lines: usize, at: usize) -> usize
         }
         threads += thread_here(text, here, to);
         from = token::next_line(text, here);
-        left -= 1;
     }
     threads
 }
@@ -75,10 +68,7 @@ pub fn threads_ahead(text: &[u8], lines: usize, at: usize) -> usize
 fn thread_here(text: &[u8], at: usize, to: usize) -> usize
     ensures { LinesCounted result 1 (thread_here at to text.now) }
 {
-    if token::is_word(text, b"thread", at, to) {
-        return 1;
-    }
-    0
+    usize::from(token::is_word(text, b"thread", at, to))
 }
 
 // The line and column of a place.
@@ -86,10 +76,8 @@ pub fn place_of(text: &[u8], at: usize) -> Place
     ensures { PlacedAt text.now (drop at text.now) result }
 {
     let mut place = Place { line: 1, column: 1 };
-    let mut i = 0;
-    while i < at && i < text.len() {
-        place = behind(text[i], place);
-        i += 1;
+    for &byte in token::part(text, 0, at) {
+        place = behind(byte, place);
     }
     place
 }

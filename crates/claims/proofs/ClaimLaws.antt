@@ -11,6 +11,7 @@ use borrow.Author.Tests.{eq-eqb, ne_eqb, le-leb, lt-leb}
 use lib.Dec.{leb}
 use lib.ListN.{length, take, drop, length-take, length-drop}
 use lib.Seq.{take-paste, length-paste}
+use Rattle.std.proofs.Common.{Option, Some, None}
 use Rattle.rules.specs.Condition.{condition_bytes}
 use Rattle.rules.specs.Token.{is_empty, content}
 use Rattle.rules.specs.Text.{unit_at, claimed, claimed_to, Claimed}
@@ -79,26 +80,27 @@ module _ (text : List ℕ) (lines left stop : ℕ) (made : List ℕ) (from here 
           ap (claimed_to lines made (drop here text)) (sym some)
           ∙ one-more true (ap (λ (t : Bool). t || is_empty (drop here text)) (le-leb stop (length made) h))
 
-      module _ (early : length made < stop) (u : Unit) (stands : UnitStands text (unit_at lines (drop here text)) u) where
-        one_unit : unit_then lines (left - 1) stop made (drop here text) (unit_of text u) ≡ claimed lines left stop made (drop from text)
+      module _ (early : length made < stop) (r : Option Unit) (stands : UnitStands text (unit_at lines (drop here text)) r) where
+        one_unit : unit_then lines (left - 1) stop made (drop here text) (unit_of text r) ≡ claimed lines left stop made (drop from text)
         one_unit =
             ap (unit_then lines (left - 1) stop made (drop here text)) stands.is
             ∙ one-more false (ap (λ (t : Bool). t || is_empty (drop here text)) (lt-leb stop (length made) early) ∙ some)
 
-        pub claim-none : u.size ≡ 0 → claimed_to lines made (drop here text) false ≡ claimed lines left stop made (drop from text)
-        claim-none s =
-            let e : unit_of text u ≡ rules.none = rw s in
-            ap (unit_then lines (left - 1) stop made (drop here text)) (sym e) ∙ one_unit
+        pub claim-none : r ≡ None → claimed_to lines made (drop here text) false ≡ claimed lines left stop made (drop from text)
+        claim-none e = ap (λ (o : Option Unit). unit_then lines (left - 1) stop made (drop here text) (unit_of text o)) (sym e) ∙ one_unit
 
-        module _ (size : (u.size ≡ 0 → ⊥)) where
+        module _ (u : Unit) (there-is : r ≡ Some u) where
+          the_unit : unit_then lines (left - 1) stop made (drop here text) (unit_of text (Some u)) ≡ claimed lines left stop made (drop from text)
+          the_unit = ap (λ (o : Option Unit). unit_then lines (left - 1) stop made (drop here text) (unit_of text o)) (sym there-is) ∙ one_unit
+
           pub claim-broken : u.whole ≡ false → claimed_to lines (made ++ take u.size u.bytes) (drop u.at text) false ≡ claimed lines left stop made (drop from text)
           claim-broken w =
-              let e : unit_of text u ≡ rules.broken (take u.size u.bytes) (drop u.at text) = rw (ne_eqb _ _ size, w) in
-              ap (unit_then lines (left - 1) stop made (drop here text)) (sym e) ∙ one_unit
+              let e : unit_of text (Some u) ≡ rules.broken (take u.size u.bytes) (drop u.at text) = rw w in
+              ap (unit_then lines (left - 1) stop made (drop here text)) (sym e) ∙ the_unit
 
           module _ (w : u.whole ≡ true) (has : u.size ≤ length u.bytes) where
-            whole_is : unit_of text u ≡ rules.unit (take u.size u.bytes) (drop u.at text)
-            whole_is = rw (ne_eqb _ _ size, w)
+            whole_is : unit_of text (Some u) ≡ rules.unit (take u.size u.bytes) (drop u.at text)
+            whole_is = rw w
 
             long : length made + length (take u.size u.bytes) ≡ length made + u.size
             long = omega (arith, length-take u.size u.bytes)
@@ -108,7 +110,7 @@ module _ (text : List ℕ) (lines left stop : ℕ) (made : List ℕ) (from here 
             one-room t e =
                 ap (room_then lines (left - 1) stop made (drop here text) (take u.size u.bytes) (drop u.at text)) (sym e ∙ ap (λ (n : ℕ). leb n condition_bytes) (sym long))
                 ∙ ap (unit_then lines (left - 1) stop made (drop here text)) (sym whole_is)
-                ∙ one_unit
+                ∙ the_unit
 
             pub claim-long : condition_bytes < length made + u.size → claimed_to lines made (drop here text) false ≡ claimed lines left stop made (drop from text)
             claim-long h = one-room false (lt-leb (length made + u.size) condition_bytes h)

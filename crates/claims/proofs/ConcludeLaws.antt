@@ -8,12 +8,12 @@ use native.Mathlib.Omega.{arith}
 use borrow.Author.Tests.{eq-eqb, ne_eqb}
 use lib.ListN.{length, take, drop, replicate, length-replicate}
 use lib.Seq.{length-take-le}
+use Rattle.std.proofs.Common.{Ok, Err}
 use Rattle.rules.specs.Condition.{condition_bytes, Read, bad, read, condition_at, groups_deep, comparison_at}
 use Rattle.rules.specs.Token.{is_empty}
 use Rattle.rules.specs.Text.{Draft, Claimed, claimed, TextRead, refused_at, accepted, concluded, table_of}
 use Rattle.token.specs.Places.{part}
 use Rattle.condition.specs.Reads.{found_in}
-use Rattle.std.specs.Prelude.{Ok, Err}
 use Rattle.condition.specs.declared.BadByte.{BadByte}
 use Rattle.claims.specs.Units.{most_claimed, Claims, Concludes, concluded_of}
 use Rattle.claims.specs.declared.Claim.{Claim}
@@ -90,36 +90,31 @@ module _ (text : List ℕ) (lines at threads : ℕ) (c : Claim) (claims : Claims
 
   module _ (stop : ℕ) where
     -- a refusal
-    module _ (r : Conclusion) (says : (r.taken ≡ false) × (r.length ≡ 0) × (r.bytes ≡ replicate most_claimed 0) × (drop r.at text ≡ (claimed lines lines stop [] (drop at text)).rest)) where
-      refused-is : (table : List ℕ) → concluded_of table text r ≡ refused_by lines (drop at text) table stop
-      refused-is table = rw says.0 (ap refused_at says.3)
-
+    module _ (stuck : ℕ) (says : drop stuck text ≡ (claimed lines lines stop [] (drop at text)).rest) where
       abbrev Refuses : Type 0
       Refuses = (table : List ℕ) → refused_by lines (drop at text) table stop ≡ conclude_then lines (drop at text) table piece c.whole (judged threads piece)
 
-      so-refused : Refuses → Concludes text at lines threads r
+      so-refused : Refuses → Concludes text at lines threads (Err stuck)
       so-refused h = record {
-        is = λ m t. refused-is (table_of m) ∙ h (table_of m) ∙ all-is m t;
-        most = omega (arith, says.1);
-        long = ap length says.2 ∙ length-replicate {A = ℕ} most_claimed 0;
+        is = λ m t. ap refused_at says ∙ h (table_of m) ∙ all-is m t;
+        within = λ k e. absurd (let z : ◌≡◌ {A = ℕ} 0 1 = cc in omega arith);
       }
 
-      pub bad-refused : Err (bad_at stop) ≡ found_in (length piece) (judged threads piece) → Concludes text at lines threads r
+      pub bad-refused : Err (bad_at stop) ≡ found_in (length piece) (judged threads piece) → Concludes text at lines threads (Err stuck)
       bad-refused e = so-refused (λ table. bad-by lines (drop at text) table piece c.whole stop (judged threads piece) e)
 
-      pub ends-refused : Ok stop ≡ found_in (length piece) (judged threads piece) → (stop ≡ c.length → ⊥) → Concludes text at lines threads r
+      pub ends-refused : Ok stop ≡ found_in (length piece) (judged threads piece) → (stop ≡ c.length → ⊥) → Concludes text at lines threads (Err stuck)
       ends-refused e n =
           so-refused (λ table. ends_by lines (drop at text) table piece c.whole stop (judged threads piece) e (λ (z : stop ≡ length piece). n (z ∙ piece-long)))
 
-      pub broken-refused : Ok stop ≡ found_in (length piece) (judged threads piece) → c.whole ≡ false → Concludes text at lines threads r
+      pub broken-refused : Ok stop ≡ found_in (length piece) (judged threads piece) → c.whole ≡ false → Concludes text at lines threads (Err stuck)
       broken-refused e w = so-refused (λ table. broken-by lines (drop at text) table piece c.whole stop (judged threads piece) e w)
 
     pub ends-taken : Ok stop ≡ found_in (length piece) (judged threads piece) → stop ≡ c.length → c.whole ≡ true
-        → Concludes text at lines threads (record { taken = true; at = at; length = c.length; bytes = c.bytes })
+        → Concludes text at lines threads (Ok (record { length = c.length; bytes = c.bytes }))
     ends-taken e h w = record {
       is = λ m t. ap (accepted (table_of m)) (sym piece_is)
           ∙ taken-by lines (drop at text) (table_of m) piece c.whole stop (judged threads piece) e (some_read threads stop piece e) (h ∙ sym piece-long) w
           ∙ all-is m t;
-      most = claims.whole w;
-      long = claims.long;
+      within = λ k f. let z : record { length = c.length; bytes = c.bytes } ≡ k = cc in rw (← z) (claims.whole w, claims.long);
     }

@@ -11,6 +11,7 @@ use mathlib.Core.Path.{◌≡◌, refl, ap, sym, ◌∙◌}
 use native.Mathlib.Omega.{arith}
 use borrow.Author.Tests.{le-leb, lt-leb}
 use lib.ListN.{length, take, drop, replicate}
+use Rattle.std.proofs.Common.{Option, Some, None}
 use Rattle.rules.specs.Vector.{equal}
 use Rattle.rules.specs.Event.{little}
 use Rattle.rules.specs.Condition.{is_sign}
@@ -59,8 +60,12 @@ not_sign b = not (is_sign b)
 abbrev symbol_then : List ℕ → Found → rules.Unit
 symbol_then rest f = elim f [ nothing ↦ rules.none | found b ↦ rules.unit (b ∷ []) rest ]
 
-is_none : (text : List ℕ) (u : Unit) → u.size ≡ 0 → unit_of text u ≡ rules.none
-is_none text u s = rw s
+-- nothing, and a unit of so many bytes
+stands-none : (text : List ℕ) {unit : rules.Unit} → rules.none ≡ unit → UnitStands text unit None
+stands-none text e = record { is = e; within = λ u h. absurd (let z : ◌≡◌ {A = ℕ} 0 1 = cc in omega arith) }
+
+stands-one : (text : List ℕ) (u : Unit) {unit : rules.Unit} → unit_of text (Some u) ≡ unit → u.size ≤ 11 → length u.bytes ≡ 11 → UnitStands text unit (Some u)
+stands-one text u e s l = record { is = e; within = λ w h. let z : u ≡ w = cc in rw (← z) (s, l) }
 
 sign-yes : (v : ℕ) → 1 ≤ v → v ≤ 6 → is_sign v ≡ true
 sign-yes v l h = rw (le-leb 1 v l, le-leb v 6 h)
@@ -72,19 +77,19 @@ only-by : (p : ℕ → Bool) (f : Found) (v : ℕ) (t : Bool) → f ≡ found v 
 only-by p f v t e h = ap (only p) e ∙ ap (λ (s : Bool). found_if s v) h
 
 module _ (text : List ℕ) (at to : ℕ) where
-  pub symbol-none : (u : Unit) → (u.size ≡ 0) × (u.bytes ≡ replicate 11 0) → symbol_in (part at to text) ≡ nothing → UnitStands text (symbol_at at to text) u
-  symbol-none u s m = record { is = is_none text u s.0 ∙ sym (ap (λ (f : Found). symbol_then (drop to text) (only not_sign f)) m); small = omega (arith, s.0); long = ap length s.1 }
+  pub symbol-none : symbol_in (part at to text) ≡ nothing → UnitStands text (symbol_at at to text) None
+  symbol-none m = stands-none text (sym (ap (λ (f : Found). symbol_then (drop to text) (only not_sign f)) m))
 
   module _ (v : ℕ) (m : symbol_in (part at to text) ≡ found v) where
-    pub symbol-sign : (u : Unit) → (u.size ≡ 0) × (u.bytes ≡ replicate 11 0) → v ≤ 6 → UnitStands text (symbol_at at to text) u
-    symbol-sign u s h =
+    pub symbol-sign : v ≤ 6 → UnitStands text (symbol_at at to text) None
+    symbol-sign h =
         let e : only not_sign (symbol_in (part at to text)) ≡ nothing = only-by not_sign _ v false m (ap not (sign-yes v (symbol-least _ v m) h)) in
-        record { is = is_none text u s.0 ∙ sym (ap (symbol_then (drop to text)) e); small = omega (arith, s.0); long = ap length s.1 }
+        stands-none text (sym (ap (symbol_then (drop to text)) e))
 
-    pub symbol-here : 6 < v → UnitStands text (symbol_at at to text) (record { whole = true; size = 1; bytes = v ∷ 0 ∷ 0 ∷ 0 ∷ 0 ∷ 0 ∷ 0 ∷ 0 ∷ 0 ∷ 0 ∷ 0 ∷ []; at = to })
+    pub symbol-here : 6 < v → UnitStands text (symbol_at at to text) (Some (record { whole = true; size = 1; bytes = v ∷ 0 ∷ 0 ∷ 0 ∷ 0 ∷ 0 ∷ 0 ∷ 0 ∷ 0 ∷ 0 ∷ 0 ∷ []; at = to }))
     symbol-here h =
         let e : only not_sign (symbol_in (part at to text)) ≡ found v = only-by not_sign _ v true m (ap not (sign-not v (symbol-least _ v m) h)) in
-        record { is = sym (ap (symbol_then (drop to text)) e); small = omega arith; long = refl }
+        stands-one text _ (sym (ap (symbol_then (drop to text)) e)) (omega arith) refl
 
 -- Behind a thread's register
 
@@ -110,7 +115,7 @@ module _ (text : List ℕ) (lines at to register : ℕ) (bs : List ℕ) (left : 
   past-there : drop to text ≡ past_token (content lines bs)
   past-there = left_by text at to _ long ∙ ap past_token left
 
-  is-broken : unit_of text (broken_of register at) ≡ rules.broken (comparison_of 1 register 0) (content lines bs)
+  is-broken : unit_of text (Some (broken_of register at)) ≡ rules.broken (comparison_of 1 register 0) (content lines bs)
   unfolding little
   is-broken = ap (rules.broken (comparison_of 1 register 0)) left
 
@@ -122,8 +127,8 @@ module _ (text : List ℕ) (lines at to register : ℕ) (bs : List ℕ) (left : 
     number-there : (f : Found) → number_in (part at to text) ≡ f → number_then register sign (content lines bs) f ≡ number_behind lines register sign bs
     number-there f e = ap (number_then register sign (content lines bs)) (sym e ∙ ap number_in word-there)
 
-    pub number-broken : (u : Unit) → u ≡ broken_of register at → number_in (part at to text) ≡ nothing → UnitStands text (number_behind lines register sign bs) u
-    number-broken u b e = rw b (record { is = is-broken ∙ number-there nothing e; small = omega arith; long = broken-long })
+    pub number-broken : (u : Unit) → u ≡ broken_of register at → number_in (part at to text) ≡ nothing → UnitStands text (number_behind lines register sign bs) (Some u)
+    number-broken u b e = rw b (stands-one text _ (is-broken ∙ number-there nothing e) (omega arith) broken-long)
 
     compared-of : (v : ℕ) → take 11 (comparison_of sign register v) ≡ comparison_of sign register v
     unfolding little
@@ -134,35 +139,33 @@ module _ (text : List ℕ) (lines at to register : ℕ) (bs : List ℕ) (left : 
     compared-long v = refl
 
     pub number-here : (bytes : List ℕ) (v : ℕ) → bytes ≡ comparison_of sign register v → number_in (part at to text) ≡ found v
-        → UnitStands text (number_behind lines register sign bs) (record { whole = true; size = 11; bytes = bytes; at = to })
-    number-here bytes v b e = record {
-      is =
-          ap (λ (x : List ℕ). rules.unit x (drop to text)) (ap (take 11) b ∙ compared-of v)
-          ∙ ap (rules.unit (comparison_of sign register v)) past-there
-          ∙ number-there (found v) e;
-      small = omega arith;
-      long = ap length (b ∙ sym (compared-of v)) ∙ compared-long v;
-    }
+        → UnitStands text (number_behind lines register sign bs) (Some (record { whole = true; size = 11; bytes = bytes; at = to }))
+    number-here bytes v b e =
+        stands-one text _
+        (ap (λ (x : List ℕ). rules.unit x (drop to text)) (ap (take 11) b ∙ compared-of v)
+        ∙ ap (rules.unit (comparison_of sign register v)) past-there
+        ∙ number-there (found v) e)
+        (omega arith)
+        (ap length (b ∙ sym (compared-of v)) ∙ compared-long v)
 
   sign-there : (f : Found) → only is_sign (symbol_in (part at to text)) ≡ f → sign_then lines register (content lines bs) f ≡ sign_behind lines register bs
   sign-there f e = ap (sign_then lines register (content lines bs)) (sym e ∙ ap (λ (w : List ℕ). only is_sign (symbol_in w)) word-there)
 
-  pub sign-none : (u : Unit) → u ≡ broken_of register at → symbol_in (part at to text) ≡ nothing → UnitStands text (sign_behind lines register bs) u
-  sign-none u b e = rw b (record { is = is-broken ∙ sign-there nothing (ap (only is_sign) e); small = omega arith; long = broken-long })
+  pub sign-none : (u : Unit) → u ≡ broken_of register at → symbol_in (part at to text) ≡ nothing → UnitStands text (sign_behind lines register bs) (Some u)
+  sign-none u b e = rw b (stands-one text _ (is-broken ∙ sign-there nothing (ap (only is_sign) e)) (omega arith) broken-long)
 
   module _ (v : ℕ) (m : symbol_in (part at to text) ≡ found v) where
-    pub sign-other : (u : Unit) → u ≡ broken_of register at → 6 < v → UnitStands text (sign_behind lines register bs) u
+    pub sign-other : (u : Unit) → u ≡ broken_of register at → 6 < v → UnitStands text (sign_behind lines register bs) (Some u)
     sign-other u b h =
-        rw b (record { is = is-broken ∙ sign-there nothing (only-by is_sign _ v false m (sign-not v (symbol-least _ v m) h)); small = omega arith; long = broken-long })
+        rw b (stands-one text _ (is-broken ∙ sign-there nothing (only-by is_sign _ v false m (sign-not v (symbol-least _ v m) h))) (omega arith) broken-long)
 
-    pub sign-here : (u : Unit) → v ≤ 6 → UnitStands text (number_behind lines register v (drop to text)) u → UnitStands text (sign_behind lines register bs) u
+    pub sign-here : (u : Option Unit) → v ≤ 6 → UnitStands text (number_behind lines register v (drop to text)) u → UnitStands text (sign_behind lines register bs) u
     sign-here u h s = record {
       is =
           s.is
           ∙ ap (number_behind lines register v) past-there
           ∙ sign-there (found v) (only-by is_sign _ v true m (sign-yes v (symbol-least _ v m) h));
-      small = s.small;
-      long = s.long;
+      within = s.within;
     }
 
 -- The whole unit
@@ -183,20 +186,18 @@ module _ (text : List ℕ) (lines at to : ℕ) (long : to ≡ at + token_length 
   named f e =
       ap (unit_then lines (drop at text)) (sym e ∙ ap thread_register_in (part-token text at to long)) ∙ sym (unit-next lines (drop at text))
 
-  pub unit-symbol : (u : Unit) → thread_register_in (part at to text) ≡ nothing → UnitStands text (symbol_at at to text) u → UnitStands text (unit_at lines (drop at text)) u
+  pub unit-symbol : (u : Option Unit) → thread_register_in (part at to text) ≡ nothing → UnitStands text (symbol_at at to text) u → UnitStands text (unit_at lines (drop at text)) u
   unit-symbol u e s = record {
     is =
         s.is
         ∙ ap (λ (w : List ℕ). symbol_then (drop to text) (only not_sign (symbol_in w))) (part-token text at to long)
         ∙ ap (λ (r : List ℕ). symbol_then r (only not_sign (symbol_in (token (drop at text))))) (left_by text at to _ long)
         ∙ named nothing e;
-    small = s.small;
-    long = s.long;
+    within = s.within;
   }
 
-  pub unit-compared : (u : Unit) (v : ℕ) → thread_register_in (part at to text) ≡ found v → UnitStands text (sign_behind lines v (drop to text)) u → UnitStands text (unit_at lines (drop at text)) u
+  pub unit-compared : (u : Option Unit) (v : ℕ) → thread_register_in (part at to text) ≡ found v → UnitStands text (sign_behind lines v (drop to text)) u → UnitStands text (unit_at lines (drop at text)) u
   unit-compared u v e s = record {
     is = s.is ∙ ap (sign_behind lines v) (left_by text at to _ long) ∙ named (found v) e;
-    small = s.small;
-    long = s.long;
+    within = s.within;
   }

@@ -6,7 +6,7 @@
 --     Claims         what was read of a condition
 --     ended_at, with_unit     the same ended at a place, and with a unit more
 --     Concludes      a text's condition, taken or refused
-use Rattle.std.specs.Prelude.{ℕ, ◌+◌, ◌≤◌, ◌<◌, List, [], ◌∷◌, Bool, true, false, cond, not, ◌≡◌, eqb, length, take, drop}
+use Rattle.std.specs.Prelude.{ℕ, ◌+◌, ◌≤◌, ◌<◌, List, [], ◌∷◌, Bool, true, false, cond, not, ◌≡◌, length, take, drop, Option, Some, None, Result, Ok, Err}
 use Rattle.std.proofs.Math.Seq.{paste}
 use Rattle.rules.specs.Condition.{is_sign, condition_bytes, comparison_bytes}
 use Rattle.rules.specs.Token.{nothing, found, only}
@@ -24,16 +24,14 @@ most_claimed = condition_bytes + comparison_bytes
 abbrev pub IsOwned : Owned → Type 0
 IsOwned o = (o.thread < 5) × (o.register < 4)
 
--- with no byte it is nothing that a condition has
-abbrev pub unit_of : List ℕ → Unit → rules.Unit
-unit_of text u =
-    cond (eqb u.size 0) rules.none
-    (cond u.whole (rules.unit (take u.size u.bytes) (drop u.at text)) (rules.broken (take u.size u.bytes) (drop u.at text)))
+-- where it is none it is nothing that a condition has
+abbrev pub unit_of : List ℕ → Option Unit → rules.Unit
+unit_of text None = rules.none
+unit_of text (Some u) = cond u.whole (rules.unit (take u.size u.bytes) (drop u.at text)) (rules.broken (take u.size u.bytes) (drop u.at text))
 
-pub record UnitStands (text : List ℕ) (unit : rules.Unit) (u : Unit) : Type 0 where
-  pub is : unit_of text u ≡ unit
-  pub small : u.size ≤ 11
-  pub long : length u.bytes ≡ 11
+pub record UnitStands (text : List ℕ) (unit : rules.Unit) (r : Option Unit) : Type 0 where
+  pub is : unit_of text r ≡ unit
+  pub within : (u : Unit) → r ≡ Some u → (u.size ≤ 11) × (length u.bytes ≡ 11)
 
 -- of the token between two places
 abbrev pub symbol_at : ℕ → ℕ → List ℕ → rules.Unit
@@ -62,11 +60,10 @@ pub record Claims (text : List ℕ) (lines : ℕ) (claimed : rules.Claimed lines
   pub long : length c.bytes ≡ most_claimed
 
 -- beside any table of so many threads
-abbrev pub concluded_of : List ℕ → List ℕ → Conclusion → rules.TextRead
-concluded_of table text c =
-    cond c.taken (rules.accepted table (take c.length c.bytes)) (rules.refused_at (drop c.at text))
+abbrev pub concluded_of : List ℕ → List ℕ → Result Conclusion ℕ → rules.TextRead
+concluded_of table text (Ok c) = rules.accepted table (take c.length c.bytes)
+concluded_of table text (Err at) = rules.refused_at (drop at text)
 
-pub record Concludes (text : List ℕ) (at lines threads : ℕ) (c : Conclusion) : Type 0 where
-  pub is : (m : rules.Draft) → m.threads ≡ threads → concluded_of (rules.table_of m) text c ≡ rules.concluded lines m (drop at text)
-  pub most : c.length ≤ condition_bytes
-  pub long : length c.bytes ≡ most_claimed
+pub record Concludes (text : List ℕ) (at lines threads : ℕ) (r : Result Conclusion ℕ) : Type 0 where
+  pub is : (m : rules.Draft) → m.threads ≡ threads → concluded_of (rules.table_of m) text r ≡ rules.concluded lines m (drop at text)
+  pub within : (c : Conclusion) → r ≡ Ok c → (c.length ≤ condition_bytes) × (length c.bytes ≡ most_claimed)

@@ -2,20 +2,20 @@
 // equation with the definition in rules (Text).
 #![tactic(auto)]
 
-ghost use Rattle.std.specs.Prelude.{◌≡◌, false, [], ◌+◌, ◌≤◌, ◌<◌, drop, replicate};
+ghost use Rattle.std.specs.Prelude.{◌≡◌, [], ◌+◌, ◌≤◌, ◌<◌, drop, Some};
 ghost use Rattle.rules.specs.Text as rules;
 ghost use Rattle.token.specs.Finds.{owned_at};
 ghost use Rattle.claims.specs.Units.{most_claimed, IsOwned, UnitStands, ended_at, with_unit, Claims, Concludes, symbol_at, broken_of};
 
 use condition::{AT_LEAST, COMPARISON, CONDITION_BYTES, EQUALS};
 use little::low_bytes;
-use token::{Found, FoundOwned, Owned};
+use token::Owned;
 
 // The longest condition, and a comparison that broke off behind it.
 pub const MOST_CLAIMED: usize = CONDITION_BYTES + COMPARISON;
 
-// What stands at a place: so many bytes of a condition and where they end, or, with none, nothing that a condition has. A comparison that
-// breaks off is not whole: it is filled up, and ends where it broke off.
+// What stands at a place: so many bytes of a condition and where they end. A comparison that breaks off is not whole: it is filled up, and
+// ends where it broke off.
 #[derive(Clone, Copy)]
 struct Unit {
     whole: bool,
@@ -33,53 +33,37 @@ struct Claim {
     at: usize,
 }
 
-// A text's condition: taken, with its bytes; or refused, with the place where.
+// A text's condition, where it is taken: its bytes.
 #[derive(Clone, Copy)]
 pub struct Conclusion {
-    pub taken: bool,
-    pub at: usize,
     pub length: usize,
     pub bytes: [u8; MOST_CLAIMED],
 }
 
 // The condition that begins here, in a text of so many lines at most and a program of so many threads: its bytes are read, then judged. It is
-// refused where its first byte stands that cannot stand there.
-pub fn concluded(text: &[u8], lines: usize, threads: usize, at: usize) -> Conclusion
+// refused, with that place, where its first byte stands that cannot stand there.
+pub fn concluded(text: &[u8], lines: usize, threads: usize, at: usize) -> Result<Conclusion, usize>
     ensures { Concludes text.now at lines threads result }
 {
     let all = claimed(text, lines, CONDITION_BYTES + 1, at);
     let bytes = all.bytes;
     let length = all.length;
     match condition::first_bad(token::part(&bytes, 0, length), threads) {
-        Err(bad) => refused(text, lines, bad.at, at),
+        Err(bad) => Err(refused(text, lines, bad.at, at)),
         Ok(stop) => {
-            if stop != length {
-                return refused(text, lines, stop, at);
+            if stop != length || !all.whole {
+                return Err(refused(text, lines, stop, at));
             }
-            if !all.whole {
-                return refused(text, lines, stop, at);
-            }
-            Conclusion {
-                taken: true,
-                at,
-                length,
-                bytes,
-            }
+            Ok(Conclusion { length, bytes })
         }
     }
 }
 
-// A condition that is refused at its byte `stop`.
-fn refused(text: &[u8], lines: usize, stop: usize, at: usize) -> Conclusion
-    ensures { (result.taken ≡ false) × (result.length ≡ 0) × (result.bytes ≡ replicate most_claimed 0) × (drop result.at text.now ≡ (rules.claimed lines lines stop [] (drop at text.now)).rest) }
+// The place of a condition's byte `stop`, at which it is refused.
+fn refused(text: &[u8], lines: usize, stop: usize, at: usize) -> usize
+    ensures { drop result text.now ≡ (rules.claimed lines lines stop [] (drop at text.now)).rest }
 {
-    let part = claimed(text, lines, stop, at);
-    Conclusion {
-        taken: false,
-        at: part.at,
-        length: 0,
-        bytes: [0; MOST_CLAIMED],
-    }
+    claimed(text, lines, stop, at).at
 }
 
 // The bytes of the condition that begins here, up to the `stop`th.
@@ -92,8 +76,7 @@ fn claimed(text: &[u8], lines: usize, stop: usize, at: usize) -> Claim
         bytes: [0; MOST_CLAIMED],
         at,
     };
-    let mut left = lines;
-    while 0 < left {
+    for i in 0..lines {
         let here = token::content(text, lines, claim.at);
         if text.len() <= here {
             return ended(claim, true, here);
@@ -101,10 +84,9 @@ fn claimed(text: &[u8], lines: usize, stop: usize, at: usize) -> Claim
         if stop <= claim.length {
             return ended(claim, false, here);
         }
-        let unit = unit_at(text, lines, here);
-        if unit.size == 0 {
+        let Some(unit) = unit_at(text, lines, here) else {
             return ended(claim, false, here);
-        }
+        };
         if !unit.whole {
             return appended(claim, unit);
         }
@@ -113,7 +95,6 @@ fn claimed(text: &[u8], lines: usize, stop: usize, at: usize) -> Claim
         }
         let more = appended(claim, unit);
         claim = more;
-        left -= 1;
     }
     ended(claim, false, token::content(text, lines, claim.at))
 }
@@ -122,13 +103,7 @@ fn claimed(text: &[u8], lines: usize, stop: usize, at: usize) -> Claim
 fn ended(claim: Claim, whole: bool, at: usize) -> Claim
     ensures { result ≡ ended_at claim whole at }
 {
-    let bytes = claim.bytes;
-    Claim {
-        whole,
-        length: claim.length,
-        bytes,
-        at,
-    }
+    Claim { whole, at, ..claim }
 }
 
 // The claim with a unit's bytes behind its own, up to where the unit ends.
@@ -140,11 +115,7 @@ fn appended(claim: Claim, unit: Unit) -> Claim
     let size = unit.size;
     let length = claim.length;
     let mut bytes = claim.bytes;
-    let mut i = 0;
-    while i < size {
-        bytes[length + i] = piece[i];
-        i += 1;
-    }
+    bytes[length..length + size].copy_from_slice(&piece[..size]);
     Claim {
         whole: false,
         length: length + size,
@@ -153,54 +124,41 @@ fn appended(claim: Claim, unit: Unit) -> Claim
     }
 }
 
-// The unit that stands here.
-fn unit_at(text: &[u8], lines: usize, at: usize) -> Unit
+// The unit that stands here, unless it is nothing that a condition has.
+fn unit_at(text: &[u8], lines: usize, at: usize) -> Option<Unit>
     ensures { UnitStands text.now (rules.unit_at lines (drop at text.now)) result }
 {
     let to = token::token_end(text, at);
-    let FoundOwned::Register(owned) = token::thread_register(text, at, to) else {
-        return symbol_at(text, at, to);
-    };
-    sign_behind(text, lines, owned, to)
+    match token::thread_register(text, at, to) {
+        Some(owned) => Some(sign_behind(text, lines, owned, to)),
+        None => symbol_at(text, at, to),
+    }
 }
 
 // A bracket, `and` or `or`.
-fn symbol_at(text: &[u8], at: usize, to: usize) -> Unit
+fn symbol_at(text: &[u8], at: usize, to: usize) -> Option<Unit>
     ensures { UnitStands text.now (symbol_at at to text.now) result }
 {
-    let Found::Value(symbol) = token::symbol(text, at, to) else {
-        return none(at);
-    };
+    let symbol = token::symbol(text, at, to)?;
     if symbol <= AT_LEAST as u64 {
-        return none(at);
+        return None;
     }
-    Unit {
+    Some(Unit {
         whole: true,
         size: 1,
         bytes: [symbol as u8, 0, 0, 0, 0, 0, 0, 0, 0, 0, 0],
         at: to,
-    }
-}
-
-fn none(at: usize) -> Unit
-    ensures { (result.size ≡ 0) × (result.bytes ≡ replicate 11 0) }
-{
-    Unit {
-        whole: false,
-        size: 0,
-        bytes: [0; COMPARISON],
-        at,
-    }
+    })
 }
 
 // Behind `THREAD.rREGISTER`.
 fn sign_behind(text: &[u8], lines: usize, owned: Owned, from: usize) -> Unit
     requires { IsOwned owned }
-    ensures { UnitStands text.now (rules.sign_behind lines (owned_at owned) (drop from text.now)) result }
+    ensures { UnitStands text.now (rules.sign_behind lines (owned_at owned) (drop from text.now)) (Some result) }
 {
     let at = token::content(text, lines, from);
     let to = token::token_end(text, at);
-    let Found::Value(sign) = token::symbol(text, at, to) else {
+    let Some(sign) = token::symbol(text, at, to) else {
         return broken(owned, at);
     };
     if (AT_LEAST as u64) < sign {
@@ -212,11 +170,11 @@ fn sign_behind(text: &[u8], lines: usize, owned: Owned, from: usize) -> Unit
 // Behind `THREAD.rREGISTER SIGN`.
 fn number_behind(text: &[u8], lines: usize, owned: Owned, sign: u64, from: usize) -> Unit
     requires { IsOwned owned × (sign ≤ 6) }
-    ensures { UnitStands text.now (rules.number_behind lines (owned_at owned) sign (drop from text.now)) result }
+    ensures { UnitStands text.now (rules.number_behind lines (owned_at owned) sign (drop from text.now)) (Some result) }
 {
     let at = token::content(text, lines, from);
     let to = token::token_end(text, at);
-    let Found::Value(n) = token::number(text, at, to) else {
+    let Some(n) = token::number(text, at, to) else {
         return broken(owned, at);
     };
     Unit {

@@ -32,15 +32,13 @@ fn put_units(text: &mut [u8], at: usize, condition: &[u8]) -> usize
     let mut to = at;
     let mut from = 0;
     let mut opened = false;
-    let mut left = condition.len();
-    while 0 < left {
+    for i in 0..condition.len() {
         if condition.len() <= from {
             return to;
         }
         to = put_unit(text, to, condition, opened, from);
         opened = condition[from] == OPENS;
         from += unit_bytes(condition[from]);
-        left -= 1;
     }
     to
 }
@@ -81,28 +79,16 @@ fn put_comparison(text: &mut [u8], at: usize, condition: &[u8], from: usize) -> 
     put_number(text, blank, u64_at(condition, from + NUMBER_AT))
 }
 
-// The sign or word that a byte is; nothing past the last.
+// The sign or word that a byte is; nothing past the last, and the first where there is no such byte.
 fn put_symbol(text: &mut [u8], at: usize, byte: u8) -> usize
     ensures { Puts text.old text.new at (symbol_shown byte) result }
 {
-    put_bytes(text, at, word_at(&SYMBOLS, symbol_place(byte)))
-}
-
-// Its place in the list of them; that of the first where there is no such byte.
-fn symbol_place(byte: u8) -> u64
-    ensures { result ≡ byte - 1 }
-{
-    if byte < EQUALS {
-        return 0;
-    }
-    (byte - EQUALS) as u64
+    let place = byte.saturating_sub(EQUALS);
+    put_bytes(text, at, word_at(&SYMBOLS, place as u64))
 }
 
 fn unit_bytes(byte: u8) -> usize
     ensures { result ≡ unit_bytes byte }
 {
-    if is_sign(byte) {
-        return COMPARISON;
-    }
-    1
+    if is_sign(byte) { COMPARISON } else { 1 }
 }

@@ -36,10 +36,8 @@ fn write(out: &mut [u8; MOST_DIGITS], n: u64, k: usize)
     requires { k ≡ length (shown n) }
     ensures { out.new ≡ sets out.old 0 (shown n) }
 {
-    let mut i = k;
     let mut rest = n;
-    while 0 < i {
-        i -= 1;
+    for i in (0..k).rev() {
         out[i] = b'0' + (rest % 10) as u8;
         rest /= 10;
     }

@@ -4,7 +4,7 @@
 
 use condition::CONDITION_BYTES;
 use options::{Options, Place, Stop, Task, WORD_ROOM, name_at};
-use reader::{TABLE_BYTES, TextAnswer};
+use reader::{TABLE_BYTES, Untaken};
 use source::ROOM;
 use std::io;
 use std::rt::{Env, Files};
@@ -76,12 +76,12 @@ fn take(
     let mut table = [0u8; TABLE_BYTES];
     let mut condition = [0u8; CONDITION_BYTES];
     match reader::read(bytes, &mut table, &mut condition) {
-        TextAnswer::NoRoom => Ok(()),
-        TextAnswer::Refused(line, column) => tell::print_refusal(rt, name, bytes, line, column),
-        TextAnswer::Taken(n, claimed) => perform(
+        Err(Untaken::NoRoom) => Ok(()),
+        Err(Untaken::Refused(line, column)) => tell::print_refusal(rt, name, bytes, line, column),
+        Ok(taken) => perform(
             rt,
-            token::part(&table, 0, n),
-            token::part(&condition, 0, claimed),
+            token::part(&table, 0, taken.table),
+            token::part(&condition, 0, taken.condition),
             options,
         ),
     }

@@ -1,5 +1,4 @@
 // The words of the command line: the file's name, what is asked of it, and the settings.
-use decimal::Parsed;
 use settings::{MAX_BOUND, MAX_BRANCHES, MAX_EXECUTIONS, MAX_OPERATIONS, Settings, bound_of};
 use std::env::FillError;
 use std::io;
@@ -184,7 +183,7 @@ impl Options {
             Awaited::ConditionFile => self.condition = Some(place),
             Awaited::Number(limit) => {
                 let (_, least, most) = limit.range();
-                let Parsed::Number(n) = decimal::number_between(word, least, most) else {
+                let Some(n) = decimal::number_between(word, least, most) else {
                     return missing(errors, awaited);
                 };
                 limit.set(&mut self.settings, n);

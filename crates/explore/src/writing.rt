@@ -4,7 +4,7 @@ use crate::run;
 use settings::Settings;
 use source::FILE_BYTES;
 use std::io;
-use writer::Written;
+use writer::Unwritten;
 
 // Writes it, unless it is refused: then what a run says of it is said, which is why.
 pub fn write(
@@ -16,9 +16,9 @@ pub fn write(
 ) -> io::Result<()> {
     let mut text = [0u8; FILE_BYTES];
     match writer::write(table, condition, &mut text) {
-        Written::Unfit => run::run(rt, table, condition, settings, false),
-        Written::Short(needed) => too_long(rt, needed),
-        Written::Text(n) => write_fit(rt, token::part(&text, 0, n), table, condition, form),
+        Err(Unwritten::Unfit) => run::run(rt, table, condition, settings, false),
+        Err(Unwritten::Short(needed)) => too_long(rt, needed),
+        Ok(n) => write_fit(rt, token::part(&text, 0, n), table, condition, form),
     }
 }
 

@@ -1,5 +1,4 @@
 -- The entry in numbers. Assumes nothing.
---     copied_more, copied_all           numbers written one after another
 --     entered-bound, entered-exploring, entered-report      an argument that is out of range
 --     explored-so, entered-run          all are in range
 use Prim.Native.Nat.{ℕ, zero, suc, ◌+◌, ◌%◌, ◌≤◌, ◌<◌}
@@ -21,20 +20,6 @@ use Rattle.explorer.specs.Explores.{explored_of}
 use Rattle.numbers.specs.Numbers.{numbers_of}
 use Rattle.settings.specs.Given.{bound_for}
 use Rattle.exports.specs.Entry.{settings_for, Entered, left_behind, entered, entered_by}
-
--- the first n of a list are those of another
-abbrev pub Begins : List ℕ → List ℕ → ℕ → Type 0
-Begins xs ys n = (j : ℕ) → j < n → get_or xs j 0 ≡ get_or ys j 0
-
-pub copied_more : (xs ys : List ℕ) (n : ℕ) → n < length xs → Begins xs ys n → Begins (set xs n (get_or ys n 0)) ys (n + 1)
-copied_more xs ys n h b j l = go (eqb j n) refl
-  where
-    go : (x : Bool) → eqb j n ≡ x → get_or (set xs n (get_or ys n 0)) j 0 ≡ get_or ys j 0
-    go true e = rw (eqb-true j n e) (get_or-set_same xs n (get_or ys n 0) 0 h)
-    go false e = get_or-set_other xs n j (get_or ys n 0) 0 (eqb-false j n e) ∙ b j (omega (arith, eqb-false j n e))
-
-pub copied_all : (xs ys : List ℕ) (n : ℕ) → length xs ≡ n → length ys ≡ n → Begins xs ys n → xs ≡ ys
-copied_all xs ys n e f b = ext_get_or 0 xs ys (e ∙ sym f) (λ i h. b i (omega (arith, e)))
 
 module _ (table condition : List ℕ) (branches operations executions bound exploring : ℕ) (path trace report : List ℕ) where
   abbrev whole : Entered

@@ -9,9 +9,11 @@ use borrow.Author.Tests.{eq-eqb, ne_eqb}
 use Rattle.rules.specs.Text.{read_into}
 use Rattle.rules.specs.Writer.{written_into}
 use Rattle.reader.specs.Lines.{text_answer_of, with_buffers}
-use Rattle.reader.specs.declared.TextAnswer.{TextAnswer}
+use Rattle.std.specs.Prelude.{Result}
+use Rattle.reader.specs.declared.Taken.{Taken}
+use Rattle.reader.specs.declared.Untaken.{Untaken}
 use Rattle.writer.specs.Answers.{written_of, with_text}
-use Rattle.writer.specs.declared.Written.{Written}
+use Rattle.writer.specs.declared.Unwritten.{Unwritten}
 use Rattle.exports.specs.Texts.{read_numbers, read_left, read_by, read_entered, written_numbers, written_left, written_by, written_entered}
 
 module _ (text table condition numbers : List ℕ) where
@@ -23,7 +25,7 @@ module _ (text table condition numbers : List ℕ) where
   unfolding read_entered
   read-so n = rw (eq-eqb (length numbers) 5 n) refl
 
-  pub read_made : length numbers ≡ 5 → (r : TextAnswer) (five : List ℕ) {exit_table exit_condition left : List ℕ}
+  pub read_made : length numbers ≡ 5 → (r : Result Taken Untaken) (five : List ℕ) {exit_table exit_condition left : List ℕ}
       → with_buffers r exit_table exit_condition ≡ read_into text table condition
       → five ≡ read_numbers (text_answer_of r) → left ≡ five
       → read_left (get_or five 0 0) exit_table exit_condition left ≡ read_entered text table condition numbers
@@ -38,7 +40,7 @@ module _ (table condition text numbers : List ℕ) where
   unfolding written_entered
   written-so n = rw (eq-eqb (length numbers) 2 n) refl
 
-  pub written-made : length numbers ≡ 2 → (r : Written) (two : List ℕ) {exit_text left : List ℕ}
+  pub written-made : length numbers ≡ 2 → (r : Result ℕ Unwritten) (two : List ℕ) {exit_text left : List ℕ}
       → with_text r exit_text ≡ written_into table condition text
       → two ≡ written_numbers (written_of r) → left ≡ two
       → written_left (get_or two 0 0) exit_text left ≡ written_entered table condition text numbers

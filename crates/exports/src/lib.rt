@@ -1,7 +1,7 @@
 // The entries for Rust and C: numbers and slices only, so that no struct's layout crosses.
 #![tactic(auto)]
 
-ghost use Rattle.std.specs.Prelude.{◌≡◌, length};
+ghost use Rattle.std.specs.Prelude.{◌≡◌};
 ghost use Rattle.exports.specs.Entry.{no_condition, entered, left_behind};
 
 use numbers::REPORT_NUMBERS;
@@ -110,18 +110,6 @@ fn enter(
     let answer = done.answer;
     let number = report::number(answer);
     let all = numbers::of_report(done);
-    write_numbers(report, &all);
+    report.copy_from_slice(&all);
     number
-}
-
-// Puts the numbers into a caller's buffer that takes as many.
-fn write_numbers(report: &mut [u64], numbers: &[u64])
-    requires { length report.old ≡ length numbers.now }
-    ensures { report.new ≡ numbers.now }
-{
-    let mut i = 0;
-    while i < numbers.len() {
-        report[i] = numbers[i];
-        i += 1;
-    }
 }

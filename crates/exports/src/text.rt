@@ -4,10 +4,10 @@ ghost use Rattle.reader.specs.Lines.{text_answer_of};
 ghost use Rattle.writer.specs.Answers.{written_of};
 ghost use Rattle.exports.specs.Texts.{read_numbers, written_numbers, read_left, read_entered, written_left, written_entered};
 
-use crate::{NO_RUN, write_numbers};
+use crate::NO_RUN;
 use condition::CONDITION_BYTES;
-use reader::{TABLE_BYTES, TextAnswer};
-use writer::Written;
+use reader::{TABLE_BYTES, Taken, Untaken};
+use writer::Unwritten;
 
 // How many numbers the two entries write.
 pub const READ_NUMBERS: usize = 5;
@@ -37,7 +37,7 @@ pub extern "C" fn chjirvollu_read(
         return NO_RUN;
     }
     let five = read_numbers(reader::read(text, table, condition));
-    write_numbers(numbers, &five);
+    numbers.copy_from_slice(&five);
     five[0]
 }
 
@@ -56,28 +56,28 @@ pub extern "C" fn chjirvollu_write(
         return NO_RUN;
     }
     let two = written_numbers(writer::write(table, condition, text));
-    write_numbers(numbers, &two);
+    numbers.copy_from_slice(&two);
     two[0]
 }
 
 // The reader's answer as numbers.
-fn read_numbers(read: TextAnswer) -> [u64; READ_NUMBERS]
+fn read_numbers(read: Result<Taken, Untaken>) -> [u64; READ_NUMBERS]
     ensures { result ≡ read_numbers (text_answer_of read) }
 {
     match read {
-        TextAnswer::NoRoom => [NO_ROOM, TABLE_BYTES as u64, CONDITION_BYTES as u64, 0, 0],
-        TextAnswer::Refused(line, column) => [REFUSED, 0, 0, line as u64, column as u64],
-        TextAnswer::Taken(bytes, claimed) => [DONE, bytes as u64, claimed as u64, 0, 0],
+        Ok(taken) => [DONE, taken.table as u64, taken.condition as u64, 0, 0],
+        Err(Untaken::NoRoom) => [NO_ROOM, TABLE_BYTES as u64, CONDITION_BYTES as u64, 0, 0],
+        Err(Untaken::Refused(line, column)) => [REFUSED, 0, 0, line as u64, column as u64],
     }
 }
 
 // The writer's.
-fn written_numbers(written: Written) -> [u64; WRITE_NUMBERS]
+fn written_numbers(written: Result<usize, Unwritten>) -> [u64; WRITE_NUMBERS]
     ensures { result ≡ written_numbers (written_of written) }
 {
     match written {
-        Written::Unfit => [REFUSED, 0],
-        Written::Short(needed) => [NO_ROOM, needed as u64],
-        Written::Text(length) => [DONE, length as u64],
+        Ok(length) => [DONE, length as u64],
+        Err(Unwritten::Unfit) => [REFUSED, 0],
+        Err(Unwritten::Short(needed)) => [NO_ROOM, needed as u64],
     }
 }

@@ -1,3 +1,3 @@
 pub mod HeldLaws
-mod LineLaws
+pub mod LineLaws
 mod OneLaws

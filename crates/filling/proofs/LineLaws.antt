@@ -1,5 +1,6 @@
 -- How a line comes out. Assumes nothing.
 --     lined-by                   an answer to a line that is the same
+--     passed_up                  what a `?` hands on
 --     bare-on, bare-refused      nothing else may stand in the line
 --     Underway, values-..        start values
 --     thread-.., row-..          a thread, a row
@@ -16,15 +17,20 @@ use Rattle.rules.specs.Token.{Found, nothing, found, ends_line, past_blanks, tok
 use Rattle.rules.specs.Form.{Followed, stuck, fits, row_in}
 use Rattle.rules.specs.Text as rules
 use Rattle.rules.specs.Text.{Draft, bare_then, values_line, with_row, rows_so_far}
-use Rattle.form.specs.Rows.{followed_of}
-use Rattle.form.specs.declared.RowRead.{RowRead}
 use Rattle.token.specs.Places.{part}
 use Rattle.token.proofs.PlaceLaws.{left_by, part-token}
 use Rattle.filling.specs.Tables.{HeldTable, how_many, with_cell_or_plain}
 use Rattle.filling.proofs.HeldLaws.{held-threads}
 use Rattle.filling.specs.Steps.{Lined, LineSteps, Bare, a_thread_at, a_row_at}
 use Rattle.filling.specs.declared.Line.{Line}
-use Rattle.filling.specs.declared.Line.TheVariants.{GoesOn, Refused, Concludes}
+use Rattle.filling.specs.declared.Line.TheVariants.{GoesOn, Concludes}
+use Rattle.std.proofs.Common.{Result, Ok, Err}
+use Rattle.std.specs.Result.{IsErrAnd}
+
+-- a place at which something is refused, as `?` passes it up
+pub passed_up : {A : Type 0} (r : Result A ℕ) (at : ℕ) → IsErrAnd r (λ (e : ℕ). e ≡ at) → r ≡ Err at
+passed_up (Ok x) at u = absurd u
+passed_up (Err e) at u = ap Err u
 
 abbrev bare_by : ℕ → Draft → List ℕ → Bool → rules.Line
 bare_by rows m bs t = cond t (rules.goes_on rows m (next_line bs)) (rules.refused_line bs)
@@ -34,32 +40,32 @@ module _ (text : List ℕ) (from here rows : ℕ) (skipped : drop here text ≡ 
   bare-is m t e = ap (λ (bs : List ℕ). bare_by rows m bs (ends_line bs)) (sym skipped) ∙ ap (bare_by rows m (drop here text)) e
 
   pub bare-on : (next more : ℕ) → drop next text ≡ next_line (drop here text) → ends_line (drop here text) ≡ true
-      → (table : List ℕ) (n : ℕ) (m : Draft) → HeldTable table more m → Lined text table n (bare_then rows m (drop from text)) (GoesOn (record { rows = rows; length = more; at = next }))
+      → (table : List ℕ) (n : ℕ) (m : Draft) → HeldTable table more m → Lined text table n (bare_then rows m (drop from text)) (Ok (GoesOn (record { rows = rows; length = more; at = next })))
   bare-on next more onward e table n m held = (m, (bare-is m true e ∙ ap (rules.goes_on rows m) (sym onward), held))
 
   pub bare-refused : ends_line (drop here text) ≡ false
-      → (table : List ℕ) (n : ℕ) (m : Draft) → Lined text table n (bare_then rows m (drop from text)) (Refused here)
+      → (table : List ℕ) (n : ℕ) (m : Draft) → Lined text table n (bare_then rows m (drop from text)) (Err here)
   bare-refused e table n m = bare-is m false e
 
-pub lined-by : (text table : List ℕ) (n : ℕ) (line other : rules.Line) (r : Line) → line ≡ other → Lined text table n line r → Lined text table n other r
+pub lined-by : (text table : List ℕ) (n : ℕ) (line other : rules.Line) (r : Result Line ℕ) → line ≡ other → Lined text table n line r → Lined text table n other r
 lined-by text table n line other r e x = subst (λ (l : rules.Line). Lined text table n l r) e x
 
-pub lined-bare : (text : List ℕ) (from rows more : ℕ) (r : Line) → Bare text from rows more r
+pub lined-bare : (text : List ℕ) (from rows more : ℕ) (r : Result Line ℕ) → Bare text from rows more r
     → (table : List ℕ) (n : ℕ) (m : Draft) → HeldTable table more m → (other : rules.Line) → bare_then rows m (drop from text) ≡ other → Lined text table n other r
 lined-bare text from rows more r bare table n m held other e = lined-by text table n (bare_then rows m (drop from text)) other r e (bare table n m held)
 
-pub lined-steps : (text entry exit : List ℕ) (n : ℕ) (r : Line) (line : Draft → rules.Line) → LineSteps text entry exit n r line
+pub lined-steps : (text entry exit : List ℕ) (n : ℕ) (r : Result Line ℕ) (line : Draft → rules.Line) → LineSteps text entry exit n r line
     → (m : Draft) → HeldTable entry n m → (other : rules.Line) → line m ≡ other → Lined text exit n other r
 lined-steps text entry exit n r line steps m held other e = lined-by text exit n (line m) other r e (steps.is m held)
 
 -- `finally`: by whether the buffer has a thread
 module _ (text table : List ℕ) (n here to : ℕ) (line : rules.Line) (m : Draft) (held : HeldTable table n m)
     (some : 1 ≤ m.threads → line ≡ rules.concludes m (drop to text)) (none : m.threads < 1 → line ≡ rules.refused_line (drop here text)) where
-  condition-by : (b : Bool) → ltb 0 (get_or table 0 0) ≡ b → Lined text table n line (cond b (Concludes to) (Refused here))
+  condition-by : (b : Bool) → ltb 0 (get_or table 0 0) ≡ b → Lined text table n line (cond b (Ok (Concludes to)) (Err here))
   condition-by true e = (m, (some (omega (arith, ltb-true 0 (get_or table 0 0) e, held-threads table n m held)), held))
   condition-by false e = none (omega (arith, ltb-false 0 (get_or table 0 0) e, held-threads table n m held))
 
-  pub lined-condition : (r : Line) → r ≡ cond (ltb 0 (get_or table 0 0)) (Concludes to) (Refused here) → Lined text table n line r
+  pub lined-condition : (r : Result Line ℕ) → r ≡ cond (ltb 0 (get_or table 0 0)) (Ok (Concludes to)) (Err here) → Lined text table n line r
   lined-condition r e = subst (Lined text table n line) (sym e) (condition-by (ltb 0 (get_or table 0 0)) refl)
 
 -- Start values
@@ -148,9 +154,3 @@ module _ (all rows : ℕ) (m : Draft) (bs here : List ℕ) where
   pub row_fits : 1 ≤ m.threads → rows_so_far m < max_rows → (fields rest : List ℕ) → row_in room bs ≡ fits fields rest
       → a_row_at all rows m bs here ≡ rules.goes_on rows (with_row m fields) rest
   row_fits h l fields rest e = row-by true true (le-leb 1 m.threads h) (lt-ltb (rows_so_far m) max_rows l) (fits fields rest) e
-
-pub followed-stuck : (text : List ℕ) (r : RowRead) → r.fits ≡ false → followed_of text r ≡ stuck (drop r.at text)
-followed-stuck text r e = rw e
-
-pub followed-fits : (text : List ℕ) (r : RowRead) → r.fits ≡ true → followed_of text r ≡ fits r.fields (drop r.at text)
-followed-fits text r e = rw e

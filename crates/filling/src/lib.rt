@@ -1,7 +1,7 @@
 // A line of a text, put into the table that is made in a buffer. Each promise is by the definition in rules (Text).
 #![tactic(auto)]
 
-ghost use Rattle.std.specs.Prelude.{◌≡◌, cond, ltb, ◌+◌, ◌≤◌, ◌<◌, length, get_or, drop};
+ghost use Rattle.std.specs.Prelude.{◌≡◌, cond, ltb, ◌+◌, ◌≤◌, ◌<◌, length, get_or, drop, Ok, Err};
 ghost use Rattle.std.proofs.Math.Seq.{paste};
 ghost use Rattle.rules.specs.Table.{header_bytes};
 ghost use Rattle.rules.specs.Text as rules;
@@ -15,7 +15,6 @@ use little::low_bytes;
 use table::limits::{
     CELL_COUNT, COUNT_OF_LAST, MAX_ROWS, PLAIN_COUNT, ROW_BYTES, THREAD_COUNT, VALUE_BYTES,
 };
-use token::Found;
 
 // How far a text is read: to a line that begins at this place, in a thread of so many rows, behind a table of so many bytes.
 #[derive(Clone, Copy)]
@@ -25,11 +24,11 @@ pub struct Reached {
     pub at: usize,
 }
 
-// How a line comes out: the next one follows; it is refused at a place; the text ends; the condition follows.
+// How a line that is not refused comes out: the next one follows; the text ends; the condition follows. For one that is refused stands the
+// place where.
 #[derive(Clone, Copy)]
 pub enum Line {
     GoesOn(Reached),
-    Refused(usize),
     Ended,
     Concludes(usize),
 }
@@ -59,24 +58,30 @@ const PLAIN_VALUES: StartValues = StartValues {
 };
 
 // One line, in a text of so many lines at most and so many threads.
-pub fn line_of(text: &[u8], table: &mut [u8], lines: usize, all: usize, reached: Reached) -> Line
+pub fn line_of(
+    text: &[u8],
+    table: &mut [u8],
+    lines: usize,
+    all: usize,
+    reached: Reached,
+) -> Result<Line, usize>
     requires { HoldsTable table.old reached.length }
     ensures { LineSteps text.now table.old table.new reached.length result (λ m. rules.line_of lines all reached.rows m (drop reached.at text.now)) }
 {
     let here = token::past_blanks(text, reached.at);
     if text.len() <= here {
         if table[THREAD_COUNT] == 0 {
-            return Line::Refused(here);
+            return Err(here);
         }
-        return Line::Ended;
+        return Ok(Line::Ended);
     }
     let length = reached.length;
     if token::ends_line(text, here) {
-        return Line::GoesOn(Reached {
+        return Ok(Line::GoesOn(Reached {
             rows: reached.rows,
             length,
             at: token::next_line(text, here),
-        });
+        }));
     }
     let to = token::token_end(text, here);
     let first = FirstToken { here, to };
@@ -84,7 +89,7 @@ pub fn line_of(text: &[u8], table: &mut [u8], lines: usize, all: usize, reached:
         if token::is_word(text, b"cells", here, to) {
             return values_line(text, table, CELL_VALUES, length, to);
         }
-        return Line::Refused(here);
+        return Err(here);
     }
     if is_plain_line(text, table, first) {
         return values_line(text, table, PLAIN_VALUES, length, to);
@@ -99,24 +104,30 @@ pub fn line_of(text: &[u8], table: &mut [u8], lines: usize, all: usize, reached:
 }
 
 // `finally`, once there is a thread.
-fn the_condition(header: &[u8], first: FirstToken) -> Line
+fn the_condition(header: &[u8], first: FirstToken) -> Result<Line, usize>
     requires { 1 ≤ length header.now }
-    ensures { result ≡ cond (ltb 0 (get_or header.now 0 0)) (Line.Concludes first.to) (Line.Refused first.here) }
+    ensures { result ≡ cond (ltb 0 (get_or header.now 0 0)) (Ok (Line.Concludes first.to)) (Err first.here) }
 {
     if 0 < header[THREAD_COUNT] {
-        return Line::Concludes(first.to);
+        return Ok(Line::Concludes(first.to));
     }
-    Line::Refused(first.here)
+    Err(first.here)
 }
 
 // `thread`, and its rows.
-fn a_thread(text: &[u8], table: &mut [u8], lines: usize, length: usize, first: FirstToken) -> Line
+fn a_thread(
+    text: &[u8],
+    table: &mut [u8],
+    lines: usize,
+    length: usize,
+    first: FirstToken,
+) -> Result<Line, usize>
     requires { HoldsTable table.old length }
     ensures { LineSteps text.now table.old table.new length result (λ m. a_thread_at lines m (drop first.here text.now) (drop first.to text.now)) }
 {
     let threads = table[THREAD_COUNT] as usize;
     if MAX_THREADS <= threads {
-        return Line::Refused(first.here);
+        return Err(first.here);
     }
     let rows = ahead::rows_ahead(text, lines, token::next_line(text, first.here));
     add_thread(table, length);
@@ -131,17 +142,23 @@ fn a_thread(text: &[u8], table: &mut [u8], lines: usize, length: usize, first: F
 }
 
 // A row: only in a thread, and no more than a thread may have.
-fn a_row(text: &[u8], table: &mut [u8], all: usize, reached: Reached, here: usize) -> Line
+fn a_row(
+    text: &[u8],
+    table: &mut [u8],
+    all: usize,
+    reached: Reached,
+    here: usize,
+) -> Result<Line, usize>
     requires { HoldsTable table.old reached.length }
     ensures { LineSteps text.now table.old table.new reached.length result (λ m. a_row_at all reached.rows m (drop reached.at text.now) (drop here text.now)) }
 {
     let threads = table[THREAD_COUNT] as usize;
     if threads == 0 {
-        return Line::Refused(here);
+        return Err(here);
     }
     let before = table[COUNT_OF_LAST + threads] as usize;
     if MAX_ROWS <= before {
-        return Line::Refused(here);
+        return Err(here);
     }
     let room = Room {
         threads: all,
@@ -150,17 +167,13 @@ fn a_row(text: &[u8], table: &mut [u8], all: usize, reached: Reached, here: usiz
         rows: reached.rows,
         row: before,
     };
-    let row = form::row_in(text, room, reached.at);
-    if !row.fits {
-        return Line::Refused(row.at);
-    }
-    let fields = row.fields;
-    add_row(table, reached.length, fields);
-    Line::GoesOn(Reached {
+    let row = form::row_in(text, room, reached.at)?;
+    add_row(table, reached.length, row.fields);
+    Ok(Line::GoesOn(Reached {
         rows: reached.rows,
         length: reached.length + ROW_BYTES,
         at: row.at,
-    })
+    }))
 }
 
 // Whether it is the line of the plain cells: behind the cells, ahead of the threads, once.
@@ -178,33 +191,37 @@ fn is_plain_line(text: &[u8], table: &[u8], first: FirstToken) -> bool
 }
 
 // A line of start values: one at least.
-fn values_line(text: &[u8], table: &mut [u8], values: StartValues, length: usize, at: usize) -> Line
+fn values_line(
+    text: &[u8],
+    table: &mut [u8],
+    values: StartValues,
+    length: usize,
+    at: usize,
+) -> Result<Line, usize>
     requires { HoldsTable table.old length × CountsAt values.place × (get_or table.old values.place 0 ≡ 0) × (values.most ≤ 4) }
     ensures { LineSteps text.now table.old table.new length result (λ m. rules.values_line (with_cell_or_plain values.place) (how_many values.place) values.most m (drop at text.now)) }
 {
     let place = values.place;
     let mut from = at;
     let mut long = length;
-    let mut left = values.most;
-    while 0 < left {
+    for i in 0..values.most {
         let here = token::past_blanks(text, from);
         let to = token::token_end(text, here);
-        let Found::Value(value) = token::number(text, here, to) else {
+        let Some(value) = token::number(text, here, to) else {
             if table[place] == 0 {
-                return Line::Refused(here);
+                return Err(here);
             }
             return behind_values(text, long, from);
         };
         add_value(table, long, place, value);
         long += VALUE_BYTES;
         from = to;
-        left -= 1;
     }
     behind_values(text, long, from)
 }
 
 // Behind start values nothing else may stand in the line, and no thread is begun.
-fn behind_values(text: &[u8], length: usize, from: usize) -> Line
+fn behind_values(text: &[u8], length: usize, from: usize) -> Result<Line, usize>
     ensures { Bare text.now from 0 length result }
 {
     bare_then(
@@ -218,18 +235,18 @@ fn behind_values(text: &[u8], length: usize, from: usize) -> Line
 }
 
 // Nothing else may stand in the line.
-fn bare_then(text: &[u8], reached: Reached) -> Line
+fn bare_then(text: &[u8], reached: Reached) -> Result<Line, usize>
     ensures { Bare text.now reached.at reached.rows reached.length result }
 {
     let here = token::past_blanks(text, reached.at);
     if token::ends_line(text, here) {
-        return Line::GoesOn(Reached {
+        return Ok(Line::GoesOn(Reached {
             rows: reached.rows,
             length: reached.length,
             at: token::next_line(text, here),
-        });
+        }));
     }
-    Line::Refused(here)
+    Err(here)
 }
 
 // One start value more, which the header counts at this place.
@@ -269,9 +286,5 @@ pub fn append(buffer: &mut [u8], at: usize, bytes: &[u8])
     requires { at + length bytes.now ≤ length buffer.old }
     ensures { buffer.new ≡ paste buffer.old at bytes.now (length bytes.now) }
 {
-    let mut i = 0;
-    while i < bytes.len() {
-        buffer[at + i] = bytes[i];
-        i += 1;
-    }
+    buffer[at..at + bytes.len()].copy_from_slice(bytes);
 }

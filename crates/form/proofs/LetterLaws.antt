@@ -3,21 +3,25 @@
 --     as-..                                 an order as a row has it
 --     letter-steps, letter-by               what may stand for a letter, in two steps
 --     field-long, field-one                 the field of a piece
+--     field-found, field-lost               a field that is found, and none
 --     letter-there, value-.., with-..       a piece that is a letter, and one that is a word
 use Prim.Native.Nat.{ℕ, ◌≤◌, ◌<◌}
 use mathlib.Core.List.{List, [], ◌∷◌}
-use mathlib.Core.Bool.{Bool, true, false, cond, ◌&&◌, ◌||◌}
+use mathlib.Core.Bool.{Bool, true, false, true≢false, cond, ◌&&◌, ◌||◌}
 use mathlib.Core.Path.{◌≡◌, refl, ap, sym, ◌∙◌}
 use native.Mathlib.Omega.{arith}
-use native.Mathlib.Decide.{ℕ_discrete}
+use native.Mathlib.Decide.{ℕ_discrete, dec_lt}
 use borrow.Author.Tests.{eq-eqb, ne_eqb, lt-ltb, le-ltb, eqb-true}
 use lib.Dec.{ltb, eqb}
 use lib.ListN.{length, get_or, set}
 use Rattle.rules.specs.Vector.{equal}
 use Rattle.rules.specs.Table.{Room, any_order, is_load_order, is_store_order, is_fence_order}
-use Rattle.rules.specs.Token.{Found, nothing, found, only, number_in, register_in, plain_in}
+use Rattle.rules.specs.Token.{Found, nothing, found, found_if, only, number_in, register_in, plain_in}
 use Rattle.rules.specs.Form.{order_in, field_of, letter_in, is_field, value_of, with_field}
-use Rattle.form.specs.Letters.{field_in, kind_in, may_stand}
+use Rattle.form.specs.Letters.{found_field, field_in, kind_in, may_stand}
+use Rattle.std.specs.Prelude.{Some, None, is_some}
+use Rattle.std.specs.Bool.{then_some}
+use Rattle.token.specs.Finds.{found_of}
 
 -- Letters
 
@@ -47,7 +51,7 @@ module _ (b : ℕ) where
   unfolding kind_in
   kind-order word r p t = rw (ne_eqb b 82 r, ne_eqb b 80 p, t)
 
-  kind-none : (word : List ℕ) → No b 82 → No b 80 → No b 67 → No b 84 → No b 74 → No b 71 → No b 65 → No b 66 → order_in word ≡ kind_in b word
+  pub kind-none : (word : List ℕ) → No b 82 → No b 80 → No b 67 → No b 84 → No b 74 → No b 71 → No b 65 → No b 66 → order_in word ≡ kind_in b word
   unfolding kind_in
   kind-none word r p c t j g x y = rw (ne_eqb b 82 r, ne_eqb b 80 p, ne_eqb b 67 c, ne_eqb b 84 t, ne_eqb b 74 j, ne_eqb b 71 g, ne_eqb b 65 x, ne_eqb b 66 y)
 
@@ -141,6 +145,10 @@ module _ (room : Room) (word : List ℕ) where
   pub letter-by : (b : ℕ) (x : Found) → kind_in b word ≡ x → only (may_stand room b) x ≡ letter_in room b word
   letter-by b x e = ap (only (may_stand room b)) (sym e) ∙ letter-steps b
 
+pub found_then : (t : Bool) (v : ℕ) → found_of (then_some t v) ≡ found_if t v
+found_then true v = refl
+found_then false v = refl
+
 -- Pieces
 
 module _ (piece : List ℕ) where
@@ -187,14 +195,33 @@ equal-swap (x ∷ xs) (y ∷ ys) = rw (equal-swap xs ys) (ap (λ (t : Bool). t &
     swap : (a b : ℕ) → eqb a b ≡ eqb b a
     swap a b = case a b (λ e. eq-eqb a b e ∙ sym (eq-eqb b a (sym e))) (λ n. ne_eqb a b n ∙ sym (ne_eqb b a (λ e. n (sym e))))
 
-module _ (piece : List ℕ) (h : 9 ≤ field_in piece) where
-  pub value-word : (room : Room) (word : List ℕ) → equal word piece ≡ true → found 0 ≡ value_of room piece word
-  unfolding value_of
-  value-word room word e = rw (is-field piece, le-ltb _ _ h, equal-swap piece word, e)
+-- a field that is found, and none
+pub field-some : (n : ℕ) → n < 9 → found_field n ≡ Some n
+field-some n h = rw (lt-ltb n 9 h)
 
-  pub value_none : (room : Room) (word : List ℕ) → equal word piece ≡ false → nothing ≡ value_of room piece word
+field-none-of : (n : ℕ) → 9 ≤ n → found_field n ≡ None
+field-none-of n h = rw (le-ltb n 9 h)
+
+pub field-found : (n : ℕ) → is_some (found_field n) ≡ true → n < 9
+field-found n t = elim (dec_lt n 9) [ yes h ↦ h | no h ↦ absurd (true≢false (sym t ∙ ap is_some (field-none-of n (omega arith)))) ]
+
+pub field-lost : (n : ℕ) → is_some (found_field n) ≡ false → 9 ≤ n
+field-lost n f = elim (dec_lt n 9) [ yes h ↦ absurd (true≢false (sym (ap is_some (field-some n h)) ∙ f)) | no h ↦ omega arith ]
+
+module _ (piece : List ℕ) (h : 9 ≤ field_in piece) where
+  pub value-by : (room : Room) (word : List ℕ) → found_if (equal word piece) 0 ≡ value_of room piece word
   unfolding value_of
-  value_none room word e = rw (is-field piece, le-ltb _ _ h, equal-swap piece word, e)
+  value-by room word =
+      rw (is-field piece, le-ltb _ _ h, equal-swap piece word)
 
   pub with-word : (fields : List ℕ) (v : ℕ) → fields ≡ with_field fields piece v
   with-word fields v = rw (is-field piece, le-ltb _ _ h)
+
+pub with_found : (piece fields : List ℕ) (v f : ℕ) → found_field (field_in piece) ≡ Some f → set fields f v ≡ with_field fields piece v
+with_found piece fields v f e =
+    let h : field_in piece < 9 = field-found (field_in piece) (ap is_some e) in
+    let same : field_in piece ≡ f = let s = field-some (field_in piece) h in cc in
+    rw (← same) (with-letter piece h fields v)
+
+pub with_none : (piece fields : List ℕ) (v : ℕ) → found_field (field_in piece) ≡ None → fields ≡ with_field fields piece v
+with_none piece fields v e = with-word piece (field-lost (field_in piece) (ap is_some e)) fields v

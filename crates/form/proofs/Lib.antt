@@ -1,5 +1,5 @@
 mod ByteLaws
 mod FollowLaws
-mod LetterLaws
+pub mod LetterLaws
 pub mod RowLaws
 pub mod TriedLaws

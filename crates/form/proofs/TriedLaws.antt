@@ -2,7 +2,7 @@
 --     Trying                          a line that was tried with the forms before a place
 --     trying-none, trying-next        none yet, and one that did not fit
 --     tried-fits, trying-all          one that fits, and none left
-use Prim.Native.Nat.{ℕ, suc, ◌+◌, ◌-◌, ◌≤◌, ◌<◌}
+use Prim.Native.Nat.{ℕ, suc, ◌+◌, ◌-◌, ◌≤◌, ◌<◌, max}
 use mathlib.Core.List.{List, [], ◌∷◌, ◌++◌}
 use mathlib.Core.Bool.{Bool, true, false, true≢false, cond, not, ◌&&◌, and-eq-true_iff}
 use mathlib.Core.Path.{◌≡◌, refl, ap, sym, ◌∙◌}
@@ -10,6 +10,7 @@ use native.Mathlib.Omega.{arith}
 use native.Mathlib.Decide.{dec_lt}
 use borrow.Author.Tests.{lt-ltb, le-ltb}
 use lib.Dec.{ltb, eqb}
+use Rattle.std.proofs.lemmas.Bool.Decides.{nat_tests}
 use lib.ListN.{length, get_or, take, drop, length-drop, length-append, drop_of_length-le}
 use lib.Seq.{drop-drop, get_or-drop, drop-append-add, take-append_seam}
 use Rattle.rules.specs.Table.{Room}
@@ -96,6 +97,9 @@ or-on room fs best bs x = elim x [ stuck rest ↦ tried room fs (further best re
 tried-next : (room : Room) (f : Form) (fs : List Form) (best bs : List ℕ) → tried room (f ∷ fs) best bs ≡ or-on room fs best bs (follow most_words room f.words (blank_fields f) bs)
 unfolding tried
 tried-next room f fs best bs = refl
+
+pub further_max : (one other : ℕ) → max one other ≡ cond (ltb one other) other one
+further_max one other = grind (arith, nat_tests)
 
 -- the place that lies further on, of two behind one place
 pub further-there : (text : List ℕ) (at one other : ℕ) → Between text at one → Between text at other → drop (cond (ltb one other) other one) text ≡ further (drop one text) (drop other text)

@@ -1,11 +1,15 @@
 -- What may stand for a letter, in two steps: which kind of word, and which values. Assumes nothing.
+--     found_field  a field's number, of which 9 is none
 --     field_in     the field that a piece of a form stands for
 --     kind_in      the register, plain cell, number or order that a word is
 --     may_stand    whether a field may have a value
-use Rattle.std.specs.Prelude.{ℕ, List, Bool, true, cond, not, ◌&&◌, ◌||◌, ltb, leb, eqb, length, get_or}
+use Rattle.std.specs.Prelude.{ℕ, List, Bool, true, cond, not, ◌&&◌, ◌||◌, ltb, leb, eqb, length, get_or, Option, Some, None}
 use Rattle.rules.specs.Table.{Room, is_load_order, is_store_order, is_fence_order}
 use Rattle.rules.specs.Token.{Found, number_in, register_in, plain_in}
 use Rattle.rules.specs.Form.{order_in, field_of}
+
+abbrev pub found_field : ℕ → Option ℕ
+found_field n = cond (ltb n 9) (Some n) None
 
 unfoldable pub field_in : List ℕ → ℕ
 field_in piece = cond (eqb (length piece) 1) (field_of (get_or piece 0 0)) 9

@@ -1,19 +1,20 @@
 -- What the rows of this crate stand for in the definition. Assumes nothing.
---     followed_of               what the definition says of a line
---     FollowsForm, ReadsRow    a line that was followed by one form, and by all
-use Rattle.std.specs.Prelude.{ℕ, List, false, cond, ◌≡◌, drop, replicate}
+--     followed_of    what the definition says of a line
+--     FollowsForm    a line that was followed by one form, or by all
+use Rattle.std.specs.Prelude.{ℕ, List, ◌≡◌, drop, Result, Ok, Err}
 use Rattle.rules.specs.Form as rules
 use Rattle.token.specs.Places.{Between}
 use Rattle.form.specs.declared.RowRead.{RowRead}
 
-abbrev pub followed_of : List ℕ → RowRead → rules.Followed
-followed_of text r = cond r.fits (rules.fits r.fields (drop r.at text)) (rules.stuck (drop r.at text))
+abbrev pub followed_of : List ℕ → Result RowRead ℕ → rules.Followed
+followed_of text (Ok row) = rules.fits row.fields (drop row.at text)
+followed_of text (Err at) = rules.stuck (drop at text)
 
-pub record FollowsForm (text : List ℕ) (at : ℕ) (followed : rules.Followed) (r : RowRead) : Type 0 where
+-- the place of the next line, or of the token that no form has
+abbrev pub place_of : Result RowRead ℕ → ℕ
+place_of (Ok row) = row.at
+place_of (Err at) = at
+
+pub record FollowsForm (text : List ℕ) (at : ℕ) (followed : rules.Followed) (r : Result RowRead ℕ) : Type 0 where
   pub said : followed_of text r ≡ followed
-  pub between : Between text at r.at
-
--- with no fields where no form fits
-pub record ReadsRow (text : List ℕ) (at : ℕ) (followed : rules.Followed) (r : RowRead) : Type 0 where
-  pub follows : FollowsForm text at followed r
-  pub none : r.fits ≡ false → r.fields ≡ replicate 9 0
+  pub between : Between text at (place_of r)

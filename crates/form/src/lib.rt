@@ -1,7 +1,7 @@
 // One row of a program's text: which form its line has, and what stands for each of the form's letters.
 #![tactic(auto)]
 
-ghost use Rattle.std.specs.Prelude.{◌≡◌, [], ◌∷◌, false, cond, ltb, drop, replicate};
+ghost use Rattle.std.specs.Prelude.{◌≡◌, [], ◌∷◌, cond, drop};
 ghost use Rattle.rules.specs.Table.{any_order};
 ghost use Rattle.rules.specs.Token.{ends_line, next_line};
 ghost use Rattle.rules.specs.Form as Form;
@@ -9,8 +9,8 @@ ghost use Rattle.rules.specs.Form.{field_of, letter_in, value_of, with_field, fi
 ghost use Rattle.token.specs.Places.{part};
 ghost use Rattle.token.specs.Finds.{found_of};
 ghost use Rattle.decode.specs.Ops.{room_meant};
-ghost use Rattle.form.specs.Rows.{FollowsForm, ReadsRow};
-ghost use Rattle.form.specs.Letters.{field_in, kind_in, may_stand};
+ghost use Rattle.form.specs.Rows.{FollowsForm};
+ghost use Rattle.form.specs.Letters.{found_field, field_in, kind_in, may_stand};
 ghost use Rattle.form.specs.Lines.{coded};
 
 pub use decode::Room;
@@ -19,7 +19,6 @@ use layout::order::SEQ_CST;
 use little::low_bytes;
 use table::fields::{FAILURE, KIND, OBJECT, OPCODE, ORDER, REGISTER, TARGET};
 use table::limits::ROW_BYTES;
-use token::Found;
 
 // No form has as many words.
 const MOST_WORDS: usize = 10;
@@ -38,11 +37,10 @@ const OPERAND_A: usize = TARGET + 1;
 
 const OPERAND_B: usize = TARGET + 2;
 
-// A line that was read: of a form, with its fields and the place of the next line; or of none, with the place of the first token that no
-// form has there.
+// A line that was read, of a form: its fields, and the place of the next line. For a line of none stands the place of the first token that
+// no form has there.
 #[derive(Clone, Copy)]
 pub struct RowRead {
-    pub fits: bool,
     pub at: usize,
     pub fields: Fields,
 }
@@ -100,9 +98,9 @@ pub const FORMS: [u8; 904] = *b"\
 \x12\x00write A to P
 ";
 
-// The row that stands in this line. Where it is of no form the fields are zeros.
-pub fn row_in(text: &[u8], room: Room, at: usize) -> RowRead
-    ensures { ReadsRow text.now at (row_in (room_meant room) (drop at text.now)) result }
+// The row that stands in this line, or the place where it fits no form.
+pub fn row_in(text: &[u8], room: Room, at: usize) -> Result<RowRead, usize>
+    ensures { FollowsForm text.now at (row_in (room_meant room) (drop at text.now)) result }
 {
     tried(text, &FORMS, room, at)
 }
@@ -144,43 +142,23 @@ pub fn row_bytes(fields: Fields) -> [u8; ROW_BYTES]
 }
 
 // Tries one form after the other, and keeps the furthest place.
-fn tried(text: &[u8], forms: &[u8], room: Room, at: usize) -> RowRead
+fn tried(text: &[u8], forms: &[u8], room: Room, at: usize) -> Result<RowRead, usize>
     requires { forms.now ≡ coded Form.forms }
-    ensures { ReadsRow text.now at (row_in (room_meant room) (drop at text.now)) result }
+    ensures { FollowsForm text.now at (row_in (room_meant room) (drop at text.now)) result }
 {
     let mut best = token::past_blanks(text, at);
     let mut from = 0;
     while from < forms.len() {
         let to = token::next_line(forms, from + FORM_WORDS);
         let words = token::part(forms, from + FORM_WORDS, to - 1);
-        let row = followed(
-            text,
-            words,
-            room,
-            blank(forms[from], forms[from + FORM_KIND]),
-            at,
-        );
-        if row.fits {
-            return row;
+        let blank = blank(forms[from], forms[from + FORM_KIND]);
+        match followed(text, words, room, blank, at) {
+            Ok(row) => return Ok(row),
+            Err(stuck) => best = best.max(stuck),
         }
-        best = further(best, row.at);
         from = to;
     }
-    RowRead {
-        fits: false,
-        at: best,
-        fields: [0; FIELDS],
-    }
-}
-
-// The place that lies further on.
-fn further(one: usize, other: usize) -> usize
-    ensures { result ≡ cond (ltb one other) other one }
-{
-    if one < other {
-        return other;
-    }
-    one
+    Err(best)
 }
 
 // The fields of a form before any is read.
@@ -191,14 +169,19 @@ fn blank(opcode: u8, kind: u8) -> Fields
 }
 
 // Follows a form along the line, word by word.
-fn followed(text: &[u8], words: &[u8], room: Room, blank: Fields, at: usize) -> RowRead
+fn followed(
+    text: &[u8],
+    words: &[u8],
+    room: Room,
+    blank: Fields,
+    at: usize,
+) -> Result<RowRead, usize>
     ensures { FollowsForm text.now at (follow most_words (room_meant room) words.now blank (drop at text.now)) result }
 {
     let mut fields = blank;
     let mut from = 0;
     let mut to = at;
-    let mut left = MOST_WORDS;
-    while 0 < left {
+    for i in 0..MOST_WORDS {
         let start = token::past_blanks(words, from);
         let here = token::past_blanks(text, to);
         if words.len() <= start {
@@ -207,124 +190,90 @@ fn followed(text: &[u8], words: &[u8], room: Room, blank: Fields, at: usize) -> 
         from = token::token_end(words, start);
         to = token::token_end(text, here);
         let piece = token::part(words, start, from);
-        let Found::Value(value) = value_of(text, piece, room, here, to) else {
-            return stuck(here);
+        let Some(value) = value_of(text, piece, room, here, to) else {
+            return Err(here);
         };
         let more = with_field(piece, fields, value);
         fields = more;
-        left -= 1;
     }
-    stuck(token::past_blanks(text, to))
+    Err(token::past_blanks(text, to))
 }
 
 // Past the last word nothing else may stand in the line.
-fn ended(text: &[u8], fields: Fields, at: usize) -> RowRead
+fn ended(text: &[u8], fields: Fields, at: usize) -> Result<RowRead, usize>
     ensures { FollowsForm text.now at (cond (ends_line (drop at text.now)) (fits fields (next_line (drop at text.now))) (stuck (drop at text.now))) result }
 {
-    if token::ends_line(text, at) {
-        return RowRead {
-            fits: true,
-            at: token::next_line(text, at),
-            fields,
-        };
+    if !token::ends_line(text, at) {
+        return Err(at);
     }
-    stuck(at)
-}
-
-fn stuck(at: usize) -> RowRead
-    ensures { (result.fits ≡ false) × (result.at ≡ at) × (result.fields ≡ replicate 9 0) }
-{
-    RowRead {
-        fits: false,
-        at,
-        fields: [0; FIELDS],
-    }
+    let at = token::next_line(text, at);
+    Ok(RowRead { at, fields })
 }
 
 // What a token stands for where a form has this piece: a letter alone stands for a field, every other word for itself.
-fn value_of(text: &[u8], piece: &[u8], room: Room, at: usize, to: usize) -> Found
+fn value_of(text: &[u8], piece: &[u8], room: Room, at: usize, to: usize) -> Option<u64>
     ensures { found_of result ≡ value_of (room_meant room) piece.now (part at to text.now) }
 {
-    if field_in(piece) < FIELDS {
+    if field_in(piece).is_some() {
         return letter_in(text, room, piece[0], at, to);
     }
-    if token::is_word(text, piece, at, to) {
-        return Found::Value(0);
-    }
-    Found::Nothing
+    token::is_word(text, piece, at, to).then_some(0)
 }
 
 // The fields with this one's value.
-fn with_field(piece: &[u8], fields: Fields, value: u64) -> Fields
+fn with_field(piece: &[u8], mut fields: Fields, value: u64) -> Fields
     ensures { result ≡ with_field fields piece.now value }
 {
-    let mut made = fields;
-    let field = field_in(piece);
-    if field < FIELDS {
-        made[field] = value;
+    if let Some(field) = field_in(piece) {
+        fields[field] = value;
     }
-    made
+    fields
 }
 
-// The field that a piece stands for; FIELDS is none.
-fn field_in(piece: &[u8]) -> usize
-    ensures { result ≡ field_in piece.now }
+// The field that a piece stands for, if any.
+fn field_in(piece: &[u8]) -> Option<usize>
+    ensures { result ≡ found_field (field_in piece.now) }
 {
-    if piece.len() != 1 {
-        return FIELDS;
-    }
-    field_of(piece[0])
+    let [letter] = piece else {
+        return None;
+    };
+    field_of(*letter)
 }
 
-// The field that a letter stands for; FIELDS is none.
-pub fn field_of(letter: u8) -> usize
-    ensures { result ≡ field_of letter }
+// The field that a letter stands for, if any.
+pub fn field_of(letter: u8) -> Option<usize>
+    ensures { result ≡ found_field (field_of letter) }
 {
     match letter {
-        b'R' => REGISTER,
-        b'C' | b'T' | b'P' => OBJECT,
-        b'J' | b'G' => TARGET,
-        b'A' => OPERAND_A,
-        b'B' => OPERAND_B,
-        b'L' | b'S' | b'O' | b'F' => ORDER,
-        b'X' => FAILURE,
-        _ => FIELDS,
+        b'R' => Some(REGISTER),
+        b'C' | b'T' | b'P' => Some(OBJECT),
+        b'J' | b'G' => Some(TARGET),
+        b'A' => Some(OPERAND_A),
+        b'B' => Some(OPERAND_B),
+        b'L' | b'S' | b'O' | b'F' => Some(ORDER),
+        b'X' => Some(FAILURE),
+        _ => None,
     }
 }
 
 // What a word stands for where a form has this letter.
-fn letter_in(text: &[u8], room: Room, letter: u8, at: usize, to: usize) -> Found
+fn letter_in(text: &[u8], room: Room, letter: u8, at: usize, to: usize) -> Option<u64>
     ensures { found_of result ≡ letter_in (room_meant room) letter (part at to text.now) }
 {
-    let Found::Value(value) = kind_in(text, letter, at, to) else {
-        return Found::Nothing;
-    };
-    if may_stand(room, letter, value) {
-        return Found::Value(value);
-    }
-    Found::Nothing
+    let value = kind_in(text, letter, at, to)?;
+    may_stand(room, letter, value).then_some(value)
 }
 
 // The register, plain cell, number or order that a word is.
-fn kind_in(text: &[u8], letter: u8, at: usize, to: usize) -> Found
+fn kind_in(text: &[u8], letter: u8, at: usize, to: usize) -> Option<u64>
     ensures { found_of result ≡ kind_in letter (part at to text.now) }
 {
-    if letter == b'R' {
-        return token::register(text, at, to);
+    match letter {
+        b'R' => token::register(text, at, to),
+        b'P' => token::plain(text, at, to),
+        b'C' | b'T' | b'J' | b'G' | b'A' | b'B' => token::number(text, at, to),
+        _ => token::order(text, at, to),
     }
-    if letter == b'P' {
-        return token::plain(text, at, to);
-    }
-    if (letter == b'C')
-        | (letter == b'T')
-        | (letter == b'J')
-        | (letter == b'G')
-        | (letter == b'A')
-        | (letter == b'B')
-    {
-        return token::number(text, at, to);
-    }
-    token::order(text, at, to)
 }
 
 // Whether the field may have this value.
@@ -345,6 +294,7 @@ fn may_stand(room: Room, letter: u8, value: u64) -> bool
 }
 
 // The order of this number as a row has it; of any other number, one that no row has.
+// A byte and no Option: the three tests take any byte, and refuse that one.
 fn order_of(value: u64) -> u8
     ensures { result ≡ cond (any_order value) value 255 }
 {

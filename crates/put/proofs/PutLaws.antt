@@ -3,13 +3,14 @@
 --     puts-in, puts-past             a byte where there is room, and where there is none
 --     coming-all, coming-on          what is still to come, at first and behind a part of it
 --     come                           nothing more
-use Prim.Native.Nat.{ℕ, suc, ◌+◌, ◌≤◌, ◌<◌}
+use Prim.Native.Nat.{ℕ, suc, ◌+◌, ◌≤◌, ◌<◌, min}
 use mathlib.Core.List.{List, [], ◌∷◌, ◌++◌}
 use mathlib.Core.Path.{◌≡◌, refl, ap, sym, ◌∙◌}
 use native.Mathlib.Omega.{arith}
 use native.Mathlib.Decide.{dec_le}
 use native.Mathlib.Numerals.{add-one}
 use borrow.Author.Tests.{le-leb, lt-leb}
+use Rattle.std.proofs.lemmas.Bool.Decides.{nat_tests}
 use lib.ListN.{length, get_or, set, drop, length-append}
 use lib.Seq.{drop-cons, sets, set_out, length-sets}
 use Rattle.put.specs.Puts.{last, up_to_last, Puts, ToPut}
@@ -61,14 +62,14 @@ puts_then l m n at mid r a b h p q =
           }
     ]
 
-pub puts-in : (l : List ℕ) (at b : ℕ) → at < last → Puts l (set l at b) at (b ∷ []) (at + 1)
-puts-in l at b h = record { left = refl; behind = sym (low (at + 1) (omega arith)) }
+counted : (n : ℕ) → min n last ≡ up_to_last n
+counted n = grind (arith, nat_tests)
 
-pub puts-past : (l : List ℕ) (at b : ℕ) → length l ≤ at → at < last → Puts l l at (b ∷ []) (at + 1)
-puts-past l at b h k = record { left = sym (set_out l at b h); behind = sym (low (at + 1) (omega arith)) }
+pub puts-in : (l : List ℕ) (at b r : ℕ) → r ≡ min (at + 1) last → Puts l (set l at b) at (b ∷ []) r
+puts-in l at b r e = record { left = refl; behind = e ∙ counted (at + 1) }
 
-pub puts-last : (l : List ℕ) (at b : ℕ) → length l ≤ at → at ≡ last → Puts l l at (b ∷ []) at
-puts-last l at b h k = record { left = sym (set_out l at b h); behind = k ∙ sym (high (at + 1) (omega arith)) }
+pub puts-past : (l : List ℕ) (at b r : ℕ) → length l ≤ at → r ≡ min (at + 1) last → Puts l l at (b ∷ []) r
+puts-past l at b r h e = record { left = sym (set_out l at b h); behind = e ∙ counted (at + 1) }
 
 pub puts-are : (l m : List ℕ) (at r : ℕ) (a b : List ℕ) → a ≡ b → Puts l m at a r → Puts l m at b r
 puts-are l m at r a b e p = rw (← e) p

@@ -9,31 +9,22 @@ ghost use Rattle.put.specs.Puts.{Puts};
 use digits::MOST_DIGITS;
 use token::{ORDERS, word_at};
 
-// The last place that is counted: no buffer is longer.
-const LAST: usize = 0xFFFF_FFFF_FFFF_FFFF;
-
 // Puts a byte here, and answers the place behind it.
 pub fn put_byte(text: &mut [u8], at: usize, byte: u8) -> usize
     ensures { Puts text.old text.new at (byte ∷ []) result }
 {
     if at < text.len() {
         text[at] = byte;
-        return at + 1;
     }
-    if at < LAST {
-        return at + 1;
-    }
-    at
+    at.saturating_add(1)
 }
 
 pub fn put_bytes(text: &mut [u8], at: usize, bytes: &[u8]) -> usize
     ensures { Puts text.old text.new at bytes.now result }
 {
     let mut to = at;
-    let mut i = 0;
-    while i < bytes.len() {
-        to = put_byte(text, to, bytes[i]);
-        i += 1;
+    for &byte in bytes {
+        to = put_byte(text, to, byte);
     }
     to
 }

@@ -17,9 +17,9 @@ use Rattle.ahead.specs.declared.Place.{Place}
 use Rattle.filling.specs.Tables.{Blank}
 use Rattle.trace.specs.Entries.{Zeros}
 use Rattle.reader.specs.Lines.{TextAnswers, TextAnswered, Took, with_buffers}
-use Rattle.reader.specs.declared.Lines.{Lines}
-use Rattle.reader.specs.declared.Lines.TheVariants as lines
-use Rattle.reader.specs.declared.TextAnswer.TheVariants.{NoRoom, Refused, Taken}
+use Rattle.std.proofs.Common.{Result, Ok, Err}
+use Rattle.reader.specs.declared.Taken.{Taken}
+use Rattle.reader.specs.declared.Untaken.TheVariants.{NoRoom, Refused}
 use Rattle.reader.proofs.WholeLaws.{blank-filled}
 
 pub cleared-blank : (least : ℕ) (entry exit : List ℕ) → Zeros entry exit → least ≤ length entry → Blank least exit
@@ -50,11 +50,11 @@ module _ (text table condition : List ℕ) where
   read_by : (s t : Bool) → leb table_bytes (length table) ≡ s → leb condition_bytes (length condition) ≡ t → room_by (s && t) ≡ read_into text table condition
   read_by s t e f = sym (read_next ∙ ap (λ (b : Bool). room_by (b && leb condition_bytes (length condition))) e ∙ ap (λ (b : Bool). room_by (s && b)) f)
 
-  pub no_table : length table < table_bytes → with_buffers NoRoom table condition ≡ read_into text table condition
+  pub no_table : length table < table_bytes → with_buffers (Err NoRoom) table condition ≡ read_into text table condition
   no_table h = read_by false _ (lt-leb table_bytes (length table) h) refl
 
   module _ (h : table_bytes ≤ length table) where
-    pub no-condition : length condition < condition_bytes → with_buffers NoRoom table condition ≡ read_into text table condition
+    pub no-condition : length condition < condition_bytes → with_buffers (Err NoRoom) table condition ≡ read_into text table condition
     no-condition l = read_by true false (le-leb table_bytes (length table) h) (lt-leb condition_bytes (length condition) l)
 
     module _ (l : condition_bytes ≤ length condition) where
@@ -62,26 +62,27 @@ module _ (text table condition : List ℕ) where
       room = read_by true true (le-leb table_bytes (length table) h) (le-leb condition_bytes (length condition) l)
 
       -- what was said of the text, by its answer
-      pub said-refused : (t c : List ℕ) (r : Lines) (at : ℕ) → TextAnswers text t c r (read_text text) → r ≡ lines.Refused at → read_text text ≡ refused_at (drop at text)
-      said-refused t c r at a e = subst (λ (x : Lines). TextAnswered text t c x (read_text text)) e a.is
+      pub said-refused : (t c : List ℕ) (r : Result Taken ℕ) (at : ℕ) → TextAnswers text t c r (read_text text) → r ≡ Err at → read_text text ≡ refused_at (drop at text)
+      said-refused t c r at a e = subst (λ (x : Result Taken ℕ). TextAnswered text t c x (read_text text)) e a.is
 
       pub read-refused : (at : ℕ) (p : Place) → PlacedAt text (drop at text) p → read_text text ≡ refused_at (drop at text)
           → (before after was is : List ℕ) → Zeros before after → Zeros was is → length before ≡ length table → length was ≡ length condition
-          → with_buffers (Refused p.line p.column) after is ≡ read_into text table condition
+          → with_buffers (Err (Refused p.line p.column)) after is ≡ read_into text table condition
       read-refused at p placed e before after was is t c n k =
-          ap (λ (x : rules.Place). with_buffers (Refused x.line x.column) after is) placed
-          ∙ ap (λ (x : List ℕ). with_buffers (Refused (rules.place_of text (drop at text)).line (rules.place_of text (drop at text)).column) x is) (cleared-filled (length table) before after t n)
-          ∙ ap (λ (x : List ℕ). with_buffers (Refused (rules.place_of text (drop at text)).line (rules.place_of text (drop at text)).column) (filled (length table) []) x) (cleared-filled (length condition) was is c k)
+          ap (λ (x : rules.Place). with_buffers (Err (Refused x.line x.column)) after is) placed
+          ∙ ap (λ (x : List ℕ). with_buffers (Err (Refused (rules.place_of text (drop at text)).line (rules.place_of text (drop at text)).column)) x is) (cleared-filled (length table) before after t n)
+          ∙ ap (λ (x : List ℕ). with_buffers (Err (Refused (rules.place_of text (drop at text)).line (rules.place_of text (drop at text)).column)) (filled (length table) []) x) (cleared-filled (length condition) was is c k)
           ∙ ap text_by (sym e)
           ∙ room
 
-      pub read_taken : (t c : List ℕ) (r : Lines) (bytes claimed : ℕ) → TextAnswers text t c r (read_text text) → r ≡ lines.Taken bytes claimed
-          → length t ≡ length table → length c ≡ length condition → with_buffers (Taken bytes claimed) t c ≡ read_into text table condition
-      read_taken t c r bytes claimed a e n k =
-          let took : Took t c bytes claimed (read_text text) = subst (λ (x : Lines). TextAnswered text t c x (read_text text)) e a.is in
-          ap (λ (x : ℕ). with_buffers (Taken x claimed) t c) took.table_long
-          ∙ ap (λ (x : ℕ). with_buffers (Taken (length took.table_is) x) t c) took.condition_long
-          ∙ ap (λ (x : List ℕ). with_buffers (Taken (length took.table_is) (length took.condition_is)) x c) (took.table_left ∙ ap (λ (j : ℕ). filled j took.table_is) n)
-          ∙ ap (λ (x : List ℕ). with_buffers (Taken (length took.table_is) (length took.condition_is)) (filled (length table) took.table_is) x) (took.condition_left ∙ ap (λ (j : ℕ). filled j took.condition_is) k)
+      pub read_taken : (t c : List ℕ) (r : Result Taken ℕ) (k : Taken) → TextAnswers text t c r (read_text text) → r ≡ Ok k
+          → length t ≡ length table → length c ≡ length condition → with_buffers (Ok k) t c ≡ read_into text table condition
+      read_taken t c r k a e n m =
+          let took : Took t c k.table k.condition (read_text text) = subst (λ (x : Result Taken ℕ). TextAnswered text t c x (read_text text)) e a.is in
+          let taken : ℕ → ℕ → List ℕ → List ℕ → ReadInto = λ x y. with_buffers (Ok (record { table = x; condition = y })) in
+          ap (λ (x : ℕ). taken x k.condition t c) took.table_long
+          ∙ ap (λ (x : ℕ). taken (length took.table_is) x t c) took.condition_long
+          ∙ ap (λ (x : List ℕ). taken (length took.table_is) (length took.condition_is) x c) (took.table_left ∙ ap (λ (j : ℕ). filled j took.table_is) n)
+          ∙ ap (λ (x : List ℕ). taken (length took.table_is) (length took.condition_is) (filled (length table) took.table_is) x) (took.condition_left ∙ ap (λ (j : ℕ). filled j took.condition_is) m)
           ∙ ap text_by (sym took.says)
           ∙ room

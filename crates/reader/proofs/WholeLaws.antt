@@ -14,15 +14,16 @@ use Rattle.rules.specs.Condition.{condition_bytes}
 use Rattle.rules.specs.Text as rules
 use Rattle.rules.specs.Text.{Draft, nothing_made, table_of, filled, TextRead, refused_at, accepted, lines_from, lines_in, line_of, read_text, threads_ahead, table_bytes}
 use Rattle.token.specs.Places.{part}
-use Rattle.claims.specs.Units.{Concludes}
+use Rattle.claims.specs.Units.{most_claimed, Concludes, concluded_of}
 use Rattle.claims.specs.declared.Conclusion.{Conclusion}
 use Rattle.filling.specs.Tables.{HeldTable, Blank}
 use Rattle.filling.specs.Steps.{Lined, LineSteps}
 use Rattle.reader.specs.Lines.{Took, TextAnswered, TextAnswers, Closes}
-use Rattle.reader.specs.declared.Lines.{Lines}
+use Rattle.reader.specs.declared.Taken.{Taken}
+use Rattle.std.proofs.Common.{Result, Ok, Err}
 use Rattle.filling.specs.declared.Line.{Line}
 use Rattle.filling.specs.declared.Reached.{Reached}
-use Rattle.filling.specs.declared.Line.TheVariants.{GoesOn, Refused, Ended, Concludes as Goes}
+use Rattle.filling.specs.declared.Line.TheVariants.{GoesOn, Ended, Concludes as Goes}
 use Rattle.filling.proofs.HeldLaws.{so-held, filled_on, length-filled, length-table_of}
 
 -- on the way, with so many lines that may still come
@@ -81,7 +82,7 @@ module _ (text entry : List ℕ) (lines all n rows from left : ℕ) (whole : Tex
       let e : left ≡ 0 = omega arith in
       sym g.same ∙ ap (λ (k : ℕ). lines_from k lines all rows g.made (drop from text)) e ∙ lines-zero lines all rows g.made (drop from text)
 
-  module _ (exit : List ℕ) (r : Line) (steps : LineSteps text entry exit n r (λ m. line_of lines all rows m (drop from text))) (some : 0 < left) where
+  module _ (exit : List ℕ) (r : Result Line ℕ) (steps : LineSteps text entry exit n r (λ m. line_of lines all rows m (drop from text))) (some : 0 < left) where
     whole_by : (l : rules.Line) → line_of lines all rows g.made (drop from text) ≡ l → whole ≡ lines_by (left - 1) lines all l
     whole_by l e =
         let s : left ≡ suc (left - 1) = omega arith in
@@ -90,20 +91,20 @@ module _ (text entry : List ℕ) (lines all n rows from left : ℕ) (whole : Tex
         ∙ lines_next (left - 1) lines all rows g.made (drop from text)
         ∙ ap (lines_by (left - 1) lines all) e
 
-    lined : (q : Line) → r ≡ q → Lined text exit n (line_of lines all rows g.made (drop from text)) q
-    lined q e = subst (λ (x : Line). Lined text exit n (line_of lines all rows g.made (drop from text)) x) e (steps.is g.made g.held)
+    lined : (q : Result Line ℕ) → r ≡ q → Lined text exit n (line_of lines all rows g.made (drop from text)) q
+    lined q e = subst (λ (x : Result Line ℕ). Lined text exit n (line_of lines all rows g.made (drop from text)) x) e (steps.is g.made g.held)
 
-    pub step-goes : (more : Reached) → r ≡ GoesOn more → Going text exit lines all more.length more.rows more.at (left - 1) whole
+    pub step-goes : (more : Reached) → r ≡ Ok (GoesOn more) → Going text exit lines all more.length more.rows more.at (left - 1) whole
     step-goes more e =
-        let x = lined (GoesOn more) e in
+        let x = lined (Ok (GoesOn more)) e in
         record { made = x.0; held = x.1.1; same = sym (whole_by _ x.1.0) }
 
-    pub step-refused : (at : ℕ) → r ≡ Refused at → whole ≡ refused_at (drop at text)
-    step-refused at e = whole_by _ (lined (Refused at) e)
+    pub step-refused : (at : ℕ) → r ≡ Err at → whole ≡ refused_at (drop at text)
+    step-refused at e = whole_by _ (lined (Err at) e)
 
-    pub step-ended : (condition : List ℕ) (least : ℕ) → Blank least condition → r ≡ Ended → Took exit condition n 0 whole
+    pub step-ended : (condition : List ℕ) (least : ℕ) → Blank least condition → r ≡ Ok Ended → Took exit condition n 0 whole
     step-ended condition least b e =
-        let x = lined Ended e in
+        let x = lined (Ok Ended) e in
         record {
           table_is = table_of x.0;
           condition_is = [];
@@ -114,45 +115,47 @@ module _ (text entry : List ℕ) (lines all n rows from left : ℕ) (whole : Tex
           condition_long = refl;
         }
 
-    pub step-made : (at : ℕ) → r ≡ Goes at → (m : Draft) × ((whole ≡ rules.concluded lines m (drop at text)) × HeldTable exit n m)
-    step-made at e = let x = lined (Goes at) e in (x.0, (whole_by _ x.1.0, x.1.1))
+    pub step-made : (at : ℕ) → r ≡ Ok (Goes at) → (m : Draft) × ((whole ≡ rules.concluded lines m (drop at text)) × HeldTable exit n m)
+    step-made at e = let x = lined (Ok (Goes at)) e in (x.0, (whole_by _ x.1.0, x.1.1))
 
 -- The condition
 
 pub piece-most : (bytes : List ℕ) (n : ℕ) (piece : List ℕ) → piece ≡ part 0 n bytes → length piece ≤ n
 piece-most bytes n piece p = omega (arith, ap length p, length-take (n - 0) (drop 0 bytes))
 
-module _ (text table : List ℕ) (at lines threads n : ℕ) (c : Conclusion) (closes : Concludes text at lines threads c) (m : Draft) (held : HeldTable table n m) (t : m.threads ≡ threads) where
-  pub closes-refused : c.taken ≡ false → rules.concluded lines m (drop at text) ≡ refused_at (drop c.at text)
-  closes-refused e =
-      sym (closes.is m t) ∙ ap (λ (b : Bool). cond b (accepted (table_of m) (take c.length c.bytes)) (refused_at (drop c.at text))) e
+module _ (text table : List ℕ) (at lines threads n : ℕ) (r : Result Conclusion ℕ) (closes : Concludes text at lines threads r) (m : Draft) (held : HeldTable table n m) (t : m.threads ≡ threads) where
+  pub closes-refused : (stuck : ℕ) → r ≡ Err stuck → rules.concluded lines m (drop at text) ≡ refused_at (drop stuck text)
+  closes-refused stuck e = sym (closes.is m t) ∙ ap (concluded_of (table_of m) text) e
 
-  closes-accepted : c.taken ≡ true → rules.concluded lines m (drop at text) ≡ accepted (table_of m) (take c.length c.bytes)
-  closes-accepted e =
-      sym (closes.is m t) ∙ ap (λ (b : Bool). cond b (accepted (table_of m) (take c.length c.bytes)) (refused_at (drop c.at text))) e
+  module _ (c : Conclusion) (e : r ≡ Ok c) where
+    fits : (c.length ≤ condition_bytes) × (length c.bytes ≡ most_claimed)
+    fits = closes.within c e
 
-  long-taken : length (take c.length c.bytes) ≡ c.length
-  long-taken = length-take-le c.length c.bytes (omega (arith, closes.most, closes.long))
+    closes-accepted : rules.concluded lines m (drop at text) ≡ accepted (table_of m) (take c.length c.bytes)
+    closes-accepted = sym (closes.is m t) ∙ ap (concluded_of (table_of m) text) e
 
-  pub closes-taken : c.taken ≡ true → (entry exit piece : List ℕ) → Blank condition_bytes entry → piece ≡ part 0 c.length c.bytes
-      → exit ≡ paste entry 0 piece (length piece) → Took table exit n c.length (rules.concluded lines m (drop at text))
-  closes-taken e entry exit piece b p x =
-      let z : c.length - 0 ≡ c.length = omega arith in
-      let q : piece ≡ take c.length c.bytes = p ∙ ap (λ (k : ℕ). take k c.bytes) z in
-      let l : length piece ≡ c.length = ap length q ∙ long-taken in
-      let put : exit ≡ filled (length entry) piece =
-      x ∙ ap (λ (y : List ℕ). paste y 0 piece (length piece)) (blank-filled condition_bytes entry b) ∙ filled_on (length entry) [] piece (omega (arith, b.room, closes.most)) in
-      let same : length exit ≡ length entry = ap length put ∙ length-filled (length entry) piece (omega (arith, b.room, closes.most)) in
-      record {
-        table_is = table_of m;
-        condition_is = take c.length c.bytes;
-        says = closes-accepted e;
-        table_left = held.is;
-        condition_left = put ∙ ap (λ (k : ℕ). filled k piece) (sym same) ∙ ap (filled (length exit)) q;
-        table_long = omega (arith, held.long, length-table_of m held.five);
-        condition_long = sym long-taken;
-      }
+    long-taken : length (take c.length c.bytes) ≡ c.length
+    long-taken = length-take-le c.length c.bytes (omega (arith, fits.0, fits.1))
 
-pub answered-by : (text table condition : List ℕ) (n : ℕ) (r : Lines) (read : Draft → TextRead) → Closes text table condition n r read
+    pub closes-taken : (entry exit piece : List ℕ) → Blank condition_bytes entry → piece ≡ part 0 c.length c.bytes
+        → exit ≡ paste entry 0 piece (length piece) → Took table exit n c.length (rules.concluded lines m (drop at text))
+    closes-taken entry exit piece b p x =
+        let z : c.length - 0 ≡ c.length = omega arith in
+        let q : piece ≡ take c.length c.bytes = p ∙ ap (λ (k : ℕ). take k c.bytes) z in
+        let l : length piece ≡ c.length = ap length q ∙ long-taken in
+        let put : exit ≡ filled (length entry) piece =
+        x ∙ ap (λ (y : List ℕ). paste y 0 piece (length piece)) (blank-filled condition_bytes entry b) ∙ filled_on (length entry) [] piece (omega (arith, b.room, fits.0)) in
+        let same : length exit ≡ length entry = ap length put ∙ length-filled (length entry) piece (omega (arith, b.room, fits.0)) in
+        record {
+          table_is = table_of m;
+          condition_is = take c.length c.bytes;
+          says = closes-accepted;
+          table_left = held.is;
+          condition_left = put ∙ ap (λ (k : ℕ). filled k piece) (sym same) ∙ ap (filled (length exit)) q;
+          table_long = omega (arith, held.long, length-table_of m held.five);
+          condition_long = sym long-taken;
+        }
+
+pub answered-by : (text table condition : List ℕ) (n : ℕ) (r : Result Taken ℕ) (read : Draft → TextRead) → Closes text table condition n r read
     → (m : Draft) → HeldTable table n m → (whole : TextRead) → read m ≡ whole → TextAnswers text table condition r whole
 answered-by text table condition n r read closes m held whole e = record { is = subst (TextAnswered text table condition r) e (closes.is m held) }

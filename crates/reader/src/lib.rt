@@ -13,48 +13,46 @@ use filling::{Line, Reached};
 pub use table::limits::TABLE_BYTES;
 use table::limits::{HEADER_BYTES, THREAD_COUNT};
 
-// How a text was read: a buffer was too short; refused at a line and column, both from 1; or taken, with the lengths of its table and
-// its condition.
+// A text that is taken: the lengths of its table and its condition.
 #[derive(Clone, Copy)]
-pub enum TextAnswer {
-    NoRoom,
-    Refused(usize, usize),
-    Taken(usize, usize),
+pub struct Taken {
+    pub table: usize,
+    pub condition: usize,
 }
 
-// The same with a place in the text, once there is room.
+// Why a text was not taken: a buffer was too short; or it is refused at a line and column, both from 1.
 #[derive(Clone, Copy)]
-enum Lines {
-    Refused(usize),
-    Taken(usize, usize),
+pub enum Untaken {
+    NoRoom,
+    Refused(usize, usize),
 }
 
 // Reads a text. A refusal leaves zeros in both buffers, and a text that is taken zeros behind its bytes; without room they stay as they
 // are.
-pub fn read(text: &[u8], table: &mut [u8], condition: &mut [u8]) -> TextAnswer
+pub fn read(text: &[u8], table: &mut [u8], condition: &mut [u8]) -> Result<Taken, Untaken>
     ensures { with_buffers result table.new condition.new ≡ rules.read_into text.now table.old condition.old }
 {
     if table.len() < TABLE_BYTES {
-        return TextAnswer::NoRoom;
+        return Err(Untaken::NoRoom);
     }
     if condition.len() < CONDITION_BYTES {
-        return TextAnswer::NoRoom;
+        return Err(Untaken::NoRoom);
     }
     trace::clear_all(table);
     trace::clear_all(condition);
     match lines_from(text, table, condition) {
-        Lines::Refused(at) => {
+        Ok(taken) => Ok(taken),
+        Err(at) => {
             trace::clear_all(table);
             trace::clear_all(condition);
             let place = ahead::place_of(text, at);
-            TextAnswer::Refused(place.line, place.column)
+            Err(Untaken::Refused(place.line, place.column))
         }
-        Lines::Taken(bytes, claimed) => TextAnswer::Taken(bytes, claimed),
     }
 }
 
-// All lines, over buffers of zeros.
-fn lines_from(text: &[u8], table: &mut [u8], condition: &mut [u8]) -> Lines
+// All lines, over buffers of zeros; or the place at which they are refused.
+fn lines_from(text: &[u8], table: &mut [u8], condition: &mut [u8]) -> Result<Taken, usize>
     requires { Blank rules.table_bytes table.old × Blank condition_bytes condition.old }
     ensures { TextAnswers text.now table.new condition.new result (rules.read_text text.now) }
 {
@@ -65,24 +63,23 @@ fn lines_from(text: &[u8], table: &mut [u8], condition: &mut [u8]) -> Lines
         length: HEADER_BYTES,
         at: 0,
     };
-    let mut left = lines;
-    while 0 < left {
-        match filling::line_of(text, table, lines, all, reached) {
+    for i in 0..lines {
+        let line = filling::line_of(text, table, lines, all, reached)?;
+        match line {
             Line::GoesOn(more) => reached = more,
-            Line::Refused(at) => return Lines::Refused(at),
-            Line::Ended => return Lines::Taken(reached.length, 0),
+            Line::Ended => {
+                return Ok(Taken {
+                    table: reached.length,
+                    condition: 0,
+                });
+            }
             Line::Concludes(at) => {
-                let end = Reached {
-                    rows: reached.rows,
-                    length: reached.length,
-                    at,
-                };
+                let end = Reached { at, ..reached };
                 return concluded(text, table, condition, lines, end);
             }
         }
-        left -= 1;
     }
-    Lines::Refused(reached.at)
+    Err(reached.at)
 }
 
 // The condition is read and judged, and its bytes are written.
@@ -92,17 +89,17 @@ fn concluded(
     condition: &mut [u8],
     lines: usize,
     reached: Reached,
-) -> Lines
+) -> Result<Taken, usize>
     requires { HoldsTable table.now reached.length × Blank condition_bytes condition.old }
     ensures { Closes text.now table.now condition.new reached.length result (λ m. rules.concluded lines m (drop reached.at text.now)) }
 {
     let threads = table[THREAD_COUNT] as usize;
-    let end = claims::concluded(text, lines, threads, reached.at);
-    if !end.taken {
-        return Lines::Refused(end.at);
-    }
+    let end = claims::concluded(text, lines, threads, reached.at)?;
     let bytes = end.bytes;
     let size = end.length;
     filling::append(condition, 0, token::part(&bytes, 0, size));
-    Lines::Taken(reached.length, size)
+    Ok(Taken {
+        table: reached.length,
+        condition: size,
+    })
 }

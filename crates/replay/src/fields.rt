@@ -1,7 +1,6 @@
 // The fields of a line of the list: texts between single spaces, decimal numbers and lowercase hex.
 ghost use Rattle.std.specs.Prelude.{◌<◌, IfSome};
 
-use decimal::Parsed;
 use numbers::REPORT_NUMBERS;
 use std::fmt;
 
@@ -108,10 +107,7 @@ fn number(text: &[u8], most: u64) -> Option<u64> {
     if matches!(text, [b'0', _, ..]) {
         return None;
     }
-    match decimal::number_between(text, 0, most) {
-        Parsed::Number(value) => Some(value),
-        Parsed::Bad => None,
-    }
+    decimal::number_between(text, 0, most)
 }
 
 // The byte that two lowercase hex digits spell.

@@ -9,7 +9,7 @@ ghost use Rattle.form.specs.Lines.{coded};
 ghost use Rattle.put.specs.Puts.{Puts};
 ghost use Rattle.row_line.specs.Pieces.{piece_shown};
 
-use form::{FIELDS, FORM_KIND, FORM_WORDS, FORMS, Fields};
+use form::{FORM_KIND, FORM_WORDS, FORMS, Fields};
 use layout::{long8, long16};
 use put::{put_byte, put_bytes, put_number, put_order};
 use table::fields::{FAILURE, KIND, OPCODE, ORDER};
@@ -70,10 +70,8 @@ fn put_words(text: &mut [u8], at: usize, words: &[u8], fields: Fields) -> usize
     ensures { Puts text.old text.new at (form_shown words.now fields) result }
 {
     let mut to = at;
-    let mut i = 0;
-    while i < words.len() {
-        to = put_piece(text, to, words[i], fields);
-        i += 1;
+    for &byte in words {
+        to = put_piece(text, to, byte, fields);
     }
     to
 }
@@ -82,10 +80,9 @@ fn put_words(text: &mut [u8], at: usize, words: &[u8], fields: Fields) -> usize
 fn put_piece(text: &mut [u8], at: usize, byte: u8, fields: Fields) -> usize
     ensures { Puts text.old text.new at (piece_shown byte fields) result }
 {
-    let field = form::field_of(byte);
-    if FIELDS <= field {
+    let Some(field) = form::field_of(byte) else {
         return put_byte(text, at, byte);
-    }
+    };
     let value = fields[field];
     if byte == b'R' {
         let behind = put_byte(text, at, b'r');

@@ -8,7 +8,6 @@ ghost use Rattle.put.specs.Puts.{Puts};
 ghost use Rattle.saying.specs.Sayings.{name_shown, place_shown, is_clear, names_plain, names_cell, why_no_plain, why_no_row, why_no_number, reason, what_shown};
 
 use put::{put_byte, put_bytes, put_number};
-use token::Found;
 
 // The longest token that is named; of a longer one only the place is said.
 const NAMED: usize = 40;
@@ -108,8 +107,8 @@ fn put_why_no_plain(page: &mut [u8], at: usize, text: &[u8], place: usize, end: 
     ensures { Puts page.old page.new at (bytes_of (why_no_plain (plain_in (part place end text.now)))) result }
 {
     match token::plain(text, place, end) {
-        Found::Value(plain) => put_bytes(page, at, b": there is no such plain cell"),
-        Found::Nothing => put_bytes(page, at, b": a plain cell is p0 to p3"),
+        Some(_) => put_bytes(page, at, b": there is no such plain cell"),
+        None => put_bytes(page, at, b": a plain cell is p0 to p3"),
     }
 }
 
@@ -117,7 +116,7 @@ fn put_why_no_plain(page: &mut [u8], at: usize, text: &[u8], place: usize, end: 
 fn put_why(page: &mut [u8], at: usize, text: &[u8], spot: Spot, end: usize) -> usize
     ensures { Puts page.old page.new at (bytes_of (why_no_number spot.row (token (drop spot.before text.now)) (number_in (part spot.place end text.now)))) result }
 {
-    let Found::Value(value) = token::number(text, spot.place, end) else {
+    let Some(value) = token::number(text, spot.place, end) else {
         return at;
     };
     let behind = token::token_end(text, spot.before);

@@ -5,7 +5,7 @@
 ghost use Rattle.std.specs.Prelude.{◌≤◌, length};
 
 use condition::CONDITION_BYTES;
-use reader::{TABLE_BYTES, TextAnswer};
+use reader::{TABLE_BYTES, Untaken};
 use settings::{MAX_BRANCHES, MAX_EXECUTIONS, MAX_OPERATIONS, PATH_BYTES, Settings, TRACE_BYTES};
 use source::{FILE_BYTES, ROOM};
 use std::io;
@@ -46,12 +46,12 @@ fn take(rt: &impl Print, bytes: &[u8]) -> io::Result<()> {
     let mut table = [0u8; TABLE_BYTES];
     let mut condition = [0u8; CONDITION_BYTES];
     match reader::read(bytes, &mut table, &mut condition) {
-        TextAnswer::NoRoom => Ok(()),
-        TextAnswer::Refused(line, column) => tell::print_refusal(rt, b"", bytes, line, column),
-        TextAnswer::Taken(n, claimed) => show(
+        Err(Untaken::NoRoom) => Ok(()),
+        Err(Untaken::Refused(line, column)) => tell::print_refusal(rt, b"", bytes, line, column),
+        Ok(taken) => show(
             rt,
-            token::part(&table, 0, n),
-            token::part(&condition, 0, claimed),
+            token::part(&table, 0, taken.table),
+            token::part(&condition, 0, taken.condition),
         ),
     }
 }

@@ -3,8 +3,8 @@
 --     run-within, token-within, line-within    no scan goes past the end
 --     between-.., left_by          a place behind another, and what is left there
 --     content-..                   a line of nothing, and what is not
---     part-.., part-token          a part, where the text has it and where not; a token
---     same-..                      two words, byte by byte
+--     part-token                   a token as a part
+--     same-words                   two words are equal in the definition where they are to `==`
 use Prim.Native.Nat.{ℕ, suc, ◌+◌, ◌-◌, ◌≤◌, ◌<◌}
 use mathlib.Core.List.{List, [], ◌∷◌}
 use mathlib.Core.Bool.{Bool, true, false, true≢false, cond, not, ◌&&◌, ◌||◌}
@@ -14,8 +14,11 @@ use native.Mathlib.Omega.{arith}
 use native.Mathlib.Decide.{dec_lt}
 use borrow.Author.Tests.{eq-eqb, ne_eqb}
 use lib.Dec.{eqb}
+use lib.Pointwise.{pointwise}
+use mathlib.Core.Logic.{◌⊎◌}
+use Rattle.std.proofs.lemmas.Bool.Decides.{nat_tests}
 use lib.ListN.{length, get_or, take, drop, length-drop, drop_of_length-le}
-use lib.Seq.{drop-cons, get_or-drop, drop-drop, take-nil, take_all}
+use lib.Seq.{drop-cons, get_or-drop, drop-drop}
 use Rattle.rules.specs.Token.{run_length, ends_line, line_length, token_length, is_letter, is_symbol, is_empty, past_blanks, token, next_line, content, line_feed}
 use Rattle.rules.specs.Vector.{equal}
 use Rattle.token.specs.Places.{part, Between}
@@ -75,17 +78,14 @@ module _ (text : List ℕ) (at : ℕ) where
         let next : get_or (drop (suc at) text) 0 0 ≡ get_or text (at + 1) 0 = get_or-drop (suc at) text 0 0 ∙ ap (λ (i : ℕ). get_or text i 0) e in
         rw (drop-cons text at 0, next)
 
-    pub ends-feed : get_or text at 0 ≡ 10 → ends_line (drop at text) ≡ true
-    ends-feed e = ends_at ∙ (simp (eq-eqb _ _ e))
-
-    pub ends-comment : (get_or text at 0 ≡ 10 → ⊥) → get_or text at 0 ≡ 35 → ends_line (drop at text) ≡ true
-    ends-comment n e = ends_at ∙ (simp (ne_eqb _ _ n, eq-eqb _ _ e))
+    pub ends_here : (get_or text at 0 ≡ 10) ⊎ (get_or text at 0 ≡ 35) → ends_line (drop at text) ≡ true
+    ends_here e = rw ends_at (grind (arith, nat_tests))
 
     pub ends-not : (get_or text at 0 ≡ 10 → ⊥) → (get_or text at 0 ≡ 35 → ⊥) → (get_or text at 0 ≡ 13 → ⊥) → ends_line (drop at text) ≡ false
     ends-not n m k = ends_at ∙ (simp (ne_eqb _ _ n, ne_eqb _ _ m, ne_eqb _ _ k))
 
-    pub ends_return : (get_or text at 0 ≡ 10 → ⊥) → (get_or text at 0 ≡ 35 → ⊥) → get_or text at 0 ≡ 13 → ends_line (drop at text) ≡ eqb (get_or text (at + 1) 0) 10
-    ends_return n m e = ends_at ∙ (simp (ne_eqb _ _ n, ne_eqb _ _ m, eq-eqb _ _ e))
+    pub ends_return : get_or text at 0 ≡ 13 → ends_line (drop at text) ≡ eqb (get_or text (at + 1) 0) 10
+    ends_return e = rw ends_at (simp e)
 
   pub ends-within : ends_line (drop at text) ≡ false → at < length text
   ends-within f =
@@ -199,45 +199,16 @@ module _ (text : List ℕ) (from left to : ℕ) (skipped : drop to text ≡ past
 -- Parts
 
 module _ (text : List ℕ) (from to : ℕ) where
-  pub part-past : length text ≤ from → [] ≡ part from to text
-  part-past h = sym (ap (take (to - from)) (drop_of_length-le text {i = from} h) ∙ take-nil (to - from))
-
-  pub part_none : to ≤ from → [] ≡ part from to text
-  part_none h = let e : to - from ≡ 0 = omega arith in rw e
-
-  pub part-all : length text ≤ to → take (length text - from) (drop from text) ≡ part from to text
-  part-all h =
-      let long = length-drop from text in
-      take_all (length text - from) (drop from text) (omega arith) ∙ sym (take_all (to - from) (drop from text) (omega arith))
-
   -- the token that stands at a place
   pub part-token : to ≡ from + token_length (drop from text) → part from to text ≡ token (drop from text)
   part-token h = let e : to - from ≡ token_length (drop from text) = omega arith in ap (λ (n : ℕ). take n (drop from text)) e
 
 -- Words
 
-module _ {A : Type 0} (f : List ℕ → List ℕ → A) (xs ys : List ℕ) (i : ℕ) where
-  both_left : i < length xs → i < length ys → f (drop i xs) (drop i ys) ≡ f (get_or xs i 0 ∷ drop (i + 1) xs) (get_or ys i 0 ∷ drop (i + 1) ys)
-  both_left h k = rw (add-one, drop-cons xs i 0, drop-cons ys i 0)
-
-module _ (xs ys : List ℕ) (i : ℕ) where
-  pub same-on : i < length xs → i < length ys → get_or xs i 0 ≡ get_or ys i 0 → equal (drop (i + 1) xs) (drop (i + 1) ys) ≡ equal (drop i xs) (drop i ys)
-  unfolding equal
-  same-on h k e = sym (both_left equal xs ys i h k ∙ (rw (eq-eqb _ _ e)))
-
-  pub same_differs : i < length xs → i < length ys → (get_or xs i 0 ≡ get_or ys i 0 → ⊥) → false ≡ equal (drop i xs) (drop i ys)
-  unfolding equal
-  same_differs h k n = sym (both_left equal xs ys i h k ∙ (rw (ne_eqb _ _ n)))
-
-  pub same_end : length xs ≤ i → length ys ≤ i → true ≡ equal (drop i xs) (drop i ys)
-  unfolding equal
-  same_end h k = rw (drop_of_length-le xs {i = i} h, drop_of_length-le ys {i = i} k)
-
-pub same-long : (xs ys : List ℕ) → (length xs ≡ length ys → ⊥) → false ≡ equal xs ys
-unfolding equal
-same-long [] [] n = absurd (n refl)
-same-long [] (y ∷ ys) n = refl
-same-long (x ∷ xs) [] n = refl
-same-long (x ∷ xs) (y ∷ ys) n =
-    let rest = same-long xs ys (λ (e : length xs ≡ length ys). n (ap suc e)) in
-    rw (← rest) (elim (eqb x y) as (λ t. false ≡ t && false) [ true ↦ refl | false ↦ refl ])
+-- `==` of slices is the definition's
+pub same-words : (xs ys : List ℕ) → pointwise eqb xs ys ≡ equal xs ys
+unfolding equal pointwise
+same-words [] [] = refl
+same-words [] (y ∷ ys) = refl
+same-words (x ∷ xs) [] = refl
+same-words (x ∷ xs) (y ∷ ys) = ap (λ (t : Bool). eqb x y && t) (same-words xs ys)

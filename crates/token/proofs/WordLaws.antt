@@ -1,7 +1,6 @@
 -- What words stand for. Assumes nothing.
 --     number-..            a leading zero; any other word is a number where decimal finds one
---     digit-..             a digit that is too small, too great, and one that is neither
---     behind-..            the bytes of a register or a plain cell
+--     only-.., digit-most  what is found only where a test holds
 --     thread-register-..   those of a thread's register
 --     owned-..             the register that is found, and that it is one
 use Prim.Native.Nat.{ℕ, ◌+◌, ◌-◌, ◌*◌, ◌^◌, ◌≤◌, ◌<◌}
@@ -9,37 +8,32 @@ use mathlib.Core.List.{List, [], ◌∷◌}
 use mathlib.Core.Bool.{Bool, true, false, cond, ◌&&◌, and-eq-true_iff}
 use mathlib.Core.Path.{◌≡◌, refl, ap, ◌∙◌}
 use native.Mathlib.Omega.{arith}
-use borrow.Author.Tests.{eq-eqb, ne_eqb, le-leb, lt-leb, leb-true}
+use native.Mathlib.Decide.{dec_lt}
+use borrow.Author.Tests.{eq-eqb, ne_eqb, leb-true}
 use lib.Dec.{ltb, leb, eqb}
 use lib.ListN.{length, get_or}
-use Rattle.rules.specs.Token.{Found, nothing, found, found_if, is_between, is_digit, digits_behind, number_in}
+use Rattle.rules.specs.Token.{nothing, found, found_if, is_between, is_digit, digits_behind, number_in}
 use Rattle.rules.specs.Text.{thread_register_in}
-use Rattle.token.specs.Finds.{digit_behind, FindsOwned}
+use Rattle.token.specs.Finds.{FindsOwned, found_of}
 use Rattle.token.specs.declared.Owned.{Owned}
-use Rattle.token.specs.declared.FoundOwned.TheVariants.{Nothing, Register}
+use Rattle.std.proofs.Common.{Some, None}
 use Rattle.decimal.specs.Decimal.{number_spelled, with_digits, with_digit, extended}
-use Rattle.decimal.specs.declared.Parsed.{Parsed}
-use Rattle.decimal.specs.declared.Parsed.TheVariants.{Number, Bad}
 
 -- Numbers
 
-abbrev pub parsed_of : Parsed → Found
-parsed_of (Number n) = found n
-parsed_of Bad = nothing
-
-behind-bad : (bs : List ℕ) → with_digits Bad bs ≡ Bad
+behind-bad : (bs : List ℕ) → with_digits None bs ≡ None
 unfolding with_digits
 behind-bad [] = refl
 behind-bad (b ∷ bs) = refl
 
-digits-behind : (v : ℕ) (bs : List ℕ) → parsed_of (with_digits (Number v) bs) ≡ digits_behind v bs
+digits-behind : (v : ℕ) (bs : List ℕ) → found_of (with_digits (Some v) bs) ≡ digits_behind v bs
 unfolding with_digits digits_behind with_digit
 digits-behind v [] = refl
 digits-behind v (b ∷ bs) =
     elim (is_digit b && ltb (extended v b) (2 ^ 64))
-    as (λ t. parsed_of (with_digits (cond t (Number (extended v b)) Bad) bs) ≡ elim t [ true ↦ digits_behind (extended v b) bs | false ↦ nothing ]) [
+    as (λ t. found_of (with_digits (cond t (Some (extended v b)) None) bs) ≡ elim t [ true ↦ digits_behind (extended v b) bs | false ↦ nothing ]) [
       | true ↦ digits-behind (extended v b) bs
-      | false ↦ ap parsed_of (behind-bad bs)
+      | false ↦ ap found_of (behind-bad bs)
     ]
 
 module _ (word : List ℕ) where
@@ -50,14 +44,14 @@ module _ (word : List ℕ) where
       let some = ne_eqb (length word) 0 (λ (z : length word ≡ 0). omega arith) in
       simp (some, many, eq-eqb _ _ e)
 
-pub number-first : (word : List ℕ) → 1 < length word → (get_or word 0 0 ≡ 48 → ⊥) → parsed_of (number_spelled word) ≡ number_in word
+number-first : (word : List ℕ) → 1 < length word → (get_or word 0 0 ≡ 48 → ⊥) → found_of (number_spelled word) ≡ number_in word
 unfolding number_in number_spelled
 number-first [] h n = absurd (omega arith)
 number-first (b ∷ bs) h n =
     let some = ne_eqb (length (b ∷ bs)) 0 (λ (z : length (b ∷ bs) ≡ 0). omega arith) in
     rw (some, ne_eqb b 48 n) (digits-behind 0 (b ∷ bs))
 
-pub number_short : (word : List ℕ) → length word ≤ 1 → parsed_of (number_spelled word) ≡ number_in word
+number_short : (word : List ℕ) → length word ≤ 1 → found_of (number_spelled word) ≡ number_in word
 unfolding number_in number_spelled
 number_short [] h = refl
 number_short (b ∷ []) h =
@@ -65,17 +59,11 @@ number_short (b ∷ []) h =
     ∙ (elim (eqb b 48) as (λ t. digits_behind 0 (b ∷ []) ≡ cond (t && false) nothing (digits_behind 0 (b ∷ []))) [ true ↦ refl | false ↦ refl ])
 number_short (b ∷ c ∷ bs) h = absurd (omega arith)
 
+pub number-any : (word : List ℕ) → (1 < length word → get_or word 0 0 ≡ 48 → ⊥) → found_of (number_spelled word) ≡ number_in word
+number-any word n =
+    elim (dec_lt 1 (length word)) [ yes h ↦ number-first word h (n h) | no h ↦ number_short word (omega arith) ]
+
 -- Registers
-
-module _ (last b : ℕ) where
-  pub digit_low : b < 48 → nothing ≡ found_if (is_between 48 last b) (b - 48)
-  digit_low h = simp (lt-leb 48 b h)
-
-  pub digit-high : 48 ≤ b → last < b → nothing ≡ found_if (is_between 48 last b) (b - 48)
-  digit-high l h = simp (le-leb 48 b l, lt-leb b last h)
-
-  pub digit-one : 48 ≤ b → b ≤ last → found (b - 48) ≡ found_if (is_between 48 last b) (b - 48)
-  digit-one l h = simp (le-leb 48 b l, le-leb b last h)
 
 pub only-not : (t : Bool) (v : ℕ) → found_if t v ≡ nothing → t ≡ false
 only-not true v e = cc
@@ -99,16 +87,6 @@ digit-most last b v e =
 and-false : (t : Bool) → t && false ≡ false
 and-false true = refl
 and-false false = refl
-
-module _ (last letter : ℕ) (word : List ℕ) where
-  pub behind-long : (length word ≡ 2 → ⊥) → nothing ≡ digit_behind last letter word
-  behind-long n = simp (ne_eqb _ _ n)
-
-  pub behind-letter : (get_or word 0 0 ≡ letter → ⊥) → nothing ≡ digit_behind last letter word
-  behind-letter n = simp (ne_eqb _ _ n, and-false)
-
-  pub behind-digit : length word ≡ 2 → get_or word 0 0 ≡ letter → found_if (is_between 48 last (get_or word 1 0)) (get_or word 1 0 - 48) ≡ digit_behind last letter word
-  behind-digit h e = simp (eq-eqb _ _ h, eq-eqb _ _ e)
 
 module _ (word : List ℕ) where
   -- a test that fails
@@ -145,10 +123,10 @@ module _ (word : List ℕ) where
       rw (eq-eqb (length word) 4 h, eq-eqb (get_or word 1 0) 46 p, eq-eqb (get_or word 2 0) 114 l, a, b, v, w)
 
 module _ (word named : List ℕ) (same : word ≡ named) where
-  pub owned-none : nothing ≡ thread_register_in word → FindsOwned named Nothing
+  pub owned-none : nothing ≡ thread_register_in word → FindsOwned named None
   owned-none e = record { is = e ∙ ap thread_register_in same; within = λ o h. let z : ◌≡◌ {A = ℕ} 0 1 = cc in absurd (omega arith) }
 
-  pub owned-found : (t r : ℕ) → found (4 * t + r) ≡ thread_register_in word → t ≤ 4 → r ≤ 3 → FindsOwned named (Register (record { thread = t; register = r }))
+  pub owned-found : (t r : ℕ) → found (4 * t + r) ≡ thread_register_in word → t ≤ 4 → r ≤ 3 → FindsOwned named (Some (record { thread = t; register = r }))
   owned-found t r e h l = record {
     is = e ∙ ap thread_register_in same;
     within = λ o f.

@@ -3,31 +3,27 @@
 --     FindsOwned      a thread's register, which the definition has as one number
 --     digit_behind     a letter and a digit up to a last one; up to `3` the definition's `fourth`
 --     words_in         the words of a list that is written as a line
-use Rattle.std.specs.Prelude.{ℕ, zero, suc, ◌+◌, ◌-◌, ◌*◌, ◌<◌, List, [], ◌∷◌, true, false, ◌&&◌, ◌≡◌, eqb, length, get_or}
+use Rattle.std.specs.Prelude.{ℕ, zero, suc, ◌+◌, ◌-◌, ◌*◌, ◌<◌, List, [], ◌∷◌, true, false, ◌&&◌, ◌≡◌, eqb, length, get_or, Option, Some, None}
 use Rattle.rules.specs.Token as rules
 use Rattle.rules.specs.Token.{found_if, is_between, is_empty, past_blanks, token, past_token}
 use Rattle.rules.specs.Text.{thread_register_in}
-use Rattle.token.specs.declared.Found.{Found}
-use Rattle.token.specs.declared.Found.TheVariants.{Nothing, Value}
 use Rattle.token.specs.declared.Owned.{Owned}
-use Rattle.token.specs.declared.FoundOwned.{FoundOwned}
-use Rattle.token.specs.declared.FoundOwned.TheVariants.{Nothing as NothingOwned, Register}
 
-abbrev pub found_of : Found → rules.Found
-found_of Nothing = rules.nothing
-found_of (Value v) = rules.found v
+abbrev pub found_of : Option ℕ → rules.Found
+found_of None = rules.nothing
+found_of (Some v) = rules.found v
 
 -- 4 times the thread, and the register
 abbrev pub owned_at : Owned → ℕ
 owned_at o = 4 * o.thread + o.register
 
-abbrev pub owned_of : FoundOwned → rules.Found
-owned_of NothingOwned = rules.nothing
-owned_of (Register o) = rules.found (owned_at o)
+abbrev pub owned_of : Option Owned → rules.Found
+owned_of None = rules.nothing
+owned_of (Some o) = rules.found (owned_at o)
 
-pub record FindsOwned (word : List ℕ) (r : FoundOwned) : Type 0 where
+pub record FindsOwned (word : List ℕ) (r : Option Owned) : Type 0 where
   pub is : owned_of r ≡ thread_register_in word
-  pub within : (o : Owned) → r ≡ Register o → (o.thread < 5) × (o.register < 4)
+  pub within : (o : Owned) → r ≡ Some o → (o.thread < 5) × (o.register < 4)
 
 abbrev pub digit_behind : ℕ → ℕ → List ℕ → rules.Found
 digit_behind last letter bs =

@@ -17,14 +17,14 @@ use Rattle.rules.specs.Condition.{is_condition}
 use Rattle.rules.specs.Text.{filled}
 use Rattle.rules.specs.Writer.{WrittenInto, unfit, short, written, written_text, written_into}
 use Rattle.rules.proofs.MeasureAccepted.{good-header}
-use Rattle.std.specs.Prelude.{Result, Err}
+use Rattle.std.specs.Prelude.{Result, Ok, Err}
 use Rattle.table.specs.declared.BadTable.{BadTable}
 use Rattle.table.specs.declared.BadTable.TheVariants.{Header, Row}
 use Rattle.table.specs.Answers.{judged_of}
 use Rattle.put.specs.Puts.{last, up_to_last, Puts}
 use Rattle.condition_line.proofs.FineLaws.{fine-claim}
 use Rattle.writer.specs.Answers.{with_text, Fit}
-use Rattle.writer.specs.declared.Written.TheVariants.{Unfit, Short, Text}
+use Rattle.writer.specs.declared.Unwritten.TheVariants.{Unfit, Short}
 use Rattle.writer.proofs.LengthLaws.{text-short}
 
 fit-header : (t : List ℕ) → header_fine t ≡ true → Fit t
@@ -66,7 +66,7 @@ module _ (t c text : List ℕ) where
   unfolding written_into
   into-all = refl
 
-  pub into_bad : (r : Result (Unit {0}) BadTable) (why : BadTable) → judged_of r ≡ judged t → r ≡ Err why → with_text Unfit text ≡ written_into t c text
+  pub into_bad : (r : Result (Unit {0}) BadTable) (why : BadTable) → judged_of r ≡ judged t → r ≡ Err why → with_text (Err Unfit) text ≡ written_into t c text
   into_bad r Header e h = sym (into-all ∙ ap into (sym e ∙ ap judged_of h))
   into_bad r (Row k n) e h = sym (into-all ∙ ap into (sym e ∙ ap judged_of h))
 
@@ -74,7 +74,7 @@ module _ (t c text : List ℕ) where
     to-claim : (s : Bool) → is_condition (threads_of t) c ≡ s → into-claim s ≡ written_into t c text
     to-claim s e = ap into-claim (sym e) ∙ sym (into-all ∙ ap into accepted)
 
-    pub into-condition : is_condition (threads_of t) c ≡ false → with_text Unfit text ≡ written_into t c text
+    pub into-condition : is_condition (threads_of t) c ≡ false → with_text (Err Unfit) text ≡ written_into t c text
     into-condition e = to-claim false e
 
     module _ (claims : is_condition (threads_of t) c ≡ true) where
@@ -90,17 +90,17 @@ module _ (t c text : List ℕ) where
             let low : up_to_last (length (written_text t c)) ≡ length (written_text t c) = rw (le-leb (length (written_text t c)) last h) in
             counted.behind ∙ ap up_to_last e ∙ low
 
-        pub into-short : length text < n → with_text (Short n) text ≡ written_into t c text
+        pub into-short : length text < n → with_text (Err (Short n)) text ≡ written_into t c text
         into-short h =
-            ap (λ (k : ℕ). with_text (Short k) text) count-is
+            ap (λ (k : ℕ). with_text (Err (Short k)) text) count-is
             ∙ to-fit false (lt-leb (length (written_text t c)) (length text) (omega (arith, count-is)))
 
-        pub into-written : n ≤ length text → (put left : List ℕ) (r : ℕ) → Puts text put 0 (written_text t c) r → left ≡ filled (length put) (take n put) → with_text (Text n) left ≡ written_into t c text
+        pub into-written : n ≤ length text → (put left : List ℕ) (r : ℕ) → Puts text put 0 (written_text t c) r → left ≡ filled (length put) (take n put) → with_text (Ok n) left ≡ written_into t c text
         into-written h put left r p e =
             let z : 0 + length (written_text t c) ≡ length (written_text t c) = omega arith in
             let all : put ≡ written_text t c ++ drop (0 + length (written_text t c)) text = p.left ∙ sets-eq (written_text t c) text 0 (omega (arith, count-is)) in
             let front : take n put ≡ written_text t c = ap (λ (k : ℕ). take k put) count-is ∙ ap (take (length (written_text t c))) all ∙ take-append_seam (written_text t c) (drop (0 + length (written_text t c)) text) in
             let long : length put ≡ length text = ap length p.left ∙ length-sets text 0 (written_text t c) in
-            ap (λ (k : ℕ). with_text (Text k) left) count-is
-            ∙ ap (with_text (Text (length (written_text t c)))) (e ∙ ap (λ (k : ℕ). filled k (take n put)) long ∙ ap (filled (length text)) front)
+            ap (λ (k : ℕ). with_text (Ok k) left) count-is
+            ∙ ap (with_text (Ok (length (written_text t c)))) (e ∙ ap (λ (k : ℕ). filled k (take n put)) long ∙ ap (filled (length text)) front)
             ∙ to-fit true (le-leb (length (written_text t c)) (length text) (omega (arith, count-is)))

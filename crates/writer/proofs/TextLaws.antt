@@ -3,7 +3,7 @@
 --     plains-..                         the line of the plain cells
 --     shape-count, shape-first          a thread's rows, from the table's shape
 --     text-whole                        the whole text
---     Clearing, clear-..                zeros behind a place
+--     cleared                           zeros behind a place
 use Prim.Native.Nat.{ℕ, zero, suc, ◌+◌, ◌-◌, ◌≤◌, ◌<◌}
 use mathlib.Core.List.{List, [], ◌∷◌, ◌++◌, append_assoc, append-nil}
 use mathlib.Core.Bool.{Bool, true, false}
@@ -12,7 +12,8 @@ use native.Mathlib.Omega.{arith}
 use native.Mathlib.Numerals.{add-one}
 use borrow.Author.Tests.{le-leb, lt-leb}
 use lib.Dec.{leb}
-use lib.ListN.{length, get_or, set, take, drop, replicate, length-set, length-drop, get_or-append, replicate-append-replicate}
+use borrow.Rule.Slice.PartMut.{post_of, put_mid}
+use lib.ListN.{length, get_or, set, take, drop, drop_of_length-le, replicate, length-set, length-drop, get_or-append, replicate-append-replicate}
 use lib.Seq.{length-take-le, take-suc-set, take_all, get_or-append-add}
 use Rattle.rules.specs.Table.{row_at, cells_of, plains_of, values_of, threads_of, counts_of, first_rows, shape_of, start_value, header_bytes}
 use Rattle.rules.specs.Token.{bytes_of, space}
@@ -114,41 +115,14 @@ text-whole t c cells e = rw e
 
 -- Zeros
 
-pub record Clearing (entry now : List ℕ) (from i : ℕ) : Type 0 where
-  pub on : from ≤ i
-  pub within : i ≤ length entry
-  pub long : length now ≡ length entry
-  pub front : take i now ≡ take from entry ++ replicate (i - from) 0
-
-pub clear_none : (l : List ℕ) (from : ℕ) → from ≤ length l → Clearing l l from from
-clear_none l from h = record {
-  on = omega arith;
-  within = h;
-  long = refl;
-  front = let e : from - from ≡ 0 = omega arith in sym (rw e append-nothing);
-}
-  where
-    append-nothing : take from l ++ [] ≡ take from l
-    append-nothing = append-nil (take from l)
-
-pub clear-on : (l m : List ℕ) (from i : ℕ) → i < length m → Clearing l m from i → Clearing l (set m i 0) from (i + 1)
-clear-on l m from i h c =
-    let one = c.on in
-    let e : i - from + 1 ≡ i + 1 - from = omega arith in
-    record {
-      on = omega arith;
-      within = omega (arith, c.long);
-      long = length-set m i 0 ∙ c.long;
-      front =
-          ap (λ (k : ℕ). take k (set m i 0)) (add-one i)
-          ∙ take-suc-set m i 0 h
-          ∙ ap (λ (x : List ℕ). x ++ (0 ∷ [])) c.front
-          ∙ append_assoc (take from l) (replicate (i - from) 0) (0 ∷ [])
-          ∙ ap (λ (x : List ℕ). take from l ++ x) (replicate-append-replicate (i - from) 1 0 ∙ ap (λ (k : ℕ). replicate k 0) e);
-    }
-
-pub clear-all : (l m : List ℕ) (from i : ℕ) → length m ≤ i → Clearing l m from i → m ≡ filled (length l) (take from l)
-clear-all l m from i h c =
-    let fits : length (take from l) ≡ from = length-take-le from l (omega (arith, c.on, c.within)) in
-    let e : i - from ≡ length l - length (take from l) = omega (arith, c.long, c.within) in
-    sym (take_all i m h) ∙ c.front ∙ ap (λ (k : ℕ). take from l ++ replicate k 0) e
+pub cleared : (l new : List ℕ) (from : ℕ) → from ≤ length l → new ≡ replicate (length (take (length l - from) (drop from l))) 0
+    → put_mid from (length l - from) l new ≡ filled (length l) (take from l)
+cleared l new from h f =
+    let over : length (take (length l - from) (drop from l)) ≡ length l - from =
+    length-take-le (length l - from) (drop from l) (omega (arith, length-drop from l)) in
+    let fits : length (take from l) ≡ from = length-take-le from l h in
+    let none : post_of from (length l - from) l ≡ [] =
+    drop_of_length-le (drop from l) {i = length l - from} (omega (arith, length-drop from l)) in
+    ap (λ (x : List ℕ). take from l ++ (x ++ post_of from (length l - from) l)) (f ∙ ap (λ (n : ℕ). replicate n 0) (over ∙ ap (λ (n : ℕ). length l - n) (sym fits)))
+    ∙ ap (λ (x : List ℕ). take from l ++ (replicate (length l - length (take from l)) 0 ++ x)) none
+    ∙ ap (λ (x : List ℕ). take from l ++ x) (append-nil (replicate (length l - length (take from l)) 0))

@@ -1,9 +1,8 @@
 // A table and a final condition written as text, into a lent buffer.
 #![tactic(auto)]
 
-ghost use Rattle.std.specs.Prelude.{◌≡◌, ◌+◌, ◌<◌, ◌≤◌, ◌^◌, length, take};
+ghost use Rattle.std.specs.Prelude.{◌≡◌, ◌+◌, ◌<◌, ◌^◌};
 ghost use Rattle.rules.specs.Table.{threads_of, judged, good};
-ghost use Rattle.rules.specs.Text.{filled};
 ghost use Rattle.rules.specs.Writer.{rows_shown, threads_shown, values_shown, plains_shown, written_text, written_into};
 ghost use Rattle.put.specs.Puts.{Puts};
 ghost use Rattle.condition_line.specs.Units.{Units};
@@ -16,52 +15,39 @@ use row_line::put_row;
 use table::limits::{CELL_COUNT, PLAIN_COUNT, THREAD_COUNT};
 use table::{COUNTS, FIRSTS};
 
-// What became of it: a table or a condition that is none; too small a buffer, with the bytes that are needed; or the text's length.
+// Why nothing was written: a table or a condition that is none; or too small a buffer, with the bytes that are needed.
 #[derive(Clone, Copy)]
-pub enum Written {
+pub enum Unwritten {
     Unfit,
     Short(usize),
-    Text(usize),
 }
 
-// Writes the text, and zeros behind it. Otherwise the buffer is left as it is.
-pub fn write(table: &[u8], condition: &[u8], text: &mut [u8]) -> Written
+// Writes the text, and zeros behind it; answers its length. Otherwise the buffer is left as it is.
+pub fn write(table: &[u8], condition: &[u8], text: &mut [u8]) -> Result<usize, Unwritten>
     ensures { with_text result text.new ≡ written_into table.now condition.now text.old }
 {
     match table::judge(table) {
         Ok(()) => write_fit(table, condition, text),
-        Err(_) => Written::Unfit,
+        Err(_) => Err(Unwritten::Unfit),
     }
 }
 
 // The same for a table that is one. A first run into a buffer of one byte counts.
-fn write_fit(table: &[u8], condition: &[u8], text: &mut [u8]) -> Written
+fn write_fit(table: &[u8], condition: &[u8], text: &mut [u8]) -> Result<usize, Unwritten>
     requires { judged table.now ≡ good }
     ensures { with_text result text.new ≡ written_into table.now condition.now text.old }
 {
     if !condition::is_condition(condition, wide8(table[THREAD_COUNT])) {
-        return Written::Unfit;
+        return Err(Unwritten::Unfit);
     }
     let mut none = [0; 1];
     let length = put_text(&mut none, table, condition);
     if text.len() < length {
-        return Written::Short(length);
+        return Err(Unwritten::Short(length));
     }
     put_text(text, table, condition);
-    clear(text, length);
-    Written::Text(length)
-}
-
-// Sets the bytes from this one on to zero.
-fn clear(text: &mut [u8], from: usize)
-    requires { from ≤ length text.old }
-    ensures { text.new ≡ filled (length text.old) (take from text.old) }
-{
-    let mut i = from;
-    while i < text.len() {
-        text[i] = 0;
-        i += 1;
-    }
+    text[length..].fill(0);
+    Ok(length)
 }
 
 // The whole text.
@@ -98,13 +84,9 @@ fn put_values(text: &mut [u8], at: usize, table: &[u8], first: usize, count: usi
     ensures { Puts text.old text.new at (values_shown table.now count first) result }
 {
     let mut to = at;
-    let mut i = first;
-    let mut left = count;
-    while 0 < left {
+    for i in first..first + count {
         let blank = put_byte(text, to, b' ');
         to = put_number(text, blank, table::start_value(table, i));
-        i += 1;
-        left -= 1;
     }
     to
 }
@@ -116,15 +98,11 @@ fn put_threads(text: &mut [u8], at: usize, table: &[u8]) -> usize
 {
     let shape = table::shape(table);
     let mut to = at;
-    let mut thread = 0;
-    let mut left = wide8(table[THREAD_COUNT]);
-    while 0 < left {
+    for thread in 0..wide8(table[THREAD_COUNT]) {
         let behind = put_bytes(text, to, b"thread\n");
         let first = wide16(shape[FIRSTS + thread]);
         let count = wide16(shape[COUNTS + thread]);
         to = put_rows(text, behind, table, first, count);
-        thread += 1;
-        left -= 1;
     }
     to
 }
@@ -136,12 +114,8 @@ fn put_rows(text: &mut [u8], at: usize, table: &[u8], first: usize, count: usize
 {
     let values = wide8(table[CELL_COUNT]) + wide8(table[PLAIN_COUNT]);
     let mut to = at;
-    let mut index = first;
-    let mut left = count;
-    while 0 < left {
+    for index in first..first + count {
         to = put_row(text, to, table, values, index);
-        index += 1;
-        left -= 1;
     }
     to
 }

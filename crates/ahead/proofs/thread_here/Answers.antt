@@ -1,9 +1,11 @@
-use mathlib.Core.Bool.{true, false}
-use Rattle.ahead.proofs.AheadLaws.{says-thread, thread-not, thread-one}
+use mathlib.Core.Path.{ap, sym, ◌∙◌}
+use lib.ListN.{length}
+use Rattle.rules.specs.Vector.{equal}
+use Rattle.token.specs.Places.{part}
+use Rattle.ahead.proofs.AheadLaws.{thread-bytes, thread-counted}
 use Rattle.ahead.proofs.thread_here.Goals as goal
 
-pub returns-then-is_word : goal.returns-then-is_word
-returns-then-is_word c = thread-one c.args.text.now c.args.at c.args.to (says-thread c.args.text.now c.args.at c.args.to _ c.is_word.ensures true c.if-is_word.true)
-
 pub returns : goal.returns
-returns c = thread-not c.args.text.now c.args.at c.args.to (says-thread c.args.text.now c.args.at c.args.to _ c.is_word.ensures false c.if-is_word.false)
+returns c =
+    let a = c.args in
+    thread-counted a.text.now a.at a.to _ _ c.from.ensures (c.is_word.ensures ∙ ap (equal (part a.at a.to a.text.now)) (sym thread-bytes))

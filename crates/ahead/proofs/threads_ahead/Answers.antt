@@ -1,3 +1,4 @@
+use Prim.Native.Nat.{◌+◌, ◌-◌}
 use mathlib.Core.Bool.{true, false}
 use mathlib.Core.Path.{◌≡◌}
 use native.Mathlib.Omega.{arith}
@@ -8,36 +9,39 @@ use Rattle.ahead.proofs.AheadLaws.{says-finally, threads-out, threads_end, threa
 use borrow.Author.Rules.{rules}
 use Rattle.ahead.proofs.threads_ahead.Goals as goal
 
-pub loop-left-init : goal.loop-left-init
-loop-left-init c = (search rules, omega arith)
+pub loop-i-init : goal.loop-i-init
+loop-i-init c =
+    let all : c.args.lines - 0 ≡ c.args.lines = omega arith in
+    rw all (search rules, omega arith)
 
 pub returns-then-text-here : goal.returns-then-text-here
 returns-then-text-here c =
-    let skipped : drop c.past_blanks-here.result c.args.text.now ≡ past_blanks (drop c.loop-left.from c.args.text.now) =
-    left_by c.args.text.now c.loop-left.from c.past_blanks-here.result _ c.past_blanks-here.ensures in
+    let skipped : drop c.past_blanks-here.result c.args.text.now ≡ past_blanks (drop c.loop-i.from c.args.text.now) =
+    left_by c.args.text.now c.loop-i.from c.past_blanks-here.result _ c.past_blanks-here.ensures in
     let a = c.args in
-    record { is = omega (arith, threads_end a.text.now c.loop-left.from c.loop-left.left c.past_blanks-here.result c.token_end-to.result skipped c.token_end-to.ensures c.loop-left-test.true c.if-text-here.true, c.loop-left.invariant.1); most = omega (arith, c.loop-left.invariant.0) }
+    record { is = omega (arith, threads_end a.text.now c.loop-i.from (c.args.lines - c.loop-i.i) c.past_blanks-here.result c.token_end-to.result skipped c.token_end-to.ensures (omega arith) c.if-text-here.true, c.loop-i.invariant.1); most = omega (arith, c.loop-i.invariant.0) }
 
 pub returns-then-is_word : goal.returns-then-is_word
 returns-then-is_word c =
-    let skipped : drop c.past_blanks-here.result c.args.text.now ≡ past_blanks (drop c.loop-left.from c.args.text.now) =
-    left_by c.args.text.now c.loop-left.from c.past_blanks-here.result _ c.past_blanks-here.ensures in
+    let skipped : drop c.past_blanks-here.result c.args.text.now ≡ past_blanks (drop c.loop-i.from c.args.text.now) =
+    left_by c.args.text.now c.loop-i.from c.past_blanks-here.result _ c.past_blanks-here.ensures in
     let a = c.args in
-    record { is = omega (arith, threads-finally a.text.now c.loop-left.from c.loop-left.left c.past_blanks-here.result c.token_end-to.result skipped c.token_end-to.ensures c.loop-left-test.true c.if-text-here.false (says-finally a.text.now c.past_blanks-here.result c.token_end-to.result _ c.is_word.ensures true c.if-is_word.true), c.loop-left.invariant.1); most = omega (arith, c.loop-left.invariant.0) }
+    record { is = omega (arith, threads-finally a.text.now c.loop-i.from (c.args.lines - c.loop-i.i) c.past_blanks-here.result c.token_end-to.result skipped c.token_end-to.ensures (omega arith) c.if-text-here.false (says-finally a.text.now c.past_blanks-here.result c.token_end-to.result _ c.is_word.ensures true c.if-is_word.true), c.loop-i.invariant.1); most = omega (arith, c.loop-i.invariant.0) }
 
 pub overflow_add-threads : goal.overflow_add-threads
 overflow_add-threads c =
-    omega (arith, c.loop-left.invariant.0, c.thread_here-threads.ensures.most)
+    omega (arith, c.loop-i.invariant.0, c.thread_here-threads.ensures.most)
 
-pub loop-left-preserved : goal.loop-left-preserved
-loop-left-preserved c =
-    let skipped : drop c.past_blanks-here.result c.args.text.now ≡ past_blanks (drop c.loop-left.from c.args.text.now) =
-    left_by c.args.text.now c.loop-left.from c.past_blanks-here.result _ c.past_blanks-here.ensures in
+pub loop-i-preserved : goal.loop-i-preserved
+loop-i-preserved c =
+    let skipped : drop c.past_blanks-here.result c.args.text.now ≡ past_blanks (drop c.loop-i.from c.args.text.now) =
+    left_by c.args.text.now c.loop-i.from c.past_blanks-here.result _ c.past_blanks-here.ensures in
     let a = c.args in
-    let on = threads-on a.text.now c.loop-left.from c.loop-left.left c.past_blanks-here.result c.token_end-to.result skipped c.token_end-to.ensures c.loop-left-test.true c.if-text-here.false c.next_line-from.result (left_by a.text.now c.past_blanks-here.result c.next_line-from.result _ c.next_line-from.ensures) (says-finally a.text.now c.past_blanks-here.result c.token_end-to.result _ c.is_word.ensures false c.if-is_word.false) in
-    (omega (arith, c.thread_here-threads.ensures.most, c.loop-left.invariant.0, c.loop-left-test.true), omega (arith, on, c.thread_here-threads.ensures.is, c.loop-left.invariant.1))
+    let on = threads-on a.text.now c.loop-i.from (c.args.lines - c.loop-i.i) c.past_blanks-here.result c.token_end-to.result skipped c.token_end-to.ensures (omega arith) c.if-text-here.false c.next_line-from.result (left_by a.text.now c.past_blanks-here.result c.next_line-from.result _ c.next_line-from.ensures) (says-finally a.text.now c.past_blanks-here.result c.token_end-to.result _ c.is_word.ensures false c.if-is_word.false) in
+    let one-less : c.args.lines - (c.loop-i.i + 1) ≡ c.args.lines - c.loop-i.i - 1 = omega arith in
+    rw one-less (omega (arith, c.thread_here-threads.ensures.most, c.loop-i.invariant.0, c.loop-i-test.true), omega (arith, on, c.thread_here-threads.ensures.is, c.loop-i.invariant.1))
 
 pub returns : goal.returns
 returns c =
     let a = c.args in
-    record { is = omega (arith, threads-out a.text.now c.loop-left.from c.loop-left.left c.loop-left-test.false, c.loop-left.invariant.1); most = omega (arith, c.loop-left.invariant.0) }
+    record { is = omega (arith, threads-out a.text.now c.loop-i.from (c.args.lines - c.loop-i.i) (omega arith), c.loop-i.invariant.1); most = omega (arith, c.loop-i.invariant.0) }

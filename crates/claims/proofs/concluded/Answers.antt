@@ -2,16 +2,18 @@ use mathlib.Core.Path.{sym, ◌∙◌}
 use borrow.Author.Tests.{not-true, not-false}
 use Rattle.claims.proofs.ConcludeLaws.{bad-refused, ends-refused, broken-refused, ends-taken}
 use Rattle.claims.proofs.concluded.Goals as goal
+use Rattle.claims.proofs.concluded.Goals.{then-stop-length-via-then-stop-length, then-stop-length-via-else-stop-length+then-not-all}
 
 pub returns-then-stop-length : goal.returns-then-stop-length
 returns-then-stop-length c =
     let a = c.args in
-    ends-refused a.text.now a.lines a.at a.threads c.claimed-all.result c.claimed-all.ensures c.part.result.now c.part.ensures _ _ c.refused-then-stop-length.ensures (sym c.in-Ok.is ∙ c.first_bad.ensures) c.if-stop-length.true
-
-pub returns-then-not-all : goal.returns-then-not-all
-returns-then-not-all c =
-    let a = c.args in
-    broken-refused a.text.now a.lines a.at a.threads c.claimed-all.result c.claimed-all.ensures c.part.result.now c.part.ensures _ _ c.refused-then-not-all.ensures (sym c.in-Ok.is ∙ c.first_bad.ensures) (not-true _ c.if-not-all.true)
+    let says = sym c.in-Ok.is ∙ c.first_bad.ensures in
+    elim c.then-stop-length.branch [
+      | then-stop-length-via-then-stop-length w ↦
+          ends-refused a.text.now a.lines a.at a.threads c.claimed-all.result c.claimed-all.ensures c.part.result.now c.part.ensures _ _ c.refused-then-stop-length.ensures says w.if-stop-length.true
+      | then-stop-length-via-else-stop-length+then-not-all w ↦
+          broken-refused a.text.now a.lines a.at a.threads c.claimed-all.result c.claimed-all.ensures c.part.result.now c.part.ensures _ _ c.refused-then-stop-length.ensures says (not-true _ w.if-not-all.true)
+    ]
 
 pub returns-in-Err : goal.returns-in-Err
 returns-in-Err c =

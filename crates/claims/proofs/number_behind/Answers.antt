@@ -9,4 +9,4 @@ returns-in_default c =
 
 pub returns : goal.returns
 returns c =
-    number-here _ _ _ _ _ _ c.content-at.ensures.left c.token_end-to.ensures _ _ _ c.comparison.ensures (sym c.number.ensures ∙ ap found_of c.in-Value.is)
+    number-here _ _ _ _ _ _ c.content-at.ensures.left c.token_end-to.ensures _ _ _ c.comparison.ensures (sym c.number.ensures ∙ ap found_of c.in-Some.is)

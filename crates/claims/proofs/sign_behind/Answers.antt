@@ -9,8 +9,8 @@ returns-in_default c =
 
 pub returns-then-sign : goal.returns-then-sign
 returns-then-sign c =
-    sign-other _ _ _ _ _ _ c.content-at.ensures.left c.token_end-to.ensures _ (sym c.symbol.ensures ∙ ap found_of c.in-Value.is) _ c.broken-then-sign.ensures c.if-sign.true
+    sign-other _ _ _ _ _ _ c.content-at.ensures.left c.token_end-to.ensures _ (sym c.symbol.ensures ∙ ap found_of c.in-Some.is) _ c.broken-then-sign.ensures c.if-sign.true
 
 pub returns : goal.returns
 returns c =
-    sign-here _ _ _ _ _ _ c.content-at.ensures.left c.token_end-to.ensures _ (sym c.symbol.ensures ∙ ap found_of c.in-Value.is) _ c.if-sign.false c.number_behind.ensures
+    sign-here _ _ _ _ _ _ c.content-at.ensures.left c.token_end-to.ensures _ (sym c.symbol.ensures ∙ ap found_of c.in-Some.is) _ c.if-sign.false c.number_behind.ensures

@@ -7,27 +7,23 @@ use Rattle.token.specs.Finds.{found_of}
 use Rattle.claims.proofs.UnitLaws.{symbol-most, symbol-none, symbol-sign, symbol-here}
 use Rattle.claims.proofs.symbol_at.Goals as goal
 
-pub returns-in_default : goal.returns-in_default
-returns-in_default c =
+pub returns-in_err-symbol : goal.returns-in_err-symbol
+returns-in_err-symbol c =
     let a = c.args in
-    symbol-none a.text.now a.at a.to _ c.none.ensures (sym c.symbol.ensures ∙ ap found_of c.in_default.is)
+    rw c.from_residual.ensures (symbol-none a.text.now a.at a.to (sym c.symbol.ensures ∙ ap found_of c.in_err-symbol.was))
 
 pub returns-then-symbol : goal.returns-then-symbol
 returns-then-symbol c =
-    let value : symbol_in (part c.args.at c.args.to c.args.text.now) ≡ found c.in-Value.symbol =
-    sym c.symbol.ensures ∙ ap found_of c.in-Value.is in
     let a = c.args in
-    symbol-sign a.text.now a.at a.to _ value _ c.none-then-symbol.ensures c.if-symbol.true
+    symbol-sign a.text.now a.at a.to _ (sym c.symbol.ensures ∙ ap found_of c.in_ok-symbol.was) c.if-symbol.true
 
 pub overflow_cast-result : goal.overflow_cast-result
 overflow_cast-result c =
-    let value : symbol_in (part c.args.at c.args.to c.args.text.now) ≡ found c.in-Value.symbol =
-    sym c.symbol.ensures ∙ ap found_of c.in-Value.is in
+    let value : symbol_in (part c.args.at c.args.to c.args.text.now) ≡ found c.in_ok-symbol.symbol =
+    sym c.symbol.ensures ∙ ap found_of c.in_ok-symbol.was in
     omega (arith, symbol-most _ _ value)
 
 pub returns : goal.returns
 returns c =
-    let value : symbol_in (part c.args.at c.args.to c.args.text.now) ≡ found c.in-Value.symbol =
-    sym c.symbol.ensures ∙ ap found_of c.in-Value.is in
     let a = c.args in
-    symbol-here a.text.now a.at a.to _ value c.if-symbol.false
+    symbol-here a.text.now a.at a.to _ (sym c.symbol.ensures ∙ ap found_of c.in_ok-symbol.was) c.if-symbol.false

@@ -13,6 +13,6 @@ unfolding bytes_of
 returns c =
     puts-are _ _ _ _ _ _
     (c.word_at.ensures
-    ∙ ap (λ (ws : List (List ℕ)). get_or ws c.symbol_place.result []) symbols-line
-    ∙ ap (λ (n : ℕ). get_or symbols n []) c.symbol_place.ensures)
+    ∙ ap (λ (ws : List (List ℕ)). get_or ws c.saturating_sub-place.result []) symbols-line
+    ∙ ap (λ (n : ℕ). get_or symbols n []) c.saturating_sub-place.ensures)
     c.put_bytes.ensures

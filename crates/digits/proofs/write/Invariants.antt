@@ -1,4 +1,3 @@
-use Prim.Native.Nat.{◌≤◌}
 use mathlib.Core.Path.{◌≡◌}
 use lib.Seq.{sets}
 use Rattle.digits.specs.Shown.{shown}
@@ -6,7 +5,4 @@ use Rattle.digits.proofs.ShownLaws.{lowest}
 use Rattle.digits.proofs.write.Given as goal
 
 abbrev pub invariant-loop-i : goal.invariant-loop-i
-invariant-loop-i l = (l.i ≤ l.k) × (sets l.out 0 (lowest l.i l.rest) ≡ sets l.initial.out 0 (shown l.n))
-
-abbrev pub decreases-loop-i : goal.decreases-loop-i
-decreases-loop-i l = l.i
+invariant-loop-i l = sets l.out 0 (lowest l.i l.rest) ≡ sets l.initial.out 0 (shown l.n)

@@ -18,4 +18,4 @@ returns c =
     entered-run a.table.now a.condition.now a.given.branches a.given.operations a.given.executions a.given.bound a.given.exploring a.path.now a.trace.now a.report.now
     c.if-given-gt-NO_BOUND.false c.if-given-gt1.false c.if-report-ne-REPORT_NUMBERS.false c.explore-done.result _ _
     (explored-so a.table.now a.condition.now a.path.now a.trace.now a.given.branches a.given.operations a.given.executions a.given.bound a.given.exploring c.bound_of-bound.result c.bound_of-bound.ensures c.explore-done.ensures)
-    c.number-number.ensures (c.write_numbers.ensures ∙ c.of_report-all.ensures)
+    c.number-number.ensures (c.copy_from_slice.ensures.after ∙ c.of_report-all.ensures)

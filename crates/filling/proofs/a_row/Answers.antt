@@ -1,16 +1,16 @@
 use Prim.Native.Nat.{ℕ, ◌+◌, ◌-◌, ◌≤◌, ◌<◌}
 use mathlib.Core.List.{List}
-use mathlib.Core.Path.{◌≡◌, sym, ◌∙◌}
+use mathlib.Core.Path.{◌≡◌, ap, sym, ◌∙◌}
 use native.Mathlib.Omega.{arith}
-use borrow.Author.Tests.{not-true, not-false}
 use lib.ListN.{get_or, drop}
 use Rattle.rules.specs.Table.{max_rows}
 use Rattle.rules.specs.Form.{row_in}
 use Rattle.rules.specs.Text.{Draft, rows_so_far, with_row}
 use Rattle.rules.proofs.LimitLaws.{rows_fit}
+use Rattle.form.specs.Rows.{followed_of}
 use Rattle.filling.specs.Tables.{HeldTable}
 use Rattle.filling.proofs.HeldLaws.{held-threads, held-cells, held-plains, within, begun, count-there}
-use Rattle.filling.proofs.LineLaws.{row-early, row-full, row-stuck, row_fits, followed-stuck, followed-fits}
+use Rattle.filling.proofs.LineLaws.{row-early, row-full, row-stuck, row_fits, passed_up}
 use Rattle.filling.proofs.a_row.Goals as goal
 
 -- what a row may name, by the header
@@ -94,15 +94,18 @@ overflow_cast-room-2 c =
     let h = c.requires.held in
     omega (arith, held-plains a.table.now a.reached.length c.requires.made h, h.plains)
 
-pub returns-then-not-row : goal.returns-then-not-row
-returns-then-not-row c = record {
-  is = λ m held.
-      let a = c.args in
-      let some : 1 ≤ get_or a.table.now 0 0 = omega (arith, c.if-threads-eq0.false) in
-      let few : rows_so_far m < max_rows = omega (arith, c.if-before-ge-MAX_ROWS.false, count-there a.table.now a.reached.length m held some) in
-      let read = named a.table.now a.reached.length m held some a.all a.reached.rows (drop a.reached.at a.text.now) ∙ sym c.row_in-row.ensures.follows.said in
-      row-stuck a.all a.reached.rows m (drop a.reached.at a.text.now) (drop a.here a.text.now) (begun a.table.now a.reached.length m held some) few _ (read ∙ followed-stuck a.text.now c.row_in-row.result (not-true _ c.if-not-row.true));
-}
+pub returns-in_err-row : goal.returns-in_err-row
+returns-in_err-row c =
+    let refused = passed_up c.from_residual.result _ c.from_residual.ensures.1 in
+    record {
+      is = λ m held.
+          let a = c.args in
+          let some : 1 ≤ get_or a.table.now 0 0 = omega (arith, c.if-threads-eq0.false) in
+          let few : rows_so_far m < max_rows = omega (arith, c.if-before-ge-MAX_ROWS.false, count-there a.table.now a.reached.length m held some) in
+          let read = named a.table.now a.reached.length m held some a.all a.reached.rows (drop a.reached.at a.text.now) ∙ sym c.row_in.ensures.said in
+          rw refused
+          (row-stuck a.all a.reached.rows m (drop a.reached.at a.text.now) (drop a.here a.text.now) (begun a.table.now a.reached.length m held some) few _ (read ∙ ap (followed_of a.text.now) c.in_err-row.was));
+    }
 
 pub add_row-requires : goal.add_row-requires
 add_row-requires c =
@@ -118,10 +121,10 @@ returns c = record {
       let a = c.args in
       let some : 1 ≤ get_or a.table.now 0 0 = omega (arith, c.if-threads-eq0.false) in
       let few : rows_so_far m < max_rows = omega (arith, c.if-before-ge-MAX_ROWS.false, count-there a.table.now a.reached.length m held some) in
-      let read = named a.table.now a.reached.length m held some a.all a.reached.rows (drop a.reached.at a.text.now) ∙ sym c.row_in-row.ensures.follows.said in (
-        with_row m c.row_in-row.result.fields,
+      let read = named a.table.now a.reached.length m held some a.all a.reached.rows (drop a.reached.at a.text.now) ∙ sym c.row_in.ensures.said in (
+        with_row m c.in_ok-row.row.fields,
         (
-          row_fits a.all a.reached.rows m (drop a.reached.at a.text.now) (drop a.here a.text.now) (begun a.table.now a.reached.length m held some) few _ _ (read ∙ followed-fits a.text.now c.row_in-row.result (not-false _ c.if-not-row.false)),
+          row_fits a.all a.reached.rows m (drop a.reached.at a.text.now) (drop a.here a.text.now) (begun a.table.now a.reached.length m held some) few _ _ (read ∙ ap (followed_of a.text.now) c.in_ok-row.was),
           c.add_row.ensures m held,
         ),
       );

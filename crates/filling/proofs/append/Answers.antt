@@ -1,19 +1,10 @@
+use mathlib.Core.Path.{refl}
 use native.Mathlib.Omega.{arith}
 use lib.ListN.{length}
-use lib.Seq.{paste-zero}
-use Rattle.rules.proofs.RecordLaws.{write-on, write-all}
-use borrow.Author.Rules.{rules}
+use Rattle.std.proofs.lemmas.Slice.{put_mid-paste}
 use Rattle.filling.proofs.append.Goals as goal
-
-pub loop-i-init : goal.loop-i-init
-loop-i-init c = (search rules, search rules, paste-zero c.args.buffer.now c.args.at c.args.bytes.now)
-
-pub loop-i-preserved : goal.loop-i-preserved
-loop-i-preserved c =
-    let a = c.args in
-    (search rules, search rules, write-on a.buffer.now a.at a.bytes.now (length a.bytes.now) c.requires (omega arith) _ _ c.loop-i.invariant.2 c.loop-i-test.true)
 
 pub returns : goal.returns
 returns c =
-    let a = c.args in
-    write-all a.buffer.now a.at a.bytes.now (length a.bytes.now) c.requires (omega arith) _ _ c.loop-i.invariant.2 c.loop-i.invariant.0 c.loop-i-test.false
+    let bytes = c.args.bytes.now in
+    put_mid-paste c.args.at _ c.args.buffer.now _ bytes (length bytes) c.copy_from_slice.ensures.after (omega arith) refl

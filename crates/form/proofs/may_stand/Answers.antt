@@ -1,6 +1,6 @@
-use mathlib.Core.Path.{ap, sym, ◌∙◌}
-use mathlib.Core.Logic.{inl, inr, ⊎_elim}
-use Prim.Native.Nat.{ℕ}
+use mathlib.Core.Path.{ap, ◌∙◌}
+use mathlib.Core.Logic.{inl, inr}
+use native.Mathlib.Omega.{arith}
 use Rattle.rules.specs.Table.{is_load_order, is_store_order, is_fence_order}
 use Rattle.decode.specs.Ops.{room_meant}
 use Rattle.form.specs.Letters.{may_stand}
@@ -9,52 +9,38 @@ use Rattle.form.proofs.may_stand.Goals as goal
 
 pub returns-in-67 : goal.returns-in-67
 unfolding may_stand
-returns-in-67 c = let a = c.args in ap (λ (b : ℕ). may_stand (room_meant a.room) b a.value) (sym c.in-67.is)
+returns-in-67 c = rw c.in-67.is
 
 pub returns-in-80 : goal.returns-in-80
 unfolding may_stand
-returns-in-80 c = let a = c.args in ap (λ (b : ℕ). may_stand (room_meant a.room) b a.value) (sym c.in-80.is)
+returns-in-80 c = rw c.in-80.is
 
 pub returns-in-84 : goal.returns-in-84
 unfolding may_stand
-returns-in-84 c = let a = c.args in ap (λ (b : ℕ). may_stand (room_meant a.room) b a.value) (sym c.in-84.is)
+returns-in-84 c = rw c.in-84.is
 
 pub returns-in-74 : goal.returns-in-74
 unfolding may_stand
-returns-in-74 c = let a = c.args in ap (λ (b : ℕ). may_stand (room_meant a.room) b a.value) (sym c.in-74.is)
+returns-in-74 c = rw c.in-74.is
 
 pub returns-in-71 : goal.returns-in-71
 unfolding may_stand
-returns-in-71 c = let a = c.args in ap (λ (b : ℕ). may_stand (room_meant a.room) b a.value) (sym c.in-71.is)
+returns-in-71 c = rw c.in-71.is
 
 pub returns-in-76 : goal.returns-in-76
 unfolding may_stand
 returns-in-76 c =
-    let a = c.args in
-    c.is_load_order.ensures
-    ∙ ap is_load_order c.order_of.ensures
-    ∙ as_load a.value
-    ∙ ⊎_elim (λ e. ap (λ (b : ℕ). may_stand (room_meant a.room) b a.value) (sym e)) (λ e. ap (λ (b : ℕ). may_stand (room_meant a.room) b a.value) (sym e)) c.in-76.is
+    let load = c.is_load_order.ensures ∙ ap is_load_order c.order_of.ensures ∙ as_load c.args.value in
+    elim c.in-76.is [ inl e ↦ rw e load | inr e ↦ rw e load ]
 
 pub returns-in-83 : goal.returns-in-83
 unfolding may_stand
-returns-in-83 c =
-    let a = c.args in
-    c.is_store_order.ensures
-    ∙ ap is_store_order c.order_of-in-83.ensures
-    ∙ as_store a.value
-    ∙ ap (λ (b : ℕ). may_stand (room_meant a.room) b a.value) (sym c.in-83.is)
+returns-in-83 c = rw c.in-83.is (c.is_store_order.ensures ∙ ap is_store_order c.order_of-in-83.ensures ∙ as_store c.args.value)
 
 pub returns-in-70 : goal.returns-in-70
 unfolding may_stand
-returns-in-70 c =
-    let a = c.args in
-    c.is_fence_order.ensures
-    ∙ ap is_fence_order c.order_of-in-70.ensures
-    ∙ as-fence a.value
-    ∙ ap (λ (b : ℕ). may_stand (room_meant a.room) b a.value) (sym c.in-70.is)
+returns-in-70 c = rw c.in-70.is (c.is_fence_order.ensures ∙ ap is_fence_order c.order_of-in-70.ensures ∙ as-fence c.args.value)
 
 pub returns-in_default : goal.returns-in_default
 returns-in_default c =
-    let none = c.in_default.in_default-own.rest in
-    may-stand-any _ (room_meant c.args.room) _ none.0.0.0.0.0.0.0.1 none.0.0.0.0.0.0.1 none.0.0.0.0.0.1 none.0.0.0.0.1 none.0.0.0.1 (λ e. none.0.0.1 (inl e)) (λ e. none.0.0.1 (inr e)) none.0.1 none.1
+    may-stand-any _ (room_meant c.args.room) _ (grind arith) (grind arith) (grind arith) (grind arith) (grind arith) (grind arith) (grind arith) (grind arith) (grind arith)

@@ -1,12 +1,11 @@
-use native.Mathlib.Omega.{arith}
-use Rattle.put.proofs.PutLaws.{puts-in, puts-past, puts-last}
+use Prim.Native.Nat.{◌+◌}
+use Rattle.put.proofs.PutLaws.{puts-in, puts-past}
 use Rattle.put.proofs.put_byte.Goals as goal
-
-pub returns-then-at-text : goal.returns-then-at-text
-returns-then-at-text c = puts-in _ _ _ (omega arith)
-
-pub returns-then-at-lt-LAST : goal.returns-then-at-lt-LAST
-returns-then-at-lt-LAST c = puts-past _ _ _ (omega arith) (omega arith)
+use Rattle.put.proofs.put_byte.Goals.{then-at-text, else-at-text}
 
 pub returns : goal.returns
-returns c = puts-last _ _ _ (omega arith) (omega arith)
+returns c =
+    elim c.if-at-text.branch [
+      | then-at-text w ↦ rw w.text-is (puts-in _ _ _ _ c.saturating_add.ensures)
+      | else-at-text w ↦ rw w.text-is (puts-past _ _ _ _ w.if-at-text.false c.saturating_add.ensures)
+    ]

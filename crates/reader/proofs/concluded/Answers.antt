@@ -1,7 +1,7 @@
 use mathlib.Core.Path.{sym}
 use native.Mathlib.Omega.{arith}
-use borrow.Author.Tests.{not-true, not-false}
 use Rattle.filling.proofs.HeldLaws.{held-threads}
+use Rattle.filling.proofs.LineLaws.{passed_up}
 use Rattle.reader.proofs.WholeLaws.{piece-most, closes-refused, closes-taken}
 use Rattle.reader.proofs.concluded.Goals as goal
 
@@ -13,22 +13,24 @@ overflow_cast-threads c =
     let h = c.requires.0.held in
     omega (arith, held-threads c.args.table.now c.args.reached.length c.requires.0.made h, h.threads)
 
-pub returns-then-not-end : goal.returns-then-not-end
-returns-then-not-end c = record {
-  is = λ m held.
-      let a = c.args in
-      closes-refused a.text.now a.table.now a.reached.at a.lines _ a.reached.length c.concluded-end.result c.concluded-end.ensures m held (sym (held-threads a.table.now a.reached.length m held)) (not-true _ c.if-not-end.true);
-}
+pub returns-in_err-end : goal.returns-in_err-end
+returns-in_err-end c =
+    let refused = passed_up c.from_residual.result _ c.from_residual.ensures.1 in
+    record {
+      is = λ m held.
+          let a = c.args in
+          rw refused
+          (closes-refused a.text.now a.table.now a.reached.at a.lines _ a.reached.length c.concluded.result c.concluded.ensures m held (sym (held-threads a.table.now a.reached.length m held)) _ c.in_err-end.was);
+    }
 
 pub append-requires : goal.append-requires
 append-requires c =
-    let a = c.args in
-    let piece = piece-most c.concluded-end.result.bytes c.concluded-end.result.length c.part.result.now c.part.ensures in
-    omega (arith, piece, c.concluded-end.ensures.most, c.requires.1.room)
+    let piece = piece-most c.in_ok-end.end.bytes c.in_ok-end.end.length c.part.result.now c.part.ensures in
+    omega (arith, piece, (c.concluded.ensures.within c.in_ok-end.end c.in_ok-end.was).0, c.requires.1.room)
 
 pub returns : goal.returns
 returns c = record {
   is = λ m held.
       let a = c.args in
-      closes-taken a.text.now a.table.now a.reached.at a.lines _ a.reached.length c.concluded-end.result c.concluded-end.ensures m held (sym (held-threads a.table.now a.reached.length m held)) (not-false _ c.if-not-end.false) a.condition.now _ c.part.result.now c.requires.1 c.part.ensures c.append.ensures;
+      closes-taken a.text.now a.table.now a.reached.at a.lines _ a.reached.length c.concluded.result c.concluded.ensures m held (sym (held-threads a.table.now a.reached.length m held)) c.in_ok-end.end c.in_ok-end.was a.condition.now _ c.part.result.now c.requires.1 c.part.ensures c.append.ensures;
 }

@@ -18,13 +18,13 @@ pub lines_from-requires : goal.lines_from-requires
 lines_from-requires c =
     (cleared-blank table_bytes _ _ c.clear_all.ensures c.if-table-lt-TABLE_BYTES.false, cleared-blank condition_bytes _ _ c.clear_all-2.ensures c.if-condition-lt-CONDITION_BYTES.false)
 
-pub returns-in-Refused : goal.returns-in-Refused
-returns-in-Refused c =
+pub returns-in-Err : goal.returns-in-Err
+returns-in-Err c =
     let a = c.args in
-    let e = said-refused a.text.now a.table.now a.condition.now c.if-table-lt-TABLE_BYTES.false c.if-condition-lt-CONDITION_BYTES.false _ _ c.lines_from.result _ c.lines_from.ensures c.in-Refused.is in
-    read-refused a.text.now a.table.now a.condition.now c.if-table-lt-TABLE_BYTES.false c.if-condition-lt-CONDITION_BYTES.false c.in-Refused.at c.place_of-place.result c.place_of-place.ensures e _ _ _ _ c.clear_all-in-Refused.ensures c.clear_all-in-Refused-2.ensures (omega (arith, c.lines_from.auto, c.clear_all-2.auto, c.clear_all.auto)) (omega (arith, c.lines_from.auto, c.clear_all-2.auto, c.clear_all.auto))
+    let e = said-refused a.text.now a.table.now a.condition.now c.if-table-lt-TABLE_BYTES.false c.if-condition-lt-CONDITION_BYTES.false _ _ c.lines_from.result _ c.lines_from.ensures c.in-Err.is in
+    read-refused a.text.now a.table.now a.condition.now c.if-table-lt-TABLE_BYTES.false c.if-condition-lt-CONDITION_BYTES.false c.in-Err.at c.place_of-place.result c.place_of-place.ensures e _ _ _ _ c.clear_all-in-Err.ensures c.clear_all-in-Err-2.ensures (omega (arith, c.lines_from.auto, c.clear_all-2.auto, c.clear_all.auto)) (omega (arith, c.lines_from.auto, c.clear_all-2.auto, c.clear_all.auto))
 
-pub returns-in-Taken : goal.returns-in-Taken
-returns-in-Taken c =
+pub returns-in-Ok : goal.returns-in-Ok
+returns-in-Ok c =
     let a = c.args in
-    read_taken a.text.now a.table.now a.condition.now c.if-table-lt-TABLE_BYTES.false c.if-condition-lt-CONDITION_BYTES.false _ _ c.lines_from.result _ _ c.lines_from.ensures c.in-Taken.is (omega (arith, c.lines_from.auto, c.clear_all-2.auto, c.clear_all.auto)) (omega (arith, c.lines_from.auto, c.clear_all-2.auto, c.clear_all.auto))
+    read_taken a.text.now a.table.now a.condition.now c.if-table-lt-TABLE_BYTES.false c.if-condition-lt-CONDITION_BYTES.false _ _ c.lines_from.result _ c.lines_from.ensures c.in-Ok.is (omega (arith, c.lines_from.auto, c.clear_all-2.auto, c.clear_all.auto)) (omega (arith, c.lines_from.auto, c.clear_all-2.auto, c.clear_all.auto))

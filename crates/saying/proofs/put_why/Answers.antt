@@ -17,7 +17,7 @@ pub returns-then-is_word : goal.returns-then-is_word
 unfolding bytes_of
 returns-then-is_word c =
     let a = c.args in
-    let number = sym c.number.ensures ∙ ap found_of c.in-Value.is in
+    let number = sym c.number.ensures ∙ ap found_of c.in-Some.is in
     let to_row = said a.text.now a.spot.before _ c.token_end-behind.ensures "jump" _ true c.is_word.ensures c.if-is_word.true in
     puts-are _ _ _ _ _ _ (ap bytes_of (why-by a.spot.row _ _ _ _ _ _ number to_row refl refl)) c.put_why_no_row.ensures
 
@@ -25,7 +25,7 @@ pub returns-then-is_word-2 : goal.returns-then-is_word-2
 unfolding bytes_of
 returns-then-is_word-2 c =
     let a = c.args in
-    let number = sym c.number.ensures ∙ ap found_of c.in-Value.is in
+    let number = sym c.number.ensures ∙ ap found_of c.in-Some.is in
     let to_row = said a.text.now a.spot.before _ c.token_end-behind.ensures "jump" _ false c.is_word.ensures c.if-is_word.false in
     let of-thread = said a.text.now a.spot.before _ c.token_end-behind.ensures "join" _ true c.is_word-2.ensures c.if-is_word-2.true in
     puts-are _ _ _ _ _ _ (ap bytes_of (why-by a.spot.row _ _ _ _ _ _ number to_row of-thread refl)) c.put_bytes.ensures
@@ -34,7 +34,7 @@ pub returns-then-names_cell : goal.returns-then-names_cell
 unfolding bytes_of
 returns-then-names_cell c =
     let a = c.args in
-    let number = sym c.number.ensures ∙ ap found_of c.in-Value.is in
+    let number = sym c.number.ensures ∙ ap found_of c.in-Some.is in
     let to_row = said a.text.now a.spot.before _ c.token_end-behind.ensures "jump" _ false c.is_word.ensures c.if-is_word.false in
     let of-thread = said a.text.now a.spot.before _ c.token_end-behind.ensures "join" _ false c.is_word-2.ensures c.if-is_word-2.false in
     let in_Cell = cell-said a.text.now a.spot.before _ c.token_end-behind.ensures _ true c.names_cell.ensures c.if-names_cell.true in
@@ -46,7 +46,7 @@ returns c =
     let low : c.args.at ≤ last =
     omega arith in
     let a = c.args in
-    let number = sym c.number.ensures ∙ ap found_of c.in-Value.is in
+    let number = sym c.number.ensures ∙ ap found_of c.in-Some.is in
     let to_row = said a.text.now a.spot.before _ c.token_end-behind.ensures "jump" _ false c.is_word.ensures c.if-is_word.false in
     let of-thread = said a.text.now a.spot.before _ c.token_end-behind.ensures "join" _ false c.is_word-2.ensures c.if-is_word-2.false in
     let in_Cell = cell-said a.text.now a.spot.before _ c.token_end-behind.ensures _ false c.names_cell.ensures c.if-names_cell.false in

@@ -12,4 +12,4 @@ loop-to-preserved c =
 
 pub returns : goal.returns
 returns c =
-    omega (arith, line-past c.args.text.now c.loop-to.to c.loop-to-test.false)
+    grind (arith, c.max.ensures, line-past c.args.text.now c.loop-to.to c.loop-to-test.false, line-past c.args.text.now c.args.at)

@@ -1,36 +1,46 @@
-use mathlib.Core.Path.{◌≡◌, refl, ◌∙◌}
-use lib.ListN.{drop}
+use Prim.Native.Nat.{◌+◌, ◌-◌}
+use mathlib.Core.Path.{◌≡◌, ◌∙◌}
+use native.Mathlib.Omega.{arith}
+use lib.ListN.{length, drop}
 use Rattle.rules.specs.Token.{past_blanks}
 use Rattle.token.proofs.PlaceLaws.{left_by}
 use Rattle.token.proofs.ListLaws.{word_out, word_end, word-here, word_on}
 use Rattle.token.proofs.word_at.Goals as goal
 
-pub loop-left-init : goal.loop-left-init
-loop-left-init c = refl
-
 pub returns-then-words-at : goal.returns-then-words-at
 returns-then-words-at c =
-    let skipped : drop c.past_blanks-at.result c.args.words.now ≡ past_blanks (drop c.loop-left.from c.args.words.now) =
-    left_by c.args.words.now c.loop-left.from c.past_blanks-at.result _ c.past_blanks-at.ensures in
-    word_end c.args.words.now c.loop-left.from c.loop-left.left c.past_blanks-at.result skipped c.loop-left-test.true c.loop-left.before c.if-words-at.true
-    ∙ c.loop-left.invariant
+    let words = c.args.words.now in
+    let left = length words - c.loop-i.i in
+    let skipped : drop c.past_blanks-at.result words ≡ past_blanks (drop c.loop-i.from words) =
+    left_by words c.loop-i.from c.past_blanks-at.result _ c.past_blanks-at.ensures in
+    word_end words c.loop-i.from left c.past_blanks-at.result skipped (omega arith) (c.args.place - c.loop-i.i) c.if-words-at.true
+    ∙ c.loop-i.invariant.1
 
-pub returns-then-before-eq0 : goal.returns-then-before-eq0
-returns-then-before-eq0 c =
-    let skipped : drop c.past_blanks-at.result c.args.words.now ≡ past_blanks (drop c.loop-left.from c.args.words.now) =
-    left_by c.args.words.now c.loop-left.from c.past_blanks-at.result _ c.past_blanks-at.ensures in
+pub returns-then-i-place : goal.returns-then-i-place
+returns-then-i-place c =
+    let words = c.args.words.now in
+    let left = length words - c.loop-i.i in
+    let skipped : drop c.past_blanks-at.result words ≡ past_blanks (drop c.loop-i.from words) =
+    left_by words c.loop-i.from c.past_blanks-at.result _ c.past_blanks-at.ensures in
     c.part.ensures
-    ∙ word-here c.args.words.now c.loop-left.from c.loop-left.left c.past_blanks-at.result skipped c.loop-left-test.true c.token_end-from.result c.if-words-at.false c.token_end-from.ensures c.loop-left.before c.if-before-eq0.true
-    ∙ c.loop-left.invariant
+    ∙ word-here words c.loop-i.from left c.past_blanks-at.result skipped (omega arith) c.token_end-from.result c.if-words-at.false c.token_end-from.ensures (c.args.place - c.loop-i.i) (omega arith)
+    ∙ c.loop-i.invariant.1
 
-pub loop-left-preserved : goal.loop-left-preserved
-loop-left-preserved c =
-    let skipped : drop c.past_blanks-at.result c.args.words.now ≡ past_blanks (drop c.loop-left.from c.args.words.now) =
-    left_by c.args.words.now c.loop-left.from c.past_blanks-at.result _ c.past_blanks-at.ensures in
-    word_on c.args.words.now c.loop-left.from c.loop-left.left c.past_blanks-at.result skipped c.loop-left-test.true c.token_end-from.result c.if-words-at.false c.token_end-from.ensures c.loop-left.before c.if-before-eq0.false
-    ∙ c.loop-left.invariant
+pub loop-i-preserved : goal.loop-i-preserved
+loop-i-preserved c =
+    let words = c.args.words.now in
+    let left = length words - c.loop-i.i in
+    let skipped : drop c.past_blanks-at.result words ≡ past_blanks (drop c.loop-i.from words) =
+    left_by words c.loop-i.from c.past_blanks-at.result _ c.past_blanks-at.ensures in
+    let one-less : length words - (c.loop-i.i + 1) ≡ left - 1 = omega arith in
+    let before : c.args.place - (c.loop-i.i + 1) ≡ c.args.place - c.loop-i.i - 1 = omega arith in (
+      omega arith,
+      rw (one-less, before)
+          (word_on words c.loop-i.from left c.past_blanks-at.result skipped (omega arith) c.token_end-from.result c.if-words-at.false c.token_end-from.ensures (c.args.place - c.loop-i.i) (omega arith)
+          ∙ c.loop-i.invariant.1),
+    )
 
 pub returns : goal.returns
 returns c =
-    word_out c.args.words.now c.loop-left.from c.loop-left.left c.loop-left.before c.loop-left-test.false
-    ∙ c.loop-left.invariant
+    word_out c.args.words.now c.loop-i.from (length c.args.words.now - c.loop-i.i) (c.args.place - c.loop-i.i) (omega arith)
+    ∙ c.loop-i.invariant.1

@@ -1,11 +1,7 @@
-use Prim.Native.Nat.{◌+◌}
-use mathlib.Core.Path.{◌≡◌}
+use Prim.Native.Nat.{◌+◌, ◌-◌}
 use Rattle.rules.specs.Writer.{rows_shown}
 use Rattle.put.specs.Puts.{ToPut}
 use Rattle.writer.proofs.put_rows.Given as goal
 
-abbrev pub invariant-loop-left : goal.invariant-loop-left
-invariant-loop-left l = ToPut l.initial.text l.text l.at l.to (rows_shown l.table l.count l.first) (rows_shown l.table l.left l.index) × (l.index + l.left ≡ l.first + l.count)
-
-abbrev pub decreases-loop-left : goal.decreases-loop-left
-decreases-loop-left l = l.left
+abbrev pub invariant-loop-index : goal.invariant-loop-index
+invariant-loop-index l = ToPut l.initial.text l.text l.at l.to (rows_shown l.table l.count l.first) (rows_shown l.table (l.first + l.count - l.index) l.index)

@@ -9,6 +9,7 @@ use Rattle.rules.specs.Condition.{is_condition}
 use Rattle.condition_line.specs.Units.{Units}
 use Rattle.condition_line.proofs.FineLaws.{fine-claim}
 use Rattle.writer.specs.Answers.{Fit}
+use Rattle.writer.proofs.TextLaws.{cleared}
 use Rattle.writer.proofs.IntoLaws.{fit-good, into-condition, into-short, into-written}
 use Rattle.writer.proofs.write_fit.Goals as goal
 
@@ -67,4 +68,4 @@ returns c =
     omega (arith, (fit-good _ c.requires).threads) in
     let claimed : is_condition (threads_of c.args.table.now) c.args.condition.now ≡ true =
     claims ∙ not-false _ c.if-not-is_condition.false-raw in
-    into-written c.args.table.now c.args.condition.now c.args.text.now c.requires claimed byte few _ _ _ c.put_text-length.ensures c.if-text-length.false _ _ _ c.put_text.ensures c.clear.ensures
+    into-written c.args.table.now c.args.condition.now c.args.text.now c.requires claimed byte few _ _ _ c.put_text-length.ensures c.if-text-length.false _ _ _ c.put_text.ensures (cleared c.put_text.new.text _ c.put_text-length.result (omega (arith, c.put_text.auto, c.if-text-length.false)) (c.fill.ensures.after (λ y e. e)))

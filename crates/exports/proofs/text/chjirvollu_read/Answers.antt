@@ -10,4 +10,4 @@ returns-then-numbers-ne-READ_NUMBERS c =
 pub returns : goal.returns
 returns c =
     let a = c.args in
-    read_made a.text.now a.table.now a.condition.now a.numbers.now c.if-numbers-ne-READ_NUMBERS.false c.read.result c.read_numbers-five.result c.read.ensures c.read_numbers-five.ensures c.write_numbers.ensures
+    read_made a.text.now a.table.now a.condition.now a.numbers.now c.if-numbers-ne-READ_NUMBERS.false c.read.result c.read_numbers-five.result c.read.ensures c.read_numbers-five.ensures c.copy_from_slice.ensures.after

@@ -10,4 +10,4 @@ returns-then-numbers-ne-WRITE_NUMBERS c =
 pub returns : goal.returns
 returns c =
     let a = c.args in
-    written-made a.table.now a.condition.now a.text.now a.numbers.now c.if-numbers-ne-WRITE_NUMBERS.false c.write.result c.written_numbers-two.result c.write.ensures c.written_numbers-two.ensures c.write_numbers.ensures
+    written-made a.table.now a.condition.now a.text.now a.numbers.now c.if-numbers-ne-WRITE_NUMBERS.false c.write.result c.written_numbers-two.result c.write.ensures c.written_numbers-two.ensures c.copy_from_slice.ensures.after
