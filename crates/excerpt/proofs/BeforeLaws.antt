@@ -38,5 +38,5 @@ module _ (text : List ℕ) (at : ℕ) where
     pub before_here : at ≤ here → token_before text at left found from ≡ found
     before_here h = one true (le-leb at here h)
 
-    pub before_on : (to : ℕ) → here < at → to ≡ here + token_length (drop here text) → token_before text at (left - 1) here to ≡ token_before text at left found from
-    before_on to h e = ap (token_before text at (left - 1) here) e ∙ sym (one false (lt-leb at here h))
+    pub before_on : (less to : ℕ) → less ≡ left - 1 → here < at → to ≡ here + token_length (drop here text) → token_before text at less here to ≡ token_before text at left found from
+    before_on less to k h e = rw k (ap (token_before text at (left - 1) here) e ∙ sym (one false (lt-leb at here h)))

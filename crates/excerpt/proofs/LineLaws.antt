@@ -23,18 +23,17 @@ unfolding behind_lines
 behind-next n bs = refl
 
 module _ (text : List ℕ) (at left : ℕ) where
-  pub begin-on : (r : ℕ) → 1 < left → r ≡ at + line_length (drop at text) → r + behind_lines (left - 1 - 1) (drop r text) ≡ at + behind_lines (left - 1) (drop at text)
-  begin-on r h e =
-      let s : left - 1 ≡ suc (left - 1 - 1) = omega arith in
-      let one : behind_lines (left - 1) (drop at text) ≡ line_length (drop at text) + behind_lines (left - 1 - 1) (drop r text) =
+  pub begin-on : (less r : ℕ) → left ≡ suc less → r ≡ at + line_length (drop at text) → r + behind_lines less (drop r text) ≡ at + behind_lines left (drop at text)
+  begin-on less r s e =
+      let one : behind_lines left (drop at text) ≡ line_length (drop at text) + behind_lines less (drop r text) =
       ap (λ (n : ℕ). behind_lines n (drop at text)) s
-      ∙ behind-next (left - 1 - 1) (drop at text)
-      ∙ ap (λ (bs : List ℕ). line_length (drop at text) + behind_lines (left - 1 - 1) bs) (sym (left_by text at r _ e)) in
+      ∙ behind-next less (drop at text)
+      ∙ ap (λ (bs : List ℕ). line_length (drop at text) + behind_lines less bs) (sym (left_by text at r _ e)) in
       omega arith
 
-  pub begin-end : left ≤ 1 → behind_lines (left - 1) (drop at text) ≡ 0
+  pub begin-end : left ≤ 0 → behind_lines left (drop at text) ≡ 0
   unfolding behind_lines
-  begin-end h = let e : left - 1 ≡ 0 = omega arith in rw e
+  begin-end h = let e : left ≡ 0 = omega arith in rw e
 
 -- The line's end
 

@@ -1,7 +1,7 @@
 -- The rows of a thread before a line, line by line. Assumes nothing.
 --     with-.., line-adds     one line more: bare, `thread`, a row
 --     rows-..                a line passed over; none left
-use Prim.Native.Nat.{ℕ, suc, ◌+◌, ◌-◌, ◌≤◌, ◌<◌}
+use Prim.Native.Nat.{ℕ, suc, ◌+◌, ◌≤◌}
 use mathlib.Core.List.{List, [], ◌∷◌}
 use mathlib.Core.Bool.{Bool, true, false, cond}
 use mathlib.Core.Path.{◌≡◌, refl, ap, sym, ◌∙◌}
@@ -55,14 +55,13 @@ unfolding rows_behind
 rows_next n rows bs = refl
 
 module _ (text : List ℕ) (at left rows : ℕ) where
-  pub rows_on : (more r : ℕ) → 1 < left → more ≡ with_line rows (drop at text) → r ≡ at + line_length (drop at text)
-      → rows_behind (left - 1 - 1) more (drop r text) ≡ rows_behind (left - 1) rows (drop at text)
-  rows_on more r h w e =
-      let s : left - 1 ≡ suc (left - 1 - 1) = omega arith in
-      ap (λ (n : ℕ). rows_behind (left - 1 - 1) n (drop r text)) w
-      ∙ ap (rows_behind (left - 1 - 1) (with_line rows (drop at text))) (left_by text at r _ e)
-      ∙ sym (ap (λ (n : ℕ). rows_behind n rows (drop at text)) s ∙ rows_next (left - 1 - 1) rows (drop at text))
+  pub rows_on : (less more r : ℕ) → left ≡ suc less → more ≡ with_line rows (drop at text) → r ≡ at + line_length (drop at text)
+      → rows_behind less more (drop r text) ≡ rows_behind left rows (drop at text)
+  rows_on less more r s w e =
+      ap (λ (n : ℕ). rows_behind less n (drop r text)) w
+      ∙ ap (rows_behind less (with_line rows (drop at text))) (left_by text at r _ e)
+      ∙ sym (ap (λ (n : ℕ). rows_behind n rows (drop at text)) s ∙ rows_next less rows (drop at text))
 
-  pub rows_end : left ≤ 1 → rows ≡ rows_behind (left - 1) rows (drop at text)
+  pub rows_end : left ≤ 0 → rows ≡ rows_behind left rows (drop at text)
   unfolding rows_behind
-  rows_end h = let e : left - 1 ≡ 0 = omega arith in rw e
+  rows_end h = let e : left ≡ 0 = omega arith in rw e

@@ -69,10 +69,8 @@ pub fn line_begin(text: &[u8], line: usize) -> usize
     ensures { result ≡ begin_of line text.now }
 {
     let mut at = 0;
-    let mut left = line;
-    while 1 < left {
+    for _passed in 1..line {
         at = token::next_line(text, at);
-        left -= 1;
     }
     at
 }
@@ -83,11 +81,9 @@ pub fn rows_before(text: &[u8], line: usize) -> usize
 {
     let mut rows = 0;
     let mut at = 0;
-    let mut left = line;
-    while 1 < left {
+    for _passed in 1..line {
         rows = with_line(text, at, rows);
         at = token::next_line(text, at);
-        left -= 1;
     }
     rows
 }
@@ -112,14 +108,12 @@ fn with_line(text: &[u8], at: usize, rows: usize) -> usize
 pub fn line_end(text: &[u8], at: usize) -> usize
     ensures { result ≡ at + shown_length (drop at text.now) }
 {
-    let mut to = at;
-    while to < text.len() {
+    for to in at..text.len() {
         if is_feed(text, to) {
             return to;
         }
-        to += 1;
     }
-    to
+    text.len().max(at)
 }
 
 // Whether a line feed stands here, or a carriage return before one.
@@ -145,16 +139,10 @@ fn is_feed(text: &[u8], at: usize) -> bool
 pub fn place_in(column: usize, begin: usize, end: usize) -> usize
     ensures { result ≡ place_from begin end column }
 {
-    if column == 0 {
-        return begin;
-    }
-    if end <= begin {
+    if end.saturating_sub(begin) < column {
         return end;
     }
-    if end - begin < column {
-        return end;
-    }
-    begin + (column - 1)
+    begin + column.saturating_sub(1)
 }
 
 // Where the last token before a place begins, of those from here on in its line; here, where there is none.
@@ -163,15 +151,13 @@ pub fn token_before(text: &[u8], begin: usize, place: usize) -> usize
 {
     let mut found = begin;
     let mut from = begin;
-    let mut left = text.len();
-    while 0 < left {
+    for _passed in 0..text.len() {
         let here = token::past_blanks(text, from);
         if place <= here {
             return found;
         }
         found = here;
         from = token::token_end(text, here);
-        left -= 1;
     }
     found
 }
@@ -204,28 +190,14 @@ pub fn put_caret(page: &mut [u8], at: usize, text: &[u8], shown: Excerpt) -> usi
 fn first_shown(shown: Excerpt) -> usize
     ensures { result ≡ first_shown shown.begin shown.place }
 {
-    let begin = shown.begin;
-    let place = shown.place;
-    if place < BEFORE {
-        return begin;
-    }
-    if place - BEFORE < begin {
-        return begin;
-    }
-    place - BEFORE
+    shown.begin.max(shown.place.saturating_sub(BEFORE))
 }
 
 // Behind the last byte that is shown, from the first one on, of a line that ends here.
 fn last_shown(from: usize, end: usize) -> usize
     ensures { result ≡ last_shown from end }
 {
-    if end <= from {
-        return end;
-    }
-    if end - from <= WIDEST {
-        return end;
-    }
-    from + WIDEST
+    end.min(from.saturating_add(WIDEST))
 }
 
 // Three dots, or blanks below them, where bytes between two places are left out.
@@ -243,10 +215,8 @@ fn put_seen(page: &mut [u8], at: usize, bytes: &[u8], below: bool) -> usize
     ensures { Puts page.old page.new at (map (seen_as below) bytes.now) result }
 {
     let mut to = at;
-    let mut i = 0;
-    while i < bytes.len() {
-        to = put_byte(page, to, seen_as(bytes[i], below));
-        i += 1;
+    for byte in bytes {
+        to = put_byte(page, to, seen_as(*byte, below));
     }
     to
 }

@@ -1,11 +1,8 @@
-use Prim.Native.Nat.{◌+◌, ◌-◌}
+use Prim.Native.Nat.{◌+◌}
 use mathlib.Core.Path.{◌≡◌}
-use lib.ListN.{length, drop}
+use lib.ListN.{drop}
 use Rattle.excerpt.specs.Excerpts.{shown_length}
 use Rattle.excerpt.proofs.line_end.Given as goal
 
 abbrev pub invariant-loop-to : goal.invariant-loop-to
 invariant-loop-to l = l.to + shown_length (drop l.to l.text) ≡ l.at + shown_length (drop l.at l.text)
-
-abbrev pub decreases-loop-to : goal.decreases-loop-to
-decreases-loop-to l = length l.text - l.to

@@ -2,19 +2,18 @@ use mathlib.Core.Path.{refl, ◌∙◌}
 use native.Mathlib.Omega.{arith}
 use lib.ListN.{drop}
 use Rattle.excerpt.proofs.RowLaws.{line-adds, rows_on, rows_end}
-use borrow.Author.Rules.{rules}
 use Rattle.excerpt.proofs.rows_before.Goals as goal
 
-pub loop-left-init : goal.loop-left-init
-loop-left-init c = (search rules, refl)
+pub loop-passed-init : goal.loop-passed-init
+loop-passed-init c = (omega arith, refl)
 
-pub loop-left-preserved : goal.loop-left-preserved
-loop-left-preserved c =
+pub loop-passed-preserved : goal.loop-passed-preserved
+loop-passed-preserved c =
     let text = c.args.text.now in (
-      omega (arith, line-adds c.loop-left.rows (drop c.loop-left.at text) c.with_line-rows.ensures, c.loop-left.invariant.0, c.loop-left-test.true),
-      rows_on text c.loop-left.at c.loop-left.left c.loop-left.rows c.with_line-rows.result c.next_line-at.result c.loop-left-test.true c.with_line-rows.ensures c.next_line-at.ensures ∙ c.loop-left.invariant.1,
+      omega (arith, line-adds c.loop-passed.rows (drop c.loop-passed.at text) c.with_line-rows.ensures, c.loop-passed.invariant.0),
+      rows_on text _ _ _ _ _ _ (omega arith) c.with_line-rows.ensures c.next_line-at.ensures ∙ c.loop-passed.invariant.1,
     )
 
 pub returns : goal.returns
 returns c =
-    rows_end c.args.text.now c.loop-left.at c.loop-left.left c.loop-left.rows c.loop-left-test.false ∙ c.loop-left.invariant.1
+    rows_end c.args.text.now c.loop-passed.at _ c.loop-passed.rows (omega arith) ∙ c.loop-passed.invariant.1
