@@ -11,6 +11,7 @@ use mathlib.Core.Path.{◌≡◌, refl, ◌∙◌}
 use lib.Dec.{ltb, leb, eqb}
 use borrow.Author.Tests.{ne_eqb}
 use Rattle.std.specs.Prelude.{Option, Some, None, is_some}
+use Rattle.std.specs.Bool.{then_some}
 use Rattle.rules.specs.Change as rules
 use Rattle.change.specs.declared.Change as change
 use Rattle.change.specs.Changes.{change_meant}
@@ -86,6 +87,15 @@ some-fine (Some op) h e = rw (← e) h
 -- what was taken apart: a change, an op
 pub meant : {x y : Option change.Change} {d : Decoded rules.Change} → x ≡ y → change_decoded_of x ≡ d → change_decoded_of y ≡ d
 meant e f = rw (← e) f
+
+-- an op, and a change, where a test is passed
+pub then-op : (b : Bool) (op : code.Op) {r : Option code.Op} → r ≡ then_some b op → decoded_of r ≡ only_if b (op_of op)
+then-op true op e = rw e
+then-op false op e = rw e
+
+pub then-change : (b : Bool) (x : change.Change) {r : Option change.Change} → r ≡ then_some b x → change_decoded_of r ≡ only_if b (change_meant x)
+then-change true x e = rw e
+then-change false x e = rw e
 
 pub told : {x y : code.Op} (n : ℕ) → x ≡ y → n ≡ opcode_of (op_of y) → n ≡ opcode_of (op_of x)
 told n e f = rw e f

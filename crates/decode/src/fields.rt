@@ -1,7 +1,6 @@
 // What a field of a row may be, and the change that three of them say.
 ghost use Rattle.std.specs.Prelude.{◌≡◌, not, ◌&&◌, ltb, leb, eqb};
 ghost use Rattle.rules.specs.Table as rules;
-ghost use Rattle.change.specs.Changes.{change_meant};
 ghost use Rattle.decode.specs.Ops.{change_decoded_of};
 
 use crate::Row;
@@ -12,36 +11,27 @@ use change::Change;
 use layout::REGISTERS;
 use layout::order::{ACQ_REL, ACQUIRE, RELAXED, RELEASE, SEQ_CST};
 
-// The change of this kind. All but the last use operand a; only compare and write uses operand b.
+// The change of this kind, where the operands that it does not use are zero. All but the last use operand a; only compare and
+// write uses operand b.
 pub fn change_of(kind: u8, a: u64, b: u64) -> Option<Change>
     ensures { change_decoded_of result ≡ rules.change_decoded kind a b }
 {
     match kind {
-        SWAP => change_if(b == 0, Change::Swap(a)),
-        ADD => change_if(b == 0, Change::Add(a)),
-        SUBTRACT => change_if(b == 0, Change::Subtract(a)),
-        AND => change_if(b == 0, Change::And(a)),
-        OR => change_if(b == 0, Change::Or(a)),
-        XOR => change_if(b == 0, Change::Xor(a)),
-        NAND => change_if(b == 0, Change::Nand(a)),
-        MAX => change_if(b == 0, Change::Max(a)),
-        MIN => change_if(b == 0, Change::Min(a)),
-        SIGNED_MAX => change_if(b == 0, Change::SignedMax(a)),
-        SIGNED_MIN => change_if(b == 0, Change::SignedMin(a)),
+        SWAP => (b == 0).then_some(Change::Swap(a)),
+        ADD => (b == 0).then_some(Change::Add(a)),
+        SUBTRACT => (b == 0).then_some(Change::Subtract(a)),
+        AND => (b == 0).then_some(Change::And(a)),
+        OR => (b == 0).then_some(Change::Or(a)),
+        XOR => (b == 0).then_some(Change::Xor(a)),
+        NAND => (b == 0).then_some(Change::Nand(a)),
+        MAX => (b == 0).then_some(Change::Max(a)),
+        MIN => (b == 0).then_some(Change::Min(a)),
+        SIGNED_MAX => (b == 0).then_some(Change::SignedMax(a)),
+        SIGNED_MIN => (b == 0).then_some(Change::SignedMin(a)),
         COMPARE => Some(Change::Compare(a, b)),
-        DECREMENT => change_if((a == 0) & (b == 0), Change::Decrement),
+        DECREMENT => ((a == 0) & (b == 0)).then_some(Change::Decrement),
         13..=255 => None,
     }
-}
-
-// The change, where the operands that it does not use are zero.
-fn change_if(fine: bool, change: Change) -> Option<Change>
-    ensures { change_decoded_of result ≡ rules.only_if fine (change_meant change) }
-{
-    if fine {
-        return Some(change);
-    }
-    None
 }
 
 // Whether a cell or a thread exists, where there are this many.

@@ -187,57 +187,51 @@ fn load_row(row: Row, cells: usize) -> Option<Op>
 {
     let cell = wide8(row.object);
     let into = wide8(row.register);
-    only_if(
-        named(row.object, cells)
-            & is_load_order(row.order)
-            & is_register(row.register)
-            & no_change(row)
-            & (row.target == 0)
-            & no_operands(row),
-        Op::Load {
-            cell,
-            order: row.order,
-            register: into,
-        },
-    )
+    let fine = named(row.object, cells)
+        & is_load_order(row.order)
+        & is_register(row.register)
+        & no_change(row)
+        & (row.target == 0)
+        & no_operands(row);
+    fine.then_some(Op::Load {
+        cell,
+        order: row.order,
+        register: into,
+    })
 }
 
 // A store of operand a uses cell and order beside it.
 fn store_row(row: Row, cells: usize) -> Option<Op>
     ensures { decoded_of result ≡ rules.store_row cells (row_meant row) }
 {
-    only_if(
-        named(row.object, cells)
-            & is_store_order(row.order)
-            & no_change(row)
-            & (row.register == 0)
-            & (row.target == 0)
-            & (row.b == 0),
-        Op::Store {
-            cell: wide8(row.object),
-            order: row.order,
-            value: row.a,
-        },
-    )
+    let fine = named(row.object, cells)
+        & is_store_order(row.order)
+        & no_change(row)
+        & (row.register == 0)
+        & (row.target == 0)
+        & (row.b == 0);
+    fine.then_some(Op::Store {
+        cell: wide8(row.object),
+        order: row.order,
+        value: row.a,
+    })
 }
 
 // A store of a register uses cell and order beside it.
 fn store_register_row(row: Row, cells: usize) -> Option<Op>
     ensures { decoded_of result ≡ rules.store_register_row cells (row_meant row) }
 {
-    only_if(
-        named(row.object, cells)
-            & is_store_order(row.order)
-            & is_register(row.register)
-            & no_change(row)
-            & (row.target == 0)
-            & no_operands(row),
-        Op::StoreRegister {
-            cell: wide8(row.object),
-            order: row.order,
-            register: wide8(row.register),
-        },
-    )
+    let fine = named(row.object, cells)
+        & is_store_order(row.order)
+        & is_register(row.register)
+        & no_change(row)
+        & (row.target == 0)
+        & no_operands(row);
+    fine.then_some(Op::StoreRegister {
+        cell: wide8(row.object),
+        order: row.order,
+        register: wide8(row.register),
+    })
 }
 
 // An RMW uses cell, order, change kind and register, and what its change uses.
@@ -245,16 +239,14 @@ fn rmw_row(row: Row, cells: usize) -> Option<Op>
     ensures { decoded_of result ≡ rules.rmw_row cells (row_meant row) (rules.change_decoded row.kind row.a row.b) }
 {
     let change = change_of(row.kind, row.a, row.b)?;
-    only_if(
-        rmw_fields(row, cells),
-        Op::Rmw {
-            cell: wide8(row.object),
-            order: row.order,
-            failure: row.failure,
-            change,
-            register: wide8(row.register),
-        },
-    )
+    let fine = rmw_fields(row, cells);
+    fine.then_some(Op::Rmw {
+        cell: wide8(row.object),
+        order: row.order,
+        failure: row.failure,
+        change,
+        register: wide8(row.register),
+    })
 }
 
 // Whether a row is an RMW. Judging does not make the row: with one caller, the function that does is compiled into the tick,
@@ -280,33 +272,29 @@ fn rmw_fields(row: Row, cells: usize) -> bool
 fn fence_row(row: Row) -> Option<Op>
     ensures { decoded_of result ≡ rules.fence_row (row_meant row) }
 {
-    only_if(
-        is_fence_order(row.order)
-            & (row.object == 0)
-            & no_change(row)
-            & (row.register == 0)
-            & (row.target == 0)
-            & no_operands(row),
-        Op::Fence { order: row.order },
-    )
+    let fine = is_fence_order(row.order)
+        & (row.object == 0)
+        & no_change(row)
+        & (row.register == 0)
+        & (row.target == 0)
+        & no_operands(row);
+    fine.then_some(Op::Fence { order: row.order })
 }
 
 // An unsynchronised load uses cell and register.
 fn unsync_load_row(row: Row, cells: usize) -> Option<Op>
     ensures { decoded_of result ≡ rules.unsync_load_row cells (row_meant row) }
 {
-    only_if(
-        named(row.object, cells)
-            & is_register(row.register)
-            & (row.order == 0)
-            & no_change(row)
-            & (row.target == 0)
-            & no_operands(row),
-        Op::UnsyncLoad {
-            cell: wide8(row.object),
-            register: wide8(row.register),
-        },
-    )
+    let fine = named(row.object, cells)
+        & is_register(row.register)
+        & (row.order == 0)
+        & no_change(row)
+        & (row.target == 0)
+        & no_operands(row);
+    fine.then_some(Op::UnsyncLoad {
+        cell: wide8(row.object),
+        register: wide8(row.register),
+    })
 }
 
 // An exclusive change uses cell, change kind and register, and the operands of its change.
@@ -314,66 +302,58 @@ fn with_mut_row(row: Row, cells: usize) -> Option<Op>
     ensures { decoded_of result ≡ rules.with_mut_row cells (row_meant row) (rules.change_decoded row.kind row.a row.b) }
 {
     let change = change_of(row.kind, row.a, row.b)?;
-    only_if(
-        named(row.object, cells)
-            & is_register(row.register)
-            & (row.order == 0)
-            & (row.failure == 0)
-            & (row.target == 0),
-        Op::WithMut {
-            cell: wide8(row.object),
-            change,
-            register: wide8(row.register),
-        },
-    )
+    let fine = named(row.object, cells)
+        & is_register(row.register)
+        & (row.order == 0)
+        & (row.failure == 0)
+        & (row.target == 0);
+    fine.then_some(Op::WithMut {
+        cell: wide8(row.object),
+        change,
+        register: wide8(row.register),
+    })
 }
 
 // A yield, and the three that steer exploring, use nothing.
 fn bare_row(row: Row, op: Op) -> Option<Op>
     ensures { decoded_of result ≡ rules.bare_row (op_of op) (row_meant row) }
 {
-    only_if(
-        (row.object == 0)
-            & (row.order == 0)
-            & no_change(row)
-            & (row.register == 0)
-            & (row.target == 0)
-            & no_operands(row),
-        op,
-    )
+    let fine = (row.object == 0)
+        & (row.order == 0)
+        & no_change(row)
+        & (row.register == 0)
+        & (row.target == 0)
+        & no_operands(row);
+    fine.then_some(op)
 }
 
 // A join uses the thread.
 fn join_row(row: Row, threads: usize) -> Option<Op>
     ensures { decoded_of result ≡ rules.join_row threads (row_meant row) }
 {
-    only_if(
-        named(row.object, threads)
-            & (row.order == 0)
-            & no_change(row)
-            & (row.register == 0)
-            & (row.target == 0)
-            & no_operands(row),
-        Op::Join {
-            thread: wide8(row.object),
-        },
-    )
+    let fine = named(row.object, threads)
+        & (row.order == 0)
+        & no_change(row)
+        & (row.register == 0)
+        & (row.target == 0)
+        & no_operands(row);
+    fine.then_some(Op::Join {
+        thread: wide8(row.object),
+    })
 }
 
 // A jump uses the target, which may be the row count but not the jump's own number: it would never end.
 fn jump_row(row: Row, count: usize, own: usize) -> Option<Op>
     ensures { decoded_of result ≡ rules.jump_row count own (row_meant row) }
 {
-    only_if(
-        reached(row.target, count)
-            & leads_on(row.target, own)
-            & (row.object == 0)
-            & (row.order == 0)
-            & no_change(row)
-            & (row.register == 0)
-            & no_operands(row),
-        Op::Jump { target: row.target },
-    )
+    let fine = reached(row.target, count)
+        & leads_on(row.target, own)
+        & (row.object == 0)
+        & (row.order == 0)
+        & no_change(row)
+        & (row.register == 0)
+        & no_operands(row);
+    fine.then_some(Op::Jump { target: row.target })
 }
 
 // A jump on a test uses register, operand a and target.
@@ -415,96 +395,76 @@ fn jump_unless_row(row: Row, count: usize) -> Option<Op>
 fn jump_on_row(row: Row, count: usize, op: Op) -> Option<Op>
     ensures { decoded_of result ≡ rules.jump_on_row (λ (register a target : ℕ). op_of op) count (row_meant row) }
 {
-    only_if(
-        is_register(row.register)
-            & reached(row.target, count)
-            & (row.object == 0)
-            & (row.order == 0)
-            & no_change(row)
-            & (row.b == 0),
-        op,
-    )
+    let fine = is_register(row.register)
+        & reached(row.target, count)
+        & (row.object == 0)
+        & (row.order == 0)
+        & no_change(row)
+        & (row.b == 0);
+    fine.then_some(op)
 }
 
 // A check uses register and operand a.
 fn check_row(row: Row) -> Option<Op>
     ensures { decoded_of result ≡ rules.check_row (row_meant row) }
 {
-    only_if(
-        is_register(row.register)
-            & (row.object == 0)
-            & (row.order == 0)
-            & no_change(row)
-            & (row.target == 0)
-            & (row.b == 0),
-        Op::Check {
-            register: wide8(row.register),
-            a: row.a,
-        },
-    )
+    let fine = is_register(row.register)
+        & (row.object == 0)
+        & (row.order == 0)
+        & no_change(row)
+        & (row.target == 0)
+        & (row.b == 0);
+    fine.then_some(Op::Check {
+        register: wide8(row.register),
+        a: row.a,
+    })
 }
 
 // A spurious choice uses the register.
 fn spurious_row(row: Row) -> Option<Op>
     ensures { decoded_of result ≡ rules.spurious_row (row_meant row) }
 {
-    only_if(
-        is_register(row.register)
-            & (row.object == 0)
-            & (row.order == 0)
-            & no_change(row)
-            & (row.target == 0)
-            & no_operands(row),
-        Op::Spurious {
-            register: wide8(row.register),
-        },
-    )
+    let fine = is_register(row.register)
+        & (row.object == 0)
+        & (row.order == 0)
+        & no_change(row)
+        & (row.target == 0)
+        & no_operands(row);
+    fine.then_some(Op::Spurious {
+        register: wide8(row.register),
+    })
 }
 
 // A plain read uses the plain cell and the register.
 fn plain_read_row(row: Row, plains: usize) -> Option<Op>
     ensures { decoded_of result ≡ rules.plain_read_row plains (row_meant row) }
 {
-    only_if(
-        named(row.object, plains)
-            & is_register(row.register)
-            & (row.order == 0)
-            & no_change(row)
-            & (row.target == 0)
-            & no_operands(row),
-        Op::PlainRead {
-            plain: wide8(row.object),
-            register: wide8(row.register),
-        },
-    )
+    let fine = named(row.object, plains)
+        & is_register(row.register)
+        & (row.order == 0)
+        & no_change(row)
+        & (row.target == 0)
+        & no_operands(row);
+    fine.then_some(Op::PlainRead {
+        plain: wide8(row.object),
+        register: wide8(row.register),
+    })
 }
 
 // A plain write uses the plain cell and operand a.
 fn plain_write_row(row: Row, plains: usize) -> Option<Op>
     ensures { decoded_of result ≡ rules.plain_write_row plains (row_meant row) }
 {
-    only_if(
-        named(row.object, plains)
-            & (row.order == 0)
-            & no_change(row)
-            & (row.register == 0)
-            & (row.target == 0)
-            & (row.b == 0),
-        Op::PlainWrite {
-            plain: wide8(row.object),
-            value: row.a,
-        },
-    )
-}
-
-// The row, where it passed its tests.
-fn only_if(fine: bool, op: Op) -> Option<Op>
-    ensures { decoded_of result ≡ rules.only_if fine (op_of op) }
-{
-    if fine {
-        return Some(op);
-    }
-    None
+    let fine = named(row.object, plains)
+        & (row.order == 0)
+        & no_change(row)
+        & (row.register == 0)
+        & (row.target == 0)
+        & (row.b == 0);
+    fine.then_some(Op::PlainWrite {
+        plain: wide8(row.object),
+        value: row.a,
+    })
 }
 
 // The opcode's number.

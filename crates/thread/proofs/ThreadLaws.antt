@@ -4,14 +4,15 @@
 --     run_none, run-some              whether a branch may choose a thread
 --     awake-.., freed-..              one turn of waking the others that have yielded, and of freeing the joins on a thread
 --     over-..                         the walk that asks whether all have ended
---     some-..                         the walk that asks whether some can run
+--     some_of_five                    whether some can run
 use Prim.Native.Nat.{ℕ, suc, ◌+◌, ◌-◌, ◌≤◌, ◌<◌}
 use mathlib.Core.Bool.{Bool, true, false, not, ◌||◌}
-use mathlib.Core.Path.{◌≡◌}
+use mathlib.Core.Path.{◌≡◌, refl}
 use mathlib.Core.Logic.{◌≢◌}
 use native.Mathlib.Omega.{arith}
 use lib.Dec.{eqb}
 use borrow.Author.Tests.{lt-ltb, le-ltb, ne_eqb, not-true, not-false}
+use Rattle.std.specs.List.{list_any, range_with_len}
 use Rattle.rules.specs.State.{Clocks, Marks, Values, Numbers, number, with_number, operation, yields, last_yield, awaits}
 use Rattle.rules.specs.State as rules
 use Rattle.rules.specs.Machine.{for_threads, is_in, absent, runnable, blocked, yielded, ended, awake, freed, can_run, all_over, some_can_run, no_operation, thread_ended, yield_done}
@@ -64,22 +65,15 @@ module _ (numbers : Numbers) (n t : ℕ) (more : t < n) where
   unfolding all_over
   over-absent e a = rw (one_left n t more, ne_eqb (number numbers (rules.state t)) ended e, not-false (is_in numbers absent t) a)
 
-  pub some-here : (b : Bool) → b ≡ can_run numbers t → b ≡ true → true ≡ some_can_run numbers (n - t) t
-  unfolding some_can_run
-  some-here b a e = rw (one_left n t more, ← a, e)
-
-  pub some-on : (b : Bool) → b ≡ can_run numbers t → b ≡ false → some_can_run numbers (n - (t + 1)) (t + 1) ≡ some_can_run numbers (n - t) t
-  unfolding some_can_run
-  some-on b a e = rw (one_left n t more, ← a, e)
-
 module _ (numbers : Numbers) (n t : ℕ) (no_more : n ≤ t) where
   pub over-end : true ≡ all_over numbers (n - t) t
   unfolding all_over
   over-end = rw (none_left n t no_more)
 
-  pub some_end : false ≡ some_can_run numbers (n - t) t
-  unfolding some_can_run
-  some_end = rw (none_left n t no_more)
+-- whether some of the five can run, as a list of them is asked
+pub some_of_five : (numbers : Numbers) → list_any (can_run numbers) (range_with_len 0 5) ≡ some_can_run numbers 5 0
+unfolding some_can_run
+some_of_five numbers = refl
 
 module _ (numbers : Numbers) (target t : ℕ) where
   pub freed-one : number numbers (rules.state t) ≡ blocked → (w : ℕ) → w ≡ number numbers (awaits t) → eqb w target ≡ true →

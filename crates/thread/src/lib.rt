@@ -149,10 +149,5 @@ pub fn all_ended(numbers: &Numbers) -> bool
 pub fn some_can_run(numbers: &Numbers) -> bool
     ensures { result ≡ some_can_run numbers.now 5 0 }
 {
-    for t in 0..MAX_THREADS {
-        if can_run(numbers, t) {
-            return true;
-        }
-    }
-    false
+    (0..MAX_THREADS).any(|t| can_run(numbers, t))
 }

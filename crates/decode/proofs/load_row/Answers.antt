@@ -1,8 +1,8 @@
 use Rattle.decode.specs.Ops.{row_meant}
-use Rattle.decode.proofs.RowLaws.{load-made}
+use Rattle.decode.proofs.RowLaws.{then-op, load-made}
 use Rattle.decode.proofs.load_row.Goals as goal
 
 pub returns : goal.returns
 returns c =
     let g = c.args in
-    load-made g.cells (row_meant g.row) c.only_if.ensures c.named.ensures c.is_load_order.ensures c.is_register.ensures c.no_change.ensures c.no_operands.ensures c.wide8-cell.ensures.same c.wide8-into.ensures.same
+    load-made g.cells (row_meant g.row) (then-op _ _ c.then_some.ensures) c.named.ensures c.is_load_order.ensures c.is_register.ensures c.no_change.ensures c.no_operands.ensures c.wide8-cell.ensures.same c.wide8-into.ensures.same

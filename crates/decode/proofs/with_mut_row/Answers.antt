@@ -1,5 +1,5 @@
 use mathlib.Core.Path.{ap, ◌∙◌}
-use Rattle.decode.proofs.RowLaws.{meant, with-mut-made, with-mut-refused}
+use Rattle.decode.proofs.RowLaws.{then-op, meant, with-mut-made, with-mut-refused}
 use Rattle.decode.specs.Ops.{row_meant, decoded_of}
 use Rattle.decode.proofs.with_mut_row.Goals as goal
 
@@ -8,4 +8,4 @@ returns-in_err-change c =
     ap decoded_of c.from_residual.ensures ∙ with-mut-refused c.args.cells (row_meant c.args.row) (meant c.in_err-change.was c.change_of.ensures)
 
 pub returns : goal.returns
-returns c = with-mut-made c.args.cells (row_meant c.args.row) c.only_if.ensures (meant c.in_ok-change.was c.change_of.ensures) c.named.ensures c.is_register.ensures c.wide8.ensures.same c.wide8-2.ensures.same
+returns c = with-mut-made c.args.cells (row_meant c.args.row) (then-op _ _ c.then_some.ensures) (meant c.in_ok-change.was c.change_of.ensures) c.named.ensures c.is_register.ensures c.wide8.ensures.same c.wide8-2.ensures.same

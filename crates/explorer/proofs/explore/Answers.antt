@@ -1,6 +1,8 @@
 use Prim.Native.Nat.{◌*◌}
 use mathlib.Core.Bool.{true}
-use mathlib.Core.Path.{◌≡◌, sym, ◌∙◌}
+use mathlib.Core.Path.{◌≡◌, ap, sym, ◌∙◌}
+use Rattle.std.specs.Prelude.{Err}
+use Rattle.table.specs.declared.BadTable.{BadTable}
 use lib.Dec.{eqb}
 use lib.ListN.{length}
 use borrow.Author.Tests.{not-true, not-false}
@@ -72,22 +74,22 @@ returns-else-not-is_condition c =
     judged-by g.table.now g.condition.now c.threads_of.ensures c.is_condition.ensures in
     ran-ready _ _ c.args.settings _ _ ready c.run.result judged (not-false _ c.if-not-is_condition.false-raw) c.run.ensures
 
-pub returns-in-BadHeader : goal.returns-in-BadHeader
-returns-in-BadHeader c =
+pub returns-in-Err-Header : goal.returns-in-Err-Header
+returns-in-Err-Header c =
     let fine : settings_fine (settings_of c.args.settings) ≡ true =
     sym c.settings_fine.ensures ∙ not-false _ c.if-not-settings_fine.false-raw in
     let path-held : eqb (length c.args.path.now) (16 * c.args.settings.branches) ≡ true =
     sym c.holds_exactly.ensures ∙ not-false _ c.if-not-holds_exactly.false-raw in
     let trace-held : eqb (length c.args.trace.now) (16 * c.args.settings.operations) ≡ true =
     sym c.holds_exactly-2.ensures ∙ not-false _ c.if-not-holds_exactly-2.false-raw in
-    refuse-header c.refused-in-BadHeader.result _ _ c.args.settings _ _ fine path-held trace-held _ c.judge.ensures c.in-BadHeader.is c.refused-in-BadHeader.ensures
+    refuse-header c.refused-in-Err-Header.result _ _ c.args.settings _ _ fine path-held trace-held _ c.judge.ensures (c.in-Err-Header.is ∙ ap (λ (b : BadTable). Err b) c.in-Err-Header.field-0-is) c.refused-in-Err-Header.ensures
 
-pub returns-in-BadRow : goal.returns-in-BadRow
-returns-in-BadRow c =
+pub returns-in-Err-Row : goal.returns-in-Err-Row
+returns-in-Err-Row c =
     let fine : settings_fine (settings_of c.args.settings) ≡ true =
     sym c.settings_fine.ensures ∙ not-false _ c.if-not-settings_fine.false-raw in
     let path-held : eqb (length c.args.path.now) (16 * c.args.settings.branches) ≡ true =
     sym c.holds_exactly.ensures ∙ not-false _ c.if-not-holds_exactly.false-raw in
     let trace-held : eqb (length c.args.trace.now) (16 * c.args.settings.operations) ≡ true =
     sym c.holds_exactly-2.ensures ∙ not-false _ c.if-not-holds_exactly-2.false-raw in
-    refuse-row c.refused-in-BadRow.result _ _ c.args.settings _ _ fine path-held trace-held _ c.judge.ensures _ _ c.in-BadRow.is c.refused-in-BadRow.ensures
+    refuse-row c.refused-in-Err-Row.result _ _ c.args.settings _ _ fine path-held trace-held _ c.judge.ensures c.in-Err-Row.thread c.in-Err-Row.row (c.in-Err-Row.is ∙ ap (λ (b : BadTable). Err b) c.in-Err-Row.field-0-is) (rw c.in-Err-Row.field-0-is at c.refused-in-Err-Row.ensures)

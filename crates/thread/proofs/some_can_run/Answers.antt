@@ -1,14 +1,13 @@
-use mathlib.Core.Path.{◌∙◌}
-use Rattle.thread.proofs.ThreadLaws.{some-here, some-on, some_end}
+use mathlib.Core.Path.{refl, ◌∙◌}
+use borrow.Author.Rules.{rules}
+use Rattle.std.proofs.Common.{tests}
+use Rattle.std.proofs.lemmas.Iterator.{YieldsList-from_range}
+use Rattle.std.proofs.lemmas.Iterator.Search.{any_from_yields_List}
+use Rattle.rules.specs.Machine.{can_run}
+use Rattle.thread.proofs.ThreadLaws.{some_of_five}
 use Rattle.thread.proofs.some_can_run.Goals as goal
 
-pub returns-then-can_run : goal.returns-then-can_run
-returns-then-can_run c =
-    some-here _ 5 c.loop-t.t c.loop-t-test.true _ c.can_run.ensures c.if-can_run.true ∙ c.loop-t.invariant
-
-pub loop-t-preserved : goal.loop-t-preserved
-loop-t-preserved c =
-    some-on _ 5 c.loop-t.t c.loop-t-test.true _ c.can_run.ensures c.if-can_run.false ∙ c.loop-t.invariant
-
 pub returns : goal.returns
-returns c = some_end _ 5 c.loop-t.t c.loop-t-test.false ∙ c.loop-t.invariant
+returns c =
+    let numbers = c.args.numbers.now in
+    any_from_yields_List (can_run numbers) _ _ _ c.any.ensures.ran (YieldsList-from_range 0 5 5 refl refl) (λ x b q k. search (rules, tests)) ∙ some_of_five numbers

@@ -1,7 +1,0 @@
-use Rattle.decode.proofs.only_if.Goals as goal
-
-pub returns-then-fine : goal.returns-then-fine
-returns-then-fine c = rw c.if-fine.true
-
-pub returns : goal.returns
-returns c = rw c.if-fine.false
