@@ -3,17 +3,19 @@
 --     at-end, never-past, whole-cut     where a line that was put ends, and the line
 --     words-none, words-cut             its words
 --     nothing_put                       no bytes put
---     parts-on, parts_out, parts-end    a comparison, none that has room, and no more to be asked
+--     parts-on, parts-none, parts_out, parts-end    a comparison, none, none that has room, and no more to be asked
 use Prim.Native.Nat.{ℕ, zero, suc, ◌+◌, ◌-◌, ◌*◌, ◌/◌, ◌%◌, ◌≤◌, ◌<◌}
 use mathlib.Core.List.{List, [], ◌∷◌, ◌++◌}
 use mathlib.Core.Bool.{Bool, true, false, cond, ◌&&◌, ◌||◌, and-eq-true_iff}
 use mathlib.Core.Path.{◌≡◌, refl, sym, ◌∙◌}
 use native.Mathlib.Omega.{arith}
 use native.Mathlib.Decide.{dec_le}
-use borrow.Author.Tests.{le-leb, lt-leb, leb-true}
+use borrow.Author.Tests.{le-leb, leb-true}
 use lib.Dec.{ltb, leb, eqb}
 use lib.ListN.{length, get_or, take, drop, length-append, length-drop, drop_of_length-le}
 use lib.Seq.{sets-eq, take_at, take-append-le, drop-append-le}
+use Rattle.std.specs.Prelude.{Some, None}
+use Rattle.std.specs.Option.{option_map_or}
 use Rattle.rules.specs.Table.{u64_at}
 use Rattle.rules.specs.Token.{bytes_of, space}
 use Rattle.rules.specs.Text.{symbols}
@@ -170,26 +172,30 @@ nothing_put l w e = rw e
 
 -- The loop: what is left to be put
 
-module _ (n : ℕ) (l : Page) (bs : List ℕ) (threads : ℕ) (h : List ℕ) (at : ℕ) (whole : Page) (left : put_parts n l bs threads h at ≡ whole) where
+module _ (n : ℕ) (l : Page) (bs : List ℕ) (threads : ℕ) (h : List ℕ) (from : ℕ) (whole : Page) (left : put_parts n l bs threads h from ≡ whole) where
   pub parts-end : n ≤ 0 → l ≡ whole
   unfolding put_parts
   parts-end z = let e : n ≡ 0 = omega arith in rw e at left
 
-  module _ (more : 0 < n) where
-    one : (k : ℕ) → n ≡ suc k → put_parts n l bs threads h at
-        ≡ cond (leb (at + 11) (length bs)) (put_parts k (put_compared l (take 11 (drop at bs)) threads (part_at bs h at)) bs threads h (next_from bs (at + 11))) l
+  -- what is put of a comparison at this place, and behind it
+  abbrev put_at : ℕ → ℕ → Page
+  put_at k at =
+      option_map_or (λ (part : Part). put_parts k (put_compared l (take 11 (drop at bs)) threads part) bs threads h (at + 11)) (part_at bs h at) l
+
+  module _ (k : ℕ) (more : n ≡ suc k) where
+    one : put_parts n l bs threads h from ≡ option_map_or (put_at k) (next_from bs from) l
     unfolding put_parts
-    one k e = rw e
+    one = rw more
 
-    next : n ≡ suc (n - 1)
-    next = omega arith
+    pub parts-none : None ≡ next_from bs from → l ≡ whole
+    parts-none e = rw (one, ← e) at left
 
-    pub parts_out : length bs < at + 11 → l ≡ whole
-    parts_out k = rw (one (n - 1) next, lt-leb (at + 11) (length bs) k) at left
+    module _ (at : ℕ) (there : Some at ≡ next_from bs from) where
+      pub parts_out : None ≡ part_at bs h at → l ≡ whole
+      parts_out e = rw (one, ← there, ← e) at left
 
-    pub parts-on : at + 11 ≤ length bs → (part : Part) (m : Page) (to : ℕ) → part ≡ part_at bs h at →
-        m ≡ put_compared l (take (at + 11 - at) (drop at bs)) threads part → to ≡ next_from bs (at + 11) →
-        put_parts (n - 1) m bs threads h to ≡ whole
-    parts-on k part m to p put f =
-        let e : at + 11 - at ≡ 11 = omega arith in
-        rw (put, e, p, f) (rw (one (n - 1) next, le-leb (at + 11) (length bs) k) at left)
+      pub parts-on : (part : Part) (m : Page) → Some part ≡ part_at bs h at →
+          m ≡ put_compared l (take (at + 11 - at) (drop at bs)) threads part → put_parts k m bs threads h (at + 11) ≡ whole
+      parts-on part m p put =
+          let e : at + 11 - at ≡ 11 = omega arith in
+          rw (put, e) (rw (one, ← there, ← p) at left)

@@ -4,7 +4,8 @@
 --     put_compared       a comparison, its truth, and what its register holds
 --     put_parts          each comparison of a condition from a place on
 --     put_finally        that the condition is false, its line, and each comparison
-use Rattle.std.specs.Prelude.{ℕ, zero, suc, ◌+◌, ◌-◌, List, Bool, cond, leb, length, get_or, take, drop}
+use Rattle.std.specs.Prelude.{ℕ, zero, suc, ◌+◌, ◌-◌, List, Bool, cond, length, get_or, take, drop}
+use Rattle.std.specs.Option.{option_map_or}
 use Prim.Native.String.{String}
 use Rattle.rules.specs.Condition.{comparison_bytes}
 use Rattle.rules.specs.Table.{shape_of}
@@ -31,12 +32,17 @@ put_compared p bs threads part =
     part.register
     part.value
 
--- n comparisons at most, the first of them at this place
+-- n comparisons at most, of those from this place on
 unfoldable pub put_parts : ℕ → Page → List ℕ → ℕ → List ℕ → ℕ → Page
-put_parts zero p bs threads h at = p
-put_parts (suc n) p bs threads h at =
-    cond (leb (at + comparison_bytes) (length bs))
-    (put_parts n (put_compared p (take comparison_bytes (drop at bs)) threads (part_at bs h at)) bs threads h (next_from bs (at + comparison_bytes)))
+put_parts zero p bs threads h from = p
+put_parts (suc n) p bs threads h from =
+    option_map_or
+    (λ (at : ℕ).
+        option_map_or
+        (λ (part : Part). put_parts n (put_compared p (take comparison_bytes (drop at bs)) threads part) bs threads h (at + comparison_bytes))
+        (part_at bs h at)
+        p)
+    (next_from bs from)
     p
 
 -- by the header's count of threads, and by what is held after the last step. A condition has fewer comparisons than bytes
@@ -47,4 +53,4 @@ put_finally p table condition trace =
     condition
     (get_or (shape_of table) 0 0)
     (held_after table trace (entries trace))
-    (next_from condition 0)
+    0

@@ -4,7 +4,7 @@
 ghost use Rattle.std.specs.Prelude.{◌≡◌, length};
 ghost use Rattle.rules.specs.Token.{bytes_of};
 ghost use Rattle.page.specs.Pages.{page_of, put_text};
-ghost use Rattle.unmet.specs.Parts.{next_from, claim_shown};
+ghost use Rattle.unmet.specs.Parts.{claim_shown};
 ghost use Rattle.finally.specs.Finals.{truth, condition_words, put_compared, put_parts, put_finally};
 
 use condition::{COMPARISON, CONDITION_BYTES};
@@ -51,22 +51,19 @@ fn put_whole(page: &mut Page, at: usize, condition: &[u8], threads: usize) -> us
 
 // Each comparison, in their order. There are fewer than the condition has bytes.
 fn put_parts(page: &mut Page, at: usize, condition: &[u8], held: &Held, threads: usize) -> usize
-    ensures { page_of page.new result ≡ put_parts (length condition.now) (page_of page.old at) condition.now threads held.now (next_from condition.now 0) }
+    ensures { page_of page.new result ≡ put_parts (length condition.now) (page_of page.old at) condition.now threads held.now 0 }
 {
     let mut to = at;
-    let mut from = unmet::next_comparison(condition, 0);
-    let mut left = condition.len();
-    while 0 < left {
-        if condition.len() < COMPARISON {
+    let mut behind = 0;
+    for _part in 0..condition.len() {
+        let Some(from) = unmet::next_comparison(condition, behind) else {
             return to;
-        }
-        if condition.len() - COMPARISON < from {
+        };
+        let Some(part) = unmet::part_at(condition, held, from) else {
             return to;
-        }
-        let part = unmet::part_at(condition, held, from);
+        };
         to = put_compared(page, to, &condition[from..from + COMPARISON], part, threads);
-        from = unmet::next_comparison(condition, from + COMPARISON);
-        left -= 1;
+        behind = from + COMPARISON;
     }
     to
 }

@@ -1,9 +1,9 @@
 // What a final condition says, part by part, of what the registers hold.
 #![tactic(auto)]
 
-ghost use Rattle.std.specs.Prelude.{◌≡◌};
+ghost use Rattle.std.specs.Prelude.{◌≡◌, ◌+◌, ◌≤◌, length, IfSome};
 ghost use Rattle.put.specs.Puts.{Puts};
-ghost use Rattle.unmet.specs.Parts.{next_from, no_part, part_at, claim_shown};
+ghost use Rattle.unmet.specs.Parts.{next_from, part_at, claim_shown};
 
 use condition::{COMPARISON, NUMBER_AT, REGISTER_AT, THREAD_AT, compared, is_sign};
 use layout::wide8;
@@ -25,56 +25,42 @@ pub struct Part {
     pub holds: bool,
 }
 
-// The place of the first comparison from this place on; the condition's end where there is none.
-pub fn next_comparison(condition: &[u8], from: usize) -> usize
+// The place of the first comparison from this place on.
+pub fn next_comparison(condition: &[u8], from: usize) -> Option<usize>
     ensures { result ≡ next_from condition.now from }
 {
-    let mut i = from;
-    while i < condition.len() {
+    for i in from..condition.len() {
         if is_sign(condition[i]) {
-            return i;
+            return Some(i);
         }
-        i += 1;
     }
-    i
+    None
 }
 
-// The comparison that begins here, by what is held; zeros where there is no room for one.
-pub fn part_at(condition: &[u8], held: &Held, at: usize) -> Part
-    ensures { result ≡ part_at condition.now held.now at }
+// The comparison that begins here, by what is held; none where there is no room for one.
+pub fn part_at(condition: &[u8], held: &Held, at: usize) -> Option<Part>
+    ensures same { result ≡ part_at condition.now held.now at }
+    ensures room { IfSome result (λ part. at + 11 ≤ length condition.now) }
 {
     if condition.len() < COMPARISON {
-        return none();
+        return None;
     }
     if condition.len() - COMPARISON < at {
-        return none();
+        return None;
     }
     let sign = condition[at];
     let thread = condition[at + THREAD_AT];
     let register = condition[at + REGISTER_AT];
     let number = u64_at(condition, at + NUMBER_AT);
     let value = held::register(held, thread, wide8(register));
-    Part {
+    Some(Part {
         sign,
         thread,
         register,
         number,
         value,
         holds: compared(sign, value, number),
-    }
-}
-
-fn none() -> Part
-    ensures { result ≡ no_part }
-{
-    Part {
-        sign: 0,
-        thread: 0,
-        register: 0,
-        number: 0,
-        value: 0,
-        holds: true,
-    }
+    })
 }
 
 // Puts the line of a condition of a program of so many threads; nothing where these bytes are none.

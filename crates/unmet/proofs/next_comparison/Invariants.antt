@@ -1,12 +1,7 @@
-use Prim.Native.Nat.{◌-◌}
 use mathlib.Core.Path.{◌≡◌}
-use lib.ListN.{length}
 use Rattle.unmet.specs.Parts.{next_from}
 use Rattle.unmet.proofs.PartLaws.{next_left}
 use Rattle.unmet.proofs.next_comparison.Given as goal
 
 abbrev pub invariant-loop-i : goal.invariant-loop-i
 invariant-loop-i l = next_left l.condition l.i ≡ next_from l.condition l.from
-
-abbrev pub decreases-loop-i : goal.decreases-loop-i
-decreases-loop-i l = length l.condition - l.i

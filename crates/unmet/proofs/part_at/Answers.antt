@@ -2,12 +2,12 @@ use native.Mathlib.Omega.{arith}
 use Rattle.unmet.proofs.PartLaws.{part_none, part-some}
 use Rattle.unmet.proofs.part_at.Goals as goal
 
-pub returns-then-condition-lt-COMPARISON : goal.returns-then-condition-lt-COMPARISON
-returns-then-condition-lt-COMPARISON c = part_none _ _ _ _ (omega arith) c.none.ensures
+pub returns-then-condition-lt-COMPARISON-clause-same : goal.returns-then-condition-lt-COMPARISON-clause-same
+returns-then-condition-lt-COMPARISON-clause-same c = part_none _ _ _ (omega arith)
 
-pub returns-then-condition-at : goal.returns-then-condition-at
-returns-then-condition-at c = part_none _ _ _ _ (omega arith) c.none-then-condition-at.ensures
+pub returns-then-condition-at-clause-same : goal.returns-then-condition-at-clause-same
+returns-then-condition-at-clause-same c = part_none _ _ _ (omega arith)
 
-pub returns : goal.returns
-returns c =
+pub returns-clause-same : goal.returns-clause-same
+returns-clause-same c =
     part-some _ _ _ (omega arith) _ _ _ _ c.u64_at-number.ensures c.wide8.ensures.same c.register-value.ensures c.compared.ensures
