@@ -41,8 +41,7 @@ pub fn apply_load_coherence(
     let chosen = MODIFICATION_ORDER + store_at(cell, slot);
     let live = live_stores(numbers[COUNT + cell]);
     let mut order = clocks[chosen];
-    let mut i = 0;
-    while i < live {
+    for i in 0..live {
         if i != slot {
             let at = store_at(cell, i);
             let before = clocks[HAPPENS_BEFORE + at];
@@ -53,7 +52,6 @@ pub fn apply_load_coherence(
                 order = both;
             }
         }
-        i += 1;
     }
     clocks[chosen] = order;
 }
@@ -85,15 +83,13 @@ pub fn store_order(clocks: &Clocks, marks: &Marks, access: Access, count: u16) -
     let live = live_stores(count);
     // To start with the causality is write-write coherence.
     let mut order = causality;
-    let mut slot = 0;
-    while slot < live {
+    for slot in 0..live {
         // Read-write coherence.
         if is_seen(marks, cell, slot, causality) {
             let other = clocks[MODIFICATION_ORDER + store_at(cell, slot)];
             let both = join(order, other);
             order = both;
         }
-        slot += 1;
     }
     order
 }

@@ -40,11 +40,9 @@ pub fn fence_acq(clocks: &mut Clocks, marks: &Marks, numbers: &Numbers, thread: 
     requires { (thread < 5) × (cells ≤ 4) }
     ensures { clocks.new ≡ fence_acquired clocks.old marks.now numbers.now thread cells }
 {
-    let mut cell = 0;
-    while cell < cells {
+    for cell in 0..cells {
         let count = numbers[COUNT + cell];
         fence_acq_cell(clocks, marks, thread, cell, count);
-        cell += 1;
     }
 }
 
@@ -59,14 +57,12 @@ fn fence_acq_cell(clocks: &mut Clocks, marks: &Marks, thread: usize, cell: usize
         order: ACQUIRE,
     };
     let live = live_stores(count);
-    let mut k = 0;
-    while k < live {
+    for k in 0..live {
         let slot = kth_oldest(count, k);
         let causality = clocks[CAUSALITY + thread];
         if is_seen(marks, cell, slot, causality) {
             sync_load(clocks, access, slot);
         }
-        k += 1;
     }
 }
 

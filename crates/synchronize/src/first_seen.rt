@@ -24,15 +24,13 @@ impl FirstSeen {
     pub fn touch(mut self, thread: usize, version: u16) -> FirstSeen
         ensures { result.versions ≡ touched self.versions thread version }
     {
-        let mut i = 0;
-        while i < MAX_THREADS {
+        for i in 0..MAX_THREADS {
             let mark = self.versions[i];
             self.versions[i] = if (i == thread) & (mark == UNSEEN) {
                 version
             } else {
                 mark
             };
-            i += 1;
         }
         self
     }
@@ -43,10 +41,8 @@ impl FirstSeen {
         ensures { result ≡ seen self.versions causality }
     {
         let mut seen = false;
-        let mut i = 0;
-        while i < MAX_THREADS {
+        for i in 0..MAX_THREADS {
             seen = seen | (self.versions[i] <= latest_known(causality[i]));
-            i += 1;
         }
         seen
     }
@@ -120,12 +116,10 @@ pub fn seen_slots(
     ensures { result ≡ seen_slots marks causality }
 {
     let mut seen = [false; MAX_ATOMIC_HISTORY];
-    let mut i = 0;
-    while i < MAX_ATOMIC_HISTORY {
+    for i in 0..MAX_ATOMIC_HISTORY {
         let row = marks[i];
         let first = FirstSeen { versions: row };
         seen[i] = first.is_seen_by_current(causality);
-        i += 1;
     }
     seen
 }

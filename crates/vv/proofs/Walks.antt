@@ -27,7 +27,7 @@ use Rattle.vv.specs.declared.Ordering.TheVariants.{Less, Equal, Neither}
 use Rattle.vv.specs.Compared.{ordering_of}
 
 module _ {A : Type 0} (f : List ℕ → List ℕ → A) (xs ys : List ℕ) (i : ℕ) (len1 : length xs ≡ 5) (len2 : length ys ≡ 5) where
-  left-cons : i < 5 → f (drop i xs) (drop i ys) ≡ f (get_or xs i 0 ∷ drop (i + 1) xs) (get_or ys i 0 ∷ drop (i + 1) ys)
+  pub left-cons : i < 5 → f (drop i xs) (drop i ys) ≡ f (get_or xs i 0 ∷ drop (i + 1) xs) (get_or ys i 0 ∷ drop (i + 1) ys)
   left-cons below =
       let h : i < length xs = omega (arith, len1) in
       let k : i < length ys = omega (arith, len2) in

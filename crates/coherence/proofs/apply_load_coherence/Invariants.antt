@@ -1,5 +1,5 @@
 use mathlib.Core.Path.{◌≡◌}
-use Prim.Native.Nat.{◌≤◌, ◌-◌}
+use Prim.Native.Nat.{◌-◌}
 use Rattle.rules.specs.State.{marks_of}
 use Rattle.rules.specs.Cell.{coherent_from, live_in, order_of}
 use Rattle.coherence.proofs.apply_load_coherence.Given as goal
@@ -7,7 +7,4 @@ use Rattle.coherence.proofs.apply_load_coherence.Given as goal
 abbrev pub invariant-loop-i : goal.invariant-loop-i
 invariant-loop-i l =
     let made = coherent_from l.clocks (marks_of l.marks l.cell) l.thread l.cell l.slot in
-    (l.i ≤ 7) × (made l.order (l.live - l.i) l.i ≡ made (order_of l.clocks l.cell l.slot) (live_in l.numbers l.cell) 0)
-
-abbrev pub decreases-loop-i : goal.decreases-loop-i
-decreases-loop-i l = 7 - l.i
+    made l.order (l.live - l.i) l.i ≡ made (order_of l.clocks l.cell l.slot) (live_in l.numbers l.cell) 0

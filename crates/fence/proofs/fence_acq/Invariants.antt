@@ -1,12 +1,8 @@
 use mathlib.Core.Path.{◌≡◌}
 use Rattle.rules.specs.Cell.{cells_acquired, fence_acquired}
-use Prim.Native.Nat.{◌≤◌, ◌-◌}
+use Prim.Native.Nat.{◌-◌}
 use Rattle.fence.proofs.fence_acq.Given as goal
 
 abbrev pub invariant-loop-cell : goal.invariant-loop-cell
 invariant-loop-cell l =
-    (l.cell ≤ l.cells)
-    × (cells_acquired l.clocks l.marks l.numbers l.thread (l.cells - l.cell) l.cell ≡ fence_acquired l.initial.clocks l.marks l.numbers l.thread l.cells)
-
-abbrev pub decreases-loop-cell : goal.decreases-loop-cell
-decreases-loop-cell l = l.cells - l.cell
+    cells_acquired l.clocks l.marks l.numbers l.thread (l.cells - l.cell) l.cell ≡ fence_acquired l.initial.clocks l.marks l.numbers l.thread l.cells

@@ -1,13 +1,9 @@
 use mathlib.Core.Path.{◌≡◌}
 use Rattle.rules.specs.Cell.{acquired_from, cell_acquired}
 use Rattle.rules.specs.State.{marks_of}
-use Prim.Native.Nat.{◌≤◌, ◌-◌}
+use Prim.Native.Nat.{◌-◌}
 use Rattle.fence.proofs.fence_acq_cell.Given as goal
 
 abbrev pub invariant-loop-k : goal.invariant-loop-k
 invariant-loop-k l =
-    (l.k ≤ l.live)
-    × (acquired_from l.clocks (marks_of l.marks l.cell) l.count l.thread l.cell (l.live - l.k) l.k ≡ cell_acquired l.initial.clocks (marks_of l.marks l.cell) l.count l.thread l.cell)
-
-abbrev pub decreases-loop-k : goal.decreases-loop-k
-decreases-loop-k l = l.live - l.k
+    acquired_from l.clocks (marks_of l.marks l.cell) l.count l.thread l.cell (l.live - l.k) l.k ≡ cell_acquired l.initial.clocks (marks_of l.marks l.cell) l.count l.thread l.cell

@@ -1,4 +1,3 @@
-use Prim.Native.Nat.{◌≤◌, ◌-◌}
 use mathlib.Core.Path.{◌≡◌}
 use lib.ListN.{length}
 use Rattle.rules.specs.Seen.{seen_slots}
@@ -7,7 +6,4 @@ use Rattle.synchronize.proofs.first_seen.seen_slots.Given as goal
 
 abbrev pub invariant-loop-i : goal.invariant-loop-i
 invariant-loop-i l =
-    (l.i ≤ 7) × (length l.seen ≡ 7) × (answering l.seen l.marks l.causality l.i ≡ seen_slots l.marks l.causality)
-
-abbrev pub decreases-loop-i : goal.decreases-loop-i
-decreases-loop-i l = 7 - l.i
+    (length l.seen ≡ 7) × (answering l.seen l.marks l.causality l.i ≡ seen_slots l.marks l.causality)

@@ -1,4 +1,3 @@
-use Prim.Native.Nat.{◌≤◌, ◌-◌}
 use mathlib.Core.Bool.{◌||◌}
 use mathlib.Core.Path.{◌≡◌}
 use lib.ListN.{drop}
@@ -7,7 +6,4 @@ use Rattle.synchronize.proofs.first_seen.FirstSeen.is_seen_by_current.Given as g
 
 abbrev pub invariant-loop-i : goal.invariant-loop-i
 invariant-loop-i l =
-    (l.i ≤ 5) × (l.seen || seen (drop l.i l.self.versions) (drop l.i l.causality) ≡ seen l.self.versions l.causality)
-
-abbrev pub decreases-loop-i : goal.decreases-loop-i
-decreases-loop-i l = 5 - l.i
+    l.seen || seen (drop l.i l.self.versions) (drop l.i l.causality) ≡ seen l.self.versions l.causality

@@ -10,20 +10,19 @@ use Rattle.synchronize.proofs.first_seen.FirstSeen.touch.Goals.{else-i-thread, t
 pub loop-i-init : goal.loop-i-init
 loop-i-init c =
     let len : length c.args.self.versions ≡ 5 = search rules in
-    (search rules, len, touch-none _ c.args.thread c.args.version)
+    (len, touch-none _ c.args.thread c.args.version)
 
 pub loop-i-preserved : goal.loop-i-preserved
 loop-i-preserved c =
     let h : c.loop-i.i < length c.loop-i.self.versions = omega arith in (
-      search rules,
-      simp length-set c.loop-i.invariant.1,
+      simp length-set c.loop-i.invariant.0,
       elim c.if-i-thread.branch [
-        | then-i-thread w ↦ touch-own _ _ _ _ c.loop-i.i c.loop-i.invariant.2 h _ w.if-i-thread.true w.self-is
-        | else-i-thread w ↦ touch-on _ _ _ _ c.loop-i.i c.loop-i.invariant.2 h _ w.if-i-thread.false w.self-is
+        | then-i-thread w ↦ touch-own _ _ _ _ c.loop-i.i c.loop-i.invariant.1 h _ w.if-i-thread.true w.self-is
+        | else-i-thread w ↦ touch-on _ _ _ _ c.loop-i.i c.loop-i.invariant.1 h _ w.if-i-thread.false w.self-is
       ],
     )
 
 pub returns : goal.returns
 returns c =
     let len : length c.args.self.versions ≡ 5 = search rules in
-    c.loop-i.invariant.2 ∙ touch-all _ _ _ c.loop-i.i (omega (arith, len))
+    c.loop-i.invariant.1 ∙ touch-all _ _ _ c.loop-i.i (omega (arith, len))

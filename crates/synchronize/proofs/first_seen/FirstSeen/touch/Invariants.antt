@@ -1,4 +1,3 @@
-use Prim.Native.Nat.{◌≤◌, ◌-◌}
 use mathlib.Core.Path.{◌≡◌}
 use lib.ListN.{length}
 use Rattle.synchronize.proofs.SeenLaws.{touching}
@@ -6,7 +5,4 @@ use Rattle.synchronize.proofs.first_seen.FirstSeen.touch.Given as goal
 
 abbrev pub invariant-loop-i : goal.invariant-loop-i
 invariant-loop-i l =
-    (l.i ≤ 5) × (length l.self.versions ≡ 5) × (l.self.versions ≡ touching l.initial.self.versions l.thread l.version l.i)
-
-abbrev pub decreases-loop-i : goal.decreases-loop-i
-decreases-loop-i l = 5 - l.i
+    (length l.self.versions ≡ 5) × (l.self.versions ≡ touching l.initial.self.versions l.thread l.version l.i)
