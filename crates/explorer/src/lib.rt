@@ -48,8 +48,6 @@ pub fn explore(
             thread: NOWHERE,
             row: NOWHERE,
         }),
-        Err(BadTable::Row { thread, row }) => {
-            report::refused(Answer::BadTable { thread, row })
-        }
+        Err(BadTable::Row { thread, row }) => { report::refused(Answer::BadTable { thread, row }) }
     }
 }

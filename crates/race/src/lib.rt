@@ -118,8 +118,7 @@ fn put_step(page: &mut Page, at: usize, trace: &[u8], other: u64, step: Option<u
 fn cell_at(table: &[u8], site: AtFault) -> u64
     ensures { result ≡ cell_at table.now site.thread site.row }
 {
-    let Some(op) = steps::row_of(table, (site.thread % 256) as u8, (site.row % 256) as u8)
-    else {
+    let Some(op) = steps::row_of(table, (site.thread % 256) as u8, (site.row % 256) as u8) else {
         return NO_CELL;
     };
     last_access::cell_of(op).unwrap_or(NO_CELL)

@@ -4,7 +4,7 @@
 --     making-..                   a walk that makes one after the other
 --     cells_stay, cells-go, plains-stay, plains-go      such are those that make the cells and the plain cells
 --     cell_as, plain-as           a cell is made, and a plain cell
---     flag-set, flag-clear        the number of whether it is exploring
+--     flag-told                   the number of whether it is exploring
 --     blank-as                    nothing is left over
 --     start-as                    the whole
 use Prim.Native.Nat.{ℕ, suc, ◌+◌, ◌-◌, ◌≤◌, ◌<◌}
@@ -13,6 +13,7 @@ use mathlib.Core.List.{List}
 use mathlib.Core.Path.{◌≡◌, refl}
 use native.Mathlib.Omega.{arith}
 use lib.ListN.{set, replicate}
+use mir.Val.{bool_byte}
 use Rattle.rules.specs.Cell.{join_into, store_done}
 use Rattle.rules.specs.Plain.{plain_write_tracked, plain_write_done}
 use Rattle.rules.specs.State.{State, Clocks, Marks, Values, Numbers, with_vector, with_value, with_number, causality, mutated, exploring, of_plain, vectors_held, values_held, numbers_held}
@@ -89,11 +90,9 @@ plain-as table clocks tracked marks values numbers cells c v e f g = rw (e, f, �
 
 -- The whole
 
-pub flag-set : (b : Bool) (x : ℕ) → b ≡ true → x ≡ 1 → x ≡ cond b 1 0
-flag-set b x e f = rw e f
-
-pub flag-clear : (b : Bool) (x : ℕ) → b ≡ false → x ≡ 0 → x ≡ cond b 1 0
-flag-clear b x e f = rw e f
+pub flag-told : (b : Bool) (x : ℕ) → x ≡ bool_byte b → x ≡ cond b 1 0
+flag-told true x e = e
+flag-told false x e = e
 
 pub blank-as : (yielded numbers : Numbers) (explores : Bool) (x : ℕ) →
     yielded ≡ for_threads no_yield 5 0 (replicate numbers_held 0) → numbers ≡ for_threads no_access 4 0 yielded → x ≡ cond explores 1 0 →

@@ -58,7 +58,7 @@ fn clear(
     *numbers = [0; NUMBERS];
     clear_yields(numbers);
     clear_branches(numbers);
-    numbers[EXPLORING] = if exploring { 1 } else { 0 };
+    numbers[EXPLORING] = u16::from(exploring);
 }
 
 // The cells, in order.

@@ -79,6 +79,5 @@ pub fn clear(bytes: &mut [u8], from: usize, to: usize)
 pub fn clear_all(bytes: &mut [u8])
     ensures { Zeros bytes.old bytes.new }
 {
-    let to = bytes.len();
-    clear(bytes, 0, to);
+    bytes.fill(0);
 }
