@@ -55,7 +55,9 @@ pub loop-i-preserved : goal.loop-i-preserved
 loop-i-preserved c =
     let a = c.args in
     let g = c.loop-i.invariant.2 in
-    (search rules, c.loop-i.invariant.1, step-goes a.text.now _ _ _ _ _ _ _ _ g _ c.line_of.result c.line_of.ensures (omega arith) _ (c.in_ok-line.was ∙ ap Ok c.in-GoesOn.is))
+    let lines = length a.text.now + 1 in
+    let one-less : lines - (c.loop-i.i + 1) ≡ lines - c.loop-i.i - 1 = omega arith in
+    rw one-less (search rules, c.loop-i.invariant.1, step-goes a.text.now _ _ _ _ _ _ _ _ g _ c.line_of.result c.line_of.ensures (omega arith) _ (c.in_ok-line.was ∙ ap Ok c.in-GoesOn.is))
 
 pub returns : goal.returns
 returns c = record {
