@@ -24,6 +24,7 @@ use Rattle.digits.specs.Shown.{shown}
 use Rattle.page.specs.Pages.{Page, page_of, put_text, put_filled, padded, right_at}
 use Rattle.page.proofs.PageLaws.{text-put}
 use Rattle.steps.specs.Entries.{entry_read, entries}
+use Rattle.std.specs.Prelude.{Option}
 use Rattle.outcome.specs.Comes.{came_of_step}
 use Rattle.outcome.specs.declared.Came.{Came}
 use Rattle.row_text.specs.Rows.{row_words, row_said}
@@ -110,7 +111,7 @@ module _ (table trace : List ℕ) (i : ℕ) where
       m ≡ put_text l (row_said table thread row) → m ≡ put_text l (row_of_step table trace i)
   row_put thread row l m t n put = rw (put, t, n)
 
-  pub step-put : (held : List ℕ) (width end : ℕ) (came : Came) (l p q r s t u m : Page) → end ≡ rows_end width →
+  pub step-put : (held : List ℕ) (width end : ℕ) (came : Option Came) (l p q r s t u m : Page) → end ≡ rows_end width →
       p ≡ put_numbers l i (entry_read trace i) → q ≡ padded p 19 → r ≡ put_text q (row_of_step table trace i) →
       s ≡ put_slots r end (entry_read trace i) → t ≡ padded s (end + 23) → came ≡ came_of_step table trace held i →
       u ≡ put_came t came → m ≡ put_text u (bytes_of "\n") → m ≡ put_step l table trace held width i
