@@ -145,7 +145,8 @@ pub fn place_in(column: usize, begin: usize, end: usize) -> usize
     begin + column.saturating_sub(1)
 }
 
-// Where the last token before a place begins, of those from here on in its line; here, where there is none.
+// Where the last token before a place begins, of those from here on in its line; here, where there is none: the sentence then looks at
+// what stands here, so an Option would be no plainer.
 pub fn token_before(text: &[u8], begin: usize, place: usize) -> usize
     ensures { result ≡ token_before text.now place (length text.now) begin begin }
 {

@@ -38,10 +38,10 @@ put_parts zero p bs threads h from = p
 put_parts (suc n) p bs threads h from =
     option_map_or
     (λ (at : ℕ).
-        option_map_or
-        (λ (part : Part). put_parts n (put_compared p (take comparison_bytes (drop at bs)) threads part) bs threads h (at + comparison_bytes))
-        (part_at bs h at)
-        p)
+    option_map_or
+    (λ (part : Part). put_parts n (put_compared p (take comparison_bytes (drop at bs)) threads part) bs threads h (at + comparison_bytes))
+    (part_at bs h at)
+    p)
     (next_from bs from)
     p
 

@@ -15,10 +15,10 @@ use settings::{MAX_BOUND, MAX_BRANCHES, MAX_EXECUTIONS, MAX_OPERATIONS, Settings
 pub fn is_limit(number: u64) -> bool
     ensures { result ≡ is_limit number }
 {
-    (number == answers::SPENT)
-        | (number == answers::FULL)
-        | (number == answers::ROWS)
-        | (number == answers::PREEMPTIONS)
+    matches!(
+        number,
+        answers::SPENT | answers::FULL | answers::ROWS | answers::PREEMPTIONS
+    )
 }
 
 // Says which limit, which setting to raise, and whether the execution went round in a loop.

@@ -24,6 +24,7 @@ use Rattle.rules.specs.Writer.{form_in, form_shown, fields_of, row_shown}
 use Rattle.page.specs.Pages.{Page, page_of, put_text, put_filled, padded}
 use Rattle.page.proofs.PageLaws.{text-put}
 use Rattle.steps.specs.Entries.{entry_read, entries}
+use Rattle.std.specs.Prelude.{Option}
 use Rattle.outcome.specs.Comes.{came_of_step}
 use Rattle.outcome.specs.declared.Came.{Came}
 use Rattle.row_text.specs.Rows.{row_words, row_said}
@@ -105,7 +106,7 @@ pub head-put : (width end : ℕ) (l p q r s m : Page) → end ≡ rows_end width
 unfolding put_head
 head-put width end l p q r s m e e1 e2 e3 e4 e5 = rw (e5, e4, e3, e2, e1, e)
 
-pub step-put : (table trace : List ℕ) (i : ℕ) (held : List ℕ) (width end : ℕ) (came : Came) (l p q r s t u m : Page) → end ≡ rows_end width →
+pub step-put : (table trace : List ℕ) (i : ℕ) (held : List ℕ) (width end : ℕ) (came : Option Came) (l p q r s t u m : Page) → end ≡ rows_end width →
     p ≡ put_numbers l i (entry_read trace i) → q ≡ padded p 19 → r ≡ put_text q (row_of_step table trace i) →
     s ≡ put_slots r end (entry_read trace i) → t ≡ padded s (end + 23) → came ≡ came_of_step table trace held i →
     u ≡ put_came t came → m ≡ put_text u (bytes_of "\n") → m ≡ put_step l table trace held width i

@@ -1,6 +1,6 @@
 -- What came of a step, in words. Assumes nothing.
 --     put_came     puts them behind a line's end
-use Rattle.std.specs.Prelude.{ℕ, Bool, cond, eqb}
+use Rattle.std.specs.Prelude.{ℕ, Bool, cond, eqb, Option, Some, None}
 use Rattle.rules.specs.Token.{bytes_of}
 use Rattle.digits.specs.Shown.{shown}
 use Rattle.page.specs.Pages.{Page, put_text, put_filled}
@@ -15,14 +15,14 @@ put_read l v by =
 unfoldable pub put_taken : Page → Bool → Page
 put_taken l taken = cond taken (put_text l (bytes_of "taken")) (put_text l (bytes_of "not taken"))
 
-unfoldable pub put_came : Page → Came → Page
-put_came l came.Nothing = put_text l (bytes_of "-")
-put_came l (came.Read v by) = put_read l v by
-put_came l (came.Stored v) = put_text (put_text l (bytes_of "stored ")) (shown v)
-put_came l (came.Wrote v by w) = put_text (put_text (put_read l v by) (bytes_of "; wrote ")) (shown w)
-put_came l (came.Failed v by) = put_text (put_read l v by) (bytes_of "; failed, wrote nothing")
-put_came l (came.Left v w) = put_filled l (bytes_of "found #, left #") v w 0
-put_came l (came.Took bit) = put_text (put_text l (bytes_of "took ")) (shown bit)
-put_came l (came.Jumped taken) = put_taken l taken
-put_came l came.Passed = put_text l (bytes_of "passed")
-put_came l (came.Written v) = put_text (put_text l (bytes_of "wrote ")) (shown v)
+unfoldable pub put_came : Page → Option Came → Page
+put_came l None = put_text l (bytes_of "-")
+put_came l (Some (came.Read v by)) = put_read l v by
+put_came l (Some (came.Stored v)) = put_text (put_text l (bytes_of "stored ")) (shown v)
+put_came l (Some (came.Wrote v by w)) = put_text (put_text (put_read l v by) (bytes_of "; wrote ")) (shown w)
+put_came l (Some (came.Failed v by)) = put_text (put_read l v by) (bytes_of "; failed, wrote nothing")
+put_came l (Some (came.Left v w)) = put_filled l (bytes_of "found #, left #") v w 0
+put_came l (Some (came.Took bit)) = put_text (put_text l (bytes_of "took ")) (shown bit)
+put_came l (Some (came.Jumped taken)) = put_taken l taken
+put_came l (Some came.Passed) = put_text l (bytes_of "passed")
+put_came l (Some (came.Written v)) = put_text (put_text l (bytes_of "wrote ")) (shown v)

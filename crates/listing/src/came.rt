@@ -7,11 +7,13 @@ use outcome::Came;
 use page::Page;
 
 // Puts it; a dash where nothing came of it that could be said.
-pub fn put(page: &mut Page, at: usize, came: Came) -> usize
+pub fn put(page: &mut Page, at: usize, came: Option<Came>) -> usize
     ensures { page_of page.new result ≡ put_came (page_of page.old at) came }
 {
+    let Some(came) = came else {
+        return page::put(page, at, b"-");
+    };
     match came {
-        Came::Nothing => page::put(page, at, b"-"),
         Came::Read(value, writer) => put_read(page, at, value, writer),
         Came::Stored(value) => page::put_with(page, at, b"stored ", value),
         Came::Wrote(read, writer, written) => {

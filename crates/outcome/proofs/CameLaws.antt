@@ -1,8 +1,7 @@
 -- What came of a step, from what its row was found to be. Assumes nothing.
---     no-came                 the rows of which nothing comes
---     read_as, change-as, left_as, if-as, unless-as      what was looked up among what is held, in its place
 --     came-none, came-some    a step that the trace does not hold, and one that it holds
 use Prim.Native.Nat.{ℕ}
+use Rattle.std.specs.Prelude.{Option, None}
 use mathlib.Core.Bool.{not}
 use mathlib.Core.List.{List, [], ◌∷◌}
 use mathlib.Core.Path.{◌≡◌, refl, ap, sym, ◌∙◌}
@@ -18,61 +17,16 @@ use Rattle.decode.specs.declared.Op.TheVariants as code
 use Rattle.decode.specs.Ops.{op_of}
 use Rattle.steps.specs.Entries.{entry_read, operation_at}
 use Rattle.outcome.specs.declared.Came.{Came}
-use Rattle.outcome.specs.declared.Came.TheVariants as came
 use Rattle.outcome.specs.Comes.{change_came, came_of, came_by, came_of_step}
 
--- the places among the variants of the rows that neither read, write, jump nor check
-abbrev quiet : List ℕ
-quiet = all_but (0 ∷ 1 ∷ 2 ∷ 3 ∷ 5 ∷ 6 ∷ 9 ∷ 10 ∷ 11 ∷ 12 ∷ 16 ∷ 17 ∷ 18 ∷ [])
-
-module _ (h : List ℕ) (t s v : ℕ) where
-  pub no-came : (op : Op) → OneOf quiet (tag_of the_type op) → came.Nothing ≡ came_of h t s v (op_of op)
-  unfolding came_of
-  no-came (code.Load order cell register) k = absurd (miss quiet 0 tt k)
-  no-came (code.Store order cell value) k = absurd (miss quiet 1 tt k)
-  no-came (code.StoreRegister order cell register) k = absurd (miss quiet 2 tt k)
-  no-came (code.Rmw order cell register change failure) k = absurd (miss quiet 3 tt k)
-  no-came (code.Fence order) k = refl
-  no-came (code.UnsyncLoad cell register) k = absurd (miss quiet 5 tt k)
-  no-came (code.WithMut cell register change) k = absurd (miss quiet 6 tt k)
-  no-came code.Yield k = refl
-  no-came (code.Join thread) k = refl
-  no-came (code.Jump target) k = absurd (miss quiet 9 tt k)
-  no-came (code.JumpIf target register a) k = absurd (miss quiet 10 tt k)
-  no-came (code.JumpUnless target register a) k = absurd (miss quiet 11 tt k)
-  no-came (code.Check register a) k = absurd (miss quiet 12 tt k)
-  no-came code.Critical k = refl
-  no-came code.ExploreState k = refl
-  no-came code.SkipBranch k = refl
-  no-came (code.Spurious register) k = absurd (miss quiet 16 tt k)
-  no-came (code.PlainRead plain register) k = absurd (miss quiet 17 tt k)
-  no-came (code.PlainWrite plain value) k = absurd (miss quiet 18 tt k)
-
--- what was looked up among what is held, in its place
-module _ (x y : ℕ) (e : x ≡ y) where
-  pub read_as : (v : ℕ) → came.Read v x ≡ came.Read v y
-  read_as v = ap (came.Read v) e
-
-  pub change-as : (v : ℕ) (m : changes.Changed) → change_came v x m ≡ change_came v y m
-  change-as v m = ap (λ (w : ℕ). change_came v w m) e
-
-  pub left_as : (v : ℕ) → came.Left x v ≡ came.Left y v
-  left_as v = ap (λ (w : ℕ). came.Left w v) e
-
-  pub if-as : (a : ℕ) → came.Jumped (eqb x a) ≡ came.Jumped (eqb y a)
-  if-as a = ap (λ (w : ℕ). came.Jumped (eqb w a)) e
-
-  pub unless-as : (a : ℕ) → came.Jumped (not (eqb x a)) ≡ came.Jumped (not (eqb y a))
-  unless-as a = ap (λ (w : ℕ). came.Jumped (not (eqb w a))) e
-
 module _ (table trace h : List ℕ) (i : ℕ) where
-  pub came-none : operation_at table trace i ≡ rules.refused → came.Nothing ≡ came_of_step table trace h i
+  pub came-none : operation_at table trace i ≡ rules.refused → None ≡ came_of_step table trace h i
   unfolding came_of_step
   came-none e = sym (ap (came_by h (entry_read trace i)) e)
 
   pub came-some : (op : rules.Op) (t s v : ℕ) → operation_at table trace i ≡ rules.decoded op →
       t ≡ (entry_read trace i).thread → s ≡ (entry_read trace i).slot → v ≡ (entry_read trace i).value →
-      (r : Came) → r ≡ came_of h t s v op → r ≡ came_of_step table trace h i
+      (r : Option Came) → r ≡ came_of h t s v op → r ≡ came_of_step table trace h i
   unfolding came_of_step
   came-some op t s v e p q w r is =
       is ∙ (ap (λ (x : ℕ). came_of h x s v op) p ∙ ap (λ (x : ℕ). came_of h (entry_read trace i).thread x v op) q ∙ ap (λ (x : ℕ). came_of h (entry_read trace i).thread (entry_read trace i).slot x op) w) ∙ sym (ap (came_by h (entry_read trace i)) e)

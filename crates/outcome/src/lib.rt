@@ -16,7 +16,6 @@ use steps::held::Held;
 // another behind it; an exclusive one left it in the place of what it found. A plain cell holds what was written last.
 #[derive(Clone, Copy)]
 pub enum Came {
-    Nothing,
     Read(u64, u64),
     Stored(u64),
     Wrote(u64, u64, u64),
@@ -29,11 +28,11 @@ pub enum Came {
 }
 
 // What came of step `i`, by what was held before it.
-pub fn of_step(table: &[u8], trace: &[u8], held: &Held, i: usize) -> Came
+pub fn of_step(table: &[u8], trace: &[u8], held: &Held, i: usize) -> Option<Came>
     ensures { result ≡ came_of_step table.now trace.now held.now i }
 {
     let Some(op) = steps::operation(table, trace, i) else {
-        return Came::Nothing;
+        return None;
     };
     let thread = steps::thread(trace, i);
     let slot = steps::slot(trace, i);
@@ -41,26 +40,30 @@ pub fn of_step(table: &[u8], trace: &[u8], held: &Held, i: usize) -> Came
 }
 
 // What came of a row of this thread with this slot and value in its entry.
-fn of_row(held: &Held, thread: u8, op: Op, slot: u8, value: u64) -> Came
+fn of_row(held: &Held, thread: u8, op: Op, slot: u8, value: u64) -> Option<Came>
     ensures { result ≡ came_of held.now thread slot value (op_of op) }
 {
     match op {
-        Op::Load { cell, .. } => Came::Read(value, held::writer(held, cell, slot)),
-        Op::Store { .. } => Came::Stored(value),
-        Op::StoreRegister { .. } => Came::Stored(value),
-        Op::Rmw { cell, change, .. } => of_change(change, value, held::writer(held, cell, slot)),
-        Op::UnsyncLoad { cell, .. } => Came::Read(value, held::writer(held, cell, slot)),
-        Op::WithMut { cell, .. } => Came::Left(held::newest(held, cell), value),
-        Op::Jump { .. } => Came::Jumped(true),
-        Op::JumpIf { register, a, .. } => Came::Jumped(held::register(held, thread, register) == a),
-        Op::JumpUnless { register, a, .. } => {
-            Came::Jumped(held::register(held, thread, register) != a)
+        Op::Load { cell, .. } | Op::UnsyncLoad { cell, .. } => {
+            Some(Came::Read(value, held::writer(held, cell, slot)))
         }
-        Op::Check { .. } => Came::Passed,
-        Op::Spurious { .. } => Came::Took(value),
-        Op::PlainRead { plain, .. } => Came::Read(value, held::plain_writer(held, plain)),
-        Op::PlainWrite { .. } => Came::Written(value),
-        _ => Came::Nothing,
+        Op::Store { .. } | Op::StoreRegister { .. } => Some(Came::Stored(value)),
+        Op::Rmw { cell, change, .. } => {
+            Some(of_change(change, value, held::writer(held, cell, slot)))
+        }
+        Op::WithMut { cell, .. } => Some(Came::Left(held::newest(held, cell), value)),
+        Op::Jump { .. } => Some(Came::Jumped(true)),
+        Op::JumpIf { register, a, .. } => {
+            Some(Came::Jumped(held::register(held, thread, register) == a))
+        }
+        Op::JumpUnless { register, a, .. } => {
+            Some(Came::Jumped(held::register(held, thread, register) != a))
+        }
+        Op::Check { .. } => Some(Came::Passed),
+        Op::Spurious { .. } => Some(Came::Took(value)),
+        Op::PlainRead { plain, .. } => Some(Came::Read(value, held::plain_writer(held, plain))),
+        Op::PlainWrite { .. } => Some(Came::Written(value)),
+        _ => None,
     }
 }
 

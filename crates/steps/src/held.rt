@@ -53,7 +53,8 @@ pub fn after(table: &[u8], trace: &[u8], n: usize) -> Held
     held
 }
 
-// The step that wrote what a slot of a cell holds, counted from 1; 0 for the start value.
+// The step that wrote what a slot of a cell holds, counted from 1; 0 for the start value, as the table of numbers has it: an Option would
+// be no plainer.
 pub fn writer(held: &Held, cell: usize, slot: u8) -> u64
     ensures { result ≡ holds.held held.now (holds.writer cell slot) }
 {
