@@ -1,22 +1,20 @@
+use borrow.Author.Rules.{rules}
 use Rattle.rules.specs.Token.{bytes_of}
 use Rattle.verdict.specs.Verdicts.{put_failed}
-use Rattle.verdict.proofs.VerdictLaws.{failed-else}
 use Rattle.verdict.proofs.put_failed.Goals as goal
 
 pub returns-in-10 : goal.returns-in-10
 unfolding put_failed bytes_of
-returns-in-10 c = rw c.in-10.is c.put.ensures
+returns-in-10 c = search rules
 
 pub returns-in-13 : goal.returns-in-13
 unfolding put_failed bytes_of
-returns-in-13 c = rw c.in-13.is c.fill.ensures
+returns-in-13 c = search rules
 
 pub returns-in-16 : goal.returns-in-16
 unfolding put_failed bytes_of
-returns-in-16 c = rw c.in-16.is c.fill-in-16.ensures
+returns-in-16 c = search rules
 
 pub returns-in_default : goal.returns-in_default
-unfolding bytes_of
-returns-in_default c =
-    let none = c.in_default.in_default-own.rest in
-    failed-else _ _ _ _ none.0.0.1 none.0.1 none.1 c.fill-in_default.ensures
+unfolding put_failed bytes_of
+returns-in_default c = search rules
