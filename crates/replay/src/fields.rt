@@ -103,7 +103,7 @@ impl<'a> Fields<'a> {
 }
 
 // The decimal number that a text spells, from 0 to `most`, in the one way to write it: with no zero in front.
-fn number(text: &[u8], most: u64) -> Option<u64> {
+pub fn number(text: &[u8], most: u64) -> Option<u64> {
     if matches!(text, [b'0', _, ..]) {
         return None;
     }
@@ -116,7 +116,7 @@ pub fn hex_byte(high: u8, low: u8) -> Option<u8> {
 }
 
 // The number that a lowercase hex digit spells.
-fn hex_digit(byte: u8) -> Option<u8>
+pub fn hex_digit(byte: u8) -> Option<u8>
     ensures { IfSome result (λ n. n < 16) }
 {
     match byte {
