@@ -11,7 +11,8 @@ use layout::of_thread::REGISTER;
 use layout::{REGISTERS, VALUES, Values, register_at, wide8};
 use little::u64_at;
 
-// The first byte of each part; and what stands for none, at the end, and before a group's first joint.
+// The first byte of each part; and what stands for none, at the end, and before a group's first joint. Bytes, since a condition may be any
+// bytes and the definition goes by them.
 const NO_PART: u8 = 0;
 
 pub const EQUALS: u8 = 1;
@@ -137,6 +138,7 @@ fn group(
     let mut holds = first.holds;
     let mut at = first.end;
     let mut joint = NO_PART;
+    // How far a member reaches is known once it is read, so there is nothing for a `for` to count.
     while may_join(joint, byte_at(bytes, at)) {
         joint = byte_at(bytes, at);
         let member = condition(bytes, values, threads, deep, at + 1)?;

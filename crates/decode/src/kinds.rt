@@ -1,4 +1,4 @@
-// The change kinds' numbers, by name. The last two may fail.
+// The change kinds' numbers, by name. The last two may fail. A row's byte is any of 256; what it means is the enum `Change`.
 pub const SWAP: u8 = 0;
 
 pub const ADD: u8 = 1;

@@ -24,6 +24,7 @@ pub fn count(n: u64) -> usize
 {
     let mut k = 1;
     let mut rest = n / 10;
+    // How often it can be divided is what is asked, so there is no range for a `for`.
     while 0 < rest {
         rest /= 10;
         k += 1;

@@ -65,7 +65,7 @@ fn read_named(rt: &impl Files, name: &[u8], buffer: &mut [u8]) -> io::Result<usi
     read_all(buffer, &mut file)
 }
 
-// Reads until the file ends or the buffer is full.
+// Reads until the file ends or the buffer is full. A read may bring any number of bytes, so there is no range for a `for`.
 fn read_all<R: Read>(buffer: &mut [u8], file: &mut R) -> io::Result<usize>
     ensures { IfOk result (λ n. n ≤ length buffer.new) }
 {

@@ -56,6 +56,7 @@ fn executions(
     let mut values = [0u64; VALUES];
     let mut numbers = [0u16; NUMBERS];
     let mut progress = nothing();
+    // Each execution says whether there is another, so there is no range for a `for`.
     loop {
         let cursor = progress.cursor;
         let over = execute(

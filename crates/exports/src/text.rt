@@ -14,7 +14,7 @@ pub const READ_NUMBERS: usize = 5;
 
 pub const WRITE_NUMBERS: usize = 2;
 
-// What became of a text that was to be read or written, as the header for C has it.
+// What became of a text that was to be read or written, as the header for C has it: numbers, for C.
 const DONE: u64 = 0;
 
 const REFUSED: u64 = 1;

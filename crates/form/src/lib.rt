@@ -148,6 +148,7 @@ fn tried(text: &[u8], forms: &[u8], room: Room, at: usize) -> Result<RowRead, us
 {
     let mut best = token::past_blanks(text, at);
     let mut from = 0;
+    // A form's bytes may be those that end a line, so the list is not split at them: where one ends, the next begins.
     while from < forms.len() {
         let to = token::next_line(forms, from + FORM_WORDS);
         let words = token::part(forms, from + FORM_WORDS, to - 1);

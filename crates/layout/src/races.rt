@@ -1,5 +1,5 @@
 // The kinds of race, by document 01's numbers, and three more of plain cells: the access that meets the race, and the one that it is
-// against.
+// against. Numbers, since the report hands them to C, and what takes one takes any byte.
 pub const LOAD_AGAINST_MUT: u8 = 1;
 
 pub const UNSYNC_LOAD_AGAINST_MUT: u8 = 2;

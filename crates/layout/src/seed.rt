@@ -1,4 +1,4 @@
-// What a schedule record says of a thread.
+// What a schedule record says of a thread. Bytes, since they stand in the caller's path buffer, which may hold any.
 pub const DISABLED: u8 = 0;
 
 pub const SKIP: u8 = 1;

@@ -284,6 +284,7 @@ fn switch_from(path: &[u8], from: usize) -> Option<usize>
     ensures { SwitchFrom path.now from result }
 {
     let mut curr = from;
+    // Each record says which schedule is before it, so there is no range for a `for`.
     loop {
         let exploring = fields::is_exploring(path, curr);
         let Some(prev) = schedule::prev(path, curr) else {

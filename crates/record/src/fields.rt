@@ -45,7 +45,7 @@ pub const LEN: usize = POS + 1;
 // A spurious branch: its bit.
 pub const SPUR: usize = EXPLORING + 1;
 
-// The kind of a schedule.
+// The kind of a schedule. The kinds are bytes of the caller's path buffer, which may hold any.
 pub const KIND_SCHEDULE: u8 = 1;
 
 // The kind of a load.

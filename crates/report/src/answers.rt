@@ -1,4 +1,4 @@
-// The answers' numbers.
+// The answers' numbers, as C and the texts have them; in the code an answer is the enum `Answer`.
 pub const EXHAUSTED: u64 = 0;
 
 pub const SPENT: u64 = 1;

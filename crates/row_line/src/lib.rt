@@ -50,6 +50,7 @@ fn put_form(text: &mut [u8], at: usize, forms: &[u8], fields: Fields) -> usize
     let opcode = fields[OPCODE];
     let kind = fields[KIND];
     let mut from = 0;
+    // A form's bytes may be those that end a line, so the list is not split at them: where one ends, the next begins.
     while from < forms.len() {
         let to = token::next_line(forms, from + FORM_WORDS);
         if (long8(forms[from]) == opcode) & (long8(forms[from + FORM_KIND]) == kind) {

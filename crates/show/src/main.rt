@@ -24,6 +24,7 @@ fn main(rt: HostRuntime) -> io::Result<()> {
 }
 
 // Reads until the buffer is full, the input ends or a read fails; answers how many bytes it put at the start.
+// A read may bring any number of bytes, so there is no range for a `for`.
 fn read_full<R: Read>(input: &mut R, buffer: &mut [u8]) -> usize
     ensures { result ≤ length buffer.new }
 {

@@ -12,7 +12,7 @@ use layout::of_thread::{AWAITS, CAUSALITY, LAST_YIELD, NEXT_ROW, OPERATION, PHAS
 use layout::{Clocks, MAX_THREADS, Numbers, wide16};
 use vv::VersionVec;
 
-// A thread's state, by document 01's numbers.
+// A thread's state, by document 01's numbers: entries of the table of numbers, which the report has as they are.
 pub const ABSENT: u16 = 0;
 
 pub const RUNNABLE: u16 = 1;

@@ -16,7 +16,8 @@ pub struct VersionVec {
     pub versions: [u16; MAX_THREADS],
 }
 
-// How a vector stands to another. Neither is greater, or greater in one part and less in another.
+// How a vector stands to another. Neither is greater, or greater in one part and less in another: std's Ordering would tell these two apart,
+// for which the walk would have to go on past the first greater part.
 #[derive(Clone, Copy, PartialEq)]
 pub enum Ordering {
     Less,
