@@ -1,9 +1,12 @@
 -- The laws of changes: what a change makes of a value at 64 bits. Assumes nothing.
 --     meant                     a change that was taken apart
 --     subtracted, signed-less   sums that wrap
---     greater-.., lesser-..     by one test, made on signed and on unsigned numbers
+--     greater-.., lesser-..     by one test, made on signed numbers, and by what the library's max and min are
 --     compared-.., decremented-..     by the test that a change makes
-use Rattle.std.proofs.Common.{◌≡◌, ℕ, ◌+◌, ◌-◌, ◌%◌, ◌<◌, Bool, true, false, ltb, ◌≢◌, sym, ap, ◌∙◌, arith, eq-eqb, ne_eqb}
+use borrow.Author.Tests.{ltb-true, ltb-false}
+use mathlib.Core.Logic.{◌⊎◌, inl, inr, ⊎_elim}
+use Prim.Native.Nat.{◌≤◌}
+use Rattle.std.proofs.Common.{refl, ◌≡◌, ℕ, ◌+◌, ◌-◌, ◌%◌, ◌<◌, Bool, true, false, ltb, ◌≢◌, sym, ap, ◌∙◌, arith, eq-eqb, ne_eqb}
 use Rattle.rules.specs.Change as rules
 use Rattle.rules.specs.Change.{applied, word, signed, greater, lesser, success, failure}
 use Rattle.change.specs.declared.Change.{Change}
@@ -30,6 +33,17 @@ module _ (below : Bool) (x y : ℕ) where
 
   pub lesser-other : (b : Bool) → b ≡ below → b ≡ false → y ≡ lesser below x y
   lesser-other b e f = rw (← e, f)
+
+flag : (b : Bool) → (b ≡ true) ⊎ (b ≡ false)
+flag true = inl refl
+flag false = inr refl
+
+module _ (v a r : ℕ) where
+  pub greater-by : (v < a → r ≡ a) → (a ≤ v → r ≡ v) → r ≡ greater (ltb v a) v a
+  greater-by f g = ⊎_elim (λ e. rw e (f (ltb-true v a e))) (λ e. rw e (g (ltb-false v a e))) (flag (ltb v a))
+
+  pub lesser-by : (v < a → r ≡ v) → (a ≤ v → r ≡ a) → r ≡ lesser (ltb v a) v a
+  lesser-by f g = ⊎_elim (λ e. rw e (f (ltb-true v a e))) (λ e. rw e (g (ltb-false v a e))) (flag (ltb v a))
 
 module _ (v : ℕ) where
   pub compared_same : (a b : ℕ) → v ≡ a → success b ≡ applied (rules.compare a b) v

@@ -35,25 +35,13 @@ pub fn apply(change: Change, value: u64) -> Option<u64>
         Change::Or(a) => Some(value | a),
         Change::Xor(a) => Some(value ^ a),
         Change::Nand(a) => Some(!(value & a)),
-        Change::Max(a) => Some(greater(value, a)),
-        Change::Min(a) => Some(lesser(value, a)),
+        Change::Max(a) => Some(value.max(a)),
+        Change::Min(a) => Some(value.min(a)),
         Change::SignedMax(a) => Some(signed_greater(value, a)),
         Change::SignedMin(a) => Some(signed_lesser(value, a)),
         Change::Compare(a, b) => compare(value, a, b),
         Change::Decrement => decrement(value),
     }
-}
-
-fn greater(x: u64, y: u64) -> u64
-    ensures { result ≡ rules.greater (nat_lt x y) x y }
-{
-    if x < y { y } else { x }
-}
-
-fn lesser(x: u64, y: u64) -> u64
-    ensures { result ≡ rules.lesser (nat_lt x y) x y }
-{
-    if x < y { x } else { y }
 }
 
 // Whether x is below y as signed numbers: the half from 2^63 on stands below the other.
@@ -79,19 +67,11 @@ fn signed_lesser(x: u64, y: u64) -> u64
 fn compare(value: u64, expected: u64, new: u64) -> Option<u64>
     ensures { changed_of result ≡ rules.applied (rules.compare expected new) value }
 {
-    if value == expected {
-        Some(new)
-    } else {
-        None
-    }
+    if value == expected { Some(new) } else { None }
 }
 
 fn decrement(value: u64) -> Option<u64>
     ensures { changed_of result ≡ rules.applied rules.decrement value }
 {
-    if value == 0 {
-        None
-    } else {
-        Some(value - 1)
-    }
+    if value == 0 { None } else { Some(value - 1) }
 }

@@ -1,6 +1,6 @@
 use Rattle.std.proofs.Common.{refl, ap, arith}
 use Rattle.rules.specs.Change.{applied, success}
-use Rattle.change.proofs.ChangeLaws.{meant, subtracted}
+use Rattle.change.proofs.ChangeLaws.{meant, subtracted, greater-by, lesser-by}
 use Rattle.change.proofs.apply.Goals as goal
 
 pub returns-in-Swap : goal.returns-in-Swap
@@ -33,11 +33,11 @@ returns-in-Nand c = meant _ _ _ _ c.in-Nand.is refl
 
 pub returns-in-Max : goal.returns-in-Max
 unfolding applied
-returns-in-Max c = meant _ _ _ _ c.in-Max.is (ap success c.greater.ensures)
+returns-in-Max c = meant _ _ _ _ c.in-Max.is (ap success (greater-by c.args.value c.in-Max.a c.max.result (λ l. omega (arith, l, c.max.ensures)) (λ l. omega (arith, l, c.max.ensures))))
 
 pub returns-in-Min : goal.returns-in-Min
 unfolding applied
-returns-in-Min c = meant _ _ _ _ c.in-Min.is (ap success c.lesser.ensures)
+returns-in-Min c = meant _ _ _ _ c.in-Min.is (ap success (lesser-by c.args.value c.in-Min.a c.min.result (λ l. omega (arith, l, c.min.ensures)) (λ l. omega (arith, l, c.min.ensures))))
 
 pub returns-in-SignedMax : goal.returns-in-SignedMax
 unfolding applied
