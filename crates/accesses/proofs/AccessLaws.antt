@@ -20,7 +20,7 @@ use Rattle.atomic.specs.Accesses.{access_of}
 use Rattle.atomic.specs.Exclusive.{mutated_of}
 use Rattle.track.specs.declared.Race as tracks
 use Rattle.atomic.specs.declared.Mutated.{Mutated}
-use Rattle.event.specs.Moves.{Came, move_of}
+use Rattle.event.specs.Moves.{Happening, move_of}
 use Rattle.std.specs.Result.{IsErrAnd}
 use Rattle.std.proofs.lemmas.Result.{err_from_is_err_and}
 use Rattle.event.specs.declared.Fault.{Fault}
@@ -28,7 +28,7 @@ use Rattle.event.specs.declared.Fault.TheVariants as fault
 use Rattle.plain.specs.Writes.{unless_raced}
 
 -- a race that is passed up as the fault
-pub raced : (out : Came) (race : tracks.Race) → IsErrAnd out (λ (f : Fault). f ≡ fault.Race race.kind race.other) → (t k opcode : ℕ) (m : Event.Matched) (st : State) →
+pub raced : (out : Happening) (race : tracks.Race) → IsErrAnd out (λ (f : Fault). f ≡ fault.Race race.kind race.other) → (t k opcode : ℕ) (m : Event.Matched) (st : State) →
     move_of out t k opcode m st ≡ stops st (Event.race race.kind race.other)
 raced out race h t k opcode m st = let e = err_from_is_err_and out h in rw (e.1, e.2)
 

@@ -4,7 +4,7 @@
 --     fault_of       a fault
 --     matched_for    what a row that asks for a slot is offered
 --     entry_if       the entry of a row that asks, if it is complete
---     Came          what a tick answers
+--     Happening          what a tick answers
 --     move_of        what it answers, with the state that it leaves
 use Rattle.std.specs.Prelude.{ℕ, ◌<◌, List, [], Bool, true, false, Result, Ok, Err}
 use Rattle.rules.specs.Event as rules
@@ -64,11 +64,11 @@ asked_by question.Slot es m st = rules.asks st es (exploring_now st.numbers) (ru
 asked_by question.Bit es m st = rules.asks st es (exploring_now st.numbers) rules.which_bit
 
 -- what a tick answers: how it comes out, or the fault that stops it
-abbrev pub Came : Type 0
-Came = Result Moved Fault
+abbrev pub Happening : Type 0
+Happening = Result Moved Fault
 
 -- of a thread at a row with this opcode, which is offered this where it asks for a slot; the state is the one left
-abbrev pub move_of : Came → ℕ → ℕ → ℕ → Matched → State → Move State
+abbrev pub move_of : Happening → ℕ → ℕ → ℕ → Matched → State → Move State
 move_of (Ok event.Moves) t k opcode m st = rules.moves st []
 move_of (Ok (event.Done slot mask value)) t k opcode m st = rules.moves st (entry t k opcode slot mask value)
 move_of (Ok (event.Asks q yielded)) t k opcode m st = asked_by q (entry_if yielded t k opcode) m st

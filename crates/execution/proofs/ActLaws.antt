@@ -21,7 +21,7 @@ use Rattle.rules.specs.Table as rules
 use Rattle.rules.proofs.RoleLaws.{Told, told, missed, elsewhere}
 use Rattle.event.specs.declared.Picked.{Picked}
 use Rattle.event.specs.declared.Picked.TheVariants as choice
-use Rattle.event.specs.Moves.{Came, move_of, matched_for}
+use Rattle.event.specs.Moves.{Happening, move_of, matched_for}
 use Rattle.decode.specs.contracts.Op as Op
 use Rattle.decode.proofs.NumberLaws.{all_but, by_number, narrow}
 use Rattle.decode.specs.declared.Op.{Op}
@@ -71,7 +71,7 @@ module _ (p : Program) (st : State) (t k : ℕ) where
       by-role (takes_bit r) e = spurious-asks r ∙ ap (λ (m : rules.Op). acts p st t k m) (sym e)
       by-role otherwise e = absurd (miss elsewhere 16 tt (subst (λ (m : ℕ). OneOf elsewhere m) is-16 e))
 
-module _ (p : Program) (r : Came) (st left : State) (t k : ℕ) (op m : Op) (e : op ≡ m) where
+module _ (p : Program) (r : Happening) (st left : State) (t k : ℕ) (op m : Op) (e : op ≡ m) where
   pub act-as : move_of r t k (opcode_of (op_of m)) (matched_for left t (decoded (op_of m))) left ≡ acts p st t k (op_of m) →
       move_of r t k (opcode_of (op_of op)) (matched_for left t (decoded (op_of op))) left ≡ acts p st t k (op_of op)
   act-as h = rw e h

@@ -21,7 +21,7 @@ use Rattle.decode.proofs.NumberLaws.{all_but, by_number, narrow}
 use Rattle.decode.specs.declared.Op.{Op}
 use Rattle.decode.specs.declared.Op.TheVariants as code
 use Rattle.decode.specs.Ops.{op_of, InRange}
-use Rattle.event.specs.Moves.{Came, move_of}
+use Rattle.event.specs.Moves.{Happening, move_of}
 use Rattle.execution.specs.Alone.{unsync, storing, Unsync, Storing}
 use Rattle.execution.specs.Stores.{access_by, stored, stored_of, StoreWithin, Stores}
 use Rattle.execution.specs.declared.Stored.{Stored}
@@ -95,7 +95,7 @@ module _ (p : Program) (st : State) (t k : ℕ) where
   by-storing otherwise op e = refl
 
   pub stores_as : (op : Op) (s : Option Stored) → s ≡ stored_of st.values t (role_of (op_of op)) → (x : Stored) → s ≡ Some x → x.access.thread ≡ t →
-      (r : Came) (m : Matched) (left : State) →
+      (r : Happening) (m : Matched) (left : State) →
       move_of r x.access.thread k (opcode_of (op_of op)) m left ≡ stores st x.access.thread k (opcode_of (op_of op)) x.access.cell x.access.order x.value →
       move_of r t k (opcode_of (op_of op)) m left ≡ acts p st t k (op_of op)
   stores_as op s is x e own r m left h =

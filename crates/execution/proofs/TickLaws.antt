@@ -25,7 +25,7 @@ use Rattle.event.specs.declared.Moved.TheVariants as event
 use Rattle.event.specs.contracts.Moved as Event'
 use Rattle.event.specs.declared.Question.TheVariants as question
 use Rattle.std.specs.Prelude.{Ok, Err}
-use Rattle.event.specs.Moves.{Came, move_of, matched_for}
+use Rattle.event.specs.Moves.{Happening, move_of, matched_for}
 use Rattle.decode.specs.declared.Op.{Op}
 use Rattle.std.specs.Prelude.{Option, Some, None}
 use Rattle.decode.specs.Ops.{op_of, decoded_of, InRange, OpWithin}
@@ -51,14 +51,14 @@ stays-so p t k opcode op m left (event.Asks question.Slot yielded) h = refl
 stays-so p t k opcode op m left (event.Asks question.Bit yielded) h = refl
 stays-so p t k opcode op m left event.Ends h = refl
 
-module _ (p : Program) (st left : State) (t k opcode limit : ℕ) (op : rules.Op) (m : Matched) (r : Came) (limited : p.operations ≡ limit)
+module _ (p : Program) (st left : State) (t k opcode limit : ℕ) (op : rules.Op) (m : Matched) (r : Happening) (limited : p.operations ≡ limit)
     (begun : move_of r t k opcode m left ≡ begun_to limit st t op) where
   begins-by : then_acts p t k op (move_of r t k opcode m left) ≡ begins p st t k op
   begins-by =
       ap (then_acts p t k op) (begun ∙ ap (λ (n : ℕ). begun_to n st t op) (sym limited)) ∙ sym (begins-to p t k op st)
 
   -- the row is at fault, or begins and does not move
-  pub begun-stops : (f g : Fault) (out : Came) → r ≡ Err f → out ≡ Err g → g ≡ f → move_of out t k opcode m left ≡ begins p st t k op
+  pub begun-stops : (f g : Fault) (out : Happening) → r ≡ Err f → out ≡ Err g → g ≡ f → move_of out t k opcode m left ≡ begins p st t k op
   begun-stops f g out is e same = rw (e, same) (rw is at begins-by)
 
   pub begun-other : (e : Moved) → r ≡ Ok e → OneOf comes (tag_of Event'.the_type e) → move_of (Ok e) t k opcode m left ≡ begins p st t k op
@@ -125,7 +125,7 @@ module _ (p : Program) (st : State) (t k count : ℕ) (b : Bool) (asked : b ≡ 
       acting now (inr w) = ap (λ (s : State). acts p s t k (op_of op)) w.1 ∙ acts-on w.0
 
       pub next-acts : (now : State) → ((b ≡ true) × (acts p now t k (op_of op) ≡ begins p st t k (op_of op))) ⊎ ((b ≡ false) × (now ≡ st)) →
-          (r : Came) (left : State) →
+          (r : Happening) (left : State) →
           move_of r t k (opcode_of (op_of op)) (matched_for left t (decoded_of (Some op))) left ≡ acts p now t k (op_of op) →
           move_of r t k (opcode_in (decoded_of row)) (matched_for left t (decoded_of row)) left ≡ next_with p st t k count (decoded_of row)
       next-acts now came r left h = rw e (h ∙ (rw e at (acting now came)))

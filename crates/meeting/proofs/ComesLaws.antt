@@ -21,7 +21,7 @@ use Rattle.rules.specs.Table.{opcode_of, opcode_in}
 use Rattle.decode.specs.Ops.{op_of, decoded_of}
 use Rattle.decode.specs.declared.Op.{Op}
 use Rattle.std.specs.Prelude.{Option, Some, None}
-use Rattle.event.specs.Moves.{fault_of, Came}
+use Rattle.event.specs.Moves.{fault_of, Happening}
 use Rattle.std.specs.Prelude.{Ok, Err}
 use Rattle.event.specs.declared.Moved.TheVariants as event
 use Rattle.event.specs.declared.Fault.{Fault}
@@ -211,7 +211,7 @@ module _ (c : Cursor) (r : Ticked) (h : Here) (opcode slot mask v : ℕ) (is : o
 -- What an event comes to that asks nothing more
 
 module _ (h : Here) where
-  abbrev concluded : Came → Program → explorer.Limits → Walk State → Tick State
+  abbrev concluded : Happening → Program → explorer.Limits → Walk State → Tick State
   concluded e = concluded_at e h
 
   asked-again : (q : Question) (yielded : Bool) (p : Program) (L : explorer.Limits) (w : Walk State) → concluded (Ok (event.Asks q yielded)) p L w ≡ faulted rules.impossible (site_of h.site) w
@@ -220,9 +220,9 @@ module _ (h : Here) where
   asked-again question.Slot yielded p L w = refl
   asked-again question.Bit yielded p L w = refl
 
-  module _ (c : Cursor) (r : Ticked) (e : Came) where
-    done-lands : (f : Came) {entry exit : List ℕ} → e ≡ f → Lands c r entry exit (concluded f) → Lands c r entry exit (concluded e)
-    done-lands f {entry} {exit} is l = subst (λ (y : Came). Lands c r entry exit (concluded y)) (sym is) l
+  module _ (c : Cursor) (r : Ticked) (e : Happening) where
+    done-lands : (f : Happening) {entry exit : List ℕ} → e ≡ f → Lands c r entry exit (concluded f) → Lands c r entry exit (concluded e)
+    done-lands f {entry} {exit} is l = subst (λ (y : Happening). Lands c r entry exit (concluded y)) (sym is) l
 
     pub conclude-done : {entry exit : List ℕ} {slot mask v : ℕ} → e ≡ Ok (event.Done slot mask v) → Lands c r entry exit (noted_at h slot mask v) → Lands c r entry exit (concluded e)
     conclude-done {entry} {exit} {slot} {mask} {v} is l = done-lands (Ok (event.Done slot mask v)) is (lands_as (concluded (Ok (event.Done slot mask v))) (λ p L w. refl) l)

@@ -11,7 +11,7 @@ use Rattle.rules.specs.Machine.{Program, machine, entry}
 use Rattle.rules.specs.Explorer as explorer
 use Rattle.rules.specs.Explorer.{Walk, Tick, goes, faulted}
 use Rattle.decode.specs.Ops.{decoded_of}
-use Rattle.event.specs.Moves.{entry_if, Came, move_of, matched_for}
+use Rattle.event.specs.Moves.{entry_if, Happening, move_of, matched_for}
 use Rattle.meeting.specs.Stands.{Lent, lent, Stands, ComesTo, site_of}
 use Rattle.meeting.specs.declared.Cursor.{Cursor}
 use Rattle.event.specs.declared.Here.{Here}
@@ -53,7 +53,7 @@ abbrev pub completed_by : Bool → Here → List rules.Entry
 completed_by yielded h = entry_if yielded h.site.thread h.site.row (opcode_at h)
 
 -- an event, with the state that it leaves
-abbrev pub move_at : Came → Here → State → rules.Move State
+abbrev pub move_at : Happening → Here → State → rules.Move State
 move_at e h st =
     move_of e h.site.thread h.site.row (opcode_at h) (matched_for st h.site.thread (decoded_of h.row)) st
 
@@ -69,5 +69,5 @@ noted_at h slot mask v p L w = landed L (site_of h.site) w (entry_here h slot ma
 abbrev pub completed_at : Bool → Here → Program → explorer.Limits → Walk State → Tick State
 completed_at yielded h p L w = landed L (site_of h.site) w (completed_by yielded h)
 
-abbrev pub concluded_at : Came → Here → Program → explorer.Limits → Walk State → Tick State
+abbrev pub concluded_at : Happening → Here → Program → explorer.Limits → Walk State → Tick State
 concluded_at e h p L w = explorer.followed (machine p) L (site_of h.site) w (move_at e h w.state)

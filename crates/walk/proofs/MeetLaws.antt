@@ -29,7 +29,7 @@ use Rattle.decode.specs.Ops.{decoded_of}
 use Rattle.execution.specs.Answers.{Answers}
 use Rattle.event.specs.declared.Picked.{Picked}
 use Rattle.event.specs.declared.Picked.TheVariants as choice
-use Rattle.event.specs.Moves.{Came}
+use Rattle.event.specs.Moves.{Happening}
 use Rattle.event.specs.declared.Fault.TheVariants as fault
 use Rattle.event.specs.declared.Question.{Question}
 use Rattle.event.specs.declared.Question.TheVariants as question
@@ -226,7 +226,7 @@ module _ (c : Cursor) (m : Ticked) (h : Here) (q : Question) (clocks : Clocks) (
             (λ p L v rooms stands x f row. unexpected-comes r s p L v stands x (subst (λ (y : Option Picked). AnswersBy y x) e f));
       }
 
-  module _ (ch : Picked) (ev : Came) (clocks2 : Clocks) (marks2 : MarkTable) (values2 : Values) (numbers2 : Numbers) (d : Cursor) (passed : Passed m.cursor d)
+  module _ (ch : Picked) (ev : Happening) (clocks2 : Clocks) (marks2 : MarkTable) (values2 : Values) (numbers2 : Numbers) (d : Cursor) (passed : Passed m.cursor d)
       (goes-with : Answers ch (decoded_of h.row) h.site.thread h.site.row (state clocks marks values numbers) (move_at ev h (state clocks2 marks2 values2 numbers2)))
       (r : Ticked) (left : List ℕ) (lands : Lands d r trace left (concluded_at ev h)) where
     abbrev leaving : Lent

@@ -22,7 +22,7 @@ use Rattle.std.specs.Prelude.{Option}
 use Rattle.event.specs.contracts.Moved.{the_type as happened}
 use Rattle.event.specs.declared.Fault.{Fault}
 use Rattle.event.specs.declared.Moved.{Moved}
-use Rattle.event.specs.Moves.{Came}
+use Rattle.event.specs.Moves.{Happening}
 use Rattle.std.specs.Prelude.{Ok, Err}
 use Rattle.event.specs.declared.Moved.TheVariants as event
 use Rattle.event.specs.declared.Question.{Question}
@@ -41,7 +41,7 @@ use Rattle.walk.proofs.WalkLaws.{take_on}
 use Rattle.walk.proofs.MeetLaws.{stays_then, went_on}
 
 -- a tick that asks nothing
-abbrev pub AsksNothing : Came → Type 0
+abbrev pub AsksNothing : Happening → Type 0
 AsksNothing (Ok event.Moves) = Unit
 AsksNothing (Ok (event.Done slot mask v)) = Unit
 AsksNothing (Ok (event.Asks q yielded)) = ⊥
@@ -54,14 +54,14 @@ nothing-of (event.Done slot mask v) k = tt
 nothing-of (event.Asks q yielded) k = absurd (miss (0 ∷ 1 ∷ 3 ∷ []) 2 tt k)
 nothing-of event.Ends k = tt
 
-pub asks-nothing : (e : Came) (m : Moved) → e ≡ Ok m → OneOf (0 ∷ 1 ∷ 3 ∷ []) (tag_of happened m) → AsksNothing e
+pub asks-nothing : (e : Happening) (m : Moved) → e ≡ Ok m → OneOf (0 ∷ 1 ∷ 3 ∷ []) (tag_of happened m) → AsksNothing e
 asks-nothing e m is k = rw is (nothing-of m k)
 
-pub stops-only : (e : Came) (f : Fault) → e ≡ Err f → AsksNothing e
+pub stops-only : (e : Happening) (f : Fault) → e ≡ Err f → AsksNothing e
 stops-only e f is = rw is tt
 
 module _ (h : Here) where
-  concluded-taken : (e : Came) → AsksNothing e → (p : Program) (L : explorer.Limits) (w : Walk State) → concluded_at e h p L w ≡ taken_at e h p L w
+  concluded-taken : (e : Happening) → AsksNothing e → (p : Program) (L : explorer.Limits) (w : Walk State) → concluded_at e h p L w ≡ taken_at e h p L w
   concluded-taken (Ok event.Moves) k p L w = refl
   concluded-taken (Ok (event.Done slot mask v)) k p L w = refl
   concluded-taken (Ok (event.Asks q yielded)) k p L w = absurd k
@@ -81,7 +81,7 @@ module _ (h : Here) where
   taken-asks question.Slot yielded p L w = by-fit (asking question.Slot p L w.state) (leb (length w.trace + length (completed_by yielded h)) L.operations) (explorer.noted w w.state (completed_by yielded h)) w
   taken-asks question.Bit yielded p L w = by-fit (asking question.Bit p L w.state) (leb (length w.trace + length (completed_by yielded h)) L.operations) (explorer.noted w w.state (completed_by yielded h)) w
 
-module _ (c : Cursor) (h : Here) (ev : Came) (bound : Option ℕ) (clocks : Clocks) (marks : MarkTable) (values : Values) (numbers : Numbers) (path trace : List ℕ) (placed : CursorPlaced c path trace) where
+module _ (c : Cursor) (h : Here) (ev : Happening) (bound : Option ℕ) (clocks : Clocks) (marks : MarkTable) (values : Values) (numbers : Numbers) (path trace : List ℕ) (placed : CursorPlaced c path trace) where
   abbrev before : Lent
   before = lent clocks marks values numbers path trace
 
@@ -108,7 +108,7 @@ module _ (c : Cursor) (h : Here) (ev : Came) (bound : Option ℕ) (clocks : Cloc
     noted = lent clocks marks values numbers path left
 
     for-event : {exit : Lent} {r : Ticked} → Goes before exit c r 60 h (TakesNeeds (Ok (event.Asks q yielded)) h bound) (taken_at (Ok (event.Asks q yielded)) h) → Goes before exit c r 60 h (TakesNeeds ev h bound) (taken_at ev h)
-    for-event {exit} {r} g = subst (λ (x : Came). Goes before exit c r 60 h (TakesNeeds x h bound) (taken_at x h)) (sym e) g
+    for-event {exit} {r} g = subst (λ (x : Happening). Goes before exit c r 60 h (TakesNeeds x h bound) (taken_at x h)) (sym e) g
 
     pub take-stays : OneOf (1 ∷ 2 ∷ []) (tag_of outcomes n.outcome) → Goes before noted c n 60 h (TakesNeeds ev h bound) (taken_at ev h)
     take-stays k =

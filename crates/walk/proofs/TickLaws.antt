@@ -25,7 +25,7 @@ use Rattle.rules.specs.Explorer as explorer
 use Rattle.rules.specs.Explorer.{Walk, Tick}
 use Rattle.layout.specs.Tables.{state}
 use Rattle.decode.specs.Ops.{decoded_of}
-use Rattle.event.specs.Moves.{Came}
+use Rattle.event.specs.Moves.{Happening}
 use Rattle.std.specs.Prelude.{Ok, Err}
 use Rattle.event.specs.declared.Moved.TheVariants as event
 use Rattle.event.specs.declared.Question.TheVariants as question
@@ -175,7 +175,7 @@ still-there st s h e a =
           ∙ ap (λ (t : ℕ). number st.numbers (names.next_row t)) (sym a.who) ∙ a.row;
     }
 
-moves-at : (ev : Came) (st s : State) (h : Here) → AtRow st h → AskKeeps h.site.thread st (move_at ev h s) → MovesAt ev s h
+moves-at : (ev : Happening) (st s : State) (h : Here) → AtRow st h → AskKeeps h.site.thread st (move_at ev h s) → MovesAt ev s h
 moves-at (Ok event.Moves) st s h a k = tt
 moves-at (Ok (event.Done slot mask v)) st s h a k = tt
 moves-at (Ok (event.Asks question.Thread yielded)) st s h a k = tt
@@ -190,7 +190,7 @@ taken-state p L site w s (asks st es e q) = refl
 taken-state p L site w s (stops st f) = refl
 taken-state p L site w s (ends st) = refl
 
-module _ (c : Cursor) (h : Here) (ev : Came) (shape : List ℕ) (limits : Limits) (clocks : Clocks) (marks : MarkTable) (values : Values) (numbers : Numbers) (clocks2 : Clocks) (marks2 : MarkTable) (values2 : Values) (numbers2 : Numbers) (path trace : List ℕ)
+module _ (c : Cursor) (h : Here) (ev : Happening) (shape : List ℕ) (limits : Limits) (clocks : Clocks) (marks : MarkTable) (values : Values) (numbers : Numbers) (clocks2 : Clocks) (marks2 : MarkTable) (values2 : Values) (numbers2 : Numbers) (path trace : List ℕ)
     (does : (p : Program) → p.operations ≡ limits.operations → cells_of p.table ≡ get_or shape 1 0
     → move_at ev h (state clocks2 marks2 values2 numbers2) ≡ next_with p (state clocks marks values numbers) h.site.thread h.site.row (get_or shape (2 + h.site.thread) 0) (decoded_of h.row))
     (below : h.site.thread < 5) (r : Ticked) (exit : Lent) (g : Goes (lent clocks2 marks2 values2 numbers2 path trace) exit c r 60 h (TakesNeeds ev h limits.bound) (taken_at ev h)) where

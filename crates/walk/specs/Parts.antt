@@ -12,7 +12,7 @@ use Rattle.rules.specs.Explorer as explorer
 use Rattle.rules.specs.Explorer.{Walk, Tick, goes, over, faulted}
 use Rattle.decode.specs.Ops.{decoded_of}
 use Rattle.path.specs.Bounds.{bound_of}
-use Rattle.event.specs.Moves.{Came}
+use Rattle.event.specs.Moves.{Happening}
 use Rattle.event.specs.declared.Moved.TheVariants as event
 use Rattle.event.specs.declared.Question.{Question}
 use Rattle.event.specs.declared.Question.TheVariants as question
@@ -47,7 +47,7 @@ AsksAt question.Thread st h = Unit
 AsksAt question.Slot st h = AtRow st h
 AsksAt question.Bit st h = AtRow st h
 
-abbrev pub MovesAt : Came → State → Here → Type 0
+abbrev pub MovesAt : Happening → State → Here → Type 0
 MovesAt (Ok event.Moves) st h = Unit
 MovesAt (Ok (event.Done slot mask value)) st h = Unit
 MovesAt (Ok (event.Asks q yielded)) st h = AsksAt q st h
@@ -75,14 +75,14 @@ met_at q h p L w = explorer.met (machine p) L (site_of h.site) w (exploring_now 
 abbrev pub MeetsNeeds : Question → Here → Program → explorer.Limits → State → Type 0
 MeetsNeeds q h p L st = AsksAt q st h
 
-abbrev pub taken_at : Came → Here → Program → explorer.Limits → Walk State → Tick State
+abbrev pub taken_at : Happening → Here → Program → explorer.Limits → Walk State → Tick State
 taken_at e h p L w = explorer.taken (machine p) L (site_of h.site) w (move_at e h w.state)
 
-pub record TakesAt (e : Came) (h : Here) (bound : Option ℕ) (L : explorer.Limits) (st : State) : Type 0 where
+pub record TakesAt (e : Happening) (h : Here) (bound : Option ℕ) (L : explorer.Limits) (st : State) : Type 0 where
   pub moves : MovesAt e st h
   pub is_bound : L.bound ≡ bound_of bound
 
-abbrev pub TakesNeeds : Came → Here → Option ℕ → Program → explorer.Limits → State → Type 0
+abbrev pub TakesNeeds : Happening → Here → Option ℕ → Program → explorer.Limits → State → Type 0
 TakesNeeds e h bound p L st = TakesAt e h bound L st
 
 -- the program's facts that a tick of a thread at its row looks at
