@@ -4,7 +4,7 @@
 --     fault_of       a fault
 --     matched_for    what a row that asks for a slot is offered
 --     entry_if       the entry of a row that asks, if it is complete
---     Happening          what a tick answers
+--     Happening     what a tick answers
 --     move_of        what it answers, with the state that it leaves
 use Rattle.std.specs.Prelude.{ℕ, ◌<◌, List, [], Bool, true, false, Result, Ok, Err}
 use Rattle.rules.specs.Event as rules
