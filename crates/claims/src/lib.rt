@@ -15,7 +15,8 @@ use token::Owned;
 pub const MOST_CLAIMED: usize = CONDITION_BYTES + COMPARISON;
 
 // What stands at a place: so many bytes of a condition and where they end. A comparison that breaks off is not whole: it is filled up, and
-// ends where it broke off. Its bytes count all the same, so it is no Option. At most so many bytes are used: a text has no heap.
+// ends where it broke off. Its bytes count all the same, so it is no Option. The array has
+// room for the longest unit, since there is no heap.
 #[derive(Clone, Copy)]
 struct Unit {
     whole: bool,

@@ -23,7 +23,7 @@ use Rattle.decode.specs.declared.Op.TheVariants as code
 use Rattle.std.specs.Prelude.{Option, Some, None}
 use Rattle.decode.specs.Ops.{op_of, decoded_of}
 use Rattle.coverage.specs.Covered.{count_of, row_op, switches, one_below, first_in_thread, site_or, first_from, first_switch, stores_pending, stores_to, one_if, summed, stores_in, store_count}
-use Rattle.coverage.specs.declared.search.Site.{Site}
+use Rattle.coverage.specs.declared.search.RowAt.{RowAt}
 
 -- The first row of a thread that switches (table/proofs/Walks has the turns of that loop)
 
@@ -48,7 +48,7 @@ told on d e r b q p s = ap (λ (x : rules.Decoded rules.Op). not (switches on x)
 
 -- The first thread that has such a row: what is left to be asked at thread i
 
-module _ (t shape : List ℕ) (on : Bool) (i : ℕ) (whole : Option Site) (left : first_from t shape on (5 - i) i ≡ whole) (h : i < 5) where
+module _ (t shape : List ℕ) (on : Bool) (i : ℕ) (whole : Option RowAt) (left : first_from t shape on (5 - i) i ≡ whole) (h : i < 5) where
   from_one : first_from t shape on (5 - i) i ≡ site_or i (first_in_thread t shape on i) (first_from t shape on (5 - (i + 1)) (i + 1))
   unfolding first_from
   from_one = let e : 5 - i ≡ suc (5 - (i + 1)) = omega arith in rw e
@@ -62,7 +62,7 @@ module _ (t shape : List ℕ) (on : Bool) (i : ℕ) (whole : Option Site) (left 
 pub from_all : (t shape : List ℕ) (on : Bool) → shape ≡ shape_of t → first_from t shape on 5 0 ≡ first_switch t on
 from_all t shape on e = rw e
 
-pub from-none : (t shape : List ℕ) (on : Bool) (i : ℕ) (whole : Option Site) → first_from t shape on (5 - i) i ≡ whole → 5 ≤ i → None ≡ whole
+pub from-none : (t shape : List ℕ) (on : Bool) (i : ℕ) (whole : Option RowAt) → first_from t shape on (5 - i) i ≡ whole → 5 ≤ i → None ≡ whole
 unfolding first_from
 from-none t shape on i whole left h = let e : 5 - i ≡ 0 = omega arith in rw e at left
 

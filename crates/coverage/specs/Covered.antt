@@ -7,7 +7,7 @@ use Rattle.std.specs.Prelude.{ℕ, zero, suc, ◌+◌, List, Option, Some, None,
 use Rattle.rules.specs.Table.{Op, Decoded, opcode_in, op_at, shape_of, first_not, max_threads}
 use Rattle.table.specs.Answers.{room_in}
 use Rattle.rules.specs.Machine.{Pending, nothing, pends, role_in, pending_as, aLoad}
-use Rattle.coverage.specs.declared.search.Site.{Site}
+use Rattle.coverage.specs.declared.search.RowAt.{RowAt}
 
 -- Rows, in a table of this shape
 
@@ -34,17 +34,17 @@ first_in_thread t shape on thread =
     one_below (count_of shape thread) (first_not (λ (row : ℕ). not (switches on (row_op t shape thread row))) (count_of shape thread) 0)
 
 -- this row of the thread, or else what is found behind it
-abbrev pub site_or : ℕ → Option ℕ → Option Site → Option Site
+abbrev pub site_or : ℕ → Option ℕ → Option RowAt → Option RowAt
 site_or thread (Some row) rest = Some (record { thread = thread; row = row })
 site_or thread None rest = rest
 
 -- of the n threads from this one on
-unfoldable pub first_from : List ℕ → List ℕ → Bool → ℕ → ℕ → Option Site
+unfoldable pub first_from : List ℕ → List ℕ → Bool → ℕ → ℕ → Option RowAt
 first_from t shape on zero thread = None
 first_from t shape on (suc n) thread =
     site_or thread (first_in_thread t shape on thread) (first_from t shape on n (thread + 1))
 
-abbrev pub first_switch : List ℕ → Bool → Option Site
+abbrev pub first_switch : List ℕ → Bool → Option RowAt
 first_switch t on = first_from t (shape_of t) on max_threads 0
 
 -- Rows that store

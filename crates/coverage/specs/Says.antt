@@ -13,7 +13,7 @@ use Rattle.rules.specs.Path.{Bound, unbounded, at_most}
 use Rattle.rules.specs.Explored.{Settings}
 use Rattle.page.specs.Pages.{Page, put_text, put_filled}
 use Rattle.coverage.specs.Covered.{first_switch, store_count}
-use Rattle.coverage.specs.declared.search.Site.{Site}
+use Rattle.coverage.specs.declared.search.RowAt.{RowAt}
 
 -- The first line
 
@@ -28,13 +28,13 @@ put_first l what n begun = put_text (put_executions (put_filled l what n 0 0) be
 -- What was tried
 
 -- exploring was off at the start: by the first row that switches it on
-abbrev pub put_switched_on : Page → Option Site → Page
+abbrev pub put_switched_on : Page → Option RowAt → Page
 put_switched_on l None = put_text l (bytes_of "covered: one execution; no other order of the threads and no other load was tried\n")
 put_switched_on l (Some site) =
     put_filled l (bytes_of "covered: what is varied while exploring is on, by `explore_state` (first at thread #, row #); nothing else\n")
     site.thread site.row 0
 
-unfoldable pub put_off : Page → Option Site → ℕ → Page
+unfoldable pub put_off : Page → Option RowAt → ℕ → Page
 put_off l on begun =
     put_switched_on (put_first l (bytes_of "answer 0: not explored, by --not-exploring; ended after ") 0 begun) on
 
@@ -46,7 +46,7 @@ put_exhausted l unbounded begun =
 put_exhausted l (at_most most) begun = put_first l (bytes_of "answer 0: exhausted within --bound # after ") most begun
 
 -- exploring was on at the start: by the first row that switches it off
-unfoldable pub put_explored : Page → Bound → Option Site → ℕ → Page
+unfoldable pub put_explored : Page → Bound → Option RowAt → ℕ → Page
 put_explored l bound None begun = put_exhausted l bound begun
 put_explored l bound (Some site) begun =
     put_filled (put_first l (bytes_of "answer 0: exhausted in part, since the program switches exploring off, after ") 0 begun)

@@ -11,7 +11,7 @@ ghost use Rattle.coverage.specs.Says.{put_old_stores, put_covered};
 
 use layout::{MAX_ATOMIC_HISTORY, MAX_CELLS};
 use page::Page;
-use search::Site;
+use search::RowAt;
 use settings::Settings;
 
 mod search;
@@ -60,7 +60,7 @@ fn put_executions(page: &mut Page, at: usize, begun: u64) -> usize
 }
 
 // Exploring was off at the start.
-fn put_off(page: &mut Page, at: usize, on: Option<Site>, begun: u64) -> usize
+fn put_off(page: &mut Page, at: usize, on: Option<RowAt>, begun: u64) -> usize
     ensures { page_of page.new result ≡ put_off (page_of page.old at) on begun }
 {
     let to = put_first(
@@ -92,7 +92,7 @@ fn put_explored(
     page: &mut Page,
     at: usize,
     bound: Option<u8>,
-    switched: Option<Site>,
+    switched: Option<RowAt>,
     begun: u64,
 ) -> usize
     ensures { page_of page.new result ≡ put_explored (page_of page.old at) (bound_of bound) switched begun }

@@ -10,19 +10,19 @@ use table::{COUNTS, Shape};
 
 // A row of the table, by its thread and its number there.
 #[derive(Clone, Copy)]
-pub struct Site {
+pub struct RowAt {
     pub thread: usize,
     pub row: usize,
 }
 
 // The first row, thread by thread, that switches exploring on, or off.
-pub fn first_switch(table: &[u8], on: bool) -> Option<Site>
+pub fn first_switch(table: &[u8], on: bool) -> Option<RowAt>
     ensures { result ≡ first_switch table.now on }
 {
     let shape = table::shape(table);
     for thread in 0..MAX_THREADS {
         if let Some(row) = first_in(table, &shape, thread, on) {
-            return Some(Site { thread, row });
+            return Some(RowAt { thread, row });
         }
     }
     None

@@ -1,4 +1,5 @@
-// The opcodes' numbers, by name. A row's byte is any of 256; what it means is the enum `Op`. Where a row is decoded its byte is matched with the numbers themselves; all else has the names.
+// The opcodes' numbers, by name. A row's byte is any of 256; what it means is the enum `Op`. Where a row is
+// decoded its byte is matched with the numbers themselves; all else has the names.
 pub const LOAD: u8 = 0;
 
 pub const STORE: u8 = 1;

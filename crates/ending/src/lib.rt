@@ -11,8 +11,8 @@ use report::{Answer, Counts, Report};
 use table::limits::THREAD_COUNT;
 use walk::{Cursor, Outcome, Ticked};
 
-// What the run answers, if it stops with the execution that is over; if not, it goes on. A fault is the answer. An execution that ended answers 18 if the final condition is false of the registers, 0 if nothing is open,
-// and 1 if it was the last allowed. One that would still go on is not over: that is the impossible outcome, as in the definition.
+// What the run answers, if it stops here; None where it goes on. A fault is the answer. An execution that ended answers 18 if the final
+// condition is false of the registers, 0 if nothing is open, and 1 if it was the last allowed. One that would still go on is not over: that is the impossible outcome, as in the definition.
 pub fn judge_end(
     table: &[u8],
     condition: &[u8],

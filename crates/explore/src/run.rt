@@ -49,7 +49,8 @@ fn run_in(
     tell::print_report(rt, table, condition, trace, settings, whole, report)
 }
 
-// The budgets of executions, each twice the one before: a run that needs no more than the first says nothing before its answer.
+// The budgets of executions, each twice the one before: a run that needs no more than the first says nothing before its answer. All are
+// below MAX_EXECUTIONS.
 const BUDGETS: [u64; 3] = [8192, 16384, 32768];
 
 // Explores. The library gives no word before its answer, so a long run is made with budgets that double: one that is spent

@@ -1,4 +1,3 @@
 pub mod Slots
 pub mod Tables
-pub mod Threads
 pub mod Wide

@@ -52,7 +52,7 @@ first-by x l r n e = record { few = rw e (below-five (first_in x l) (first-of-fi
 
 pub five-byte : (w : Whom) → Fewer 5 w → byte_of (found_as w) ≡ or_none w
 five-byte nobody h = refl
-five-byte (thread t) h = omega arith
+five-byte (thread t) h = rw (lt-ltb t 5 h) refl
 
 pub five-alike : (v w : Whom) → Fewer 5 v → Fewer 5 w → option_eq eqb (found_as v) (found_as w) ≡ eqb (or_none v) (or_none w)
 five-alike nobody nobody g h = refl

@@ -10,10 +10,10 @@ use Rattle.record.specs.Fields.{record_byte, states_at, with_states_at}
 use Rattle.record.specs.Places.{FoundBelow}
 use Rattle.record.specs.Stands.{BranchStands}
 
--- a thread's index as a record's byte
+-- a thread's index as a record's byte, if it is one of the five
 abbrev pub byte_of : Option ℕ → ℕ
 byte_of None = no_thread
-byte_of (Some t) = t % 256
+byte_of (Some t) = cond (ltb t 5) t no_thread
 
 -- a position as a record's prev
 abbrev pub position_of : Option ℕ → ℕ

@@ -35,13 +35,13 @@ pub fn active_thread_index(path: &[u8], at: usize) -> Option<usize>
     first_in(path, at, seed::ACTIVE)
 }
 
-// A thread as the byte of the initial active field.
+// A thread as the byte of the initial active field: NOBODY where it is none of the five.
 fn thread_byte(thread: Option<usize>) -> u8
     ensures { result ≡ byte_of thread }
 {
     match thread {
-        Some(t) => (t % 256) as u8,
-        None => fields::NOBODY,
+        Some(t) if t < MAX_THREADS => (t % 256) as u8,
+        _ => fields::NOBODY,
     }
 }
 

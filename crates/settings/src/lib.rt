@@ -33,7 +33,7 @@ pub const PATH_BYTES: usize = RECORD * MAX_BRANCHES as usize;
 
 pub const TRACE_BYTES: usize = RECORD * MAX_OPERATIONS as usize;
 
-// The bound that a number stands for: one that is above every bound, MAX_BOUND, is none.
+// The bound that a number stands for: one above MAX_BOUND, the largest, is none.
 pub fn bound_of(given: u64) -> Option<u8>
     ensures { bound_of result ≡ bound_for given }
 {

@@ -1,6 +1,6 @@
 -- What the writer answers, and what it leaves in the buffer. Assumes nothing.
 --     fit-good                                 what the definition accepts can be written
---     into-header, into-row, into-condition    refusals
+--     into_bad, into-condition                 refusals
 --     into-short, into-written                 too small a buffer, and one that is not
 use Prim.Native.Nat.{ℕ, ◌+◌, ◌≤◌, ◌<◌}
 use mathlib.Core.List.{List, ◌++◌}

@@ -5,7 +5,7 @@ use Rattle.rules.specs.Token.{is_blank}
 use Rattle.rules.specs.Form.{follow, most_words, blank_fields}
 use Rattle.token.proofs.PlaceLaws.{left_by, between_run}
 use Rattle.decode.specs.Ops.{room_meant}
-use Rattle.form.specs.Rows.{followed_of, place_of}
+use Rattle.form.specs.Rows.{followed_of, followed_to}
 use Rattle.form.proofs.RowLaws.{follows_stuck}
 use Rattle.form.proofs.TriedLaws.{Next, by-these, two-there, opcode-there, kind-there, words-there, past_two, trying-none, trying-all, trying-next, tried-fits, tried-on, further_max}
 use Rattle.form.proofs.tried.Goals as goal
@@ -46,7 +46,7 @@ returns-in-Ok c =
     (kind-there n.form n.rest a.forms.now c.loop-from.from n.left) in
     record {
       said = tried-fits _ _ _ _ _ _ n _ _ (sym (ap (followed_of a.text.now) c.in-Ok.is) ∙ by_form);
-      between = rw (ap place_of c.in-Ok.is) at c.followed.ensures.between;
+      between = rw (ap followed_to c.in-Ok.is) at c.followed.ensures.between;
     }
 
 pub loop-from-smaller : goal.loop-from-smaller
@@ -67,7 +67,7 @@ loop-from-preserved c =
     (opcode-there n.form n.rest a.forms.now c.loop-from.from n.left)
     (kind-there n.form n.rest a.forms.now c.loop-from.from n.left) in
     tried-on (room_meant a.room) a.forms.now a.text.now a.at c.loop-from.from c.loop-from.best n c.next_line-to.result c.in-Err.stuck c.max-best.result c.next_line-to.ensures
-    (sym (ap (followed_of a.text.now) c.in-Err.is) ∙ by_form) (rw (ap place_of c.in-Err.is) at c.followed.ensures.between) (c.max-best.ensures ∙ further_max _ _)
+    (sym (ap (followed_of a.text.now) c.in-Err.is) ∙ by_form) (rw (ap followed_to c.in-Err.is) at c.followed.ensures.between) (c.max-best.ensures ∙ further_max _ _)
 
 pub returns : goal.returns
 returns c =
