@@ -41,7 +41,7 @@ returns-in_err-event c =
     next-begins p (state args.clocks.now args.marks.now args.values.now args.numbers.now) args.here.site.thread args.here.site.row _ _ (c.is_to_begin-to_begin.ensures args.clocks.now args.marks.now args.values.now) args.here.row (elim c.if-to_begin.branch [
       | then-to_begin+else-shape-thread w ↦ inl w.if-shape-thread.false
       | else-to_begin w ↦ inr w.if-to_begin.false
-    ]) _ c.in-Row.is c.if-to_begin-2.true _
+    ]) _ c.in-Some.is c.if-to_begin-2.true _
     (begun-stops p (state args.clocks.now args.marks.now args.values.now args.numbers.now) _ args.here.site.thread args.here.site.row _ _ _ _ c.begin.result limited (c.begin.ensures args.clocks.now args.marks.now args.values.now args.here.site.row _ _)
     _ _ c.from_residual.result c.in_err-event.was out.1 out.2)
 
