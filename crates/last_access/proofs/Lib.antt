@@ -1,1 +1,2 @@
 mod AccessLaws
+mod OpLaws
