@@ -77,9 +77,9 @@ unfolding seen seen_through
 seen-or m v marks vs =
     ⊎_elim (λ e. rw e) (λ e. rw e (sym (someone-next (seen_through marks vs)))) (flag (known m v))
 
-module _ (marks vs : List ℕ) (i : ℕ) (len1 : length marks ≡ 5) (len2 : length vs ≡ 5) (below : i < 5) (so b : Bool) where
+module _ (marks vs : List ℕ) (i : ℕ) (h : i < length marks) (k : i < length vs) (so b : Bool) where
   pub seen-on : b ≡ known (get_or marks i 0) (get_or vs i 0) → (so || b) || seen (drop (i + 1) marks) (drop (i + 1) vs) ≡ so || seen (drop i marks) (drop i vs)
-  seen-on e = rw (e, left-cons seen marks vs i len1 len2 below, ← seen-or) (or-or so _ _)
+  seen-on e = rw (e, left-cons seen marks vs i h k, ← seen-or) (or-or so _ _)
 
 -- with no mark left, what was found so far is the answer
 pub so-far : (so : Bool) → so || false ≡ so

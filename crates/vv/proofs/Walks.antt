@@ -1,23 +1,21 @@
--- Laws for loops that walk along two vectors: what is left to be asked from place i on. Each vector has
--- five parts. Assumes nothing.
+-- Laws for loops that walk along two vectors: what is left to be asked from place i on. Over every length. Assumes nothing.
 --     left-cons, left-none     whatever is asked of two lists, of what is left of them at i
---     at_most-.., compared-.., ahead-..    a part that lets the walk go on, and one that ends it
+--     at_most-.., equal-.., compared-.., ahead-..    a part that lets the walk go on, and one that ends it
 --     join-..                  the parts below i are joined, what is left is still to be
 --     raise-..                 the walk comes to the thread, is elsewhere, is past all
--- and for functions without a loop: equal-told, less-told
+--     within, beyond           a place within five parts, and one past them
+-- and for a function without a loop: less-told
 use Prim.Native.Nat.{ℕ, suc, ◌+◌, ◌≤◌, ◌<◌, max}
 use mathlib.Core.List.{List, [], ◌∷◌, ◌++◌, append-nil}
 use mathlib.Core.Bool.{Bool, true, false, cond, not, ◌&&◌, true≢false}
 use mathlib.Core.Path.{◌≡◌, refl, ap, sym, ◌∙◌}
 use mathlib.Core.Logic.{◌≢◌, ◌⊎◌, inl, inr, ⊎_elim}
 use lib.Dec.{ltb, eqb}
-use lib.Pointwise.{pointwise}
-use Rattle.std.specs.Prelude.{nat_eq}
 use native.Mathlib.Omega.{arith}
 use native.Mathlib.Numerals.{add-one}
 use lib.ListN.{length, get_or, set, take, drop, drop_of_length-le}
 use lib.Seq.{drop-cons, take-suc-set, drop-set-lt, set-get_or, set_out, take_all, append_snoc}
-use borrow.Author.Tests.{lt-ltb, le-ltb, le-leb, lt-leb, ne_eqb, ltb-true, ltb-false}
+use borrow.Author.Tests.{lt-ltb, le-ltb, le-leb, lt-leb, ne_eqb, eq-eqb, ltb-true, ltb-false}
 use Rattle.rules.specs.Vector.{at_most, equal, less, joined, one_more, raised, ahead, one_up, Whom, nobody, thread}
 use Rattle.rules.proofs.VectorLaws.{at_most-refl, equal-true}
 use denote.Enum.Bare.{sameb}
@@ -26,38 +24,43 @@ use Rattle.vv.specs.declared.Ordering.{Ordering}
 use Rattle.vv.specs.declared.Ordering.TheVariants.{Less, Equal, Neither}
 use Rattle.vv.specs.Compared.{ordering_of}
 
-module _ {A : Type 0} (f : List ℕ → List ℕ → A) (xs ys : List ℕ) (i : ℕ) (len1 : length xs ≡ 5) (len2 : length ys ≡ 5) where
-  pub left-cons : i < 5 → f (drop i xs) (drop i ys) ≡ f (get_or xs i 0 ∷ drop (i + 1) xs) (get_or ys i 0 ∷ drop (i + 1) ys)
-  left-cons below =
-      let h : i < length xs = omega (arith, len1) in
-      let k : i < length ys = omega (arith, len2) in
-      rw (add-one, drop-cons xs i 0, drop-cons ys i 0)
+module _ {A : Type 0} (f : List ℕ → List ℕ → A) (xs ys : List ℕ) (i : ℕ) where
+  pub left-cons : i < length xs → i < length ys →
+      f (drop i xs) (drop i ys) ≡ f (get_or xs i 0 ∷ drop (i + 1) xs) (get_or ys i 0 ∷ drop (i + 1) ys)
+  left-cons h k = rw (add-one, drop-cons xs i 0, drop-cons ys i 0)
 
-  pub left-none : 5 ≤ i → f (drop i xs) (drop i ys) ≡ f [] []
-  left-none past =
-      let h : length xs ≤ i = omega (arith, len1) in
-      let k : length ys ≤ i = omega (arith, len2) in
-      rw (drop_of_length-le xs h, drop_of_length-le ys k)
+  pub left-none : length xs ≤ i → length ys ≤ i → f (drop i xs) (drop i ys) ≡ f [] []
+  left-none h k = rw (drop_of_length-le xs h, drop_of_length-le ys k)
+
+-- the vectors of a run have five parts
+module _ (xs : List ℕ) (i : ℕ) (len : length xs ≡ 5) where
+  pub within : i < 5 → i < length xs
+  within below = omega (arith, len, below)
+
+  pub beyond : 5 ≤ i → length xs ≤ i
+  beyond past = omega (arith, len, past)
 
 flag : (b : Bool) → (b ≡ true) ⊎ (b ≡ false)
 flag true = inl refl
 flag false = inr refl
 
-module _ (xs ys : List ℕ) (i : ℕ) (len1 : length xs ≡ 5) (len2 : length ys ≡ 5) (below : i < 5) where
+module _ (xs ys : List ℕ) (i : ℕ) (h : i < length xs) (k : i < length ys) where
   pub at_most-on : get_or xs i 0 ≤ get_or ys i 0 → at_most (drop (i + 1) xs) (drop (i + 1) ys) ≡ at_most (drop i xs) (drop i ys)
   unfolding at_most
-  at_most-on l = rw (left-cons at_most xs ys i len1 len2 below, le-leb (get_or xs i 0) (get_or ys i 0) l)
+  at_most-on l = rw (left-cons at_most xs ys i h k, le-leb (get_or xs i 0) (get_or ys i 0) l)
 
   pub at_most-ends : get_or ys i 0 < get_or xs i 0 → at_most (drop i xs) (drop i ys) ≡ false
   unfolding at_most
-  at_most-ends l = rw (left-cons at_most xs ys i len1 len2 below, lt-leb (get_or xs i 0) (get_or ys i 0) l)
+  at_most-ends l = rw (left-cons at_most xs ys i h k, lt-leb (get_or xs i 0) (get_or ys i 0) l)
 
-pub equal-told : (xs ys : List ℕ) → pointwise nat_eq xs ys ≡ equal xs ys
-unfolding equal
-equal-told [] [] = refl
-equal-told [] (y ∷ ys) = refl
-equal-told (x ∷ xs) [] = refl
-equal-told (x ∷ xs) (y ∷ ys) = ap (λ (b : Bool). nat_eq x y && b) (equal-told xs ys)
+module _ (xs ys : List ℕ) (i : ℕ) (h : i < length xs) (k : i < length ys) where
+  pub equal-on : get_or xs i 0 ≡ get_or ys i 0 → equal (drop (i + 1) xs) (drop (i + 1) ys) ≡ equal (drop i xs) (drop i ys)
+  unfolding equal
+  equal-on e = rw (left-cons equal xs ys i h k, eq-eqb (get_or xs i 0) (get_or ys i 0) e)
+
+  pub equal-ends : get_or xs i 0 ≢ get_or ys i 0 → equal (drop i xs) (drop i ys) ≡ false
+  unfolding equal
+  equal-ends n = rw (left-cons equal xs ys i h k, ne_eqb (get_or xs i 0) (get_or ys i 0) n)
 
 -- how the whole compares, by whether all parts so far are the same and by how what is left compares
 abbrev pub after : Bool → Ordering → Ordering
@@ -98,21 +101,21 @@ module _ (x y : ℕ) (xs ys : List ℕ) (l : x ≤ y) (so : Bool) where
   unfolding at_most equal less
   past-less e = rw (e, le-leb x y l) (only-most so (equal xs ys) (at_most xs ys) (equal-most xs ys))
 
-module _ (xs ys : List ℕ) (i : ℕ) (len1 : length xs ≡ 5) (len2 : length ys ≡ 5) (below : i < 5) where
+module _ (xs ys : List ℕ) (i : ℕ) (h : i < length xs) (k : i < length ys) where
   pub compared-on : (so : Bool) → get_or xs i 0 ≤ get_or ys i 0 →
       after (so && eqb (get_or xs i 0) (get_or ys i 0)) (ordering_of (drop (i + 1) xs) (drop (i + 1) ys)) ≡ after so (ordering_of (drop i xs) (drop i ys))
   compared-on so l =
-      rw (left-cons ordering_of xs ys i len1 len2 below) (⊎_elim (past_same _ _ _ _ l so) (past-less _ _ _ _ l so) (flag (eqb (get_or xs i 0) (get_or ys i 0))))
+      rw (left-cons ordering_of xs ys i h k) (⊎_elim (past_same _ _ _ _ l so) (past-less _ _ _ _ l so) (flag (eqb (get_or xs i 0) (get_or ys i 0))))
 
   pub compared-ends : (so : Bool) → get_or ys i 0 < get_or xs i 0 → after so (ordering_of (drop i xs) (drop i ys)) ≡ Neither
   unfolding at_most equal less
   compared-ends so l =
-      rw (left-cons ordering_of xs ys i len1 len2 below, lt-leb (get_or xs i 0) (get_or ys i 0) l, ne_eqb (get_or xs i 0) (get_or ys i 0) (λ e. omega (arith, e))) (after-neither so)
+      rw (left-cons ordering_of xs ys i h k, lt-leb (get_or xs i 0) (get_or ys i 0) l, ne_eqb (get_or xs i 0) (get_or ys i 0) (λ e. omega (arith, e))) (after-neither so)
 
 -- with no part left, what was found so far is the answer
-pub compared-none : (xs ys : List ℕ) (i : ℕ) → length xs ≡ 5 → length ys ≡ 5 → 5 ≤ i → (so t : Bool) → so ≡ t → after t Equal ≡ after so (ordering_of (drop i xs) (drop i ys))
+pub compared-none : (xs ys : List ℕ) (i : ℕ) → length xs ≤ i → length ys ≤ i → (so t : Bool) → so ≡ t → after t Equal ≡ after so (ordering_of (drop i xs) (drop i ys))
 unfolding equal
-compared-none xs ys i len1 len2 past so t e = rw (left-none ordering_of xs ys i len1 len2 past, e)
+compared-none xs ys i h k so t e = rw (left-none ordering_of xs ys i h k, e)
 
 less-of : (same most : Bool) → sameb the_type (cond same Equal (cond (most && not same) Less Neither)) Less ≡ most && not same
 less-of true true = refl
@@ -137,25 +140,24 @@ pub past-none : (w : Whom) → past 0 w ≡ w
 past-none nobody = refl
 past-none (thread t) = let e : 0 + t ≡ t = omega arith in cc
 
-module _ (xs ys : List ℕ) (i : ℕ) (len1 : length xs ≡ 5) (len2 : length ys ≡ 5) (below : i < 5) where
+module _ (xs ys : List ℕ) (i : ℕ) (h : i < length xs) (k : i < length ys) where
   pub ahead-on : get_or ys i 0 ≤ get_or xs i 0 → past (i + 1) (ahead (drop (i + 1) xs) (drop (i + 1) ys)) ≡ past i (ahead (drop i xs) (drop i ys))
   unfolding ahead
-  ahead-on l = rw (left-cons ahead xs ys i len1 len2 below, le-ltb (get_or xs i 0) (get_or ys i 0) l, past_next)
+  ahead-on l = rw (left-cons ahead xs ys i h k, le-ltb (get_or xs i 0) (get_or ys i 0) l, past_next)
 
   pub ahead-ends : get_or xs i 0 < get_or ys i 0 → past i (ahead (drop i xs) (drop i ys)) ≡ thread i
   unfolding ahead
-  ahead-ends l = rw (left-cons ahead xs ys i len1 len2 below, lt-ltb (get_or xs i 0) (get_or ys i 0) l) (let e : i + 0 ≡ i = omega arith in cc)
+  ahead-ends l = rw (left-cons ahead xs ys i h k, lt-ltb (get_or xs i 0) (get_or ys i 0) l) (let e : i + 0 ≡ i = omega arith in cc)
 
 -- xs with the parts from i on still to be joined with those of ys
 abbrev pub joining : List ℕ → List ℕ → ℕ → List ℕ
 joining xs ys i = take i xs ++ joined (drop i xs) (drop i ys)
 
-module _ (xs ys : List ℕ) (i : ℕ) (len1 : length xs ≡ 5) (len2 : length ys ≡ 5) (below : i < 5) where
+module _ (xs ys : List ℕ) (i : ℕ) (h : i < length xs) (k : i < length ys) where
   join-set : (v : ℕ) → v ≡ max (get_or xs i 0) (get_or ys i 0) → joining (set xs i v) ys (i + 1) ≡ joining xs ys i
   unfolding joined
   join-set v e =
-      let h : i < length xs = omega (arith, len1) in
-      rw (left-cons joined xs ys i len1 len2 below, add-one, take-suc-set xs i v h, drop-set-lt (suc i) xs i v (omega arith), append_snoc, e)
+      rw (left-cons joined xs ys i h k, add-one, take-suc-set xs i v h, drop-set-lt (suc i) xs i v (omega arith), append_snoc, e)
 
   pub join-taken : get_or xs i 0 < get_or ys i 0 → joining (set xs i (get_or ys i 0)) ys (i + 1) ≡ joining xs ys i
   join-taken l = join-set (get_or ys i 0) (omega arith)
@@ -164,11 +166,9 @@ module _ (xs ys : List ℕ) (i : ℕ) (len1 : length xs ≡ 5) (len2 : length ys
   join_kept l = ap (λ (l : List ℕ). joining l ys (i + 1)) (sym (set-get_or xs i 0)) ∙ join-set (get_or xs i 0) (omega arith)
 
 -- with nothing left to be joined, xs is what it is
-pub join-none : (xs ys : List ℕ) (i : ℕ) → length xs ≡ 5 → length ys ≡ 5 → 5 ≤ i → joining xs ys i ≡ xs
+pub join-none : (xs ys : List ℕ) (i : ℕ) → length xs ≤ i → length ys ≤ i → joining xs ys i ≡ xs
 unfolding joined
-join-none xs ys i len1 len2 past =
-    let h : length xs ≤ i = omega (arith, len1) in
-    rw (take_all i xs h, left-none joined xs ys i len1 len2 past, append-nil)
+join-none xs ys i h k = rw (take_all i xs h, drop_of_length-le xs h, drop_of_length-le ys k, append-nil)
 
 -- xs, raised once the walk has passed the thread
 abbrev pub raising : List ℕ → ℕ → ℕ → List ℕ
@@ -193,7 +193,7 @@ raise-past xs t i n =
 pub raise-on : (xs ys : List ℕ) (t i v : ℕ) → ys ≡ raising xs t i → i ≢ t → v ≡ get_or ys i 0 → set ys i v ≡ raising xs t (i + 1)
 raise-on xs ys t i v e n w = ap (set ys i) w ∙ set-get_or ys i 0 ∙ e ∙ raise-past xs t i n
 
-pub raise-all : (xs : List ℕ) (t i : ℕ) → length xs ≡ 5 → 5 ≤ i → raising xs t i ≡ raised xs t
+pub raise-all : (xs : List ℕ) (t i : ℕ) → length xs ≤ i → raising xs t i ≡ raised xs t
 unfolding raised
-raise-all xs t i len past =
-    ⊎_elim (λ e. rw e) (λ e. rw e (sym (set_out xs t _ (omega (arith, len, ltb-false t i e))))) (flag (ltb t i))
+raise-all xs t i h =
+    ⊎_elim (λ e. rw e) (λ e. rw e (sym (set_out xs t _ (omega (arith, ltb-false t i e))))) (flag (ltb t i))

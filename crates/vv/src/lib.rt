@@ -78,11 +78,16 @@ impl VersionVec {
         true
     }
 
-    // Whether all parts are equal.
+    // Whether all parts are equal. The first that is not ends the walk; `==` of arrays would go through all.
     pub fn equal(self, other: VersionVec) -> bool
         ensures { result ≡ equal self.versions other.versions }
     {
-        self.versions == other.versions
+        for i in 0..MAX_THREADS {
+            if self.versions[i] != other.versions[i] {
+                return false;
+            }
+        }
+        true
     }
 
     // Less, equal or neither. The first part that is greater ends the walk; loom's goes on there to tell greater from neither,

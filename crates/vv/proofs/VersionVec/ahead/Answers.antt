@@ -1,7 +1,8 @@
 use borrow.Author.Rules.{rules}
-use mathlib.Core.Path.{sym, ap, ◌∙◌}
+use mathlib.Core.Path.{◌≡◌, sym, ap, ◌∙◌}
+use lib.ListN.{length}
 use Rattle.rules.specs.Vector.{ahead}
-use Rattle.vv.proofs.Walks.{left-none, past, past-none, ahead-on, ahead-ends}
+use Rattle.vv.proofs.Walks.{within, beyond, left-none, past, past-none, ahead-on, ahead-ends}
 use Rattle.vv.proofs.VersionVec.ahead.Goals as goal
 
 pub loop-i-init : goal.loop-i-init
@@ -9,13 +10,19 @@ loop-i-init c = past-none _
 
 pub returns-then-self-i : goal.returns-then-self-i
 returns-then-self-i c =
-    sym (ahead-ends _ _ _ (search rules) (search rules) c.loop-i-test.true c.if-self-i.true) ∙ c.loop-i.invariant
+    let len1 : length c.args.self.versions ≡ 5 = search rules in
+    let len2 : length c.args.other.versions ≡ 5 = search rules in
+    sym (ahead-ends _ _ _ (within _ _ len1 c.loop-i-test.true) (within _ _ len2 c.loop-i-test.true) c.if-self-i.true) ∙ c.loop-i.invariant
 
 pub loop-i-preserved : goal.loop-i-preserved
 loop-i-preserved c =
-    ahead-on _ _ _ (search rules) (search rules) c.loop-i-test.true c.if-self-i.false ∙ c.loop-i.invariant
+    let len1 : length c.args.self.versions ≡ 5 = search rules in
+    let len2 : length c.args.other.versions ≡ 5 = search rules in
+    ahead-on _ _ _ (within _ _ len1 c.loop-i-test.true) (within _ _ len2 c.loop-i-test.true) c.if-self-i.false ∙ c.loop-i.invariant
 
 pub returns : goal.returns
 unfolding ahead
 returns c =
-    sym (ap (past c.loop-i.i) (left-none ahead _ _ _ (search rules) (search rules) c.loop-i-test.false)) ∙ c.loop-i.invariant
+    let len1 : length c.args.self.versions ≡ 5 = search rules in
+    let len2 : length c.args.other.versions ≡ 5 = search rules in
+    sym (ap (past c.loop-i.i) (left-none ahead _ _ _ (beyond _ _ len1 c.loop-i-test.false) (beyond _ _ len2 c.loop-i-test.false))) ∙ c.loop-i.invariant

@@ -1,7 +1,8 @@
 use borrow.Author.Rules.{rules}
-use mathlib.Core.Path.{refl, sym, ◌∙◌}
+use mathlib.Core.Path.{◌≡◌, refl, sym, ◌∙◌}
+use lib.ListN.{length}
 use Rattle.rules.specs.Vector.{at_most}
-use Rattle.vv.proofs.Walks.{left-none, at_most-on, at_most-ends}
+use Rattle.vv.proofs.Walks.{within, beyond, left-none, at_most-on, at_most-ends}
 use Rattle.vv.proofs.VersionVec.at_most.Goals as goal
 
 pub loop-i-init : goal.loop-i-init
@@ -9,13 +10,19 @@ loop-i-init c = refl
 
 pub returns-then-self-i : goal.returns-then-self-i
 returns-then-self-i c =
-    sym (at_most-ends _ _ _ (search rules) (search rules) c.loop-i-test.true c.if-self-i.true) ∙ c.loop-i.invariant
+    let len1 : length c.args.self.versions ≡ 5 = search rules in
+    let len2 : length c.args.other.versions ≡ 5 = search rules in
+    sym (at_most-ends _ _ _ (within _ _ len1 c.loop-i-test.true) (within _ _ len2 c.loop-i-test.true) c.if-self-i.true) ∙ c.loop-i.invariant
 
 pub loop-i-preserved : goal.loop-i-preserved
 loop-i-preserved c =
-    at_most-on _ _ _ (search rules) (search rules) c.loop-i-test.true c.if-self-i.false ∙ c.loop-i.invariant
+    let len1 : length c.args.self.versions ≡ 5 = search rules in
+    let len2 : length c.args.other.versions ≡ 5 = search rules in
+    at_most-on _ _ _ (within _ _ len1 c.loop-i-test.true) (within _ _ len2 c.loop-i-test.true) c.if-self-i.false ∙ c.loop-i.invariant
 
 pub returns : goal.returns
 unfolding at_most
 returns c =
-    sym (left-none at_most _ _ _ (search rules) (search rules) c.loop-i-test.false) ∙ c.loop-i.invariant
+    let len1 : length c.args.self.versions ≡ 5 = search rules in
+    let len2 : length c.args.other.versions ≡ 5 = search rules in
+    sym (left-none at_most _ _ _ (beyond _ _ len1 c.loop-i-test.false) (beyond _ _ len2 c.loop-i-test.false)) ∙ c.loop-i.invariant

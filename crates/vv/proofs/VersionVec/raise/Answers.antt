@@ -1,7 +1,7 @@
 use borrow.Author.Rules.{rules}
-use mathlib.Core.Path.{◌∙◌}
-use lib.ListN.{length-set}
-use Rattle.vv.proofs.Walks.{raise-none, raise-own, raise-on, raise-all}
+use mathlib.Core.Path.{◌≡◌, ◌∙◌}
+use lib.ListN.{length, length-set}
+use Rattle.vv.proofs.Walks.{beyond, raise-none, raise-own, raise-on, raise-all}
 use Rattle.vv.proofs.VersionVec.raise.Goals as goal
 use Rattle.vv.proofs.VersionVec.raise.Goals.{else-i-thread, then-i-thread}
 
@@ -19,4 +19,5 @@ loop-i-preserved c = (
 
 pub returns : goal.returns
 returns c =
-    c.loop-i.invariant.1 ∙ raise-all _ _ _ (search rules) c.loop-i-test.false
+    let len : length c.args.self.versions ≡ 5 = search rules in
+    c.loop-i.invariant.1 ∙ raise-all _ _ _ (beyond _ _ len c.loop-i-test.false)
