@@ -23,7 +23,8 @@ pub fn join(a: [u16; MAX_THREADS], b: [u16; MAX_THREADS]) -> [u16; MAX_THREADS]
     both.versions
 }
 
-// The vector at `at` takes the one at `from` in.
+// The vector at `at` takes the one at `from` in. Without the hint the compiler keeps it a function of its own for one of its callers.
+#[inline(always)]
 pub fn join_into(clocks: &mut Clocks, at: usize, from: usize)
     requires { (at < 132) × (from < 132) }
     ensures { clocks.new ≡ set clocks.old at (joined (get_or clocks.old at []) (get_or clocks.old from [])) }

@@ -1,2 +1,3 @@
+pub mod AheadLaws
 pub mod LastAccessLaws
 pub mod TrackLaws

@@ -86,7 +86,8 @@ fn tick_at(
     take(clocks, marks, values, numbers, path, trace, at, event)
 }
 
-// What a tick comes to. A yield is complete before its scheduling, and so is its trace entry.
+// What a tick comes to. A yield is complete before its scheduling, and so is its trace entry. A fault leaves first: one test for it and
+// the question has the compiler put both tags together, and every complete row is then told apart once more.
 fn take(
     clocks: &mut Clocks,
     marks: &mut Marks,
@@ -104,7 +105,11 @@ fn take(
     let bound = limits.bound;
     let here = at.here;
     let cursor = at.cursor;
-    let Ok(Moved::Asks { question, yielded }) = event else {
+    let moved = match event {
+        Ok(moved) => moved,
+        Err(fault) => return faulted(fault, here.site, cursor),
+    };
+    let Moved::Asks { question, yielded } = moved else {
         return conclude(trace, here, event, cursor);
     };
     let noted = note_if(trace, here, yielded, cursor);

@@ -1,7 +1,12 @@
 use mathlib.Core.Path.{ap, sym, ◌∙◌}
 use Rattle.rules.specs.Cell.{of_kind}
 use Rattle.vv.specs.Whom.{whom}
+use Rattle.track.proofs.AheadLaws.{none-ahead}
 use Rattle.track.proofs.race_with.Goals as goal
+
+pub returns-then-at_most : goal.returns-then-at_most
+returns-then-at_most c =
+    ap (of_kind c.args.kind) (sym (none-ahead _ _ (sym c.at_most.ensures ∙ c.if-at_most.true)))
 
 pub returns-in-Some : goal.returns-in-Some
 returns-in-Some c =

@@ -1,34 +1,24 @@
 use borrow.Enum.Refused.{opened}
-use Rattle.walk.proofs.TakeLaws.{asks-nothing, stops-only, take-concludes, take-stays, take_meets}
+use Rattle.walk.proofs.TakeLaws.{asks-nothing, take-concludes, take-stays, take_meets}
 use native.Mathlib.Omega.{arith}
 use Rattle.walk.proofs.take.Goals as goal
-use Rattle.walk.proofs.take.Goals.{in_default-via-in-Ok+in_default, in_default-via-in_default}
 use Rattle.std.specs.Prelude.{Ok}
 use Rattle.event.specs.declared.Moved.{Moved}
-use Rattle.event.specs.declared.Moved.TheVariants as event
-use mathlib.Core.Path.{◌≡◌, ap, ◌∙◌}
-use mathlib.Core.List.{[], ◌∷◌}
-use types.Run.{OneOf}
-use denote.Enum.Declared.{tag_of}
-use Rattle.event.specs.contracts.Moved.{the_type as happened}
+use Rattle.event.specs.Moves.{Happening}
+use Rattle.meeting.specs.Entries.{Lands, concluded_at}
+use mathlib.Core.Path.{ap, sym, subst, ◌∙◌}
 
 pub returns-in_default : goal.returns-in_default
 returns-in_default c =
     let args = c.args in
     take-concludes args.at.cursor args.at.here args.event args.at.limits.bound args.clocks.now args.marks.now args.values.now args.numbers.now args.path.now args.trace.now c.requires.1 c.conclude.result _
-    (elim c.in_default.branch [
-      | in_default-via-in-Ok+in_default w ↦ let k : OneOf (0 ∷ 1 ∷ 3 ∷ []) (tag_of happened w.in_default.field-0) = rw w.in_default.is at (opened w.in_default.in-Moves-own.keys2) in
-          asks-nothing _ _ w.in_default.is k
-      | in_default-via-in_default w ↦ stops-only _ _ w.in_default.is
-    ])
-    c.conclude.ensures
+    (asks-nothing _ _ c.in-Ok.is (opened c.in_default.in_default-own.keys2))
+    (subst (λ (e : Happening). Lands args.at.cursor c.conclude.result args.trace.now c.conclude.new.trace (concluded_at e args.at.here)) (sym c.in-Ok.is) c.conclude.ensures)
 
 pub returns-in_default-outcome : goal.returns-in_default-outcome
 returns-in_default-outcome c =
     let args = c.args in
-    let arm = c.in-Ok-Asks in
-    let is : arm.field-0 ≡ event.Asks arm.question arm.yielded = rw arm.is at arm.field-0-is in
-    take-stays args.at.cursor args.at.here args.event args.at.limits.bound args.clocks.now args.marks.now args.values.now args.numbers.now args.path.now args.trace.now c.requires.1 _ _ (arm.is ∙ ap (λ (e : Moved). Ok e) is) c.note_if-noted.result _ c.note_if-noted.ensures (opened c.in_default-outcome.in_default-outcome-own.keys2)
+    take-stays args.at.cursor args.at.here args.event args.at.limits.bound args.clocks.now args.marks.now args.values.now args.numbers.now args.path.now args.trace.now c.requires.1 _ _ (c.in-Ok.is ∙ ap (λ (e : Moved). Ok e) c.in-Asks.is) c.note_if-noted.result _ c.note_if-noted.ensures (opened c.in_default-outcome.in_default-outcome-own.keys2)
 
 pub meet-requires : goal.meet-requires
 meet-requires c = (
@@ -48,6 +38,4 @@ shape_of-trace c =
 pub returns : goal.returns
 returns c =
     let args = c.args in
-    let arm = c.in-Ok-Asks in
-    let is : arm.field-0 ≡ event.Asks arm.question arm.yielded = rw arm.is at arm.field-0-is in
-    take_meets args.at.cursor args.at.here args.event args.at.limits.bound args.clocks.now args.marks.now args.values.now args.numbers.now args.path.now args.trace.now c.requires.1 _ _ (arm.is ∙ ap (λ (e : Moved). Ok e) is) c.note_if-noted.result _ c.note_if-noted.ensures c.mark-cursor.result _ c.mark-cursor.ensures c.mark-cursor.auto.path c.in-Goes.is c.meet.result _ c.meet.ensures
+    take_meets args.at.cursor args.at.here args.event args.at.limits.bound args.clocks.now args.marks.now args.values.now args.numbers.now args.path.now args.trace.now c.requires.1 _ _ (c.in-Ok.is ∙ ap (λ (e : Moved). Ok e) c.in-Asks.is) c.note_if-noted.result _ c.note_if-noted.ensures c.mark-cursor.result _ c.mark-cursor.ensures c.mark-cursor.auto.path c.in-Goes.is c.meet.result _ c.meet.ensures
